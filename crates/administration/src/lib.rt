@@ -1,0 +1,19 @@
+//! Where the administration below `/var/lib/dpkg` keeps its files, and how one of them is replaced whole.
+#![tactic(auto)]
+
+mod directories;
+mod fault;
+mod names;
+mod places;
+mod scripts;
+mod whole;
+
+pub use directories::{Flatness, Standing, inspect_flat, look, make_directory, remove_flat};
+pub use fault::AdministrationFault;
+pub use names::is_package_name;
+pub use places::{
+    diversions_path, home_path, info_path, list_path, script_path, status_path, tmp_path,
+    tmp_script_path, updates_path,
+};
+pub use scripts::{ScriptFile, Scripts};
+pub use whole::{discard, replace};

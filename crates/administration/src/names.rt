@@ -1,0 +1,33 @@
+// Names of packages.
+ghost use Rattle.std.specs.Prelude.{◌≡◌};
+ghost use Rattle.std.specs.List.{list_all};
+ghost use Rattle.administration.specs.Names.{is_lower_or_digit, is_name_sign, is_package_name};
+
+fn is_lower_or_digit(b: u8) -> bool
+    ensures { result ≡ is_lower_or_digit b }
+{
+    b.is_ascii_lowercase() || b.is_ascii_digit()
+}
+
+fn is_name_sign(b: u8) -> bool
+    ensures { result ≡ is_name_sign b }
+{
+    is_lower_or_digit(b) || b == b'+' || b == b'-' || b == b'.'
+}
+
+fn are_name_signs(name: &[u8]) -> bool
+    ensures { result ≡ list_all is_name_sign name.now }
+{
+    name.iter().all(|b| is_name_sign(*b))
+}
+
+/// Whether a package may have this name (Policy 5.6.1): at least two of the letters a to z, digits,
+/// `+`, `-` and `.`, the first a letter or digit.
+pub fn is_package_name(name: &[u8]) -> bool
+    ensures { result ≡ is_package_name name.now }
+{
+    if name.len() < 2 {
+        return false;
+    }
+    is_lower_or_digit(name[0]) && are_name_signs(name)
+}

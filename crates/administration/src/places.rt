@@ -1,0 +1,73 @@
+// The paths of the administration's files.
+ghost use Rattle.std.specs.Prelude.{◌≡◌, IfOk, ◌++◌, ◌∷◌, codes};
+ghost use Rattle.administration.specs.Places as place;
+
+use host_core::{RootPath, Script};
+use std::alloc::{AllocError, Global};
+use texts::Text;
+
+pub fn home_path(alloc: Global) -> Result<RootPath, AllocError>
+    ensures { IfOk result (λ p. p ≡ place.home_path) }
+{
+    RootPath::from_str(alloc, "/var/lib/dpkg")
+}
+
+pub fn status_path(alloc: Global) -> Result<RootPath, AllocError>
+    ensures { IfOk result (λ p. p ≡ place.status_path) }
+{
+    RootPath::from_str(alloc, "/var/lib/dpkg/status")
+}
+
+pub fn updates_path(alloc: Global) -> Result<RootPath, AllocError>
+    ensures { IfOk result (λ p. p ≡ place.updates_path) }
+{
+    RootPath::from_str(alloc, "/var/lib/dpkg/updates")
+}
+
+pub fn info_path(alloc: Global) -> Result<RootPath, AllocError>
+    ensures { IfOk result (λ p. p ≡ place.info_path) }
+{
+    RootPath::from_str(alloc, "/var/lib/dpkg/info")
+}
+
+pub fn diversions_path(alloc: Global) -> Result<RootPath, AllocError>
+    ensures { IfOk result (λ p. p ≡ place.diversions_path) }
+{
+    RootPath::from_str(alloc, "/var/lib/dpkg/diversions")
+}
+
+pub fn tmp_path(alloc: Global) -> Result<RootPath, AllocError>
+    ensures { IfOk result (λ p. p ≡ place.tmp_path) }
+{
+    RootPath::from_str(alloc, "/var/lib/dpkg/tmp.ci")
+}
+
+/// The file list of a package.
+pub fn list_path(alloc: Global, name: &Text) -> Result<RootPath, AllocError>
+    ensures { IfOk result (λ p. p ≡ place.list_path name.now) }
+{
+    let mut text = String::from_str(alloc, "/var/lib/dpkg/info/")?;
+    text.push_str(name.as_str())?;
+    text.push_str(".list")?;
+    Ok(RootPath::new(text))
+}
+
+/// A stored script of a package.
+pub fn script_path(alloc: Global, name: &Text, script: Script) -> Result<RootPath, AllocError>
+    ensures { IfOk result (λ p. p ≡ place.script_path name.now script) }
+{
+    let mut text = String::from_str(alloc, "/var/lib/dpkg/info/")?;
+    text.push_str(name.as_str())?;
+    text.push('.')?;
+    text.push_str(script.name())?;
+    Ok(RootPath::new(text))
+}
+
+/// Where a script of the incoming tree lies while its unit runs.
+pub fn tmp_script_path(alloc: Global, script: Script) -> Result<RootPath, AllocError>
+    ensures { IfOk result (λ p. p ≡ place.tmp_script_path script) }
+{
+    let mut text = String::from_str(alloc, "/var/lib/dpkg/tmp.ci/")?;
+    text.push_str(script.name())?;
+    Ok(RootPath::new(text))
+}

@@ -1,0 +1,12 @@
+pub mod Parts
+pub mod Cases
+pub mod LinesOf
+pub mod Keyed
+pub mod Stops
+pub mod Spelled
+pub mod Again
+pub mod Once
+pub mod OnlyOne
+pub mod Trims
+pub mod Written
+pub mod Placed

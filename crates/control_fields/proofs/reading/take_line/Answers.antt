@@ -1,0 +1,39 @@
+use Rattle.std.proofs.Common.{◌∙◌, refl, sym, rules}
+use Rattle.std.specs.Str.{IsUtf8}
+use Rattle.control_fields.specs.Names.{IsName}
+use Rattle.control_fields.proofs.Cases.{at, continues, unblank, has_bytes, no_colon, bad_name, twice}
+use Rattle.control_fields.proofs.reading.take_line.Goals as goal
+
+pub returns-in-len1-up-clause-takes : goal.returns-in-len1-up-clause-takes
+returns-in-len1-up-clause-takes c =
+    let utf8 : IsUtf8 c.args.line.now = search rules in
+    continues c.args.number c.args.line.now c.trim_end-text.result.now c.in_ok-from_slice-in-len1-up.field-0 c.args.done.now.items c.args.begun.now.line c.args.begun.now.line c.args.begun.now.paragraph c.push_line.new.self utf8 c.trim_end-text.ensures c.in-len1-up.len_at_least
+    (sym c.is_blank.ensures ∙ c.if-is_blank.true) (sym c.is_empty.ensures ∙ c.if-is_empty.false) c.in_ok-from_slice-in-len1-up.ensures refl c.in_ok-push_line-in-len1-up.ensures
+
+pub returns-in_default-cut-clause-fault : goal.returns-in_default-cut-clause-fault
+returns-in_default-cut-clause-fault c =
+    let utf8 : IsUtf8 c.args.line.now = search rules in (
+      no_colon c.args.line.now (at c.args.done.now.items c.args.begun.now.line c.args.begun.now.paragraph) utf8 (has_bytes c.args.line.now c.trim_end-text.result.now c.trim_end-text.ensures c.in-len1-up.len_at_least)
+          (unblank c.args.line.now c.trim_end-text.result.now c.trim_end-text.ensures (sym c.is_blank.ensures ∙ c.if-is_blank.false)) (rw (← c.trim_end-text.ensures) c.in_default-cut.ensures.none),
+      refl,
+    )
+
+pub returns-then-not-is_name-clause-fault : goal.returns-then-not-is_name-clause-fault
+returns-then-not-is_name-clause-fault c =
+    let utf8 : IsUtf8 c.args.line.now = search rules in
+    let bad : IsName c.in-Some.name.now → ⊥ = search rules in (
+      bad_name c.args.line.now (at c.args.done.now.items c.args.begun.now.line c.args.begun.now.paragraph) c.in-Some.name.now c.in-Some.value.now utf8
+          (record { parts = sym c.trim_end-text.ensures ∙ c.in-Some.ensures.some.0; first = c.in-Some.ensures.some.1 })
+          (unblank c.args.line.now c.trim_end-text.result.now c.trim_end-text.ensures (sym c.is_blank.ensures ∙ c.if-is_blank.false)) bad,
+      refl,
+    )
+
+pub returns-then-has-clause-fault : goal.returns-then-has-clause-fault
+returns-then-has-clause-fault c =
+    let utf8 : IsUtf8 c.args.line.now = search rules in
+    let good : IsName c.in-Some.name.now = search rules in (
+      twice c.args.line.now (at c.args.done.now.items c.args.begun.now.line c.args.begun.now.paragraph) c.in-Some.name.now c.in-Some.value.now utf8
+          (record { parts = sym c.trim_end-text.ensures ∙ c.in-Some.ensures.some.0; first = c.in-Some.ensures.some.1 })
+          (unblank c.args.line.now c.trim_end-text.result.now c.trim_end-text.ensures (sym c.is_blank.ensures ∙ c.if-is_blank.false)) good (sym c.has.ensures ∙ c.if-has.true),
+      refl,
+    )

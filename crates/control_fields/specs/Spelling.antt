@@ -1,0 +1,61 @@
+-- The written form of paragraphs, and what has one (Policy 5.1).
+use Rattle.std.specs.Prelude.{◌≡◌, false, ℕ, List, [], ◌∷◌, ◌++◌}
+use Rattle.std.specs.List.{flat_map, AllByRecursion}
+use Rattle.std.specs.Str.{IsUtf8}
+use Rattle.control_fields.specs.Names.{Lacks, trim_end, trim_start, IsName, stands}
+use Rattle.control_fields.specs.Faults.{BeginsBlank}
+use Rattle.control_fields.specs.declared.field.Field.{Field}
+
+-- each line with its newline
+abbrev pub spell_more : List (List ℕ) → List ℕ
+spell_more ls = flat_map (λ l. l ++ 10 ∷ []) ls
+
+-- the value on the name's line, after one space if there is one
+abbrev pub spell_first : List ℕ → List ℕ
+spell_first [] = []
+spell_first (b ∷ bs) = 32 ∷ b ∷ bs
+
+-- name, colon, value, and the lines that go on with it (Policy 5.1)
+abbrev pub spell_field : Field → List ℕ
+spell_field f = f.name ++ 58 ∷ spell_first f.first ++ 10 ∷ spell_more f.more
+
+-- a paragraph, field by field
+abbrev pub spell : List Field → List ℕ
+spell fields = flat_map spell_field fields
+
+-- one blank line between two paragraphs
+abbrev pub spell_all : List (List Field) → List ℕ
+spell_all [] = []
+spell_all (p ∷ []) = spell p
+spell_all (p ∷ q ∷ ps) = spell p ++ 10 ∷ spell_all (q ∷ ps)
+
+-- a line that goes on with a field
+pub record IsMore (l : List ℕ) : Type 0 where
+  pub utf8 : IsUtf8 l
+  pub one_line : Lacks l 10
+  pub trimmed : trim_end l ≡ l
+  pub blank : BeginsBlank l
+
+-- the line of a field's name
+abbrev pub first_line : Field → List ℕ
+first_line f = f.name ++ 58 ∷ spell_first f.first
+
+-- a field that has a written form
+pub record IsField (f : Field) : Type 0 where
+  pub name : IsName f.name
+  pub no_colon : Lacks f.name 58
+  pub utf8 : IsUtf8 (first_line f)
+  pub one_line : Lacks (first_line f) 10
+  pub trimmed : trim_end (first_line f) ≡ first_line f
+  pub start_trimmed : trim_start f.first ≡ f.first
+  pub more : AllByRecursion IsMore f.more
+
+-- fields after others, each with a new name
+abbrev pub AreFields : List Field → List Field → Type 0
+AreFields before [] = Unit {0}
+AreFields before (f ∷ fs) = IsField f × (stands f.name before ≡ false) × AreFields (before ++ f ∷ []) fs
+
+-- a paragraph that has a written form
+pub record IsParagraph (fields : List Field) : Type 0 where
+  pub some : fields ≡ [] → ⊥
+  pub are : AreFields [] fields

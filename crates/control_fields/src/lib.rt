@@ -1,0 +1,24 @@
+//! Control text (Policy 5.1): paragraphs of named fields, read and written.
+#![tactic(auto)]
+
+mod fault;
+mod field;
+mod laws;
+mod line;
+mod line_list;
+mod located;
+mod paragraph;
+mod reading;
+mod writing;
+
+pub use fault::ControlFault;
+pub use field::Field;
+pub use laws::{
+    fields_stand_on_lines, no_fault, no_fault_of_one, one_line_is_field, read_again,
+    read_all_again, readable_is_writable, reads_once, reads_one_once,
+};
+pub use line_list::Lines;
+pub use located::{ControlText, Located};
+pub use paragraph::Paragraph;
+pub use reading::{read_located, read_one, read_paragraphs};
+pub use writing::{write_paragraph, write_paragraphs};

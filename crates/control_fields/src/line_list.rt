@@ -1,0 +1,62 @@
+// Lists of lines.
+ghost use Rattle.std.specs.Prelude.{◌≡◌, ℕ, List, IfOk, OnOk, ◌++◌, ◌∷◌, [], length};
+
+use std::alloc::{AllocError, Global};
+use std::marker::Model;
+use texts::Bytes;
+
+/// Lines that go on with a field.
+#[derive(Drop)]
+pub struct Lines {
+    alloc: Global,
+    items: Vec<Bytes>,
+}
+
+impl Model for Lines {
+    ghost Value = { List (List ℕ) };
+
+    ghost view = { λ t. t.items.items };
+}
+
+impl Lines {
+    pub fn new(alloc: Global) -> Self
+        ensures { result ≡ [] }
+    {
+        Lines {
+            alloc,
+            items: Vec::new(alloc),
+        }
+    }
+
+    pub fn push(&mut self, line: Bytes) -> Result<(), AllocError>
+        ensures { OnOk result (self.new ≡ self.old ++ line ∷ []) }
+    {
+        self.items.push(line)?;
+        Ok(())
+    }
+
+    pub fn len(&self) -> usize
+        ensures { result ≡ length self.now }
+    {
+        self.items.len()
+    }
+
+    pub fn as_slice(&self) -> &[Bytes]
+        ensures { result.now ≡ self.now }
+    {
+        self.items.as_slice()
+    }
+
+    pub fn copy(&self) -> Result<Lines, AllocError>
+        ensures { IfOk result (λ lines. lines ≡ self.now) }
+    {
+        let mut items = Vec::new(self.alloc);
+        for line in &self.items {
+            items.push(line.copy()?)?;
+        }
+        Ok(Lines {
+            alloc: self.alloc,
+            items,
+        })
+    }
+}

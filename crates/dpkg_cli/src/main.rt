@@ -1,0 +1,33 @@
+//! The program: it reads the words of its command line, carries out what they ask for, and ends with a status.
+#![tactic(auto)]
+
+mod answer;
+mod command;
+mod comparison;
+mod words;
+
+use answer::{FAILED, run_words};
+use std::io::Write;
+use std::process::ExitCode;
+use std::rt::Env;
+use std::{env, io};
+
+fn words_of<R: Env + AllocGlobal>(rt: &R) -> io::Result<Vec<String>> {
+    Ok(env::args(rt)?.collect(rt.alloc())?)
+}
+
+/// Words that are not text, or can't be had, are a usage fault.
+fn main(rt: HostRuntime) -> ExitCode {
+    let stderr = rt.stderr();
+    let mut err = io::writer(&stderr);
+    match words_of(&rt) {
+        Ok(words) => {
+            let mut out = io::writer(&rt);
+            ExitCode::from(run_words(rt.alloc(), words.as_slice(), &mut out, &mut err))
+        }
+        Err(_) => {
+            let _ = err.write_all(b"error: the words of the command line are not text\n");
+            ExitCode::from(FAILED)
+        }
+    }
+}

@@ -1,0 +1,30 @@
+use Rattle.std.proofs.Common.{◌≡◌, ◌+◌, [], ◌∷◌, ◌++◌, length, take, subst, sym, ap, ◌∙◌, arith, length-append}
+use Rattle.std.proofs.lemmas.List.{take_more}
+use Rattle.dpkg_session.specs.declared.report.Candidate.{Candidate}
+use Rattle.dpkg_session.specs.Run.{IsRun}
+use Rattle.dpkg_session.proofs.Runs.{run_more, ready_after}
+use Rattle.dpkg_session.proofs.run.run_units.Goals as goal
+
+pub loop-candidate-preserved : goal.loop-candidate-preserved
+loop-candidate-preserved g c =
+    let inv = c.loop-candidate.invariant in
+    let i = c.loop-candidate.candidate-index in
+    let candidates = c.args.candidates.now in
+    let p = c.candidate-item.result in
+    let adds = c.in-Ok.ensures.ok in
+    let places = c.args.keep.now in
+    let before = c.args.database.now in
+    let mid = c.loop-candidate.database in
+    let after = c.run_one.new.database in
+    let old = g.H.Host.state c.args.host.now in
+    let now = g.H.Host.state c.loop-candidate.host in
+    let new = g.H.Host.state c.run_one.new.host in
+    let fronts : take (i + 1) candidates ≡ take i candidates ++ p ∷ [] = take_more candidates i p c.loop-candidate-test.true ∙ ap (λ (q : Candidate). take i candidates ++ q ∷ []) (sym c.candidate-item.is) in
+    let more = run_more (take i candidates) c.loop-candidate.units.items p adds.unit places before mid after old now new inv.so_far inv.honest adds.is c.run_one.ensures.honest in
+    record {
+      count = ap length adds.grown ∙ length-append c.loop-candidate.units.items (adds.unit ∷ []) ∙ ap (λ n. n + 1) inv.count;
+      so_far = subst (λ l. IsRun l c.run_one.new.units.items places before after old new) (sym fronts) (subst (λ us. IsRun (take i candidates ++ p ∷ []) us places before after old new) (sym adds.grown) more);
+      honest = c.run_one.ensures.honest ∙ inv.honest;
+      faults = omega (arith, inv.faults, c.run_one.ensures.faults);
+      ready = ready_after p places mid after adds.unit now new c.run_one.ensures.honest inv.ready adds.is;
+    }

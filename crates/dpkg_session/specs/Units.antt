@@ -1,0 +1,89 @@
+-- Units and runs of them.
+use Rattle.std.specs.Prelude.{◌≡◌, ℕ, List, [], ◌∷◌, Option, Some, None, Result, Ok, Err, codes}
+use Rattle.host_core.specs.Paths.{Path}
+use Rattle.host_core.specs.Host.{State}
+use Rattle.host_core.specs.declared.call.Script.TheVariants.{Preinst}
+use Rattle.package_tree.specs.declared.package.Package.{Package}
+use Rattle.package_tree.specs.declared.fault.TreeFault.{TreeFault}
+use Rattle.status_db.specs.declared.record.Record.{Record}
+use Rattle.status_db.specs.Records.{record_in}
+use Rattle.unpack_engine.specs.declared.rows.Turn.{Turn}
+use Rattle.unpack_engine.specs.declared.rows.Turn.TheVariants.{Committed, Undone, UndoFailed}
+use Rattle.unpack_engine.specs.ForwardRows.{call_of}
+use Rattle.unpack_engine.specs.Units.{HasUnpacked}
+use Rattle.dpkg_session.specs.declared.refusal.Rule.{Rule}
+use Rattle.dpkg_session.specs.declared.refusal.Rule.TheVariants.{Tree, NotYet}
+use Rattle.dpkg_session.specs.declared.refusal.Word.{Word}
+use Rattle.dpkg_session.specs.declared.report.Candidate.{Candidate}
+use Rattle.dpkg_session.specs.declared.report.Touched.{Touched}
+use Rattle.dpkg_session.specs.declared.report.Reply.{Reply}
+use Rattle.dpkg_session.specs.declared.report.Reply.TheVariants.{Done, Refused, Failed, Broken}
+use Rattle.dpkg_session.specs.declared.report.Unit.{Unit as AUnit}
+use Rattle.host_core.specs.declared.fault.HostFault.{HostFault}
+use Rattle.host_core.specs.declared.fault.HostFault.TheVariants as host
+use Rattle.unwind_stack.specs.declared.rows.Called.{Called}
+use Rattle.dpkg_session.specs.declared.report.Breakage.{Breakage}
+use Rattle.dpkg_session.specs.declared.report.Breakage.TheVariants.{Device, NoMemory}
+use Rattle.dpkg_session.specs.Refusals.{word_of}
+
+-- the named package, with its record at the end
+abbrev pub touched_of : Package → List Record → List Touched
+touched_of p after = record { «package» = p.name; entry = record_in after p.name } ∷ []
+
+-- the reply to a unit whose rows ended so: where the preinst failed, with its call
+abbrev pub reply_to : Package → Turn → Reply
+reply_to p Committed = Done
+reply_to p Undone = Failed (record { «package» = p.name; call = call_of p Preinst (codes "install") })
+reply_to p UndoFailed = Failed (record { «package» = p.name; call = call_of p Preinst (codes "install") })
+
+-- the unit was carried out
+pub record IsUnpacked (p : Package) (places : List Path) (before after : List Record) (u : AUnit) (s t : State) : Type 0 where
+  pub turn : Turn
+  pub unpacked : HasUnpacked p places turn before after s t [] u.calls.items
+  pub replied : u.reply ≡ reply_to p turn
+  pub touched : u.touched.items ≡ touched_of p after
+
+-- a refused unit: no call was made, and no package touched
+pub record IsRefusedUnit (rule : Rule) (name : List ℕ) (u : AUnit) : Type 0 where
+  pub calls : u.calls.items ≡ []
+  pub touched : u.touched.items ≡ []
+  pub reply : u.reply ≡ Refused (record { rule = rule; «package» = name })
+
+-- and nothing has changed
+pub record IsRefused (rule : Rule) (name : List ℕ) (before after : List Record) (u : AUnit) (s t : State) : Type 0 where
+  pub refused : IsRefusedUnit rule name u
+  pub table : after ≡ before
+  pub state : t ≡ s
+
+-- a package is refused by the first condition that holds, else unpacked
+abbrev pub IsUnitByWord : Package → Option Word → List Path → List Record → List Record → AUnit → State → State → Type 0
+IsUnitByWord p (Some word) places before after u s t = IsRefused (NotYet word) p.name before after u s t
+IsUnitByWord p None places before after u s t = IsUnpacked p places before after u s t
+
+-- a tree that can't be read is refused first
+abbrev pub IsUnitOf : List ℕ → Result Package TreeFault → List Path → List Record → List Record → AUnit → State → State → Type 0
+IsUnitOf label (Err fault) places before after u s t = IsRefused (Tree fault) label before after u s t
+IsUnitOf label (Ok p) places before after u s t = IsUnitByWord p (word_of p before) places before after u s t
+
+abbrev pub IsUnit : Candidate → List Path → List Record → List Record → AUnit → State → State → Type 0
+IsUnit c places before after u s t = IsUnitOf c.label c.tree places before after u s t
+
+-- a unit that was broken off
+abbrev pub IsBroken : Reply → Type 0
+IsBroken (Broken breakage) = Unit {0}
+IsBroken Done = ⊥
+IsBroken (Refused refusal) = ⊥
+IsBroken (Failed failure) = ⊥
+
+abbrev pub IsBrokenBy : Breakage → Reply → Type 0
+IsBrokenBy breakage reply = reply ≡ Broken breakage
+
+abbrev pub breakage_of : HostFault → Breakage
+breakage_of host.Device = Device
+breakage_of host.NoMemory = NoMemory
+
+-- the unit tells these calls, and the answer to this turn
+pub record IsAnswered (p : Package) (after : List Record) (turn : Turn) (calls : List Called) (u : AUnit) : Type 0 where
+  pub told : u.calls.items ≡ calls
+  pub replied : u.reply ≡ reply_to p turn
+  pub touched : u.touched.items ≡ touched_of p after

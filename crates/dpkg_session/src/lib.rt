@@ -1,0 +1,11 @@
+//! A session over one root: commands as lists of units.
+#![tactic(auto)]
+
+mod refusal;
+mod report;
+mod run;
+mod unit;
+
+pub use refusal::{Refusal, RelationField, Rule, Word, word_of};
+pub use report::{Breakage, Candidate, Failure, Reply, Report, Touched, Unit};
+pub use run::run_units;

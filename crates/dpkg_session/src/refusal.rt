@@ -1,0 +1,118 @@
+// Why an unpack is refused.
+ghost use Rattle.std.specs.Prelude.{◌≡◌, ◌||◌, codes};
+ghost use Rattle.dpkg_session.specs.Refusals.{any_has, has_relation, relation_name, relation_word, word_of};
+
+use package_tree::{Package, TreeFault};
+use status_db::{Database, Record};
+use texts::Text;
+
+/// The fields that tell relations between packages (Policy 7.1).
+#[derive(Clone, Copy, Debug, PartialEq, Eq)]
+pub enum RelationField {
+    Depends,
+    PreDepends,
+    Breaks,
+    Conflicts,
+    Provides,
+    Replaces,
+}
+
+impl RelationField {
+    /// The field's name in a control file.
+    pub fn name(self) -> &'static str
+        ensures { result.now ≡ relation_name self }
+    {
+        match self {
+            RelationField::Depends => "Depends",
+            RelationField::PreDepends => "Pre-Depends",
+            RelationField::Breaks => "Breaks",
+            RelationField::Conflicts => "Conflicts",
+            RelationField::Provides => "Provides",
+            RelationField::Replaces => "Replaces",
+        }
+    }
+}
+
+/// What isn't carried out yet: a tree with files, a package that has a record, conffiles, relations.
+#[derive(Clone, Copy, Debug, PartialEq, Eq)]
+pub enum Word {
+    Files,
+    Record,
+    Conffiles,
+    Relation(RelationField),
+}
+
+/// The rule that refuses a unit.
+#[derive(Drop)]
+pub enum Rule {
+    Tree(TreeFault),
+    NotYet(Word),
+}
+
+/// A refused unit: the rule, and the package, or for a tree's fault the word that named the tree.
+#[derive(Drop)]
+pub struct Refusal {
+    pub rule: Rule,
+    pub package: Text,
+}
+
+fn any_has(records: &[Record], name: &str) -> bool
+    ensures { result ≡ any_has records.now name.now }
+{
+    records
+        .iter()
+        .any(|entry| entry.fields.has(name.as_bytes()))
+}
+
+fn has_relation(incoming: &Package, records: &[Record], field: RelationField) -> bool
+    ensures { result ≡ has_relation incoming.now records.now field }
+{
+    incoming.control.has(field.name().as_bytes()) || any_has(records, field.name())
+}
+
+fn has_conffiles(incoming: &Package, records: &[Record]) -> bool
+    ensures { result ≡ incoming.now.has_conffiles || (any_has records.now (codes "Conffiles") || any_has records.now (codes "New-Conffiles")) }
+{
+    incoming.has_conffiles || any_has(records, "Conffiles") || any_has(records, "New-Conffiles")
+}
+
+fn first_relation(incoming: &Package, records: &[Record]) -> Option<Word>
+    ensures { result ≡ relation_word incoming.now records.now }
+{
+    if has_relation(incoming, records, RelationField::Depends) {
+        return Some(Word::Relation(RelationField::Depends));
+    }
+    if has_relation(incoming, records, RelationField::PreDepends) {
+        return Some(Word::Relation(RelationField::PreDepends));
+    }
+    if has_relation(incoming, records, RelationField::Breaks) {
+        return Some(Word::Relation(RelationField::Breaks));
+    }
+    if has_relation(incoming, records, RelationField::Conflicts) {
+        return Some(Word::Relation(RelationField::Conflicts));
+    }
+    if has_relation(incoming, records, RelationField::Provides) {
+        return Some(Word::Relation(RelationField::Provides));
+    }
+    if has_relation(incoming, records, RelationField::Replaces) {
+        return Some(Word::Relation(RelationField::Replaces));
+    }
+    None
+}
+
+/// What of an unpack isn't carried out yet, if anything.
+pub fn word_of(incoming: &Package, database: &Database) -> Option<Word>
+    ensures { result ≡ word_of incoming.now database.now }
+{
+    let records = database.records();
+    if incoming.ships {
+        return Some(Word::Files);
+    }
+    if database.get(&incoming.name).is_some() {
+        return Some(Word::Record);
+    }
+    if has_conffiles(incoming, records) {
+        return Some(Word::Conffiles);
+    }
+    first_relation(incoming, records)
+}

@@ -1,0 +1,61 @@
+// What a command reports.
+use crate::refusal::Refusal;
+use host_core::Call;
+use package_tree::{Package, TreeFault};
+use status_db::Record;
+use texts::Text;
+use unwind_stack::Called;
+
+/// A tree to be unpacked: the word that named it, and what was read of it.
+#[derive(Drop)]
+pub struct Candidate {
+    pub label: Text,
+    pub tree: Result<Package, TreeFault>,
+}
+
+/// A package of a unit, and its record at the unit's end.
+#[derive(Drop)]
+pub struct Touched {
+    pub package: Text,
+    pub entry: Option<Record>,
+}
+
+/// The call for which a unit failed.
+#[derive(Drop)]
+pub struct Failure {
+    pub package: Text,
+    pub call: Call,
+}
+
+/// Why a unit was broken off: a device fault, want of memory, or a session that is closed since
+/// one of these.
+#[derive(Clone, Copy, Debug, PartialEq, Eq)]
+pub enum Breakage {
+    Device,
+    NoMemory,
+    Closed,
+}
+
+#[derive(Drop)]
+pub enum Reply {
+    Done,
+    Refused(Refusal),
+    Failed(Failure),
+    Broken(Breakage),
+}
+
+/// The work on one package: the script calls with their outcomes, the packages whose records were
+/// looked at or changed, and the reply.
+#[derive(Drop)]
+pub struct Unit {
+    pub calls: Vec<Called>,
+    pub touched: Vec<Touched>,
+    pub reply: Reply,
+}
+
+/// The units of a command in order; `last` is the one that was broken off.
+#[derive(Drop)]
+pub struct Report {
+    pub units: Vec<Unit>,
+    pub last: Option<Unit>,
+}

@@ -1,0 +1,93 @@
+// The root directory, and where the paths under it lie among the system's paths.
+ghost use Rattle.std.specs.Prelude.{◌≡◌, ◌++◌, IfOk, string_bytes, codes};
+ghost use Rattle.host_files.specs.Places.{IsFront, place_of, place_in};
+
+use crate::disk::is_directory;
+use host_core::RootPath;
+use std::alloc::{AllocError, Global};
+use std::io;
+
+#[derive(Drop)]
+pub(crate) struct Root {
+    // as it was given
+    directory: String,
+    // the same without a slash at its end
+    front: String,
+}
+
+fn front_of(directory: &str) -> &str
+    ensures { IsFront directory.now result.now }
+{
+    match directory.strip_suffix("/") {
+        Some(front) => front,
+        None => directory,
+    }
+}
+
+impl Root {
+    pub(crate) fn new(alloc: Global, directory: &str) -> Result<Root, AllocError>
+        ensures directory { IfOk result (λ r. string_bytes r.directory ≡ directory.now) }
+        ensures front { IfOk result (λ r. IsFront directory.now (string_bytes r.front)) }
+    {
+        Ok(Root {
+            directory: String::from_str(alloc, directory)?,
+            front: String::from_str(alloc, front_of(directory))?,
+        })
+    }
+
+    pub(crate) fn directory(&self) -> &str
+        ensures { result.now ≡ string_bytes self.now.directory }
+    {
+        self.directory.as_str()
+    }
+
+    /// The system's path of a path under the root.
+    pub(crate) fn place(&self, path: &RootPath) -> Result<String, AllocError>
+        ensures { IfOk result (λ s. string_bytes s ≡ place_of (string_bytes self.now.front) path.now) }
+    {
+        let mut place = self.front.clone()?;
+        let path = path.as_str();
+        place.push_str(if path.is_empty() { "/" } else { path })?;
+        Ok(place)
+    }
+
+    /// The path of the same for a child whose working directory is the root.
+    pub(crate) fn place_inside(&self, path: &RootPath) -> Result<String, AllocError>
+        ensures { IfOk result (λ s. string_bytes s ≡ place_in (string_bytes self.now.directory) (string_bytes self.now.front) path.now) }
+    {
+        if self.directory.starts_with("/") {
+            return self.place(path);
+        }
+        let mut place = String::from_str(*self.front.allocator(), ".")?;
+        place.push_str(path.as_str())?;
+        Ok(place)
+    }
+
+    /// The directory of the administration.
+    pub(crate) fn administration(&self) -> Result<String, AllocError>
+        ensures { IfOk result (λ s. string_bytes s ≡ string_bytes self.now.front ++ codes "/var/lib/dpkg") }
+    {
+        let mut place = self.front.clone()?;
+        place.push_str("/var/lib/dpkg")?;
+        Ok(place)
+    }
+
+    /// Whether each name above the path is that of a directory, and of no link.
+    pub(crate) fn reaches(&self, rt: &HostRuntime, path: &RootPath) -> io::Result<bool> {
+        let Some((above, _)) = path.as_str().rsplit_once('/') else {
+            return Ok(true);
+        };
+        let mut parent = self.front.clone()?;
+        for name in above.split('/') {
+            if name.is_empty() {
+                continue;
+            }
+            parent.push('/')?;
+            parent.push_str(name)?;
+            if !is_directory(rt, parent.as_str())? {
+                return Ok(false);
+            }
+        }
+        Ok(true)
+    }
+}

@@ -1,0 +1,202 @@
+// The host in memory.
+use crate::change::{Entry, Planned, carry_out};
+use crate::ending::ending_of;
+use crate::files::Files;
+use crate::moving::move_node;
+use crate::placing::place;
+use host_core::{Call, Host, HostFault, Keep, Listing, Node, Outcome, RootPath};
+use std::alloc::{AllocError, Global};
+use std::collections::VecDeque;
+
+/// A call that was made, with what it changed.
+#[derive(Drop)]
+pub struct Made {
+    pub call: Call,
+    pub outcome: Outcome,
+    pub change: Vec<Entry>,
+}
+
+/// A step of the device that was made, or what a script changed.
+#[derive(Drop)]
+pub enum Done {
+    Wrote(RootPath, Node),
+    Moved(RootPath, RootPath),
+    Took(RootPath),
+    MadeDir(RootPath, u16),
+    RemovedDir(RootPath),
+    Scripted(Vec<Entry>),
+}
+
+/// A root in memory. Its calls end as planned, in order, and when none is left with exit status 0.
+/// It answers NoMemory where an allocation is refused, and then nothing has changed.
+#[derive(Drop)]
+pub struct MemoryHost {
+    alloc: Global,
+    files: Files,
+    pending: VecDeque<Planned>,
+    calls: Vec<Made>,
+    steps: Vec<Done>,
+    faults: u64,
+}
+
+impl MemoryHost {
+    ghost use Rattle.std.specs.Prelude.{◌≡◌, ◌++◌, ◌∷◌, [], Some, true, map, IfOk, OnOk, OnErr, MatchBool};
+    ghost use Rattle.host_core.specs.World.{put, is_kept};
+    ghost use Rattle.host_core.specs.Host.{Stepped};
+    ghost use Rattle.host_memory.specs.Trees.{CanPlace, HasPartWay, IsPlaced, new_directory, nothing};
+    ghost use Rattle.host_memory.specs.Changes.{change_of};
+    ghost use Rattle.host_memory.specs.Memory.{memory_state, planned_of, ran_of, step_of, HasEnded, TouchesFilesAlone};
+
+    /// A root directory and nothing else.
+    pub fn new(alloc: Global) -> Result<MemoryHost, AllocError>
+        ensures state { IfOk result (λ host. memory_state host ≡ record { honest = true; world = put nothing [] (Some new_directory); steps = []; calls = []; faults = 0 }) }
+        ensures planned { IfOk result (λ host. planned_of host ≡ []) }
+    {
+        Ok(MemoryHost {
+            alloc,
+            files: Files::new(alloc)?,
+            pending: VecDeque::new(alloc),
+            calls: Vec::new(alloc),
+            steps: Vec::new(alloc),
+            faults: 0,
+        })
+    }
+
+    /// Sets what stands at a path, with the directories that are missing above it. False where a file
+    /// or link stands above, or the node would replace a directory that isn't empty. Where memory is
+    /// refused some of those directories may have been made.
+    pub fn place(&mut self, path: &RootPath, node: Node) -> Result<bool, AllocError>
+        ensures ok { IfOk result (λ done. MatchBool done (IsPlaced (memory_state self.old).world (memory_state self.new).world path.now node) ((CanPlace (memory_state self.old).world path.now node → ⊥) × ((memory_state self.new).world ≡ (memory_state self.old).world))) }
+        ensures err { OnErr result (HasPartWay (memory_state self.old).world (memory_state self.new).world path.now) }
+        ensures alone { TouchesFilesAlone self.old self.new }
+    {
+        place(self.alloc, &mut self.files, path.as_str(), node)
+    }
+
+    /// Adds how a later call ends, after those that were planned before.
+    pub fn plan(&mut self, planned: Planned) -> Result<(), AllocError>
+        ensures ok { OnOk result (planned_of self.new ≡ planned_of self.old ++ planned ∷ []) }
+        ensures err { OnErr result (planned_of self.new ≡ planned_of self.old) }
+        ensures state { memory_state self.new ≡ memory_state self.old }
+    {
+        self.pending.push_back(planned)?;
+        Ok(())
+    }
+
+    // Ends a call as the first plan says, which is then used up.
+    fn end_call(&mut self, call: &Call, keep: &Keep) -> Result<Outcome, AllocError>
+        ensures ended { IfOk result (λ outcome. HasEnded (is_kept keep.now) call.now outcome self.old self.new) }
+        ensures err { OnErr result ((memory_state self.new ≡ memory_state self.old) × (planned_of self.new ≡ planned_of self.old)) }
+    {
+        let called = call.copy()?;
+        self.steps.reserve(1)?;
+        self.calls.reserve(1)?;
+        let ending = ending_of(&self.pending);
+        let carried = carry_out(self.alloc, &mut self.files, keep, ending.change)?;
+        let outcome = ending.outcome;
+        self.pending.pop_front();
+        self.steps.push(Done::Scripted(carried.step)).unwrap();
+        self.calls
+            .push(Made {
+                call: called,
+                outcome,
+                change: carried.told,
+            })
+            .unwrap();
+        Ok(outcome)
+    }
+
+    /// All calls so far.
+    pub fn calls(&self) -> &[Made]
+        ensures { map ran_of result.now ≡ (memory_state self.now).calls }
+    {
+        self.calls.as_slice()
+    }
+
+    /// All steps so far, also what scripts changed.
+    pub fn steps(&self) -> &[Done]
+        ensures { map step_of result.now ≡ (memory_state self.now).steps }
+    {
+        self.steps.as_slice()
+    }
+
+    /// How often the device has failed.
+    pub fn faults(&self) -> u64
+        ensures { result ≡ (memory_state self.now).faults }
+    {
+        self.faults
+    }
+}
+
+impl Host for MemoryHost {
+    ghost use Rattle.std.specs.Prelude.{◌≡◌, ◌≤◌, IfOk, OnErr};
+    ghost use Rattle.host_core.specs.World.{is_kept};
+    ghost use Rattle.host_core.specs.Host.{Runs, HasCause};
+    ghost use Rattle.host_memory.specs.Memory.{memory_state, memory_tree, planned_of, HasEnded};
+
+    ghost state = { memory_state };
+
+    ghost tree = { memory_tree };
+
+    fn node(&mut self, path: &RootPath) -> Result<Option<Node>, HostFault> {
+        Ok(self.files.copy_at(path)?)
+    }
+
+    fn list(&mut self, path: &RootPath) -> Result<Listing, HostFault> {
+        let names = self.files.names_in(self.alloc, path)?;
+        Ok(Listing { names, bad: false })
+    }
+
+    fn write_new(&mut self, path: &RootPath, node: &Node) -> Result<(), HostFault> {
+        let done = Done::Wrote(path.copy()?, node.copy()?);
+        self.steps.reserve(1)?;
+        self.files.put(self.alloc, path.as_str(), node.copy()?)?;
+        self.steps.push(done).unwrap();
+        Ok(())
+    }
+
+    fn make_dir(&mut self, path: &RootPath, mode: u16) -> Result<(), HostFault> {
+        let done = Done::MadeDir(path.copy()?, mode);
+        self.steps.reserve(1)?;
+        self.files
+            .put(self.alloc, path.as_str(), Node::Dir { mode })?;
+        self.steps.push(done).unwrap();
+        Ok(())
+    }
+
+    fn rename(&mut self, from: &RootPath, to: &RootPath) -> Result<(), HostFault> {
+        let done = Done::Moved(from.copy()?, to.copy()?);
+        self.steps.reserve(1)?;
+        move_node(self.alloc, &mut self.files, from, to)?;
+        self.steps.push(done).unwrap();
+        Ok(())
+    }
+
+    fn remove(&mut self, path: &RootPath) -> Result<(), HostFault> {
+        let done = Done::Took(path.copy()?);
+        self.steps.reserve(1)?;
+        self.files.take(path.as_str());
+        self.steps.push(done).unwrap();
+        Ok(())
+    }
+
+    fn remove_dir(&mut self, path: &RootPath) -> Result<(), HostFault> {
+        let done = Done::RemovedDir(path.copy()?);
+        self.steps.reserve(1)?;
+        self.files.take(path.as_str());
+        self.steps.push(done).unwrap();
+        Ok(())
+    }
+
+    /// The call ends as the first plan says, which is then used up.
+    fn run(&mut self, call: &Call, keep: &Keep) -> Result<Outcome, HostFault>
+        ensures runs { Runs (is_kept keep.now) call.now (memory_state self.old) (memory_state self.new) result }
+        ensures honest { (memory_state self.new).honest ≡ (memory_state self.old).honest }
+        ensures faults { (memory_state self.old).faults ≤ (memory_state self.new).faults }
+        ensures cause { HasCause (memory_state self.old) (memory_state self.new) result }
+        ensures ended { IfOk result (λ outcome. HasEnded (is_kept keep.now) call.now outcome self.old self.new) }
+        ensures planned { OnErr result (planned_of self.new ≡ planned_of self.old) }
+    {
+        Ok(self.end_call(call, keep)?)
+    }
+}

@@ -1,0 +1,20 @@
+use Rattle.std.proofs.Common.{sym, subst}
+use Rattle.host_core.specs.World.{HasParent}
+use Rattle.host_core.specs.Host.{Since}
+use Rattle.host_core.specs.Moments.{since_weaker}
+use Rattle.administration.specs.Directories.{IsMaking}
+use Rattle.package_files.proofs.LaidOut.{home_parent, making_within}
+use Rattle.package_files.proofs.incoming.make_tmp.Goals as goal
+
+pub make_directory-requires : goal.make_directory-requires
+make_directory-requires g c = record { parent = λ h. subst (HasParent (g.H.Host.state c.args.host.now).world) (sym c.in_ok-path.ensures) (home_parent (g.H.Host.state c.args.host.now).world (c.requires.home h)) }
+
+pub returns-in_err-_made-clause-any_moment : goal.returns-in_err-_made-clause-any_moment
+returns-in_err-_made-clause-any_moment g c = λ h.
+    let old = g.H.Host.state c.args.host.now in
+    since_weaker _ _ _ _ (λ w is. making_within old.world w is) (subst (λ q. Since (IsMaking q old.world) old (g.H.Host.state c.make_directory.new.host)) c.in_ok-path.ensures (c.make_directory.ensures.any_moment h))
+
+pub returns-clause-any_moment : goal.returns-clause-any_moment
+returns-clause-any_moment g c = λ h.
+    let old = g.H.Host.state c.args.host.now in
+    since_weaker _ _ _ _ (λ w is. making_within old.world w is) (subst (λ q. Since (IsMaking q old.world) old (g.H.Host.state c.make_directory.new.host)) c.in_ok-path.ensures (c.make_directory.ensures.any_moment h))

@@ -1,0 +1,2 @@
+pub mod OwnFiles
+pub mod Incoming

@@ -1,0 +1,4 @@
+pub mod Readable
+pub mod Shipped
+pub mod FieldsOnce
+pub mod OneTree

@@ -1,0 +1,86 @@
+-- A tree is that of one package, or has one fault.
+use Rattle.std.proofs.Common.{◌≡◌, ℕ, Bool, true, false, List, [], ◌∷◌, ◌++◌, Option, Some, None, IsTrue, refl, sym, ◌∙◌, ap, subst, inl, inr}
+use Rattle.std.specs.List.{AllByRecursion}
+use Rattle.std.proofs.lemmas.Bool.{true≢false}
+use Rattle.host_core.specs.Paths.{Path}
+use Rattle.host_core.specs.World.{World}
+use Rattle.host_core.specs.declared.node.Node.{Node}
+use Rattle.host_core.specs.declared.node.Node.TheVariants.{File, Dir, Link}
+use Rattle.host_core.specs.declared.call.Script.{Script}
+use Rattle.control_fields.specs.Grammar.{ReadsOne, lines_of}
+use Rattle.control_fields.specs.Faults.{IsFaultOfOne}
+use Rattle.control_fields.specs.declared.field.Field.{Field}
+use Rattle.control_fields.proofs.OnlyOne.{reads_one_once, no_fault_of_one}
+use Rattle.administration.specs.Scripts.{script_of, file_of}
+use Rattle.package_tree.specs.Fault.{IsHostFault}
+use Rattle.package_tree.specs.ControlFile.{key_of, HasValue, HasNoBadEssential, HasBadValue}
+use Rattle.package_tree.specs.Debian.{is_wrong}
+use Rattle.package_tree.specs.Tree.{HasControl, IsTreeOf, IsTreeFault}
+use Rattle.package_tree.specs.declared.package.Package.{Package}
+use Rattle.package_tree.specs.declared.fault.FieldName.TheVariants as field
+use Rattle.package_tree.specs.declared.fault.TreeFault.{TreeFault}
+use Rattle.package_tree.specs.declared.fault.TreeFault.TheVariants.{NoControl, Control, FieldMissing, FieldBad, PathBad, Device, NoMemory}
+use Rattle.package_tree.proofs.FieldsOnce.{lacked, one_value, not_bad, not_lacked}
+
+abbrev bytes_of : Option Node → List ℕ
+bytes_of None = []
+bytes_of (Some (File bytes mode)) = bytes
+bytes_of (Some (Dir mode)) = []
+bytes_of (Some (Link target)) = []
+
+one_text : (w : World) (a b : List ℕ) → HasControl w a → HasControl w b → a ≡ b
+one_text w a b one other = ap bytes_of (sym one.1 ∙ other.1)
+
+one_control : (w : World) (p : Package) → (t : IsTreeOf w p) → (text : List ℕ) (paragraph : List Field) → HasControl w text → ReadsOne (lines_of text) paragraph → paragraph ≡ p.control
+one_control w p t text paragraph there reads =
+    reads_one_once (lines_of t.text) paragraph p.control (subst (λ (b : List ℕ). ReadsOne (lines_of b) paragraph) (one_text w text t.text there t.there) reads) t.control.reads
+
+not_bad_essential : (fields : List Field) → HasNoBadEssential fields → HasBadValue field.Essential fields → ⊥
+not_bad_essential fields (inl lacks) bad = lacked (key_of field.Essential) fields bad.field bad.called lacks
+not_bad_essential fields (inr good) bad = not_bad field.Essential fields good.0 good.1 bad
+
+among : (w : World) (before after : List Path) (path : Path) → AllByRecursion (λ q. is_wrong (w q) ≡ false) (before ++ path ∷ after) → is_wrong (w path) ≡ false
+among w [] after path all = all.0
+among w (q ∷ before) after path all = among w before after path all.1
+
+pub no_fault : (w : World) (p : Package) (fault : TreeFault) → IsTreeOf w p → IsTreeFault w fault → IsHostFault fault
+no_fault w p NoControl t wrong = wrong t.text t.there
+no_fault w p (Control fault) t wrong = wrong.2.1 (no_fault_of_one (lines_of t.text) p.control fault t.control.reads (subst (λ (b : List ℕ). IsFaultOfOne (lines_of b) fault) (one_text w wrong.0 t.text wrong.1 t.there) wrong.2.0))
+no_fault w p (FieldMissing field.Package) t wrong =
+    not_lacked field.Package wrong.2.0 p.name (subst (λ (l : List Field). HasValue field.Package l p.name) (sym (one_control w p t wrong.0 wrong.2.0 wrong.1 wrong.2.1)) t.control.fields.named) wrong.2.2
+no_fault w p (FieldMissing field.Version) t wrong =
+    not_lacked field.Version wrong.2.0 p.version (subst (λ (l : List Field). HasValue field.Version l p.version) (sym (one_control w p t wrong.0 wrong.2.0 wrong.1 wrong.2.1)) t.control.fields.versioned) wrong.2.2.1
+no_fault w p (FieldMissing field.Essential) t wrong = absurd wrong.2.2
+no_fault w p (FieldBad field.Package) t wrong =
+    not_bad field.Package wrong.2.0 p.name (subst (λ (l : List Field). HasValue field.Package l p.name) (sym (one_control w p t wrong.0 wrong.2.0 wrong.1 wrong.2.1)) t.control.fields.named) wrong.2.2.1
+no_fault w p (FieldBad field.Version) t wrong =
+    not_bad field.Version wrong.2.0 p.version (subst (λ (l : List Field). HasValue field.Version l p.version) (sym (one_control w p t wrong.0 wrong.2.0 wrong.1 wrong.2.1)) t.control.fields.versioned) wrong.2.2.1
+no_fault w p (FieldBad field.Essential) t wrong =
+    not_bad_essential wrong.2.0 (subst HasNoBadEssential (sym (one_control w p t wrong.0 wrong.2.0 wrong.1 wrong.2.1)) t.control.fields.essential) wrong.2.2.2
+no_fault w p (PathBad path) t wrong =
+    true≢false (sym wrong.1.wrong ∙ among w wrong.1.before wrong.1.after path (subst (AllByRecursion (λ q. is_wrong (w q) ≡ false)) wrong.1.is t.files))
+no_fault w p Device t wrong = tt
+no_fault w p NoMemory t wrong = tt
+
+both : (a b : Bool) → (IsTrue a → IsTrue b) → (IsTrue b → IsTrue a) → a ≡ b
+both true b there back = sym (there refl)
+both false true there back = back refl
+both false false there back = refl
+
+pub control_once : (w : World) (p q : Package) → IsTreeOf w p → IsTreeOf w q → p.control ≡ q.control
+control_once w p q s t = one_control w q t s.text p.control s.there s.control.reads
+
+pub name_once : (w : World) (p q : Package) → IsTreeOf w p → IsTreeOf w q → p.name ≡ q.name
+name_once w p q s t = one_value field.Package q.control p.name q.name (subst (λ (l : List Field). HasValue field.Package l p.name) (control_once w p q s t) s.control.fields.named) t.control.fields.named
+
+pub version_once : (w : World) (p q : Package) → IsTreeOf w p → IsTreeOf w q → p.version ≡ q.version
+version_once w p q s t = one_value field.Version q.control p.version q.version (subst (λ (l : List Field). HasValue field.Version l p.version) (control_once w p q s t) s.control.fields.versioned) t.control.fields.versioned
+
+pub scripts_once : (w : World) (p q : Package) → IsTreeOf w p → IsTreeOf w q → (script : Script) → file_of (script_of p.scripts script) ≡ file_of (script_of q.scripts script)
+scripts_once w p q s t script = s.scripts script ∙ sym (t.scripts script)
+
+pub ships_once : (w : World) (p q : Package) → IsTreeOf w p → IsTreeOf w q → p.ships ≡ q.ships
+ships_once w p q s t = both p.ships q.ships (λ h. t.ships.1 (s.ships.0 h)) (λ h. s.ships.1 (t.ships.0 h))
+
+pub has_conffiles_once : (w : World) (p q : Package) → IsTreeOf w p → IsTreeOf w q → p.has_conffiles ≡ q.has_conffiles
+has_conffiles_once w p q s t = s.has_conffiles ∙ sym t.has_conffiles

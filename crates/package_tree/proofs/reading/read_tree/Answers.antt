@@ -1,0 +1,14 @@
+use Rattle.std.proofs.Common.{IsTrue, sym, subst}
+use Rattle.host_core.specs.World.{World}
+use Rattle.package_tree.specs.Debian.{AreContents, HasNoneWrong, member_paths}
+use Rattle.package_tree.proofs.reading.read_tree.Goals as goal
+
+pub returns-clause-read : goal.returns-clause-read
+returns-clause-read g c = λ h.
+    let w = (g.H.Host.state c.args.host.now).world in
+    let control = c.in_ok-control.ensures.read h in
+    let honest = subst IsTrue (sym c.read_control_file.ensures.silent.honest) h in
+    let same = (c.read_control_file.ensures.same h).world in
+    let found = subst (λ (v : World). AreContents v c.read_contents.new.contents) same (c.in_ok-read_contents.ensures.found honest) in
+    let files = subst (λ (v : World). HasNoneWrong v member_paths) same (c.in_ok-read_contents.ensures.files honest) in
+    c.assemble.ensures w control.0 control.1 control.2 found files

@@ -1,0 +1,101 @@
+-- The control file of a package (Policy 5.3): the fields that a tree's reading looks at.
+use Rattle.std.specs.Prelude.{◌≡◌, ◌≢◌, ◌⊎◌, ◌||◌, true, false, ℕ, Bool, List, [], codes}
+use Rattle.std.specs.Str.{bytes_eq}
+use Rattle.control_fields.specs.Names.{is_called, IsFieldCalled}
+use Rattle.control_fields.specs.Grammar.{ReadsOne, lines_of}
+use Rattle.control_fields.specs.Faults.{IsFaultOfOne}
+use Rattle.control_fields.specs.declared.field.Field.{Field}
+use Rattle.control_fields.specs.declared.fault.ControlFault.TheVariants as control
+use Rattle.version_order.specs.Versions.{IsVersion}
+use Rattle.administration.specs.Names.{is_package_name}
+use Rattle.package_tree.specs.declared.fault.FieldName.{FieldName}
+use Rattle.package_tree.specs.declared.fault.FieldName.TheVariants.{Package, Version, Essential}
+use Rattle.package_tree.specs.declared.fault.TreeFault.{TreeFault}
+use Rattle.package_tree.specs.declared.fault.TreeFault.TheVariants as tree
+
+-- the field's name in lower case; names are compared without regard to case (Policy 5.1)
+abbrev pub key_of : FieldName → List ℕ
+key_of Package = codes "package"
+key_of Version = codes "version"
+key_of Essential = codes "essential"
+
+abbrev pub is_yes_or_no : List ℕ → Bool
+is_yes_or_no value = bytes_eq value (codes "yes") || bytes_eq value (codes "no")
+
+-- a package name (Policy 5.6.7), a version (5.6.12), `yes` or `no` (5.6.9)
+abbrev pub IsGoodValue : FieldName → List ℕ → Type 0
+IsGoodValue Package value = is_package_name value ≡ true
+IsGoodValue Version value = IsVersion value
+IsGoodValue Essential value = is_yes_or_no value ≡ true
+
+-- a field of one line (Policy 5.1, simple fields) with a good value
+abbrev pub IsGoodField : FieldName → Field → Type 0
+IsGoodField name field = (field.more ≡ []) × IsGoodValue name field.first
+
+-- the paragraph has the field
+abbrev pub HasField : FieldName → List Field → Type 0
+HasField name paragraph = (field : Field) × IsFieldCalled (key_of name) paragraph field
+
+-- it hasn't
+abbrev pub LacksField : FieldName → List Field → Type 0
+LacksField name paragraph = is_called (key_of name) paragraph ≡ false
+
+-- the paragraph has the field with this value, which is good
+pub record HasValue (name : FieldName) (paragraph : List Field) (value : List ℕ) : Type 0 where
+  pub field : Field
+  pub called : IsFieldCalled (key_of name) paragraph field
+  pub is : field.first ≡ value
+  pub good : IsGoodField name field
+
+-- the paragraph has the field, with a value that isn't good
+pub record HasBadValue (name : FieldName) (paragraph : List Field) : Type 0 where
+  pub field : Field
+  pub called : IsFieldCalled (key_of name) paragraph field
+  pub bad : IsGoodField name field → ⊥
+
+-- where Essential stands, its value is good
+abbrev pub HasNoBadEssential : List Field → Type 0
+HasNoBadEssential paragraph = LacksField Essential paragraph ⊎ ((value : List ℕ) × HasValue Essential paragraph value)
+
+-- a paragraph with this Package and Version, in which nothing that is looked at is wrong
+pub record HasGoodFields (paragraph : List Field) (name version : List ℕ) : Type 0 where
+  pub named : HasValue Package paragraph name
+  pub versioned : HasValue Version paragraph version
+  pub essential : HasNoBadEssential paragraph
+
+-- a field that must stand is missing, the first of Package and Version
+abbrev pub IsMissing : FieldName → List Field → Type 0
+IsMissing Package paragraph = LacksField Package paragraph
+IsMissing Version paragraph = HasField Package paragraph × LacksField Version paragraph
+IsMissing Essential paragraph = ⊥
+
+-- none is missing, and this is the first of Package, Version and Essential whose value isn't good
+abbrev pub IsFirstBad : FieldName → List Field → Type 0
+IsFirstBad Package paragraph = HasField Version paragraph × HasBadValue Package paragraph
+IsFirstBad Version paragraph = ((name : List ℕ) × HasValue Package paragraph name) × HasBadValue Version paragraph
+IsFirstBad Essential paragraph = ((name : List ℕ) × HasValue Package paragraph name) × ((version : List ℕ) × HasValue Version paragraph version) × HasBadValue Essential paragraph
+
+-- what is wrong with a paragraph's fields
+abbrev pub IsFieldFault : List Field → TreeFault → Type 0
+IsFieldFault paragraph tree.NoControl = ⊥
+IsFieldFault paragraph (tree.Control fault) = ⊥
+IsFieldFault paragraph (tree.FieldMissing name) = IsMissing name paragraph
+IsFieldFault paragraph (tree.FieldBad name) = IsFirstBad name paragraph
+IsFieldFault paragraph (tree.PathBad path) = ⊥
+IsFieldFault paragraph tree.Device = ⊥
+IsFieldFault paragraph tree.NoMemory = Unit {0}
+
+-- the text of a control file is this paragraph, with this Package and Version
+pub record IsControlText (text : List ℕ) (paragraph : List Field) (name version : List ℕ) : Type 0 where
+  pub reads : ReadsOne (lines_of text) paragraph
+  pub fields : HasGoodFields paragraph name version
+
+-- what is wrong with the text of a control file
+abbrev pub IsTextFault : List ℕ → TreeFault → Type 0
+IsTextFault text tree.NoControl = ⊥
+IsTextFault text (tree.Control fault) = IsFaultOfOne (lines_of text) fault × (fault ≢ control.NoMemory)
+IsTextFault text (tree.FieldMissing name) = (paragraph : List Field) × ReadsOne (lines_of text) paragraph × IsMissing name paragraph
+IsTextFault text (tree.FieldBad name) = (paragraph : List Field) × ReadsOne (lines_of text) paragraph × IsFirstBad name paragraph
+IsTextFault text (tree.PathBad path) = ⊥
+IsTextFault text tree.Device = ⊥
+IsTextFault text tree.NoMemory = Unit {0}

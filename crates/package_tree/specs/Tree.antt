@@ -1,0 +1,46 @@
+-- The reading of a package's tree (Policy 5.6, 6.1).
+use Rattle.std.specs.Prelude.{◌≡◌, ◌↔◌, ℕ, List, IsTrue}
+use Rattle.host_core.specs.World.{World}
+use Rattle.host_core.specs.declared.call.Script.{Script}
+use Rattle.control_fields.specs.declared.field.Field.{Field}
+use Rattle.administration.specs.Scripts.{script_of, file_of}
+use Rattle.package_tree.specs.ControlFile.{IsControlText, IsTextFault}
+use Rattle.package_tree.specs.Debian.{HasFile, HasNoneWrong, IsFirstWrong, Ships, control_path, conffiles_path, script_path, member_paths, lists_conffiles}
+use Rattle.package_tree.specs.declared.package.Package.{Package}
+use Rattle.package_tree.specs.declared.fault.TreeFault.{TreeFault}
+use Rattle.package_tree.specs.declared.fault.TreeFault.TheVariants.{NoControl, Control, FieldMissing, FieldBad, PathBad, Device, NoMemory}
+
+-- the tree's control file has this text
+abbrev pub HasControl : World → List ℕ → Type 0
+HasControl w text = HasFile w control_path text
+
+-- the tree is that of this package
+pub record IsTreeOf (w : World) (p : Package) : Type 0 where
+  -- the control file's text, which is the package's paragraph
+  pub text : List ℕ
+  pub there : HasControl w text
+  pub control : IsControlText text p.control p.name p.version
+  -- each script is the file in `DEBIAN` by its name, or missing where there is none
+  pub scripts : (script : Script) → file_of (script_of p.scripts script) ≡ w (script_path script)
+  pub files : HasNoneWrong w member_paths
+  pub has_conffiles : p.has_conffiles ≡ lists_conffiles (w conffiles_path)
+  pub ships : IsTrue p.ships ↔ Ships w
+
+-- a control file that can be read, with nothing wrong in it
+abbrev pub HasGoodControl : World → Type 0
+HasGoodControl w = (text : List ℕ) × HasControl w text × ((paragraph : List Field) × (name : List ℕ) × (version : List ℕ) × IsControlText text paragraph name version)
+
+-- the control file is there, and this is the first thing that is wrong with its text
+abbrev pub HasControlFault : World → TreeFault → Type 0
+HasControlFault w fault = (text : List ℕ) × HasControl w text × IsTextFault text fault
+
+-- The tree has this fault, and none that is looked for before it. Want of memory and a failed device stand where they
+-- happen.
+abbrev pub IsTreeFault : World → TreeFault → Type 0
+IsTreeFault w NoControl = (text : List ℕ) → HasControl w text → ⊥
+IsTreeFault w (Control fault) = HasControlFault w (Control fault)
+IsTreeFault w (FieldMissing name) = HasControlFault w (FieldMissing name)
+IsTreeFault w (FieldBad name) = HasControlFault w (FieldBad name)
+IsTreeFault w (PathBad path) = HasGoodControl w × IsFirstWrong w member_paths path
+IsTreeFault w Device = Unit {0}
+IsTreeFault w NoMemory = Unit {0}

@@ -1,0 +1,51 @@
+// Why a tree can't be read.
+ghost use Rattle.std.specs.Prelude.{◌≡◌};
+ghost use Rattle.package_tree.specs.declared.fault.TreeFault.TheVariants.{NoMemory};
+ghost use Rattle.package_tree.specs.Fault.{fault_of};
+
+use control_fields::ControlFault;
+use host_core::{HostFault, RootPath};
+use std::alloc::AllocError;
+
+/// The fields of a control file that a tree's reading looks at.
+#[derive(Clone, Copy, Debug, PartialEq, Eq)]
+pub enum FieldName {
+    Package,
+    Version,
+    Essential,
+}
+
+/// The faults of a tree, in the order in which they are looked for; Device and NoMemory stand where
+/// they happen.
+#[derive(Drop)]
+pub enum TreeFault {
+    /// No file stands at `DEBIAN/control`.
+    NoControl,
+    /// The control file isn't one paragraph of control text.
+    Control(ControlFault),
+    FieldMissing(FieldName),
+    FieldBad(FieldName),
+    /// A script or `DEBIAN/conffiles` isn't a file.
+    PathBad(RootPath),
+    Device,
+    NoMemory,
+}
+
+impl From<HostFault> for TreeFault {
+    ghost from_gives = { λ h e. e ≡ fault_of h };
+
+    fn from(fault: HostFault) -> Self {
+        match fault {
+            HostFault::Device => TreeFault::Device,
+            HostFault::NoMemory => TreeFault::NoMemory,
+        }
+    }
+}
+
+impl From<AllocError> for TreeFault {
+    ghost from_gives = { λ _ e. e ≡ NoMemory };
+
+    fn from(_: AllocError) -> Self {
+        TreeFault::NoMemory
+    }
+}

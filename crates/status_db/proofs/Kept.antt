@@ -1,0 +1,132 @@
+-- What is left of a paragraph without the fields of some names.
+use Rattle.std.proofs.Common.{◌≡◌, ℕ, Bool, true, false, cond, not, ◌||◌, List, [], ◌∷◌, ◌++◌, map, Bor, refl, sym, ap, subst, ◌∙◌, append_assoc, codes}
+use Rattle.std.specs.Prelude.{filter}
+use Rattle.std.specs.Str.{bytes_eq}
+use Rattle.std.specs.List.{list_any}
+use Rattle.std.proofs.Props.{props}
+use Rattle.std.proofs.Math.Logic.{∥∥₁_elim, ∥∥₁_map}
+use Rattle.administration.specs.Names.{is_package_name}
+use Rattle.std.proofs.lemmas.Bool.{or_from, false_from_ne_true, false≢true}
+use Rattle.std.proofs.lemmas.List.{append-nil, map-append}
+use Rattle.std.proofs.lemmas.List.Elements.{filter-append}
+use Rattle.std.proofs.lemmas.Slice.Eq.{bytes_eq-Decides}
+use Rattle.control_fields.specs.Names.{lower, is_called, stands}
+use Rattle.control_fields.specs.Spelling.{AreFields}
+use Rattle.control_fields.specs.declared.field.Field.{Field}
+use Rattle.status_db.specs.Fields.{first_names, own_names, is_one_of, fields_but, recorded_fields, other_fields}
+use Rattle.status_db.specs.Writable.{IsWritable, first_fields}
+
+-- a name that stands nowhere stands in no part
+
+pub or_parts : (a b : Bool) → (a || b) ≡ false → (a ≡ false) × (b ≡ false)
+or_parts true b e = absurd (false≢true (sym e))
+or_parts false b e = (refl, e)
+
+pub called_filter : (text : List ℕ) (keep : Field → Bool) (fs : List Field) → is_called text fs ≡ false → is_called text (filter keep fs) ≡ false
+called_filter text keep [] e = refl
+called_filter text keep (f ∷ fs) e =
+    let parts = or_parts (bytes_eq (lower f.name) text) (is_called text fs) e in
+    by (keep f) parts.0 (called_filter text keep fs parts.1)
+  where
+    by : (b : Bool) → bytes_eq (lower f.name) text ≡ false → is_called text (filter keep fs) ≡ false → is_called text (cond b (f ∷ filter keep fs) (filter keep fs)) ≡ false
+    by true here rest = or_from (bytes_eq (lower f.name) text) (is_called text (filter keep fs)) here rest
+    by false here rest = rest
+
+pub called_append : (text : List ℕ) (xs ys : List Field) → is_called text xs ≡ false → is_called text ys ≡ false → is_called text (xs ++ ys) ≡ false
+called_append text [] ys none rest = rest
+called_append text (f ∷ xs) ys none rest =
+    let parts = or_parts (bytes_eq (lower f.name) text) (is_called text xs) none in
+    or_from (bytes_eq (lower f.name) text) (is_called text (xs ++ ys)) parts.0 (called_append text xs ys parts.1 rest)
+
+pub called_parts : (text : List ℕ) (xs ys : List Field) → is_called text (xs ++ ys) ≡ false → (is_called text xs ≡ false) × (is_called text ys ≡ false)
+called_parts text [] ys none = (refl, none)
+called_parts text (f ∷ xs) ys none =
+    let parts = or_parts (bytes_eq (lower f.name) text) (is_called text (xs ++ ys)) none in
+    let rest = called_parts text xs ys parts.1 in
+    (or_from (bytes_eq (lower f.name) text) (is_called text xs) parts.0 rest.0, rest.1)
+
+pub new_among : (before xs : List Field) (f : Field) (ys : List Field) → AreFields before (xs ++ f ∷ ys) → stands f.name (before ++ xs) ≡ false
+new_among before [] f ys are = subst (λ (l : List Field). stands f.name l ≡ false) (sym (append-nil before)) are.1
+new_among before (g ∷ xs) f ys are =
+    subst (λ (l : List Field). stands f.name l ≡ false) (append_assoc before (g ∷ []) xs) (new_among (before ++ g ∷ []) xs f ys are.2)
+
+-- the step of a loop that copies the fields but some
+
+filter_last : (keep : Field → Bool) (ys : List (Bor Field)) (x : Bor Field) (b : Bool) → keep x.now ≡ b → filter keep (map (λ b. b.now) (ys ++ x ∷ [])) ≡ filter keep (map (λ b. b.now) ys) ++ cond b (x.now ∷ []) []
+filter_last keep ys x b e =
+    ap (filter keep) (map-append (λ (b : Bor Field). b.now) ys (x ∷ [])) ∙ filter-append keep (map (λ b. b.now) ys) (x.now ∷ []) ∙ ap (λ y. filter keep (map (λ b. b.now) ys) ++ cond y (x.now ∷ []) []) e
+
+pub kept_more : (names : List (List ℕ)) (kept next : List Field) (ys : List (Bor Field)) (x : Bor Field) (f : Field) → is_one_of names x.now ≡ false → kept ≡ fields_but names (map (λ b. b.now) ys) → next ≡ kept ++ f ∷ [] → f ≡ x.now → next ≡ fields_but names (map (λ b. b.now) (ys ++ x ∷ []))
+kept_more names kept next ys x f out e n same =
+    n ∙ ap (λ (l : List Field). l ++ f ∷ []) e ∙ ap (λ (g : Field). fields_but names (map (λ b. b.now) ys) ++ g ∷ []) same ∙ sym (filter_last (λ g. not (is_one_of names g)) ys x true (ap not out))
+
+pub kept_same : (names : List (List ℕ)) (kept : List Field) (ys : List (Bor Field)) (x : Bor Field) → is_one_of names x.now ≡ true → kept ≡ fields_but names (map (λ b. b.now) ys) → kept ≡ fields_but names (map (λ b. b.now) (ys ++ x ∷ []))
+kept_same names kept ys x out e =
+    e ∙ sym (append-nil (fields_but names (map (λ b. b.now) ys))) ∙ sym (filter_last (λ g. not (is_one_of names g)) ys x false (ap not out))
+
+pub kept_new : (names : List (List ℕ)) (kept all left next : List Field) (ys : List (Bor Field)) (x : Bor Field) (f : Field) → ∥ AreFields [] all ∥₁ → kept ≡ fields_but names (map (λ b. b.now) ys) → all ≡ map (λ b. b.now) ys ++ left → left ≡ x.now ∷ next → f ≡ x.now → stands f.name kept ≡ false
+kept_new names kept all left next ys x f are e walked l same = ∥∥₁_elim are (hlevel props)
+    (λ known.
+    let here = new_among [] (map (λ b. b.now) ys) x.now next (subst (AreFields []) (walked ∙ ap (λ (r : List Field). map (λ b. b.now) ys ++ r) l) known) in
+    ap (stands f.name) e ∙ ap (λ (g : Field). stands g.name (fields_but names (map (λ b. b.now) ys))) same
+    ∙ called_filter (lower x.now.name) (λ g. not (is_one_of names g)) (map (λ b. b.now) ys) here)
+
+-- what is left can be written behind fields of the names that were left out
+
+pub left_over : (keep : Field → Bool) (firsts : List Field) → ((f : Field) → keep f ≡ true → stands f.name firsts ≡ false) → (before fs : List Field) → AreFields before fs → AreFields (firsts ++ filter keep before) (filter keep fs)
+left_over keep firsts apart before [] are = tt
+left_over keep firsts apart before (f ∷ fs) are = by (keep f) refl (left_over keep firsts apart (before ++ f ∷ []) fs are.2)
+  where
+    by : (b : Bool) → keep f ≡ b → AreFields (firsts ++ filter keep (before ++ f ∷ [])) (filter keep fs) → AreFields (firsts ++ filter keep before) (cond b (f ∷ filter keep fs) (filter keep fs))
+    by true e rest = (
+      are.0,
+      called_append (lower f.name) firsts (filter keep before) (apart f e) (called_filter (lower f.name) keep before are.1),
+      subst (λ (l : List Field). AreFields l (filter keep fs))
+          (ap (λ (l : List Field). firsts ++ l) (filter-append keep before (f ∷ []) ∙ ap (λ y. filter keep before ++ cond y (f ∷ []) []) e) ∙ sym (append_assoc firsts (filter keep before) (f ∷ []))) rest,
+    )
+    by false e rest = subst (λ (l : List Field). AreFields (firsts ++ l) (filter keep fs)) (filter-append keep before (f ∷ []) ∙ ap (λ y. filter keep before ++ cond y (f ∷ []) []) e ∙ append-nil (filter keep before)) rest
+
+not_true : (b : Bool) → not b ≡ true → b ≡ false
+not_true true e = absurd (false≢true e)
+not_true false e = refl
+
+pub swapped : (a b : List ℕ) → bytes_eq a b ≡ false → bytes_eq b a ≡ false
+swapped a b e = false_from_ne_true (bytes_eq b a) (λ t. false≢true (sym e ∙ (bytes_eq-Decides a b).1 (sym ((bytes_eq-Decides b a).0 t))))
+
+first_apart : (f : Field) (name status version : List ℕ) (more : List (List ℕ)) → list_any (bytes_eq (lower f.name)) (codes "package" ∷ codes "status" ∷ codes "version" ∷ more) ≡ false → stands f.name (first_fields name status version) ≡ false
+first_apart f name status version more out =
+    let l = lower f.name in
+    let a = or_parts (bytes_eq l (codes "package")) (list_any (bytes_eq l) (codes "status" ∷ codes "version" ∷ more)) out in
+    let b = or_parts (bytes_eq l (codes "status")) (list_any (bytes_eq l) (codes "version" ∷ more)) a.1 in
+    let c = or_parts (bytes_eq l (codes "version")) (list_any (bytes_eq l) more) b.1 in
+    or_from (bytes_eq (codes "package") l) (bytes_eq (codes "status") l || (bytes_eq (codes "version") l || false)) (swapped l (codes "package") a.0)
+    (or_from (bytes_eq (codes "status") l) (bytes_eq (codes "version") l || false) (swapped l (codes "status") b.0) (or_from (bytes_eq (codes "version") l) false (swapped l (codes "version") c.0) refl))
+
+pub recorded_after : (name status version : List ℕ) (fs : List Field) → AreFields [] fs → AreFields (first_fields name status version) (recorded_fields fs)
+recorded_after name status version fs are =
+    left_over (λ f. not (is_one_of own_names f)) (first_fields name status version)
+    (λ f kept. first_apart f name status version (codes "config-version" ∷ codes "removed-since" ∷ codes "conffiles" ∷ codes "new-conffiles" ∷ []) (not_true (is_one_of own_names f) kept)) [] fs are
+
+pub others_after : (name status version : List ℕ) (fs : List Field) → AreFields [] fs → AreFields (first_fields name status version) (other_fields fs)
+others_after name status version fs are =
+    left_over (λ f. not (is_one_of first_names f)) (first_fields name status version) (λ f kept. first_apart f name status version [] (not_true (is_one_of first_names f) kept)) [] fs are
+
+pub writable_of : (name other : List ℕ) (fields control : List Field) → name ≡ other → is_package_name other ≡ true → fields ≡ recorded_fields control → ∥ AreFields [] control ∥₁ → ∥ IsWritable name fields ∥₁
+writable_of name other fields control is named left are = ∥∥₁_map are (λ known. record {
+  named = ap is_package_name is ∙ named;
+  written = λ status version. subst (AreFields (first_fields name status version)) (sym left) (recorded_after name status version control known);
+})
+
+-- the step of a loop that writes the other fields behind the first
+pub written_new : (name status version : List ℕ) (fields paragraph left next : List Field) (ys : List (Bor Field)) (x : Bor Field) (f : Field) → ∥ IsWritable name fields ∥₁ → paragraph ≡ first_fields name status version ++ map (λ b. b.now) ys
+    → fields ≡ map (λ b. b.now) ys ++ left → left ≡ x.now ∷ next → f ≡ x.now → stands f.name paragraph ≡ false
+written_new name status version fields paragraph left next ys x f writable e walked l same = ∥∥₁_elim writable (hlevel props)
+    (λ known.
+    let are = subst (AreFields (first_fields name status version)) (walked ∙ ap (λ (r : List Field). map (λ b. b.now) ys ++ r) l) (known.written status version) in
+    ap (stands f.name) e ∙ ap (λ (g : Field). stands g.name (first_fields name status version ++ map (λ b. b.now) ys)) same ∙ new_among (first_fields name status version) (map (λ b. b.now) ys) x.now next are)
+
+pub writable_others : (name other : List ℕ) (fields paragraph : List Field) → name ≡ other → is_package_name other ≡ true → fields ≡ other_fields paragraph → ∥ AreFields [] paragraph ∥₁ → ∥ IsWritable name fields ∥₁
+writable_others name other fields paragraph is named left are = ∥∥₁_map are (λ known. record {
+  named = ap is_package_name is ∙ named;
+  written = λ status version. subst (AreFields (first_fields name status version)) (sym left) (others_after name status version paragraph known);
+})

@@ -1,0 +1,11 @@
+pub mod Tables
+pub mod Kept
+pub mod Lines
+pub mod Parsing
+pub mod Sayings
+pub mod Standing
+pub mod Rounds
+pub mod Missing
+pub mod Entering
+pub mod WholeText
+pub mod Noting

@@ -1,0 +1,84 @@
+-- What writing the status file leaves, in the end and at each moment.
+use Rattle.std.proofs.Common.{◌≡◌, ◌≢◌, ◌⊎◌, inl, inr, ℕ, List, false, length, Option, Some, None, Result, Ok, Err, OnOk, refl, sym, ap, subst, ◌∙◌, arith, codes}
+use Rattle.std.specs.Prelude.{Contains, nat_eq}
+use Rattle.std.specs.List.{list_any}
+use Rattle.std.proofs.lemmas.Bool.{true≢false}
+use Rattle.std.proofs.lemmas.Cmp.{nat_eq_equiv}
+use Rattle.std.proofs.lemmas.Map.Views.{list_any-from_Contains}
+use Rattle.host_core.specs.Paths.{Path}
+use Rattle.host_core.specs.World.{World, IsDirectory, IsFile, HasParent}
+use Rattle.host_core.specs.Host.{State, Since}
+use Rattle.host_core.specs.Moments.{since_weaker}
+use Rattle.host_core.specs.declared.fault.HostFault.{HostFault}
+use Rattle.host_core.specs.declared.node.Node.{Node}
+use Rattle.host_core.specs.declared.node.Node.TheVariants.{File}
+use Rattle.administration.specs.Places.{home_path, status_path, temporary}
+use Rattle.administration.specs.Files.{NoDirectory, KeepsBesideFile, IsReplaced, IsReplacing}
+use Rattle.administration.proofs.WholeFiles.{no_directory_file, no_directory_none, no_directory_at}
+use Rattle.status_db.specs.declared.record.Record.{Record}
+use Rattle.status_db.specs.Status.{IsStatus, StandsFor, HasRecords, IsStatusReady, IsNoted, IsNoting}
+
+-- the file has the text of these records
+abbrev pub Holds : Node → List Record → Type 0
+Holds node rs = (bytes : List ℕ) × (node ≡ File bytes 420) × ∥ IsStatus bytes rs ∥₁
+
+pub holds_file : (node : Node) (rs : List Record) → Holds node rs → IsFile node
+holds_file node rs holds = (holds.0, 420, holds.1)
+
+stands_for : (found : Option Node) (node : Node) (rs : List Record) → Holds node rs → found ≡ Some node → StandsFor found rs
+stands_for found node rs holds e = subst (λ (o : Option Node). StandsFor o rs) (ap (λ (n : Node). Some n) (sym holds.1) ∙ sym e) holds.2
+
+no_slash : (u : Path) → list_any (nat_eq 47) u ≡ false → Contains u 47 → ⊥
+no_slash u free has = true≢false (sym (list_any-from_Contains nat_eq_equiv 47 u has) ∙ free)
+
+pub status_parent : (w : World) → IsStatusReady w → HasParent w status_path
+status_parent w ready = (codes "/var/lib/dpkg", codes "status", refl, no_slash (codes "status") refl, ready.home)
+
+home_other : home_path ≢ status_path
+home_other e = absurd (omega (arith, ap length e))
+
+home_spare : home_path ≢ temporary status_path
+home_spare e = absurd (omega (arith, ap length e))
+
+home_stays : (old now : World) → KeepsBesideFile status_path old now → IsDirectory (old home_path) → IsDirectory (now home_path)
+home_stays old now rest home = subst IsDirectory (sym (rest home_path home_other home_spare)) home
+
+file_stands : (found : Option Node) (node : Node) (rs : List Record) → Holds node rs → found ≡ Some node → NoDirectory found
+file_stands found node rs holds e = no_directory_at found (Some node) e (no_directory_file node (holds_file node rs holds))
+
+pub noted_file : (rs : List Record) (node : Node) (old new : World) → Holds node rs → IsStatusReady old → IsReplaced status_path node old new → IsNoted rs old new
+noted_file rs node old new holds ready is = record {
+  records = stands_for (new status_path) node rs holds is.target;
+  ready = record {
+    home = home_stays old new is.rest ready.home;
+    target = file_stands (new status_path) node rs holds is.target;
+    spare = no_directory_at (new (temporary status_path)) None is.spare no_directory_none;
+  };
+  rest = is.rest;
+}
+
+status_by : (rs : List Record) (node : Node) (old now : World) → Holds node rs → (now status_path ≡ old status_path) ⊎ (now status_path ≡ Some node) → (now status_path ≡ old status_path) ⊎ HasRecords now rs
+status_by rs node old now holds (inl e) = inl e
+status_by rs node old now holds (inr e) = inr (stands_for (now status_path) node rs holds e)
+
+target_by : (rs : List Record) (node : Node) (old now : World) → Holds node rs → NoDirectory (old status_path) → (now status_path ≡ old status_path) ⊎ (now status_path ≡ Some node) → NoDirectory (now status_path)
+target_by rs node old now holds none (inl e) = no_directory_at (now status_path) (old status_path) e none
+target_by rs node old now holds none (inr e) = file_stands (now status_path) node rs holds e
+
+pub noting_file : (rs : List Record) (node : Node) (old now : World) → Holds node rs → IsStatusReady old → IsReplacing status_path node old now → IsNoting rs old now
+noting_file rs node old now holds ready is = record {
+  status = status_by rs node old now holds is.target;
+  ready = record { home = home_stays old now is.rest ready.home; target = target_by rs node old now holds ready.target is.target; spare = is.spare };
+  rest = is.rest;
+}
+
+pub noting_start : (rs : List Record) (w : World) → IsStatusReady w → IsNoting rs w w
+noting_start rs w ready = record { status = inl refl; ready = ready; rest = λ q ne_p ne_t. refl }
+
+pub noted_by : {T : Type 0} (rs : List Record) (node : Node) (path : Path) (old new : World) (result : Result T HostFault) → path ≡ status_path → Holds node rs → IsStatusReady old → OnOk result (IsReplaced path node old new) → OnOk result (IsNoted rs old new)
+noted_by rs node path old new (Ok x) e holds ready is = noted_file rs node old new holds ready (subst (λ p. IsReplaced p node old new) e is)
+noted_by rs node path old new (Err f) e holds ready is = tt
+
+pub noting_by : (rs : List Record) (node : Node) (path : Path) (a b : State) → path ≡ status_path → Holds node rs → IsStatusReady a.world → Since (IsReplacing path node a.world) a b → Since (IsNoting rs a.world) a b
+noting_by rs node path a b e holds ready since =
+    since_weaker (IsReplacing path node a.world) (IsNoting rs a.world) a b (λ w is. noting_file rs node a.world w holds ready (subst (λ p. IsReplacing p node a.world w) e is)) since

@@ -1,0 +1,150 @@
+-- What the fields of a paragraph say.
+use Rattle.std.proofs.Common.{◌≡◌, ℕ, ◌+◌, ◌<◌, ◌^◌, Bool, true, false, cond, ◌||◌, Option, None, Some, Bor, List, [], ◌∷◌, ◌++◌, length, refl, sym, ap, subst, ◌∙◌, arith, codes, IsTrue, Result, Ok, Err, zero, suc, take, eqb, add-one}
+use Rattle.std.specs.Prelude.{IfSome, IfNone, ◌↔◌, option_copied, IfOk, slice_get, ◌==◌}
+use Rattle.std.specs.List.{list_any, AllByRecursion}
+use Rattle.std.specs.Str.{bytes_eq}
+use Rattle.std.proofs.lemmas.Bool.{true≢false, false≢true}
+use Rattle.std.proofs.lemmas.Slice.Eq.{bytes_eq-Decides}
+use Rattle.control_fields.specs.Names.{lower, is_called, IsFieldCalled}
+use Rattle.control_fields.specs.declared.field.Field.{Field}
+use Rattle.administration.specs.Names.{is_package_name}
+use Rattle.version_order.specs.Versions.{IsVersion}
+use Rattle.status_db.specs.declared.words.Want.{Want}
+use Rattle.status_db.specs.declared.words.Flag.{Flag}
+use Rattle.status_db.specs.declared.words.State.{State}
+use Rattle.status_db.specs.declared.words.State.TheVariants.{NotInstalled}
+use Rattle.status_db.specs.Words.{is_not_installed}
+use Rattle.status_db.specs.Fields.{first_names, is_one_of}
+use Rattle.status_db.specs.Paragraphs.{field_in, Says, status_text, IsNamed, IsStatusText, IsReadable, IsGone}
+use Rattle.control_fields.specs.Names.{line_of_field}
+use Rattle.control_fields.specs.declared.located.Located.{Located}
+use Rattle.std.proofs.lemmas.Bool.Decides.{nat_tests}
+use Rattle.status_db.specs.Damage.{IsTaken, IsBadField, HasLines}
+use Rattle.status_db.proofs.Kept.{or_parts}
+use Rattle.status_db.proofs.Parsing.{gone_state, is_gone_state}
+
+-- the field of a name
+
+called_found : (text : List ℕ) (front : List Field) (f : Field) (rest : List Field) → lower f.name ≡ text → is_called text front ≡ false → field_in text (front ++ f ∷ rest) ≡ Some f
+called_found text [] f rest named none = ap (λ b. cond b (Some f) (field_in text rest)) ((bytes_eq-Decides (lower f.name) text).1 named)
+called_found text (g ∷ front) f rest named none =
+    let parts = or_parts (bytes_eq (lower g.name) text) (is_called text front) none in
+    ap (λ b. cond b (Some g) (field_in text (front ++ f ∷ rest))) parts.0 ∙ called_found text front f rest named parts.1
+
+not_called : (text : List ℕ) (fs : List Field) → is_called text fs ≡ false → field_in text fs ≡ None
+not_called text [] none = refl
+not_called text (g ∷ fs) none =
+    let parts = or_parts (bytes_eq (lower g.name) text) (is_called text fs) none in
+    ap (λ b. cond b (Some g) (field_in text fs)) parts.0 ∙ not_called text fs parts.1
+
+pub found_field : (r : Option (Bor Field)) (text : List ℕ) (fs : List Field) → IfSome r (λ f. IsFieldCalled text fs f.now) → IfNone r (is_called text fs ≡ false) → option_copied r ≡ field_in text fs
+found_field None text fs some none = sym (not_called text fs none)
+found_field (Some f) text fs some none = sym (ap (field_in text) some.is ∙ called_found text some.front f.now some.rest some.named some.first)
+
+-- one value
+
+pub says_same : (text : List ℕ) (fs : List Field) (a b : List ℕ) → Says text fs a → Says text fs b → a ≡ b
+says_same text fs a b p q =
+    let same : p.field ≡ q.field = (let both : Some p.field ≡ Some q.field = sym p.there ∙ q.there in cc both) in
+    sym p.value_is ∙ ap (λ (f : Field). f.first) same ∙ q.value_is
+
+pub none_named : (fs : List Field) (value : List ℕ) → Says (codes "package") fs value → is_package_name value ≡ false → (name : List ℕ) → IsNamed fs name → ⊥
+none_named fs value says bad name is = true≢false (sym is.1 ∙ ap is_package_name (says_same (codes "package") fs name value is.0 says) ∙ bad)
+
+pub none_status : (fs : List Field) (value : List ℕ) → Says (codes "status") fs value → (IsStatusText value → ⊥) → (w : Want) (g : Flag) (s : State) → Says (codes "status") fs (status_text w g s) → ⊥
+none_status fs value says bad w g s is = bad (w, g, s, says_same (codes "status") fs value (status_text w g s) says is)
+
+pub none_version : (fs : List Field) (value : List ℕ) → Says (codes "version") fs value → (IsVersion value → ⊥) → (v : List ℕ) → Says (codes "version") fs v × IsVersion v → ⊥
+none_version fs value says bad v is = bad (subst IsVersion (says_same (codes "version") fs v value is.0 says) is.1)
+
+-- gone
+
+pub not_gone : (fs : List Field) → ((w : Want) (g : Flag) (s : State) → Says (codes "status") fs (status_text w g s) → ⊥) → IsTrue false ↔ IsGone fs
+not_gone fs none = (λ t. absurd (false≢true t), λ is. absurd (none is.0 is.1 NotInstalled is.2))
+
+pub gone_by : (fs : List Field) (w : Want) (g : Flag) (s : State) (b : Bool) → Says (codes "status") fs (status_text w g s) → b ≡ is_not_installed s → IsTrue b ↔ IsGone fs
+gone_by fs w g s b says e = (
+  λ t. (w, g, subst (λ (q : State). Says (codes "status") fs (status_text w g q)) (is_gone_state s (sym e ∙ t)) says),
+  λ is. e ∙ gone_state w is.0 g is.1 s (says_same (codes "status") fs (status_text w g s) (status_text is.0 is.1 NotInstalled) says is.2),
+)
+
+-- taken
+
+pub not_taken : (names : List (List ℕ)) (fs : List Field) → ((name : List ℕ) → IsNamed fs name → ⊥) → IsTrue false ↔ IsTaken names fs
+not_taken names fs none = (λ t. absurd (false≢true t), λ is. absurd (none is.0 is.1))
+
+pub taken_by : (names : List (List ℕ)) (fs : List Field) (name : List ℕ) (b : Bool) → IsNamed fs name → b ≡ list_any (bytes_eq name) names → IsTrue b ↔ IsTaken names fs
+taken_by names fs name b is e = (λ t. (name, is, sym e ∙ t), λ taken. e ∙ ap (λ (n : List ℕ). list_any (bytes_eq n) names) (says_same (codes "package") fs name taken.0 is.0 taken.1.0) ∙ taken.2)
+
+-- Version
+
+only_version : (f : Field) → is_one_of first_names f ≡ true → (lower f.name ≡ codes "package" → ⊥) → (lower f.name ≡ codes "status" → ⊥) → lower f.name ≡ codes "version"
+only_version f among no_package no_status = by (bytes_eq (lower f.name) (codes "package")) (bytes_eq (lower f.name) (codes "status")) (bytes_eq (lower f.name) (codes "version")) refl refl refl among
+  where
+    by : (a b d : Bool) → bytes_eq (lower f.name) (codes "package") ≡ a → bytes_eq (lower f.name) (codes "status") ≡ b → bytes_eq (lower f.name) (codes "version") ≡ d → (a || (b || (d || false))) ≡ true → lower f.name ≡ codes "version"
+    by true b d p s v e = absurd (no_package ((bytes_eq-Decides (lower f.name) (codes "package")).0 p))
+    by false true d p s v e = absurd (no_status ((bytes_eq-Decides (lower f.name) (codes "status")).0 s))
+    by false false true p s v e = (bytes_eq-Decides (lower f.name) (codes "version")).0 v
+    by false false false p s v e = absurd (false≢true e)
+
+pub readable_version : (f : Field) (b : Bool) → is_one_of first_names f ≡ true → f.more ≡ [] → (lower f.name ≡ codes "package" → ⊥) → (lower f.name ≡ codes "status" → ⊥) → IsTrue b ↔ IsVersion f.first → IsTrue b ↔ IsReadable f
+readable_version f b among more no_package no_status version = (
+  λ t. record { one_line = λ x. more; of_package = λ x. absurd (no_package x); of_status = λ x. absurd (no_status x); of_version = λ x. version.0 t },
+  λ is. version.1 (is.of_version (only_version f among no_package no_status)),
+)
+
+pub no_lines : (more m : List (List ℕ)) (b : Bool) → m ≡ more → b ≡ (length m == 0) → b ≡ true → more ≡ []
+no_lines [] m b is e t = refl
+no_lines (l ∷ more) m b is e t = let h : eqb (suc (length more)) 0 ≡ true = ap (λ (x : List (List ℕ)). length x == 0) (sym is) ∙ sym e ∙ t in absurd (grind (arith, nat_tests))
+
+pub end_readable : {E : Type 0} (f : Field) (value : List ℕ) (r : Result Bool E) → is_one_of first_names f ≡ true → f.more ≡ [] → (lower f.name ≡ codes "package" → ⊥) → (lower f.name ≡ codes "status" → ⊥) → value ≡ f.first
+    → IfOk r (λ b. IsTrue b ↔ IsVersion value) → IfOk r (λ b. IsTrue b ↔ IsReadable f)
+end_readable f value (Ok b) among more no_package no_status is version = readable_version f b among more no_package no_status (subst (λ (v : List ℕ). IsTrue b ↔ IsVersion v) is version)
+end_readable f value (Err e) among more no_package no_status is version = tt
+
+-- the first field that can't be read
+
+pub readable_here : {E : Type 0} (fs : List Field) (i : ℕ) (f : Field) (r : Result Bool E) → Some f ≡ slice_get fs i → IfOk r (λ b. IsTrue b ↔ IsReadable f) → IfOk r (λ b. (g : Field) → slice_get fs i ≡ Some g → IsTrue b ↔ IsReadable g)
+readable_here fs i f (Ok b) here is = λ g there. (let both : Some f ≡ Some g = here ∙ there in let same : f ≡ g = cc both in subst (λ (h : Field). IsTrue b ↔ IsReadable h) same is)
+readable_here fs i f (Err e) here is = tt
+
+record IsSplit (fs : List Field) (i : ℕ) : Type 0 where
+  field : Field
+  rest : List Field
+  there : slice_get fs i ≡ Some field
+  is : fs ≡ take i fs ++ field ∷ rest
+  counted : length (take i fs) ≡ i
+  next : take (suc i) fs ≡ take i fs ++ field ∷ []
+
+split_at : (fs : List Field) (i : ℕ) → i < length fs → IsSplit fs i
+split_at [] i lt = absurd (omega arith)
+split_at (f ∷ fs) zero lt = record { field = f; rest = fs; there = refl; is = refl; counted = refl; next = refl }
+split_at (f ∷ fs) (suc i) lt =
+    let s = split_at fs i (omega arith) in
+    record { field = s.field; rest = s.rest; there = s.there; is = ap (λ (l : List Field). f ∷ l) s.is; counted = omega (arith, s.counted); next = ap (λ (l : List Field). f ∷ l) s.next }
+
+pub counted : (l : Located) (i : ℕ) → i < length l.paragraph → HasLines l → line_of_field l.line l.paragraph i < 2 ^ 64
+counted l i lt lines = let s = split_at l.paragraph i lt in lines i s.field s.there
+
+all_last : (P : Field → Type 0) (fs : List Field) (f : Field) → AllByRecursion P fs → P f → AllByRecursion P (fs ++ f ∷ [])
+all_last P [] f all here = (here, tt)
+all_last P (g ∷ fs) f all here = (all.0, all_last P fs f all.1 here)
+
+pub good_more : (fs : List Field) (i : ℕ) (b : Bool) → i < length fs → AllByRecursion IsReadable (take i fs) → ((f : Field) → slice_get fs i ≡ Some f → IsTrue b ↔ IsReadable f) → b ≡ true → AllByRecursion IsReadable (take (i + 1) fs)
+good_more fs i b lt all says t =
+    let s = split_at fs i lt in
+    subst (λ k. AllByRecursion IsReadable (take k fs)) (sym (add-one i)) (subst (AllByRecursion IsReadable) (sym s.next) (all_last IsReadable (take i fs) s.field all ((says s.field s.there).0 t)))
+
+pub bad_here : (l : Located) (i : ℕ) (b : Bool) (line : ℕ) → i < length l.paragraph → AllByRecursion IsReadable (take i l.paragraph) → ((f : Field) → slice_get l.paragraph i ≡ Some f → IsTrue b ↔ IsReadable f) → b ≡ false
+    → line ≡ line_of_field l.line l.paragraph i → IsBadField l line
+bad_here l i b line lt all says fails e =
+    let s = split_at l.paragraph i lt in
+    record {
+      front = take i l.paragraph;
+      field = s.field;
+      rest = s.rest;
+      is = s.is;
+      good = all;
+      bad = λ is. true≢false (sym ((says s.field s.there).1 is) ∙ fails);
+      line_is = e ∙ ap (line_of_field l.line l.paragraph) (sym s.counted);
+    }

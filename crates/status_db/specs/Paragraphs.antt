@@ -1,0 +1,80 @@
+-- How a record is written as a paragraph, and what a paragraph says.
+use Rattle.std.specs.Prelude.{◌≡◌, ◌⊎◌, ℕ, true, false, cond, List, [], ◌∷◌, ◌++◌, Option, Some, None, codes}
+use Rattle.std.specs.List.{list_any, AllByRecursion}
+use Rattle.std.specs.Str.{bytes_eq}
+use Rattle.control_fields.specs.Names.{lower}
+use Rattle.control_fields.specs.declared.field.Field.{Field}
+use Rattle.administration.specs.Names.{is_package_name}
+use Rattle.version_order.specs.Versions.{IsVersion}
+use Rattle.status_db.specs.declared.record.Record.{Record}
+use Rattle.status_db.specs.declared.words.Want.{Want}
+use Rattle.status_db.specs.declared.words.Flag.{Flag}
+use Rattle.status_db.specs.declared.words.State.{State}
+use Rattle.status_db.specs.declared.words.State.TheVariants.{NotInstalled}
+use Rattle.status_db.specs.Words.{want_word, flag_word, state_word, is_not_installed}
+use Rattle.status_db.specs.Fields.{first_names, is_one_of, other_fields}
+use Rattle.status_db.specs.Writable.{first_fields}
+
+-- the value of the field Status: three words with one blank between two
+abbrev pub status_text : Want → Flag → State → List ℕ
+status_text want flag state = want_word want ++ 32 ∷ (flag_word flag ++ 32 ∷ state_word state)
+
+-- Package, Status and Version, then the other fields
+abbrev pub paragraph_of : Record → List Field
+paragraph_of r = first_fields r.name (status_text r.want r.flag r.state) r.version ++ r.fields
+
+-- the field of a name, which is given in lower case
+abbrev pub field_in : List ℕ → List Field → Option Field
+field_in text [] = None
+field_in text (f ∷ fs) = cond (bytes_eq (lower f.name) text) (Some f) (field_in text fs)
+
+-- the field of a name has this value, on one line
+pub record Says (text : List ℕ) (fields : List Field) (value : List ℕ) : Type 0 where
+  pub field : Field
+  pub there : field_in text fields ≡ Some field
+  pub value_is : field.first ≡ value
+  pub one_line : field.more ≡ []
+
+-- the paragraph is of the package of this name
+abbrev pub IsNamed : List Field → List ℕ → Type 0
+IsNamed fields name = Says (codes "package") fields name × (is_package_name name ≡ true)
+
+abbrev pub IsStatusText : List ℕ → Type 0
+IsStatusText text = (want : Want) × (flag : Flag) × (state : State) × (text ≡ status_text want flag state)
+
+-- The value of a field can be read: Package has the name of a package (Policy 5.6.1), Status its three words, and
+-- Version a version (Policy 5.6.12), each on one line. Other fields are taken as they are.
+pub record IsReadable (f : Field) : Type 0 where
+  pub one_line : is_one_of first_names f ≡ true → f.more ≡ []
+  pub of_package : lower f.name ≡ codes "package" → is_package_name f.first ≡ true
+  pub of_status : lower f.name ≡ codes "status" → IsStatusText f.first
+  pub of_version : lower f.name ≡ codes "version" → IsVersion f.first
+
+-- the state is not-installed
+abbrev pub IsGone : List Field → Type 0
+IsGone fields = (want : Want) × (flag : Flag) × Says (codes "status") fields (status_text want flag NotInstalled)
+
+-- what a paragraph says of a package that isn't gone
+pub record IsRecordOf (fields : List Field) (r : Record) : Type 0 where
+  pub name : Says (codes "package") fields r.name
+  pub status : Says (codes "status") fields (status_text r.want r.flag r.state)
+  pub version : Says (codes "version") fields r.version
+  pub others : r.fields ≡ other_fields fields
+  pub stands : is_not_installed r.state ≡ false
+
+-- what a paragraph says: its package's name, and the records that it stands for, none where the package is gone
+pub record SaysEntry (fields : List Field) (name : List ℕ) (kept : List Record) : Type 0 where
+  pub named : IsNamed fields name
+  pub stands_for : (IsGone fields × (kept ≡ [])) ⊎ ((r : Record) × IsRecordOf fields r × (kept ≡ r ∷ []))
+
+-- a paragraph after those of other packages, each value of which can be read
+pub record IsEntry (names : List (List ℕ)) (fields : List Field) (name : List ℕ) (kept : List Record) : Type 0 where
+  pub says : SaysEntry fields name kept
+  pub new : list_any (bytes_eq name) names ≡ false
+  pub readable : AllByRecursion IsReadable fields
+
+-- Paragraphs one after another, from the names and records of those before to those behind.
+abbrev pub Enters : List (List ℕ) → List Record → List (List Field) → List (List ℕ) → List Record → Type 0
+Enters names records [] names' records' = (names' ≡ names) × (records' ≡ records)
+Enters names records (p ∷ ps) names' records' =
+    (name : List ℕ) × (kept : List Record) × IsEntry names p name kept × Enters (names ++ name ∷ []) (records ++ kept) ps names' records'

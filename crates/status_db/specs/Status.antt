@@ -1,0 +1,77 @@
+-- The records that the status file stands for.
+use Rattle.std.specs.Prelude.{◌≡◌, ◌⊎◌, ℕ, List, [], Option, Some, None}
+use Rattle.host_core.specs.World.{World, IsDirectory}
+use Rattle.host_core.specs.declared.node.Node.{Node}
+use Rattle.host_core.specs.declared.node.Node.TheVariants.{File, Dir, Link}
+use Rattle.administration.specs.Places.{status_path, home_path, temporary}
+use Rattle.administration.specs.Files.{NoDirectory, KeepsBesideFile}
+use Rattle.administration.specs.declared.fault.AdministrationFault.{AdministrationFault}
+use Rattle.administration.specs.declared.fault.AdministrationFault.TheVariants.{Damaged, Device, NoMemory}
+use Rattle.control_fields.specs.Grammar.{Reads, lines_of}
+use Rattle.control_fields.specs.declared.field.Field.{Field}
+use Rattle.status_db.specs.Records.{standing}
+use Rattle.status_db.specs.Paragraphs.{Enters}
+use Rattle.status_db.specs.Damage.{IsFirstFault}
+use Rattle.status_db.specs.declared.record.Record.{Record}
+
+-- the text of a file; a missing one is empty
+abbrev pub text_of : Option Node → List ℕ
+text_of None = []
+text_of (Some (File bytes mode)) = bytes
+text_of (Some (Dir mode)) = []
+text_of (Some (Link target)) = []
+
+-- The text stands for these records: its paragraphs say them, each of a package of its own. A record of state
+-- not-installed has no paragraph.
+pub record IsStatus (text : List ℕ) (records : List Record) : Type 0 where
+  pub paragraphs : List (List Field)
+  pub names : List (List ℕ)
+  pub reads : Reads (lines_of text) paragraphs
+  pub enters : Enters [] [] paragraphs names (standing records)
+
+-- the node at the status file's place stands for these records
+abbrev pub StandsFor : Option Node → List Record → Type 0
+StandsFor node records = ∥ IsStatus (text_of node) records ∥₁
+
+abbrev pub HasRecords : World → List Record → Type 0
+HasRecords w records = StandsFor (w status_path) records
+
+-- why no records are read of a node: a faulty line, or line 0 where it is no file
+abbrev pub IsDamageAt : Option Node → ℕ → Type 0
+IsDamageAt None line = IsFirstFault [] line
+IsDamageAt (Some (File bytes mode)) line = IsFirstFault bytes line
+IsDamageAt (Some (Dir mode)) line = line ≡ 0
+IsDamageAt (Some (Link target)) line = line ≡ 0
+
+-- why the status file can't be read, by what stands at its place
+abbrev pub IsNodeDamage : Option Node → AdministrationFault → Type 0
+IsNodeDamage found (Damaged file line) = (file ≡ status_path) × IsDamageAt found line
+IsNodeDamage found Device = Unit {0}
+IsNodeDamage found NoMemory = Unit {0}
+
+abbrev pub IsStatusDamage : World → AdministrationFault → Type 0
+IsStatusDamage w fault = IsNodeDamage (w status_path) fault
+
+-- the same by its text
+abbrev pub IsFileDamage : List ℕ → AdministrationFault → Type 0
+IsFileDamage text (Damaged file line) = (file ≡ status_path) × IsFirstFault text line
+IsFileDamage text Device = Unit {0}
+IsFileDamage text NoMemory = Unit {0}
+
+-- the status file can be replaced
+pub record IsStatusReady (w : World) : Type 0 where
+  pub home : IsDirectory (w home_path)
+  pub target : NoDirectory (w status_path)
+  pub spare : NoDirectory (w (temporary status_path))
+
+-- the status file stands for these records, and nothing else has changed
+pub record IsNoted (noted : List Record) (old new : World) : Type 0 where
+  pub records : HasRecords new noted
+  pub ready : IsStatusReady new
+  pub rest : KeepsBesideFile status_path old new
+
+-- at each moment: the records of before, or these
+pub record IsNoting (noted : List Record) (old now : World) : Type 0 where
+  pub status : (now status_path ≡ old status_path) ⊎ HasRecords now noted
+  pub ready : IsStatusReady now
+  pub rest : KeepsBesideFile status_path old now

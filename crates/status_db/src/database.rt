@@ -1,0 +1,158 @@
+// The table of records, and the status file that holds it.
+ghost use Rattle.std.specs.Prelude.{◌≡◌, List, [], IfOk, IfErr, OnOk, IsTrue, IsErrOf};
+ghost use Rattle.std.specs.Option.{option_copied};
+ghost use Rattle.host_core.specs.Host.{HasCause, Same, Silent, Since};
+ghost use Rattle.administration.specs.Fault.{HasAdministrationCause};
+ghost use Rattle.administration.specs.Places.{status_path};
+ghost use Rattle.administration.specs.declared.fault.AdministrationFault.TheVariants.{Device};
+ghost use Rattle.status_db.specs.declared.record.Record.{Record as ARecord};
+ghost use Rattle.status_db.specs.Records.{AreApart, record_in, put_record, drop_record, standing};
+ghost use Rattle.status_db.specs.Status.{IsStatus, StandsFor, HasRecords, IsFileDamage, IsNodeDamage, IsStatusDamage, IsStatusReady, IsNoted, IsNoting};
+
+use crate::reading::{StatusFault, read_text};
+use crate::record::Record;
+use crate::saving::save;
+use crate::table::{drop_record, put_record};
+use administration::{AdministrationFault, status_path};
+use host_core::{Host, HostFault, Node, RootPath};
+use std::alloc::Global;
+use std::marker::Model;
+use texts::Text;
+
+/// The records, as the status file has them.
+#[derive(Drop)]
+pub struct Database {
+    records: Vec<Record>,
+}
+
+impl Model for Database {
+    ghost Value = { List ARecord };
+
+    ghost view = { λ d. d.records.items };
+
+    ghost invariant = { λ d. AreApart d.records.items };
+}
+
+// The table of the node at the status file's place.
+fn read_node(
+    alloc: Global,
+    path: RootPath,
+    node: Option<Node>,
+) -> Result<Database, AdministrationFault>
+    requires { path ≡ status_path }
+    ensures records { IfOk result (λ d. StandsFor node d) }
+    ensures damage { IfErr result (IsNodeDamage node) }
+    ensures standing { IfOk result (λ d. standing d ≡ d) }
+    ensures device { IsErrOf result Device → ⊥ }
+{
+    match node {
+        None => read_file(alloc, path, &[]),
+        Some(Node::File { bytes, .. }) => read_file(alloc, path, bytes.as_slice()),
+        Some(_) => Err(AdministrationFault::Damaged {
+            file: path,
+            line: 0,
+        }),
+    }
+}
+
+fn read_file(alloc: Global, path: RootPath, bytes: &[u8]) -> Result<Database, AdministrationFault>
+    requires { path ≡ status_path }
+    ensures records { IfOk result (λ d. ∥ IsStatus bytes.now d ∥₁) }
+    ensures damage { IfErr result (IsFileDamage bytes.now) }
+    ensures standing { IfOk result (λ d. standing d ≡ d) }
+    ensures device { IsErrOf result Device → ⊥ }
+{
+    match read_text(alloc, bytes) {
+        Ok(records) => Ok(Database { records }),
+        Err(StatusFault::Line(line)) => Err(AdministrationFault::Damaged { file: path, line }),
+        Err(StatusFault::NoMemory) => Err(AdministrationFault::NoMemory),
+    }
+}
+
+fn open_at<H: Host>(
+    alloc: Global,
+    host: &mut H,
+    path: RootPath,
+) -> Result<Database, AdministrationFault>
+    requires { path ≡ status_path }
+    ensures records { IsTrue (H.state host.old).honest → IfOk result (HasRecords (H.state host.old).world) }
+    ensures damage { IsTrue (H.state host.old).honest → IfErr result (IsStatusDamage (H.state host.old).world) }
+    ensures standing { IfOk result (λ d. standing d ≡ d) }
+    ensures same { IsTrue (H.state host.old).honest → Same (H.state host.old) (H.state host.new) }
+    ensures silent { Silent (H.state host.old) (H.state host.new) }
+    ensures cause { HasAdministrationCause (H.state host.old) (H.state host.new) result }
+{
+    let node = host.node(&path)?;
+    read_node(alloc, path, node)
+}
+
+impl Database {
+    /// Reads the status file; a missing one has no records, and none of them is of state not-installed.
+    pub fn open<H: Host>(alloc: Global, host: &mut H) -> Result<Database, AdministrationFault>
+        ensures records { IsTrue (H.state host.old).honest → IfOk result (HasRecords (H.state host.old).world) }
+        ensures damage { IsTrue (H.state host.old).honest → IfErr result (IsStatusDamage (H.state host.old).world) }
+        ensures standing { IfOk result (λ d. standing d ≡ d) }
+        ensures same { IsTrue (H.state host.old).honest → Same (H.state host.old) (H.state host.new) }
+        ensures silent { Silent (H.state host.old) (H.state host.new) }
+        ensures cause { HasAdministrationCause (H.state host.old) (H.state host.new) result }
+    {
+        let path = status_path(alloc)?;
+        open_at(alloc, host, path)
+    }
+
+    /// All records, in the order of the file.
+    pub fn records(&self) -> &[Record]
+        ensures { result.now ≡ self.now }
+    {
+        self.records.as_slice()
+    }
+
+    /// The record of a package.
+    pub fn get(&self, name: &Text) -> Option<&Record>
+        ensures { option_copied result ≡ record_in self.now name.now }
+    {
+        for record in &self.records {
+            if record.name.is(name) {
+                return Some(record);
+            }
+        }
+        None
+    }
+
+    /// Notes the record of a package, in the table and in the status file. After a fault the table
+    /// is of no use any more.
+    pub fn note<H: Host>(
+        &mut self,
+        alloc: Global,
+        host: &mut H,
+        entry: Record,
+    ) -> Result<(), HostFault>
+        requires { IsTrue (H.state host.old).honest → IsStatusReady (H.state host.old).world }
+        ensures table { OnOk result (self.new ≡ put_record entry self.old) }
+        ensures noted { IsTrue (H.state host.old).honest → OnOk result (IsNoted (put_record entry self.old) (H.state host.old).world (H.state host.new).world) }
+        ensures any_moment { IsTrue (H.state host.old).honest → Since (IsNoting (put_record entry self.old) (H.state host.old).world) (H.state host.old) (H.state host.new) }
+        ensures silent { Silent (H.state host.old) (H.state host.new) }
+        ensures cause { HasCause (H.state host.old) (H.state host.new) result }
+    {
+        put_record(&mut self.records, entry)?;
+        save(alloc, host, self.records.as_slice())
+    }
+
+    /// Takes the record of a package away, in the table and in the status file.
+    pub fn forget<H: Host>(
+        &mut self,
+        alloc: Global,
+        host: &mut H,
+        name: &Text,
+    ) -> Result<(), HostFault>
+        requires { IsTrue (H.state host.old).honest → IsStatusReady (H.state host.old).world }
+        ensures table { OnOk result (self.new ≡ drop_record name.now self.old) }
+        ensures noted { IsTrue (H.state host.old).honest → OnOk result (IsNoted (drop_record name.now self.old) (H.state host.old).world (H.state host.new).world) }
+        ensures any_moment { IsTrue (H.state host.old).honest → Since (IsNoting (drop_record name.now self.old) (H.state host.old).world) (H.state host.old) (H.state host.new) }
+        ensures silent { Silent (H.state host.old) (H.state host.new) }
+        ensures cause { HasCause (H.state host.old) (H.state host.new) result }
+    {
+        drop_record(&mut self.records, name);
+        save(alloc, host, self.records.as_slice())
+    }
+}

@@ -1,0 +1,85 @@
+// The status file's text.
+ghost use Rattle.std.specs.Prelude.{◌≡◌, IfOk, OnOk, ℕ, List, map};
+ghost use Rattle.std.specs.List.{AllByRecursion};
+ghost use Rattle.host_core.specs.declared.node.Node.TheVariants.{File};
+ghost use Rattle.version_order.specs.Versions.{IsVersion};
+ghost use Rattle.status_db.specs.Records.{AreApart, standing};
+ghost use Rattle.status_db.specs.Writable.{first_fields};
+ghost use Rattle.status_db.specs.Paragraphs.{status_text, paragraph_of};
+ghost use Rattle.status_db.specs.Status.{IsStatus};
+
+use crate::record::Record;
+use control_fields::{Field, Paragraph, write_paragraphs};
+use host_core::Node;
+use std::alloc::{AllocError, Global};
+use texts::Bytes;
+
+fn status_text(alloc: Global, entry: &Record) -> Result<Vec<u8>, AllocError>
+    ensures { IfOk result (λ text. text.items ≡ status_text entry.now.want entry.now.flag entry.now.state) }
+{
+    let mut text = Vec::new(alloc);
+    text.extend_from_slice(entry.want.name().as_bytes())?;
+    text.push(b' ')?;
+    text.extend_from_slice(entry.flag.name().as_bytes())?;
+    text.push(b' ')?;
+    text.extend_from_slice(entry.state.name().as_bytes())?;
+    Ok(text)
+}
+
+fn first_fields(alloc: Global, entry: &Record) -> Result<Paragraph, AllocError>
+    ensures fields { IfOk result (λ p. p ≡ first_fields entry.now.name (status_text entry.now.want entry.now.flag entry.now.state) entry.now.version) }
+    ensures version { OnOk result (IsVersion entry.now.version) }
+{
+    let status = status_text(alloc, entry)?;
+    let mut fields = Paragraph::new(alloc);
+    fields.push(Field::one_line(alloc, b"Package", entry.name.as_str().as_bytes())?)?;
+    fields.push(Field::one_line(alloc, b"Status", status.as_slice())?)?;
+    fields.push(Field::one_line(alloc, b"Version", entry.version.text().as_bytes())?)?;
+    Ok(fields)
+}
+
+fn paragraph_of(alloc: Global, entry: &Record) -> Result<Paragraph, AllocError>
+    ensures paragraph { IfOk result (λ p. p ≡ paragraph_of entry.now) }
+    ensures version { OnOk result (IsVersion entry.now.version) }
+{
+    let mut paragraph = first_fields(alloc, entry)?;
+    for field in entry.fields.fields() {
+        paragraph.push(field.copy()?)?;
+    }
+    Ok(paragraph)
+}
+
+fn paragraphs_of(alloc: Global, records: &[Record]) -> Result<Vec<Paragraph>, AllocError>
+    ensures paragraphs { IfOk result (λ ps. ps.items ≡ map paragraph_of (standing records.now)) }
+    ensures versions { OnOk result (AllByRecursion (λ r. IsVersion r.version) (standing records.now)) }
+{
+    let mut paragraphs = Vec::new(alloc);
+    for entry in records {
+        if !entry.state.is_not_installed() {
+            paragraphs.push(paragraph_of(alloc, entry)?)?;
+        }
+    }
+    Ok(paragraphs)
+}
+
+fn status_bytes(alloc: Global, records: &[Record]) -> Result<Bytes, AllocError>
+    requires { AreApart records.now }
+    ensures { IfOk result (λ bytes. ∥ IsStatus bytes records.now ∥₁) }
+{
+    let paragraphs = paragraphs_of(alloc, records)?;
+    match write_paragraphs(alloc, paragraphs.as_slice()) {
+        Ok(text) => Ok(Bytes::new(text)),
+        Err(_) => Err(AllocError),
+    }
+}
+
+/// The status file of a table.
+pub(crate) fn status_node(alloc: Global, records: &[Record]) -> Result<Node, AllocError>
+    requires { AreApart records.now }
+    ensures { IfOk result (λ node. (bytes : List ℕ) × (node ≡ File bytes 0o644) × ∥ IsStatus bytes records.now ∥₁) }
+{
+    Ok(Node::File {
+        bytes: status_bytes(alloc, records)?,
+        mode: 0o644,
+    })
+}

@@ -1,0 +1,70 @@
+-- What holds at each moment of a unit goes on from part to part.
+use Rattle.std.proofs.Common.{◌≡◌, ◌≢◌, inl, inr, List, refl, sym, subst, ◌∙◌}
+use Rattle.host_core.specs.Paths.{Path}
+use Rattle.host_core.specs.World.{World, is_kept, KeepsBut, SameOn}
+use Rattle.host_core.specs.Host.{State, Since}
+use Rattle.host_core.specs.Moments.{since_then, since_weaker, since_now}
+use Rattle.administration.specs.Places.{status_path, tmp_path, temporary, is_within}
+use Rattle.package_tree.specs.declared.package.Package.{Package}
+use Rattle.package_files.specs.OwnFiles.{own_path, own_node, IsOwnMoment, IsChanging}
+use Rattle.package_files.specs.OwnFiles.IsOwnMoment.{same}
+use Rattle.package_files.proofs.Changes.{moment_then}
+use Rattle.status_db.specs.declared.record.Record.{Record}
+use Rattle.status_db.specs.Status.{HasRecords, IsNoting}
+use Rattle.unpack_engine.specs.Unpack.{IsStage, IsAmid}
+use Rattle.unpack_engine.proofs.Apart.{own_not_status, own_not_status_spare, spare_not_status}
+use Rattle.unpack_engine.proofs.Standing.{moved_records}
+
+module _ (p : Package) (places : List Path) (before : List Record) where
+  pub amid_start : (old : World) → HasRecords old before → IsAmid p places before old old
+  amid_start old has = record { stage = before; is_stage = IsStage.as_before; records = has; own = λ f. same refl; rest = λ q out kept. refl }
+
+  -- the package's own files
+  pub amid_changing : (old w now : World) → IsAmid p places before old w → IsChanging p.name p.scripts w now → IsAmid p places before old now
+  amid_changing old w now amid is = record {
+    stage = amid.stage;
+    is_stage = amid.is_stage;
+    records = moved_records amid.stage w now (is.rest status_path (λ f. ((λ e. own_not_status p.name f (sym e)), (λ e. spare_not_status p.name f (sym e))))) amid.records;
+    own = λ f. moment_then p.name p.scripts (own_node p.scripts f) (old (own_path p.name f)) (w (own_path p.name f)) (now (own_path p.name f)) (amid.own f) (is.own f);
+    rest = λ q out kept. is.rest q out.own ∙ amid.rest q out kept;
+  }
+
+  -- within `tmp.ci`
+  pub amid_tmp : (old w now : World) → IsAmid p places before old w → KeepsBut (is_within tmp_path) w now → IsAmid p places before old now
+  amid_tmp old w now amid keeps = record {
+    stage = amid.stage;
+    is_stage = amid.is_stage;
+    records = moved_records amid.stage w now (keeps status_path refl) amid.records;
+    own = λ f. subst (IsOwnMoment (own_node p.scripts f) (old (own_path p.name f))) (sym (keeps (own_path p.name f) refl)) (amid.own f);
+    rest = λ q out kept. keeps q out.tmp ∙ amid.rest q out kept;
+  }
+
+  -- script calls
+  pub amid_scripts : (old w now : World) → IsAmid p places before old w → SameOn (is_kept places) w now → IsAmid p places before old now
+  amid_scripts old w now amid as_kept = record {
+    stage = amid.stage;
+    is_stage = amid.is_stage;
+    records = moved_records amid.stage w now (as_kept status_path refl) amid.records;
+    own = λ f. subst (IsOwnMoment (own_node p.scripts f) (old (own_path p.name f))) (sym (as_kept (own_path p.name f) refl)) (amid.own f);
+    rest = λ q out kept. as_kept q kept ∙ amid.rest q out kept;
+  }
+
+  -- a note of the next stage
+  pub amid_status : (old w now : World) → IsAmid p places before old w → (next : List Record) → IsStage p before next → HasRecords now next → ((q : Path) → q ≢ status_path → q ≢ temporary status_path → now q ≡ w q) → IsAmid p places before old now
+  amid_status old w now amid next is has rest = record {
+    stage = next;
+    is_stage = is;
+    records = has;
+    own = λ f. subst (IsOwnMoment (own_node p.scripts f) (old (own_path p.name f))) (sym (rest (own_path p.name f) (own_not_status p.name f) (own_not_status_spare p.name f))) (amid.own f);
+    rest = λ q out kept. rest q out.status out.status_spare ∙ amid.rest q out kept;
+  }
+
+  pub amid_noting : (old w now : World) → IsAmid p places before old w → (next : List Record) → IsStage p before next → IsNoting next w now → IsAmid p places before old now
+  amid_noting old w now amid next is noting = elim noting.status [
+    | inl e ↦ amid_status old w now amid amid.stage amid.is_stage (moved_records amid.stage w now e amid.records) noting.rest
+    | inr has ↦ amid_status old w now amid next is has noting.rest
+  ]
+
+  -- one part after another
+  pub since_amid : (Q : World → Type 0) (s a b : State) → ((w : World) → Q w → IsAmid p places before s.world a.world → IsAmid p places before s.world w) → Since (IsAmid p places before s.world) s a → Since Q a b → Since (IsAmid p places before s.world) s b
+  since_amid Q s a b so first second = since_then _ s a b first (since_weaker Q _ a b (λ w is. so w is (since_now _ s a first)) second)

@@ -1,0 +1,106 @@
+-- The beginning of a unit.
+use Rattle.std.proofs.Common.{◌≡◌, ◌≢◌, ℕ, Bool, true, false, nat_eq, List, [], ◌∷◌, ◌++◌, Some, None, Result, Ok, Err, OnOk, refl, sym, ap, subst, ◌∙◌, codes, Contains, get_or, arith}
+use Rattle.std.specs.Prelude.{◌||◌, ◌&&◌}
+use Rattle.std.specs.List.{list_any, list_all}
+use Rattle.std.proofs.lemmas.Bool.{true≢false, eqb-true}
+use Rattle.std.proofs.lemmas.Cmp.{nat_eq_equiv}
+use Rattle.std.proofs.lemmas.Map.Views.{list_any-from_Contains}
+use Rattle.host_core.specs.Paths.{Path}
+use Rattle.host_core.specs.World.{World, IsDirectory, KeepsBut}
+use Rattle.host_core.specs.Tree.{has_slash}
+use Rattle.host_core.specs.declared.call.Script.TheVariants.{Preinst, Postinst, Prerm, Postrm}
+use Rattle.host_core.specs.declared.fault.HostFault.{HostFault}
+use Rattle.administration.specs.Names.{is_name_sign, is_package_name}
+use Rattle.administration.specs.Places.{home_path, status_path, tmp_path, temporary, is_within}
+use Rattle.administration.proofs.WholeFiles.{no_directory_at}
+use Rattle.package_tree.specs.declared.package.Package.{Package}
+use Rattle.package_files.specs.OwnFiles.{OwnFile, ending, own_path, IsCleared, IsOwnReady}
+use Rattle.package_files.specs.Incoming.{AreLaidOut}
+use Rattle.status_db.specs.declared.record.Record.{Record}
+use Rattle.status_db.specs.declared.words.Flag.TheVariants as flag
+use Rattle.status_db.specs.declared.words.State.TheVariants as state
+use Rattle.status_db.specs.Status.{IsStatusReady}
+use Rattle.unpack_engine.specs.Unpack.{IsInOrder}
+use Rattle.unpack_engine.specs.Stages.{IsNotedAs}
+use Rattle.unpack_engine.specs.Units.{HasBegun}
+use Rattle.unpack_engine.proofs.Apart.{own_not_status, own_not_status_spare, home_not_own}
+
+-- a package's name has no slash
+
+no_sign : (b : ℕ) (t : Bool) → nat_eq b 47 ≡ t → is_name_sign b ≡ true → t ≡ false
+no_sign b true e sign = absurd (true≢false (sym sign ∙ ap is_name_sign (eqb-true b 47 e)))
+no_sign b false e sign = refl
+
+both_left : (a b : Bool) → (a && b) ≡ true → a ≡ true
+both_left true b e = refl
+both_left false b e = e
+
+both_right : (a b : Bool) → (a && b) ≡ true → b ≡ true
+both_right true b e = e
+both_right false b e = absurd (true≢false (sym e))
+
+signs_plain : (name : List ℕ) → list_all is_name_sign name ≡ true → has_slash name ≡ false
+signs_plain [] e = refl
+signs_plain (b ∷ bs) e =
+    ap (λ t. t || has_slash bs) (no_sign b (nat_eq b 47) refl (both_left (is_name_sign b) (list_all is_name_sign bs) e)) ∙ signs_plain bs (both_right (is_name_sign b) (list_all is_name_sign bs) e)
+
+pub name_plain : (name : List ℕ) → is_package_name name ≡ true → has_slash name ≡ false
+name_plain name e = signs_plain name (both_right _ (list_all is_name_sign name) (both_right _ _ e))
+
+flip_at : (b : ℕ) (s t : Bool) → nat_eq 47 b ≡ s → nat_eq b 47 ≡ t → s ≡ t
+flip_at b true true e f = refl
+flip_at b false false e f = refl
+flip_at b true false e f = sym e ∙ ap (λ x. nat_eq 47 x) (sym (eqb-true 47 b e)) ∙ ap (λ x. nat_eq x 47) (eqb-true 47 b e) ∙ f
+flip_at b false true e f = sym e ∙ ap (λ x. nat_eq 47 x) (eqb-true b 47 f)
+
+flipped : (l : List ℕ) → list_any (nat_eq 47) l ≡ has_slash l
+flipped [] = refl
+flipped (b ∷ bs) = ap (λ t. t || list_any (nat_eq 47) bs) (flip_at b (nat_eq 47 b) (nat_eq b 47) refl refl) ∙ ap (λ t. nat_eq b 47 || t) (flipped bs)
+
+pub plain_contains : (name : List ℕ) → is_package_name name ≡ true → Contains name 47 → ⊥
+plain_contains name e has = true≢false (sym (list_any-from_Contains nat_eq_equiv 47 name has) ∙ flipped name ∙ name_plain name e)
+
+slash_head : (x : ℕ) (a b : List ℕ) (t : Bool) → nat_eq x 47 ≡ t → has_slash (x ∷ a) ≡ false → (has_slash a ≡ false → has_slash (a ++ b) ≡ false) → (nat_eq x 47 || has_slash (a ++ b)) ≡ false
+slash_head x a b true e first more = absurd (true≢false (sym (ap (λ t. t || has_slash a) e) ∙ first))
+slash_head x a b false e first more = ap (λ t. t || has_slash (a ++ b)) e ∙ more (sym (ap (λ t. t || has_slash a) e) ∙ first)
+
+slash-append : (a b : List ℕ) → has_slash a ≡ false → has_slash b ≡ false → has_slash (a ++ b) ≡ false
+slash-append [] b first second = second
+slash-append (x ∷ a) b first second = slash_head x a b (nat_eq x 47) refl first (λ plain. slash-append a b plain second)
+
+ending_plain : (file : OwnFile) → has_slash (ending file) ≡ false
+ending_plain None = refl
+ending_plain (Some Preinst) = refl
+ending_plain (Some Postinst) = refl
+ending_plain (Some Prerm) = refl
+ending_plain (Some Postrm) = refl
+
+pub own_in_order : (name : List ℕ) (w : World) → is_package_name name ≡ true → IsInOrder w → IsOwnReady name w
+own_in_order name w named order = record {
+  own = λ f. order.entries (name ++ ending f) (slash-append name (ending f) (name_plain name named) (ending_plain f));
+  spares = λ f. order.entries ((name ++ ending f) ++ codes ".dpkg-inst") (slash-append (name ++ ending f) (codes ".dpkg-inst") (slash-append name (ending f) (name_plain name named) (ending_plain f)) refl);
+}
+
+-- what the note needs
+pub status_after : (p : Package) (old cleared laid : World) → IsInOrder old → IsCleared p.name old cleared → KeepsBut (is_within tmp_path) cleared laid → IsStatusReady laid
+status_after p old cleared laid order own tmp =
+    let stays : (q : Path) → ((f : OwnFile) → q ≢ own_path p.name f) → is_within tmp_path q ≡ false → laid q ≡ old q = λ q out inside. tmp q inside ∙ own.rest q out in
+    record {
+      home = subst IsDirectory (sym (stays home_path (home_not_own p.name) refl)) order.home;
+      target = no_directory_at (laid status_path) (old status_path) (stays status_path (λ f e. own_not_status p.name f (sym e)) refl) order.status;
+      spare = no_directory_at (laid (temporary status_path)) (old (temporary status_path)) (stays (temporary status_path) (λ f e. own_not_status_spare p.name f (sym e)) refl) order.status_spare;
+    }
+
+pub home_after : (p : Package) (old cleared : World) → IsDirectory (old home_path) → IsCleared p.name old cleared → IsDirectory (cleared home_path)
+home_after p old cleared there own = subst IsDirectory (sym (own.rest home_path (home_not_own p.name))) there
+
+pub tmp_after : (p : Package) (old cleared : World) → old tmp_path ≡ None → IsCleared p.name old cleared → cleared tmp_path ≡ None
+tmp_after p old cleared none own = own.rest tmp_path (λ f e. let d : ◌≡◌ {A = ℕ} 116 105 = ap (λ (l : Path). get_or l 14 0) e in absurd (omega arith)) ∙ none
+
+pub begun_by : {T : Type 0} (p : Package) (before after : List Record) (honest : Type 0) (old cleared laid now : World) (result : Result T HostFault) → (honest → IsCleared p.name old cleared) → (honest → IsOwnReady p.name cleared) → (honest → AreLaidOut p.scripts laid) → (honest → KeepsBut (is_within tmp_path) cleared laid)
+    → OnOk result (IsNotedAs p flag.Reinstreq state.HalfInstalled before after honest laid now) → OnOk result (HasBegun p before after honest old now)
+begun_by p before after honest old cleared laid now (Ok x) own ready scripts tmp noted = record {
+  put = noted.put;
+  worlds = λ h. record { cleared = cleared; laid = laid; own_cleared = own h; own_ready = ready h; scripts_laid = scripts h; tmp_alone = tmp h; noted = noted.noted h };
+}
+begun_by p before after honest old cleared laid now (Err e) own ready scripts tmp noted = tt

@@ -1,0 +1,116 @@
+-- How what stands goes on from part to part.
+use Rattle.std.proofs.Common.{◌≡◌, true, cond, List, [], ◌∷◌, ◌++◌, Option, None, IsTrue, refl, sym, ap, subst, ◌∙◌}
+use Rattle.std.specs.Str.{bytes_eq}
+use Rattle.host_core.specs.Paths.{Path}
+use Rattle.host_core.specs.World.{World, put, Change, changed, Avoids, is_kept, IsDirectory, KeepsBut, SameOn}
+use Rattle.host_core.specs.Host.{Ran, State, Calls, scripts_change}
+use Rattle.host_core.specs.Scripts.{changed-append, changed_kept, scripts_change-append, Avoids-append}
+use Rattle.host_core.specs.declared.node.Node.{Node}
+use Rattle.administration.specs.Places.{home_path, info_path, status_path, tmp_path, temporary, is_within}
+use Rattle.administration.specs.Files.{NoDirectory}
+use Rattle.administration.proofs.WholeFiles.{no_directory_at}
+use Rattle.package_tree.specs.declared.package.Package.{Package}
+use Rattle.package_files.specs.OwnFiles.{OwnFile, own_path, own_node, IsCleared, IsInstalled, IsOwnReady}
+use Rattle.status_db.specs.declared.record.Record.{Record}
+use Rattle.status_db.specs.Status.{StandsFor, HasRecords, IsNoted, IsStatusReady}
+use Rattle.unpack_engine.specs.Unpack.{IsOutside}
+use Rattle.unpack_engine.specs.Stages.{Stands}
+use Rattle.unpack_engine.proofs.Apart.{own_not_status, own_not_status_spare, spare_not_status, spare_not_status_spare, home_outside, info_outside}
+
+changed_at : (c : Change) (v w : World) (q : Path) → v q ≡ w q → changed c v q ≡ changed c w q
+changed_at [] v w q same = same
+changed_at (e ∷ c) v w q same = changed_at c (put v e.0 e.1) (put w e.0 e.1) q (ap (λ o. cond (bytes_eq e.0 q) e.1 o) same)
+
+pub moved_records : (table : List Record) (w now : World) → now status_path ≡ w status_path → HasRecords w table → HasRecords now table
+moved_records table w now e has = subst (λ n. StandsFor n table) (sym e) has
+
+module _ (p : Package) (places : List Path) where
+  -- what is kept and outside is as before
+  pub kept_outside : (ts : List Ran) (table : List Record) (files : OwnFile → Option Node) (old now : World) (q : Path) → Stands p places ts table files old now → IsOutside p.name q → is_kept places q ≡ true → now q ≡ old q
+  kept_outside ts table files old now q stands out kept = stands.rest q out ∙ changed_kept (is_kept places) (scripts_change ts) old stands.avoids q kept
+
+  pub stands_start : (table : List Record) (old : World) → HasRecords old table → NoDirectory (old status_path) → NoDirectory (old (temporary status_path)) → ((file : OwnFile) → NoDirectory (old (temporary (own_path p.name file)))) → Stands p places [] table (λ file. old (own_path p.name file)) old old
+  stands_start table old has status spare spares = record { avoids = tt; records = has; status = status; status_spare = spare; own = λ f. refl; spares = spares; rest = λ q out. refl }
+
+  pub stands_cleared : (ts : List Ran) (table : List Record) (files : OwnFile → Option Node) (old w now : World) → Stands p places ts table files old w → IsCleared p.name w now → IsOwnReady p.name now → Stands p places ts table (λ file. None) old now
+  stands_cleared ts table files old w now stands cleared ready =
+      let status = cleared.rest status_path (λ f e. own_not_status p.name f (sym e)) in
+      let spare = cleared.rest (temporary status_path) (λ f e. own_not_status_spare p.name f (sym e)) in
+      record {
+        avoids = stands.avoids;
+        records = moved_records table w now status stands.records;
+        status = no_directory_at (now status_path) (w status_path) status stands.status;
+        status_spare = no_directory_at (now (temporary status_path)) (w (temporary status_path)) spare stands.status_spare;
+        own = cleared.gone;
+        spares = ready.spares;
+        rest = λ q out. cleared.rest q (λ f. (out.own f).0) ∙ stands.rest q out;
+      }
+
+  -- within `tmp.ci`
+  pub stands_tmp : (ts : List Ran) (table : List Record) (files : OwnFile → Option Node) (old w now : World) → Stands p places ts table files old w → KeepsBut (is_within tmp_path) w now → Stands p places ts table files old now
+  stands_tmp ts table files old w now stands keeps = record {
+    avoids = stands.avoids;
+    records = moved_records table w now (keeps status_path refl) stands.records;
+    status = no_directory_at (now status_path) (w status_path) (keeps status_path refl) stands.status;
+    status_spare = no_directory_at (now (temporary status_path)) (w (temporary status_path)) (keeps (temporary status_path) refl) stands.status_spare;
+    own = λ f. keeps (own_path p.name f) refl ∙ stands.own f;
+    spares = λ f. no_directory_at (now (temporary (own_path p.name f))) (w (temporary (own_path p.name f))) (keeps (temporary (own_path p.name f)) refl) (stands.spares f);
+    rest = λ q out. keeps q out.tmp ∙ stands.rest q out;
+  }
+
+  -- a note
+  pub stands_noted : (ts : List Ran) (table next : List Record) (files : OwnFile → Option Node) (old w now : World) → Stands p places ts table files old w → IsNoted next w now → Stands p places ts next files old now
+  stands_noted ts table next files old w now stands noted = record {
+    avoids = stands.avoids;
+    records = noted.records;
+    status = noted.ready.target;
+    status_spare = noted.ready.spare;
+    own = λ f. noted.rest (own_path p.name f) (own_not_status p.name f) (own_not_status_spare p.name f) ∙ stands.own f;
+    spares = λ f. no_directory_at (now (temporary (own_path p.name f))) (w (temporary (own_path p.name f))) (noted.rest (temporary (own_path p.name f)) (spare_not_status p.name f) (spare_not_status_spare p.name f)) (stands.spares f);
+    rest = λ q out. noted.rest q out.status out.status_spare ∙ stands.rest q out;
+  }
+
+  -- script calls
+  pub stands_scripts : (ts us : List Ran) (table : List Record) (files : OwnFile → Option Node) (old : World) (a b : State) → IsTrue a.honest → Stands p places ts table files old a.world → Calls (is_kept places) us a b → Stands p places (ts ++ us) table files old b.world
+  stands_scripts ts us table files old a b h stands made =
+      let w = a.world in
+      let now = b.world in
+      let same : SameOn (is_kept places) w now = subst (SameOn (is_kept places) w) (sym (made.world h)) (changed_kept (is_kept places) (scripts_change us) w (made.avoids h)) in
+      record {
+        avoids = subst (Avoids (is_kept places)) (sym (scripts_change-append ts us)) (Avoids-append (is_kept places) (scripts_change ts) (scripts_change us) stands.avoids (made.avoids h));
+        records = moved_records table w now (same status_path refl) stands.records;
+        status = no_directory_at (now status_path) (w status_path) (same status_path refl) stands.status;
+        status_spare = no_directory_at (now (temporary status_path)) (w (temporary status_path)) (same (temporary status_path) refl) stands.status_spare;
+        own = λ f. same (own_path p.name f) refl ∙ stands.own f;
+        spares = λ f. no_directory_at (now (temporary (own_path p.name f))) (w (temporary (own_path p.name f))) (same (temporary (own_path p.name f)) refl) (stands.spares f);
+        rest = λ q out. ap (λ v. v q) (made.world h) ∙ changed_at (scripts_change us) w (changed (scripts_change ts) old) q (stands.rest q out)
+            ∙ ap (λ v. v q) (sym (changed-append (scripts_change ts) (scripts_change us) old)) ∙ ap (λ c. changed c old q) (sym (scripts_change-append ts us));
+      }
+
+  -- the list and the scripts
+  pub stands_installed : (ts : List Ran) (table : List Record) (old w now : World) → Stands p places ts table (λ file. None) old w → IsInstalled p.name p.scripts w now → IsOwnReady p.name now → Stands p places ts table (own_node p.scripts) old now
+  stands_installed ts table old w now stands installed ready =
+      let status = installed.rest status_path (λ f. ((λ e. own_not_status p.name f (sym e)), (λ e. spare_not_status p.name f (sym e)))) in
+      let spare = installed.rest (temporary status_path) (λ f. ((λ e. own_not_status_spare p.name f (sym e)), (λ e. spare_not_status_spare p.name f (sym e)))) in
+      record {
+        avoids = stands.avoids;
+        records = moved_records table w now status stands.records;
+        status = no_directory_at (now status_path) (w status_path) status stands.status;
+        status_spare = no_directory_at (now (temporary status_path)) (w (temporary status_path)) spare stands.status_spare;
+        own = installed.stands stands.own;
+        spares = ready.spares;
+        rest = λ q out. installed.rest q out.own ∙ stands.rest q out;
+      }
+
+  -- the directories of the administration stay
+  pub home_there : (ts : List Ran) (table : List Record) (files : OwnFile → Option Node) (old now : World) → Stands p places ts table files old now → IsDirectory (old home_path) → IsDirectory (now home_path)
+  home_there ts table files old now stands there = subst IsDirectory (sym (kept_outside ts table files old now home_path stands (home_outside p.name) refl)) there
+
+  pub info_there : (ts : List Ran) (table : List Record) (files : OwnFile → Option Node) (old now : World) → Stands p places ts table files old now → IsDirectory (old info_path) → IsDirectory (now info_path)
+  info_there ts table files old now stands there = subst IsDirectory (sym (kept_outside ts table files old now info_path stands (info_outside p.name) refl)) there
+
+  pub status_ready : (ts : List Ran) (table : List Record) (files : OwnFile → Option Node) (old now : World) → Stands p places ts table files old now → IsDirectory (old home_path) → IsStatusReady now
+  status_ready ts table files old now stands there = record { home = home_there ts table files old now stands there; target = stands.status; spare = stands.status_spare }
+
+  pub own_ready : (ts : List Ran) (table : List Record) (files : OwnFile → Option Node) (old now : World) → ((file : OwnFile) → NoDirectory (files file)) → Stands p places ts table files old now → IsOwnReady p.name now
+  own_ready ts table files old now loose stands = record { own = λ f. no_directory_at (now (own_path p.name f)) (files f) (stands.own f) (loose f); spares = stands.spares }

@@ -1,0 +1,341 @@
+-- The whole unit, from its parts.
+use Rattle.std.proofs.Common.{◌≡◌, ◌≢◌, ◌⊎◌, inl, inr, ℕ, Bool, true, false, cond, List, [], ◌∷◌, ◌++◌, get_or, Option, Some, None, IsTrue, refl, sym, ap, subst, ◌∙◌, arith}
+use Rattle.std.specs.Prelude.{IsSome}
+use Rattle.std.specs.Str.{bytes_eq}
+use Rattle.std.proofs.lemmas.Bool.{true≢false}
+use Rattle.std.proofs.lemmas.List.{append-nil}
+use Rattle.host_core.specs.Paths.{Path}
+use Rattle.host_core.specs.World.{World, is_kept, IsDirectory, SameOn}
+use Rattle.host_core.specs.Host.{Ran, State, Silent, Calls}
+use Rattle.host_core.specs.declared.node.Node.{Node}
+use Rattle.host_core.specs.declared.call.Script.TheVariants.{Preinst, Postinst, Prerm, Postrm}
+use Rattle.administration.specs.Places.{info_path, status_path, tmp_path, tmp_script_path, temporary, is_within}
+use Rattle.administration.specs.Files.{NoDirectory, KeepsBesideFile}
+use Rattle.administration.specs.Directories.{IsRemoved}
+use Rattle.administration.proofs.WholeFiles.{no_directory_at, no_directory_none}
+use Rattle.administration.proofs.Within.{directory_within, below_within, within_is}
+use Rattle.unwind_stack.specs.Transcript.{Ended, Committed as AllSucceeded, Unwound, Legal, Tells, Goes, Undid, Tries}
+use Rattle.unwind_stack.specs.declared.rows.Called.{Called}
+use Rattle.unwind_stack.specs.declared.rows.Owner.{Owner}
+use Rattle.unwind_stack.specs.declared.rows.Owner.TheVariants.{Package as OfPackage, Files}
+use Rattle.unwind_stack.specs.declared.fall.Fall.{Fall}
+use Rattle.package_tree.specs.declared.package.Package.{Package}
+use Rattle.package_files.specs.OwnFiles.{OwnFile, own_path, own_node, KeepsBesideOwn}
+use Rattle.package_files.specs.Incoming.{AreLaidOut}
+use Rattle.package_files.proofs.Changes.{decide, own_nodes}
+use Rattle.status_db.specs.declared.words.Flag.{Flag}
+use Rattle.status_db.specs.declared.words.Flag.TheVariants as flag
+use Rattle.status_db.specs.declared.words.State.{State as State'}
+use Rattle.status_db.specs.declared.words.State.TheVariants as state
+use Rattle.status_db.specs.Records.{record_in, put_record, drop_record}
+use Rattle.status_db.specs.Status.{HasRecords}
+use Rattle.status_db.proofs.Tables.{record_in-put_record, record_in-drop_record}
+use Rattle.status_db.specs.declared.record.Record.{Record}
+use Rattle.unpack_engine.specs.ForwardRows.{preinst_row, file_row, rows_of, gives}
+use Rattle.unpack_engine.specs.Turns.{Falls, IsTurn}
+use Rattle.unpack_engine.specs.declared.rows.Turn.{Turn}
+use Rattle.unpack_engine.specs.declared.rows.Turn.TheVariants.{Committed, Undone, UndoFailed}
+use Rattle.unpack_engine.specs.EndStates.{IsRecordOf, IsSomeRecord, UndoneEnd, IsEnd, end_file}
+use Rattle.unpack_engine.specs.Unpack.{IsInOrder, IsOutside, HasChangedRecord, IsStage, IsAmid}
+use Rattle.unpack_engine.specs.Stages.{Stands, IsPutAs, IsNotingAs}
+use Rattle.unpack_engine.specs.Units.{EndsAs, FinishedTable, FinishedWorlds, BegunWorlds, IsBeginning, IsFinishing, HasUnpacked}
+use Rattle.unpack_engine.specs.Units.IsBeginning.{clearing, laying, noting}
+use Rattle.unpack_engine.specs.Units.IsFinishing.{storing, unpacked, forgetting, left}
+use Rattle.unpack_engine.proofs.Standing.{moved_records, kept_outside, stands_start, stands_cleared, stands_tmp, stands_noted, stands_scripts, stands_installed, home_there, info_there}
+use Rattle.unpack_engine.proofs.Amid.{amid_start, amid_changing, amid_tmp, amid_status, amid_noting}
+use Rattle.unpack_engine.proofs.Beginning.{own_in_order}
+
+-- a turn is a legal transcript
+
+abbrev owner_code : Owner → ℕ
+owner_code (OfPackage name) = 0
+owner_code Files = 1
+
+not_files : (p : Package) → (preinst_row p).owner ≢ Files
+not_files p e = let d : ◌≡◌ {A = ℕ} 0 1 = ap owner_code e in absurd (omega arith)
+
+abbrev at_preinst : Fall
+at_preinst = record { row = 0; fault = None }
+
+legal_committed : (p : Package) (ts : List Ran) → Tries (preinst_row p) ts true → Legal gives [] AllSucceeded (rows_of p) ts
+legal_committed p ts tries = (ts, [], sym (append-nil ts), Goes.succeeded ts (not_files p) tries, ([], [], refl, Goes.wrote refl refl, refl))
+
+legal_unwound : (p : Package) (owners : List Owner) (ts : List Ran) → Falls (preinst_row p) owners ts → Legal gives [] (Unwound at_preinst owners) (rows_of p) ts
+legal_unwound p owners ts falls = record {
+  before = [];
+  row = preinst_row p;
+  after = file_row ∷ [];
+  rows_are = refl;
+  fell_at = refl;
+  forward = [];
+  last = falls.last;
+  back = falls.back;
+  calls_are = falls.calls_are;
+  succeed = refl;
+  fails = Goes.failed falls.last at_preinst (not_files p) falls.fails refl;
+  undoes = ([], falls.back, [], refl, (refl, refl), Undid.called [] owners falls.back (not_files p) falls.undoes);
+}
+
+pub record LegalTurn (p : Package) (turn : Turn) (ts : List Ran) : Type 0 where
+  pub ended : Ended
+  pub as_turned : EndsAs turn ended
+  pub legal : Legal gives [] ended (rows_of p) ts
+
+pub legal_turn : (p : Package) (turn : Turn) (ts : List Ran) → IsTurn (preinst_row p) turn ts → LegalTurn p turn ts
+legal_turn p Committed ts tries = record { ended = AllSucceeded; as_turned = tt; legal = legal_committed p ts tries }
+legal_turn p Undone ts falls = record { ended = Unwound at_preinst []; as_turned = refl; legal = legal_unwound p [] ts falls }
+legal_turn p UndoFailed ts (owner, owners, falls) = record { ended = Unwound at_preinst (owner ∷ owners); as_turned = (owner, owners, refl); legal = legal_unwound p (owner ∷ owners) ts falls }
+
+-- the scripts lie in `tmp.ci` until they are cleared away
+
+pub laid_keeps : (p : Package) (w now : World) → ((q : Path) → is_within tmp_path q ≡ true → now q ≡ w q) → AreLaidOut p.scripts w → AreLaidOut p.scripts now
+laid_keeps p w now keeps laid = record {
+  there = subst IsDirectory (sym (keeps tmp_path (directory_within tmp_path))) laid.there;
+  files = λ s. keeps (tmp_script_path s) refl ∙ laid.files s;
+  spares = λ s. keeps (temporary (tmp_script_path s)) refl ∙ laid.spares s;
+  whole = λ name plain there. laid.whole name plain (subst IsSome (keeps (tmp_path ++ 47 ∷ name) (below_within tmp_path name)) there);
+}
+
+inside_differs : (p q : Path) → is_within tmp_path q ≡ true → is_within tmp_path p ≡ false → q ≢ p
+inside_differs p q inside out e = true≢false (sym inside ∙ ap (is_within tmp_path) e ∙ out)
+
+pub noted_within : (w now : World) → KeepsBesideFile status_path w now → (q : Path) → is_within tmp_path q ≡ true → now q ≡ w q
+noted_within w now rest q inside = rest q (inside_differs status_path q inside refl) (inside_differs (temporary status_path) q inside refl)
+
+kept_within : (places : List Path) (q : Path) → is_within tmp_path q ≡ true → is_kept places q ≡ true
+kept_within places q inside = elim (within_is tmp_path q inside) [
+  | inl e ↦ subst (λ r. is_kept places r ≡ true) (sym e) refl
+  | inr r ↦ subst (λ s. is_kept places s ≡ true) (sym r.1) refl
+]
+
+pub scripts_within : (places : List Path) (w now : World) → SameOn (is_kept places) w now → (q : Path) → is_within tmp_path q ≡ true → now q ≡ w q
+scripts_within places w now same q inside = same q (kept_within places q inside)
+
+pub installed_within : (p : Package) (w now : World) → KeepsBesideOwn p.name w now → (q : Path) → is_within tmp_path q ≡ true → now q ≡ w q
+installed_within p w now rest q inside = rest q (λ f. (inside_differs (own_path p.name f) q inside refl, inside_differs (temporary (own_path p.name f)) q inside refl))
+
+-- the records at the end
+
+covered : (b : Bool) (m n o : Option Record) → cond b m (cond b n o) ≡ cond b m o
+covered true m n o = refl
+covered false m n o = refl
+
+put_changed : (p : Package) (flag : Flag) (state : State') (before after : List Record) (put : IsPutAs p flag state before after) → HasChangedRecord p.name (Some put.entry) before after
+put_changed p flag state before after put q =
+    ap (λ t. record_in t q) put.table ∙ record_in-put_record put.entry before q ∙ ap (λ n. cond (bytes_eq n q) (Some put.entry) (record_in before q)) put.is.name
+
+twice_changed : (name : List ℕ) (m n : Option Record) (before mid after : List Record) → HasChangedRecord name m before mid → HasChangedRecord name n mid after → HasChangedRecord name n before after
+twice_changed name m n before mid after first second q = second q ∙ ap (λ o. cond (bytes_eq name q) n o) (first q) ∙ covered (bytes_eq name q) n m (record_in before q)
+
+pub record EndTable (p : Package) (ended : Ended) (before after : List Record) : Type 0 where
+  pub entry : Option Record
+  pub is : IsEnd p ended entry
+  pub table : HasChangedRecord p.name entry before after
+
+undone_none : (p : Package) (owners : List Owner) → owners ≡ [] → UndoneEnd p owners None
+undone_none p owners e = subst (λ l. UndoneEnd p l None) (sym e) refl
+
+undone_some : (p : Package) (owner : Owner) (rest owners : List Owner) (entry : Option Record) → owners ≡ owner ∷ rest → IsSomeRecord p flag.Reinstreq state.HalfInstalled entry → UndoneEnd p owners entry
+undone_some p owner rest owners entry e is = subst (λ l. UndoneEnd p l entry) (sym e) is
+
+pub end_table : (p : Package) (turn : Turn) (ended : Ended) (before mid after : List Record) → EndsAs turn ended → IsPutAs p flag.Reinstreq state.HalfInstalled before mid → FinishedTable p turn mid after → EndTable p ended before after
+end_table p Committed AllSucceeded before mid after turned half put = record {
+  entry = Some put.entry;
+  is = (put.entry, refl, put.is);
+  table = twice_changed p.name (Some half.entry) (Some put.entry) before mid after (put_changed p flag.Reinstreq state.HalfInstalled before mid half) (put_changed p flag.Ok state.Unpacked mid after put);
+}
+end_table p Committed (Unwound fall owners) before mid after turned half put = absurd turned
+end_table p Undone AllSucceeded before mid after turned half dropped = absurd turned
+end_table p Undone (Unwound fall owners) before mid after turned half dropped = record {
+  entry = None;
+  is = undone_none p owners turned;
+  table = twice_changed p.name (Some half.entry) None before mid after (put_changed p flag.Reinstreq state.HalfInstalled before mid half) (λ q. ap (λ t. record_in t q) dropped ∙ record_in-drop_record p.name mid q);
+}
+end_table p UndoFailed AllSucceeded before mid after turned half kept = absurd turned
+end_table p UndoFailed (Unwound fall owners) before mid after turned half kept = record {
+  entry = Some half.entry;
+  is = undone_some p turned.0 turned.1 owners (Some half.entry) turned.2 (half.entry, refl, half.is);
+  table = λ q. ap (λ t. record_in t q) kept ∙ put_changed p flag.Reinstreq state.HalfInstalled before mid half q;
+}
+
+-- the files at the end
+abbrev pub turn_file : Package → Turn → OwnFile → Option Node
+turn_file p Committed file = own_node p.scripts file
+turn_file p Undone file = None
+turn_file p UndoFailed file = None
+
+pub end_files : (p : Package) (turn : Turn) (ended : Ended) → EndsAs turn ended → (file : OwnFile) → turn_file p turn file ≡ end_file p ended file
+end_files p Committed AllSucceeded turned file = refl
+end_files p Committed (Unwound fall owners) turned file = absurd turned
+end_files p Undone AllSucceeded turned file = absurd turned
+end_files p Undone (Unwound fall owners) turned file = refl
+end_files p UndoFailed AllSucceeded turned file = absurd turned
+end_files p UndoFailed (Unwound fall owners) turned file = refl
+
+pub turn_loose : (p : Package) (turn : Turn) (file : OwnFile) → NoDirectory (turn_file p turn file)
+turn_loose p Committed file = own_nodes p.scripts file
+turn_loose p Undone file = no_directory_none
+turn_loose p UndoFailed file = no_directory_none
+
+-- what stands after the finish
+pub stands_finished : (p : Package) (places : List Path) (turn : Turn) (ts : List Ran) (mid after : List Record) (old w now : World) → FinishedTable p turn mid after → Stands p places ts mid (λ file. None) old w → FinishedWorlds p turn after w now → Stands p places ts after (turn_file p turn) old now
+stands_finished p places Committed ts mid after old w now table stands (stored, installed, ready, noted) =
+    stands_noted p places ts mid after (own_node p.scripts) old stored now (stands_installed p places ts mid old w stored stands installed ready) noted
+stands_finished p places Undone ts mid after old w now table stands noted = stands_noted p places ts mid after (λ file. None) old w now stands noted
+stands_finished p places UndoFailed ts mid after old w now table stands e = subst (λ v. Stands p places ts after (λ file. None) old v) (sym e) (subst (λ t. Stands p places ts t (λ file. None) old w) (sym table) stands)
+
+pub laid_finished : (p : Package) (turn : Turn) (after : List Record) (w now : World) → FinishedWorlds p turn after w now → AreLaidOut p.scripts w → AreLaidOut p.scripts now
+laid_finished p Committed after w now (stored, installed, ready, noted) laid = laid_keeps p stored now (noted_within stored now noted.rest) (laid_keeps p w stored (installed_within p w stored installed.rest) laid)
+laid_finished p Undone after w now noted laid = laid_keeps p w now (noted_within w now noted.rest) laid
+laid_finished p UndoFailed after w now e laid = subst (AreLaidOut p.scripts) (sym e) laid
+
+-- the administration is in order again
+
+own_or_not : (name : List ℕ) (q : Path) → ((file : OwnFile) × (q ≡ own_path name file)) ⊎ ((file : OwnFile) → q ≢ own_path name file)
+own_or_not name q = elim (decide q (own_path name None)) [
+  | inl e ↦ inl (None, e)
+  | inr n0 ↦ elim (decide q (own_path name (Some Preinst))) [
+    | inl e ↦ inl (Some Preinst, e)
+    | inr n1 ↦ elim (decide q (own_path name (Some Postinst))) [
+      | inl e ↦ inl (Some Postinst, e)
+      | inr n2 ↦ elim (decide q (own_path name (Some Prerm))) [
+        | inl e ↦ inl (Some Prerm, e)
+        | inr n3 ↦ elim (decide q (own_path name (Some Postrm))) [
+          | inl e ↦ inl (Some Postrm, e)
+          | inr n4 ↦ inr (none_of name q n0 n1 n2 n3 n4)
+        ]
+      ]
+    ]
+  ]
+]
+  where
+    none_of : (name : List ℕ) (q : Path) → q ≢ own_path name None → q ≢ own_path name (Some Preinst) → q ≢ own_path name (Some Postinst) → q ≢ own_path name (Some Prerm) → q ≢ own_path name (Some Postrm) → (file : OwnFile) → q ≢ own_path name file
+    none_of name q n0 n1 n2 n3 n4 None = n0
+    none_of name q n0 n1 n2 n3 n4 (Some Preinst) = n1
+    none_of name q n0 n1 n2 n3 n4 (Some Postinst) = n2
+    none_of name q n0 n1 n2 n3 n4 (Some Prerm) = n3
+    none_of name q n0 n1 n2 n3 n4 (Some Postrm) = n4
+
+spare_or_not : (name : List ℕ) (q : Path) → ((file : OwnFile) × (q ≡ temporary (own_path name file))) ⊎ ((file : OwnFile) → q ≢ temporary (own_path name file))
+spare_or_not name q = elim (decide q (temporary (own_path name None))) [
+  | inl e ↦ inl (None, e)
+  | inr n0 ↦ elim (decide q (temporary (own_path name (Some Preinst)))) [
+    | inl e ↦ inl (Some Preinst, e)
+    | inr n1 ↦ elim (decide q (temporary (own_path name (Some Postinst)))) [
+      | inl e ↦ inl (Some Postinst, e)
+      | inr n2 ↦ elim (decide q (temporary (own_path name (Some Prerm)))) [
+        | inl e ↦ inl (Some Prerm, e)
+        | inr n3 ↦ elim (decide q (temporary (own_path name (Some Postrm)))) [
+          | inl e ↦ inl (Some Postrm, e)
+          | inr n4 ↦ inr (none_of name q n0 n1 n2 n3 n4)
+        ]
+      ]
+    ]
+  ]
+]
+  where
+    none_of : (name : List ℕ) (q : Path) → q ≢ temporary (own_path name None) → q ≢ temporary (own_path name (Some Preinst)) → q ≢ temporary (own_path name (Some Postinst)) → q ≢ temporary (own_path name (Some Prerm)) → q ≢ temporary (own_path name (Some Postrm)) → (file : OwnFile) → q ≢ temporary (own_path name file)
+    none_of name q n0 n1 n2 n3 n4 None = n0
+    none_of name q n0 n1 n2 n3 n4 (Some Preinst) = n1
+    none_of name q n0 n1 n2 n3 n4 (Some Postinst) = n2
+    none_of name q n0 n1 n2 n3 n4 (Some Prerm) = n3
+    none_of name q n0 n1 n2 n3 n4 (Some Postrm) = n4
+
+entry_outside : (name entry : Path) → ((file : OwnFile) → info_path ++ 47 ∷ entry ≢ own_path name file) → ((file : OwnFile) → info_path ++ 47 ∷ entry ≢ temporary (own_path name file)) → IsOutside name (info_path ++ 47 ∷ entry)
+entry_outside name entry own spare = record {
+  status = λ e. let d : ◌≡◌ {A = ℕ} 105 115 = ap (λ (l : Path). get_or l 14 0) e in absurd (omega arith);
+  status_spare = λ e. let d : ◌≡◌ {A = ℕ} 105 115 = ap (λ (l : Path). get_or l 14 0) e in absurd (omega arith);
+  own = λ f. (own f, spare f);
+  tmp = refl;
+}
+
+pub in_order_again : (p : Package) (places : List Path) (ts : List Ran) (table : List Record) (files : OwnFile → Option Node) (old now : World) → ((file : OwnFile) → NoDirectory (files file)) → IsInOrder old → Stands p places ts table files old now → now tmp_path ≡ None → IsInOrder now
+in_order_again p places ts table files old now loose order stands none = record {
+  home = home_there p places ts table files old now stands order.home;
+  info = info_there p places ts table files old now stands order.info;
+  entries = λ entry plain. elim (own_or_not p.name (info_path ++ 47 ∷ entry)) [
+    | inl own ↦ no_directory_at (now (info_path ++ 47 ∷ entry)) (files own.0) (ap now own.1 ∙ stands.own own.0) (loose own.0)
+    | inr no_own ↦ elim (spare_or_not p.name (info_path ++ 47 ∷ entry)) [
+      | inl spare ↦ no_directory_at (now (info_path ++ 47 ∷ entry)) (now (temporary (own_path p.name spare.0))) (ap now spare.1) (stands.spares spare.0)
+      | inr no_spare ↦ no_directory_at (now (info_path ++ 47 ∷ entry)) (old (info_path ++ 47 ∷ entry))
+          (kept_outside p places ts table files old now (info_path ++ 47 ∷ entry) stands (entry_outside p.name entry no_own no_spare) refl) (order.entries entry plain)
+    ]
+  ];
+  status = stands.status;
+  status_spare = stands.status_spare;
+  tmp = none;
+}
+
+-- after the beginning
+
+pub begun_stands : (p : Package) (places : List Path) (before after : List Record) (old now : World) → IsInOrder old → HasRecords old before → BegunWorlds p after old now → Stands p places [] after (λ file. None) old now
+begun_stands p places before after old now order has worlds =
+    let ready = own_in_order p.name old p.named order in
+    let start = stands_start p places before old has order.status order.status_spare ready.spares in
+    let cleared = stands_cleared p places [] before (λ file. old (own_path p.name file)) old old worlds.cleared start worlds.own_cleared worlds.own_ready in
+    let laid = stands_tmp p places [] before (λ file. None) old worlds.cleared worlds.laid cleared worlds.tmp_alone in
+    stands_noted p places [] before after (λ file. None) old worlds.laid now laid worlds.noted
+
+pub begun_laid : (p : Package) (after : List Record) (old now : World) → BegunWorlds p after old now → AreLaidOut p.scripts now
+begun_laid p after old now worlds = laid_keeps p worlds.laid now (noted_within worlds.laid now worlds.noted.rest) worlds.scripts_laid
+
+-- moments
+
+module _ (p : Package) (places : List Path) (before : List Record) where
+  amid_notes : (flag : Flag) (state : State') (prev : List Record) (old w now : World) → IsAmid p places before old w → ((entry : Record) → IsRecordOf p flag state entry → IsStage p before (put_record entry prev)) → IsNotingAs p flag state prev w now → IsAmid p places before old now
+  amid_notes flag state prev old w now amid stage notes = elim notes.status [
+    | inl e ↦ amid_status p places before old w now amid amid.stage amid.is_stage (moved_records amid.stage w now e amid.records) notes.rest
+    | inr has ↦ amid_status p places before old w now amid (put_record has.0 prev) (stage has.0 has.1) has.2 notes.rest
+  ]
+
+  pub amid_beginning : (old now : World) → HasRecords old before → IsBeginning p before old now → IsAmid p places before old now
+  amid_beginning old now has (clearing is) = amid_changing p places before old old now (amid_start p places before old has) is
+  amid_beginning old now has (laying cleared is keeps) = amid_tmp p places before old cleared now (amid_changing p places before old old cleared (amid_start p places before old has) is) keeps
+  amid_beginning old now has (noting cleared laid is keeps noted) =
+      amid_notes flag.Reinstreq state.HalfInstalled before old laid now
+      (amid_tmp p places before old cleared laid (amid_changing p places before old old cleared (amid_start p places before old has) is) keeps) (λ entry is. IsStage.half entry is) noted
+
+  pub amid_finishing : (turn : Turn) (mid : List Record) (old w now : World) → IsPutAs p flag.Reinstreq state.HalfInstalled before mid → IsAmid p places before old w → IsFinishing p turn mid w now → IsAmid p places before old now
+  amid_finishing turn mid old w now half amid (storing t is) = amid_changing p places before old w now amid is
+  amid_finishing turn mid old w now half amid (unpacked t stored is noted) =
+      amid_notes flag.Ok state.Unpacked mid old stored now (amid_changing p places before old w stored amid is)
+      (λ entry is. subst (λ l. IsStage p before (put_record entry l)) (sym half.table) (IsStage.unpacked half.entry entry half.is is)) noted
+  amid_finishing turn mid old w now half amid (forgetting t is) =
+      amid_noting p places before old w now amid (drop_record p.name mid) (subst (λ l. IsStage p before (drop_record p.name l)) (sym half.table) (IsStage.forgotten half.entry half.is)) is
+  amid_finishing turn mid old w now half amid (left t e) = subst (IsAmid p places before old) (sym e) amid
+
+-- the whole
+
+pub unit_by : (p : Package) (places : List Path) (turn : Turn) (before mid after : List Record) (ts : List Ran) (s a b c d : State) (told now : List Called) → IsTurn (preinst_row p) turn ts → Silent s a → Calls (is_kept places) ts a b → Silent b c → Silent c d → Tells ts told now
+    → IsPutAs p flag.Reinstreq state.HalfInstalled before mid → FinishedTable p turn mid after → (IsTrue s.honest → IsInOrder s.world) → (IsTrue s.honest → HasRecords s.world before)
+    → (IsTrue s.honest → BegunWorlds p mid s.world a.world) → (IsTrue s.honest → FinishedWorlds p turn after b.world c.world) → (IsTrue s.honest → IsRemoved tmp_path c.world d.world) → HasUnpacked p places turn before after s d told now
+unit_by p places turn before mid after ts s a b c d told now turned first made third fourth tells half table order has begun finished removed =
+    let legal = legal_turn p turn ts turned in
+    let end = end_table p turn legal.ended before mid after legal.as_turned half table in
+    record {
+      ended = legal.ended;
+      ts = ts;
+      is_end = legal.as_turned;
+      calls = fourth.calls ∙ third.calls ∙ made.calls ∙ ap (λ l. l ++ ts) first.calls;
+      tells = tells;
+      unit = record {
+        legal = legal.legal;
+        made = record { begun = a; ended = b; before = first.calls; after = fourth.calls ∙ third.calls; made = made; scripts = λ h. (begun_laid p mid s.world a.world (begun h)).files };
+        leaves = λ h.
+            let h1 = subst IsTrue (sym first.honest) h in
+            let one = begun_stands p places before mid s.world a.world (order h) (has h) (begun h) in
+            let two = stands_scripts p places [] ts mid (λ file. None) s.world a b h1 one made in
+            let three = stands_finished p places turn ts mid after s.world b.world c.world table two (finished h) in
+            let four = stands_tmp p places ts after (turn_file p turn) s.world c.world d.world three (removed h).rest in
+            record {
+              order = in_order_again p places ts after (turn_file p turn) s.world d.world (turn_loose p turn) (order h) four ((removed h).inside tmp_path (directory_within tmp_path));
+              avoids = four.avoids;
+              entry = end.entry;
+              end = end.is;
+              table = end.table;
+              records = four.records;
+              files = λ file. four.own file ∙ end_files p turn legal.ended legal.as_turned file;
+              rest = four.rest;
+            };
+      };
+    }

@@ -1,0 +1,31 @@
+use Rattle.unwind_stack.specs.Transcript.{Tries, UndoesRow}
+use Rattle.unwind_stack.proofs.Makes.{makes_then, moments_then}
+use Rattle.unpack_engine.specs.Turns.{IsTurn}
+use Rattle.unpack_engine.specs.declared.rows.Turn.TheVariants.{Undone, UndoFailed}
+use Rattle.unpack_engine.proofs.Falling.{falls_undone, falls_failed}
+use Rattle.unpack_engine.proofs.rows.run_row.Goals as goal
+
+pub returns-in_err-undo_row-clause-any_moment : goal.returns-in_err-undo_row-clause-any_moment
+returns-in_err-undo_row-clause-any_moment g c = moments_then _ _ _ _ c.try_row.ensures.any_moment c.try_row.ensures.honest c.undo_row.ensures.any_moment
+
+pub returns-then-is_empty-clause-any_moment : goal.returns-then-is_empty-clause-any_moment
+returns-then-is_empty-clause-any_moment g c = moments_then _ _ _ _ c.try_row.ensures.any_moment c.try_row.ensures.honest c.undo_row.ensures.any_moment
+
+pub returns-clause-any_moment : goal.returns-clause-any_moment
+returns-clause-any_moment g c = moments_then _ _ _ _ c.try_row.ensures.any_moment c.try_row.ensures.honest c.undo_row.ensures.any_moment
+
+pub returns-then-is_empty-clause-calls : goal.returns-then-is_empty-clause-calls
+returns-then-is_empty-clause-calls g c =
+    let row = c.args.row.now in
+    let owners = c.undo_row.new.owners in
+    makes_then _ (λ ts. Tries row ts c.in_ok-try_row.field-0) (λ ts. UndoesRow row c.new-owners.result.items ts owners.items) (IsTurn row Undone) _ _ _ _ _ _
+    (λ x y p q. falls_undone row owners.items c.new-owners.result.items _ c.is_empty.result c.in_ok-try_row.field-0 x y owners.ok.0 c.is_empty.ensures c.if-is_empty.true c.if-branch.false c.new-owners.ensures.items p q)
+    c.in_ok-try_row.ensures.calls c.in_ok-undo_row.ensures.calls
+
+pub returns-clause-calls : goal.returns-clause-calls
+returns-clause-calls g c =
+    let row = c.args.row.now in
+    let owners = c.undo_row.new.owners in
+    makes_then _ (λ ts. Tries row ts c.in_ok-try_row.field-0) (λ ts. UndoesRow row c.new-owners.result.items ts owners.items) (IsTurn row UndoFailed) _ _ _ _ _ _
+    (λ x y p q. falls_failed row owners.items c.new-owners.result.items _ c.is_empty.result c.in_ok-try_row.field-0 x y owners.ok.0 c.is_empty.ensures c.if-is_empty.false c.if-branch.false c.new-owners.ensures.items p q)
+    c.in_ok-try_row.ensures.calls c.in_ok-undo_row.ensures.calls

@@ -1,0 +1,177 @@
+use Rattle.std.proofs.Common.{[], IsTrue, None, sym, subst}
+use Rattle.host_core.specs.World.{is_kept, SameOn}
+use Rattle.host_core.specs.Moments.{since_weaker}
+use Rattle.unpack_engine.specs.Unpack.{IsAmid}
+use Rattle.unpack_engine.proofs.Amid.{amid_scripts, amid_tmp, since_amid}
+use Rattle.unpack_engine.proofs.Standing.{home_there, info_there, status_ready, own_ready, stands_scripts}
+use Rattle.unpack_engine.proofs.Whole.{amid_beginning, amid_finishing, begun_stands, begun_laid, laid_keeps, laid_finished, scripts_within, unit_by}
+use Rattle.administration.proofs.WholeFiles.{no_directory_none}
+use Rattle.host_core.specs.Scripts.{changed_kept}
+use Rattle.unpack_engine.proofs.unpack.unpack_package.Goals as goal
+
+pub returns-in_err-begin-clause-any_moment : goal.returns-in_err-begin-clause-any_moment
+returns-in_err-begin-clause-any_moment g c = λ h.
+    let p = c.args.incoming.now in
+    let places = c.args.keep.now in
+    let table = c.args.database.now in
+    let s0 = g.H.Host.state c.args.host.now in
+    let s1 = g.H.Host.state c.begin.new.host in
+    let m1 = since_weaker _ (IsAmid p places table s0.world) s0 s1 (λ w is. amid_beginning p places table s0.world w (c.requires.records h) is) (c.begin.ensures.any_moment h) in
+    m1
+
+pub returns-in_err-turn-clause-any_moment : goal.returns-in_err-turn-clause-any_moment
+returns-in_err-turn-clause-any_moment g c = λ h.
+    let p = c.args.incoming.now in
+    let places = c.args.keep.now in
+    let table = c.args.database.now in
+    let s0 = g.H.Host.state c.args.host.now in
+    let s1 = g.H.Host.state c.begin.new.host in
+    let s2 = g.H.Host.state c.run_rows.new.host in
+    let h1 = subst IsTrue (sym c.begin.ensures.silent.honest) h in
+    let m1 = since_weaker _ (IsAmid p places table s0.world) s0 s1 (λ w is. amid_beginning p places table s0.world w (c.requires.records h) is) (c.begin.ensures.any_moment h) in
+    let m2 = since_amid p places table _ s0 s1 s2 (λ w is amid. amid_scripts p places table s0.world s1.world w amid is) m1 (c.run_rows.ensures.any_moment h1) in
+    m2
+
+pub returns-in_err-finish-clause-any_moment : goal.returns-in_err-finish-clause-any_moment
+returns-in_err-finish-clause-any_moment g c = λ h.
+    let p = c.args.incoming.now in
+    let places = c.args.keep.now in
+    let table = c.args.database.now in
+    let s0 = g.H.Host.state c.args.host.now in
+    let s1 = g.H.Host.state c.begin.new.host in
+    let s2 = g.H.Host.state c.run_rows.new.host in
+    let s3 = g.H.Host.state c.finish.new.host in
+    let h1 = subst IsTrue (sym c.begin.ensures.silent.honest) h in
+    let h2 = subst IsTrue (sym c.run_rows.ensures.honest) h1 in
+    let m1 = since_weaker _ (IsAmid p places table s0.world) s0 s1 (λ w is. amid_beginning p places table s0.world w (c.requires.records h) is) (c.begin.ensures.any_moment h) in
+    let m2 = since_amid p places table _ s0 s1 s2 (λ w is amid. amid_scripts p places table s0.world s1.world w amid is) m1 (c.run_rows.ensures.any_moment h1) in
+    let m3 = since_amid p places table _ s0 s2 s3 (λ w is amid. amid_finishing p places table c.in_ok-turn.turn c.begin.new.database s0.world s2.world w (c.in_ok-begin.ensures.begun).put amid is) m2 (c.finish.ensures.any_moment h2) in
+    m3
+
+pub returns-in_err-clear_away-clause-any_moment : goal.returns-in_err-clear_away-clause-any_moment
+returns-in_err-clear_away-clause-any_moment g c = λ h.
+    let p = c.args.incoming.now in
+    let places = c.args.keep.now in
+    let table = c.args.database.now in
+    let s0 = g.H.Host.state c.args.host.now in
+    let s1 = g.H.Host.state c.begin.new.host in
+    let s2 = g.H.Host.state c.run_rows.new.host in
+    let s3 = g.H.Host.state c.finish.new.host in
+    let h1 = subst IsTrue (sym c.begin.ensures.silent.honest) h in
+    let h2 = subst IsTrue (sym c.run_rows.ensures.honest) h1 in
+    let h3 = subst IsTrue (sym c.finish.ensures.silent.honest) h2 in
+    let m1 = since_weaker _ (IsAmid p places table s0.world) s0 s1 (λ w is. amid_beginning p places table s0.world w (c.requires.records h) is) (c.begin.ensures.any_moment h) in
+    let m2 = since_amid p places table _ s0 s1 s2 (λ w is amid. amid_scripts p places table s0.world s1.world w amid is) m1 (c.run_rows.ensures.any_moment h1) in
+    let m3 = since_amid p places table _ s0 s2 s3 (λ w is amid. amid_finishing p places table c.in_ok-turn.turn c.begin.new.database s0.world s2.world w (c.in_ok-begin.ensures.begun).put amid is) m2 (c.finish.ensures.any_moment h2) in
+    since_amid p places table _ s0 s3 (g.H.Host.state c.clear_away.new.host) (λ w is amid. amid_tmp p places table s0.world s3.world w amid is) m3 (c.clear_away.ensures.any_moment h3)
+
+pub returns-clause-any_moment : goal.returns-clause-any_moment
+returns-clause-any_moment g c = λ h.
+    let p = c.args.incoming.now in
+    let places = c.args.keep.now in
+    let table = c.args.database.now in
+    let s0 = g.H.Host.state c.args.host.now in
+    let s1 = g.H.Host.state c.begin.new.host in
+    let s2 = g.H.Host.state c.run_rows.new.host in
+    let s3 = g.H.Host.state c.finish.new.host in
+    let h1 = subst IsTrue (sym c.begin.ensures.silent.honest) h in
+    let h2 = subst IsTrue (sym c.run_rows.ensures.honest) h1 in
+    let h3 = subst IsTrue (sym c.finish.ensures.silent.honest) h2 in
+    let m1 = since_weaker _ (IsAmid p places table s0.world) s0 s1 (λ w is. amid_beginning p places table s0.world w (c.requires.records h) is) (c.begin.ensures.any_moment h) in
+    let m2 = since_amid p places table _ s0 s1 s2 (λ w is amid. amid_scripts p places table s0.world s1.world w amid is) m1 (c.run_rows.ensures.any_moment h1) in
+    let m3 = since_amid p places table _ s0 s2 s3 (λ w is amid. amid_finishing p places table c.in_ok-turn.turn c.begin.new.database s0.world s2.world w (c.in_ok-begin.ensures.begun).put amid is) m2 (c.finish.ensures.any_moment h2) in
+    since_amid p places table _ s0 s3 (g.H.Host.state c.clear_away.new.host) (λ w is amid. amid_tmp p places table s0.world s3.world w amid is) m3 (c.clear_away.ensures.any_moment h3)
+
+pub finish-requires-clause-home : goal.finish-requires-clause-home
+finish-requires-clause-home g c = λ h2.
+    let p = c.args.incoming.now in
+    let places = c.args.keep.now in
+    let table = c.args.database.now in
+    let s0 = g.H.Host.state c.args.host.now in
+    let s1 = g.H.Host.state c.begin.new.host in
+    let s2 = g.H.Host.state c.run_rows.new.host in
+    let h1 = subst IsTrue c.run_rows.ensures.honest h2 in
+    let h = subst IsTrue c.begin.ensures.silent.honest h1 in
+    let one = begun_stands p places table c.begin.new.database s0.world s1.world (c.requires.order h) (c.requires.records h) ((c.in_ok-begin.ensures.begun).worlds h) in
+    let made = c.in_ok-turn.ensures.calls in
+    let two = stands_scripts p places [] made.0 c.begin.new.database (λ file. None) s0.world s1 s2 h1 one made.1 in
+    home_there p places made.0 c.begin.new.database (λ file. None) s0.world s2.world two (c.requires.order h).home
+
+pub finish-requires-clause-info : goal.finish-requires-clause-info
+finish-requires-clause-info g c = λ h2.
+    let p = c.args.incoming.now in
+    let places = c.args.keep.now in
+    let table = c.args.database.now in
+    let s0 = g.H.Host.state c.args.host.now in
+    let s1 = g.H.Host.state c.begin.new.host in
+    let s2 = g.H.Host.state c.run_rows.new.host in
+    let h1 = subst IsTrue c.run_rows.ensures.honest h2 in
+    let h = subst IsTrue c.begin.ensures.silent.honest h1 in
+    let one = begun_stands p places table c.begin.new.database s0.world s1.world (c.requires.order h) (c.requires.records h) ((c.in_ok-begin.ensures.begun).worlds h) in
+    let made = c.in_ok-turn.ensures.calls in
+    let two = stands_scripts p places [] made.0 c.begin.new.database (λ file. None) s0.world s1 s2 h1 one made.1 in
+    info_there p places made.0 c.begin.new.database (λ file. None) s0.world s2.world two (c.requires.order h).info
+
+pub finish-requires-clause-status : goal.finish-requires-clause-status
+finish-requires-clause-status g c = λ h2.
+    let p = c.args.incoming.now in
+    let places = c.args.keep.now in
+    let table = c.args.database.now in
+    let s0 = g.H.Host.state c.args.host.now in
+    let s1 = g.H.Host.state c.begin.new.host in
+    let s2 = g.H.Host.state c.run_rows.new.host in
+    let h1 = subst IsTrue c.run_rows.ensures.honest h2 in
+    let h = subst IsTrue c.begin.ensures.silent.honest h1 in
+    let one = begun_stands p places table c.begin.new.database s0.world s1.world (c.requires.order h) (c.requires.records h) ((c.in_ok-begin.ensures.begun).worlds h) in
+    let made = c.in_ok-turn.ensures.calls in
+    let two = stands_scripts p places [] made.0 c.begin.new.database (λ file. None) s0.world s1 s2 h1 one made.1 in
+    status_ready p places made.0 c.begin.new.database (λ file. None) s0.world s2.world two (c.requires.order h).home
+
+pub finish-requires-clause-own : goal.finish-requires-clause-own
+finish-requires-clause-own g c = λ h2.
+    let p = c.args.incoming.now in
+    let places = c.args.keep.now in
+    let table = c.args.database.now in
+    let s0 = g.H.Host.state c.args.host.now in
+    let s1 = g.H.Host.state c.begin.new.host in
+    let s2 = g.H.Host.state c.run_rows.new.host in
+    let h1 = subst IsTrue c.run_rows.ensures.honest h2 in
+    let h = subst IsTrue c.begin.ensures.silent.honest h1 in
+    let one = begun_stands p places table c.begin.new.database s0.world s1.world (c.requires.order h) (c.requires.records h) ((c.in_ok-begin.ensures.begun).worlds h) in
+    let made = c.in_ok-turn.ensures.calls in
+    let two = stands_scripts p places [] made.0 c.begin.new.database (λ file. None) s0.world s1 s2 h1 one made.1 in
+    own_ready p places made.0 c.begin.new.database (λ file. None) s0.world s2.world (λ f. no_directory_none) two
+
+pub clear_away-requires : goal.clear_away-requires
+clear_away-requires g c = λ h3.
+    let p = c.args.incoming.now in
+    let places = c.args.keep.now in
+    let table = c.args.database.now in
+    let s0 = g.H.Host.state c.args.host.now in
+    let s1 = g.H.Host.state c.begin.new.host in
+    let s2 = g.H.Host.state c.run_rows.new.host in
+    let s3 = g.H.Host.state c.finish.new.host in
+    let h2 = subst IsTrue c.finish.ensures.silent.honest h3 in
+    let h1 = subst IsTrue c.run_rows.ensures.honest h2 in
+    let h = subst IsTrue c.begin.ensures.silent.honest h1 in
+    let made = c.in_ok-turn.ensures.calls in
+    let laid1 = begun_laid p c.begin.new.database s0.world s1.world ((c.in_ok-begin.ensures.begun).worlds h) in
+    let same = subst (SameOn (is_kept places) s1.world) (sym (made.1.world h1)) (changed_kept (is_kept places) _ s1.world (made.1.avoids h1)) in
+    let laid2 = laid_keeps p s1.world s2.world (scripts_within places s1.world s2.world same) laid1 in
+    laid_finished p c.in_ok-turn.turn c.finish.new.database s2.world s3.world ((c.in_ok-finish.ensures.finished).worlds h2) laid2
+
+pub returns-clause-unit : goal.returns-clause-unit
+returns-clause-unit g c =
+    let p = c.args.incoming.now in
+    let places = c.args.keep.now in
+    let table = c.args.database.now in
+    let s0 = g.H.Host.state c.args.host.now in
+    let s1 = g.H.Host.state c.begin.new.host in
+    let s2 = g.H.Host.state c.run_rows.new.host in
+    let s3 = g.H.Host.state c.finish.new.host in
+    let made = c.in_ok-turn.ensures.calls in
+    let to1 = λ (h : IsTrue s0.honest). subst IsTrue (sym c.begin.ensures.silent.honest) h in
+    let to2 = λ (h : IsTrue s0.honest). subst IsTrue (sym c.run_rows.ensures.honest) (to1 h) in
+    let to3 = λ (h : IsTrue s0.honest). subst IsTrue (sym c.finish.ensures.silent.honest) (to2 h) in
+    unit_by p places c.in_ok-turn.turn table c.begin.new.database c.finish.new.database made.0 s0 s1 s2 s3 (g.H.Host.state c.clear_away.new.host) _ _ made.2.0 c.begin.ensures.silent made.1 c.finish.ensures.silent c.clear_away.ensures.silent made.2.1
+    (c.in_ok-begin.ensures.begun).put (c.in_ok-finish.ensures.finished).table c.requires.order c.requires.records (c.in_ok-begin.ensures.begun).worlds (λ h. (c.in_ok-finish.ensures.finished).worlds (to2 h)) (λ h. c.in_ok-clear_away.ensures.removed (to3 h))

@@ -1,0 +1,6 @@
+pub mod ForwardRows
+pub mod Turns
+pub mod EndStates
+pub mod Unpack
+pub mod Stages
+pub mod Units

@@ -1,0 +1,80 @@
+-- The parts of a unit, and the whole.
+use Rattle.std.specs.Prelude.{◌≡◌, List, [], ◌∷◌, ◌++◌}
+use Rattle.host_core.specs.Paths.{Path}
+use Rattle.host_core.specs.World.{World, KeepsBut}
+use Rattle.host_core.specs.Host.{Ran, State}
+use Rattle.administration.specs.Places.{tmp_path, is_within}
+use Rattle.unwind_stack.specs.Transcript.{Ended, Committed as AllSucceeded, Unwound, Tells}
+use Rattle.unwind_stack.specs.declared.rows.Called.{Called}
+use Rattle.unwind_stack.specs.declared.rows.Owner.{Owner}
+use Rattle.package_tree.specs.declared.package.Package.{Package}
+use Rattle.package_files.specs.OwnFiles.{IsCleared, IsInstalled, IsChanging, IsOwnReady}
+use Rattle.package_files.specs.Incoming.{AreLaidOut}
+use Rattle.status_db.specs.declared.record.Record.{Record}
+use Rattle.status_db.specs.declared.words.Flag.TheVariants as flag
+use Rattle.status_db.specs.declared.words.State.TheVariants as state
+use Rattle.status_db.specs.Records.{drop_record}
+use Rattle.status_db.specs.Status.{IsNoted, IsNoting}
+use Rattle.unpack_engine.specs.declared.rows.Turn.{Turn}
+use Rattle.unpack_engine.specs.declared.rows.Turn.TheVariants.{Committed, Undone, UndoFailed}
+use Rattle.unpack_engine.specs.Unpack.{Unpacks}
+use Rattle.unpack_engine.specs.Stages.{IsPutAs, IsNotingAs}
+
+-- What stands once the unit has begun, by the worlds after each of its three parts.
+pub record BegunWorlds (p : Package) (after : List Record) (old now : World) : Type 0 where
+  pub cleared : World
+  pub laid : World
+  pub own_cleared : IsCleared p.name old cleared
+  pub own_ready : IsOwnReady p.name cleared
+  pub scripts_laid : AreLaidOut p.scripts laid
+  pub tmp_alone : KeepsBut (is_within tmp_path) cleared laid
+  pub noted : IsNoted after laid now
+
+pub record HasBegun (p : Package) (before after : List Record) (honest : Type 0) (old new : World) : Type 0 where
+  pub put : IsPutAs p flag.Reinstreq state.HalfInstalled before after
+  pub worlds : honest → BegunWorlds p after old new
+
+-- at each moment of the beginning
+pub data IsBeginning (p : Package) (before : List Record) (old now : World) : Type 0 where
+  clearing : IsChanging p.name p.scripts old now → IsBeginning p before old now
+  laying : (cleared : World) → IsChanging p.name p.scripts old cleared → KeepsBut (is_within tmp_path) cleared now → IsBeginning p before old now
+  noting : (cleared laid : World) → IsChanging p.name p.scripts old cleared → KeepsBut (is_within tmp_path) cleared laid → IsNotingAs p flag.Reinstreq state.HalfInstalled before laid now → IsBeginning p before old now
+
+-- how the unit is finished, by the turn that its rows took
+abbrev pub FinishedWorlds : Package → Turn → List Record → World → World → Type 0
+FinishedWorlds p Committed after old new = (stored : World) × IsInstalled p.name p.scripts old stored × IsOwnReady p.name stored × IsNoted after stored new
+FinishedWorlds p Undone after old new = IsNoted after old new
+FinishedWorlds p UndoFailed after old new = new ≡ old
+
+abbrev pub FinishedTable : Package → Turn → List Record → List Record → Type 0
+FinishedTable p Committed before after = IsPutAs p flag.Ok state.Unpacked before after
+FinishedTable p Undone before after = after ≡ drop_record p.name before
+FinishedTable p UndoFailed before after = after ≡ before
+
+pub record HasFinished (p : Package) (turn : Turn) (before after : List Record) (honest : Type 0) (old new : World) : Type 0 where
+  pub table : FinishedTable p turn before after
+  pub worlds : honest → FinishedWorlds p turn after old new
+
+pub data IsFinishing (p : Package) (turn : Turn) (before : List Record) (old now : World) : Type 0 where
+  storing : turn ≡ Committed → IsChanging p.name p.scripts old now → IsFinishing p turn before old now
+  unpacked : turn ≡ Committed → (stored : World) → IsChanging p.name p.scripts old stored → IsNotingAs p flag.Ok state.Unpacked before stored now → IsFinishing p turn before old now
+  forgetting : turn ≡ Undone → IsNoting (drop_record p.name before) old now → IsFinishing p turn before old now
+  left : turn ≡ UndoFailed → now ≡ old → IsFinishing p turn before old now
+
+-- how the rows ended, as the turn tells it
+abbrev pub EndsAs : Turn → Ended → Type 0
+EndsAs Committed AllSucceeded = Unit {0}
+EndsAs Committed (Unwound fall owners) = ⊥
+EndsAs Undone AllSucceeded = ⊥
+EndsAs Undone (Unwound fall owners) = owners ≡ []
+EndsAs UndoFailed AllSucceeded = ⊥
+EndsAs UndoFailed (Unwound fall owners) = (owner : Owner) × (rest : List Owner) × (owners ≡ owner ∷ rest)
+
+-- the whole unit, with the calls that were told
+pub record HasUnpacked (p : Package) (places : List Path) (turn : Turn) (before after : List Record) (old new : State) (told now : List Called) : Type 0 where
+  pub ended : Ended
+  pub ts : List Ran
+  pub is_end : EndsAs turn ended
+  pub calls : new.calls ≡ old.calls ++ ts
+  pub tells : Tells ts told now
+  pub unit : Unpacks p places before after ended ts old new

@@ -1,0 +1,85 @@
+-- What an unpack of a package that has scripts alone, and wasn't installed before, does.
+use Rattle.std.specs.Prelude.{◌≡◌, ◌≢◌, ℕ, Bool, true, false, List, [], ◌∷◌, ◌++◌, Option, None, IsTrue}
+use Rattle.std.specs.Map.{update}
+use Rattle.std.specs.Str.{bytes_eq}
+use Rattle.host_core.specs.Paths.{Path}
+use Rattle.host_core.specs.World.{World, IsDirectory, Avoids, changed, is_kept}
+use Rattle.host_core.specs.Host.{Ran, State, Calls, scripts_change}
+use Rattle.host_core.specs.Tree.{has_slash}
+use Rattle.host_core.specs.declared.call.Script.{Script}
+use Rattle.administration.specs.Places.{home_path, info_path, status_path, tmp_path, tmp_script_path, temporary, is_within}
+use Rattle.administration.specs.Files.{NoDirectory}
+use Rattle.administration.specs.Scripts.{script_of, file_of}
+use Rattle.unwind_stack.specs.Transcript.{Ended, Legal}
+use Rattle.package_tree.specs.declared.package.Package.{Package}
+use Rattle.package_files.specs.OwnFiles.{OwnFile, own_path, own_node, IsOwnMoment}
+use Rattle.status_db.specs.declared.record.Record.{Record}
+use Rattle.status_db.specs.Records.{record_in, put_record, drop_record}
+use Rattle.status_db.specs.Status.{HasRecords}
+use Rattle.status_db.specs.declared.words.Flag.TheVariants as flag
+use Rattle.status_db.specs.declared.words.State.TheVariants as state
+use Rattle.unpack_engine.specs.ForwardRows.{rows_of, gives}
+use Rattle.unpack_engine.specs.EndStates.{IsRecordOf, IsEnd, end_file}
+
+-- The administration is in order: its directories are there, no directory is in a file's way, no unit is under way.
+pub record IsInOrder (w : World) : Type 0 where
+  pub home : IsDirectory (w home_path)
+  pub info : IsDirectory (w info_path)
+  pub entries : (name : Path) → has_slash name ≡ false → NoDirectory (w (info_path ++ 47 ∷ name))
+  pub status : NoDirectory (w status_path)
+  pub status_spare : NoDirectory (w (temporary status_path))
+  pub tmp : w tmp_path ≡ None
+
+-- a path at which the unit of this package doesn't write
+pub record IsOutside (name : List ℕ) (q : Path) : Type 0 where
+  pub status : q ≢ status_path
+  pub status_spare : q ≢ temporary status_path
+  pub own : (file : OwnFile) → (q ≢ own_path name file) × (q ≢ temporary (own_path name file))
+  pub tmp : is_within tmp_path q ≡ false
+
+-- the records of one name are changed
+abbrev pub HasChangedRecord : List ℕ → Option Record → List Record → List Record → Type 0
+HasChangedRecord name entry before after = (q : List ℕ) → record_in after q ≡ update bytes_eq (record_in before) name entry q
+
+-- the script calls of a unit were made one after another, from a moment at which the tree's scripts lay where the calls name them
+pub record MadeCalls (kept : Path → Bool) (p : Package) (ts : List Ran) (old new : State) : Type 0 where
+  pub begun : State
+  pub ended : State
+  pub before : begun.calls ≡ old.calls
+  pub after : new.calls ≡ ended.calls
+  pub made : Calls kept ts begun ended
+  pub scripts : IsTrue old.honest → (script : Script) → begun.world (tmp_script_path script) ≡ file_of (script_of p.scripts script)
+
+-- the world that an unpack leaves
+pub record IsLeft (p : Package) (places : List Path) (before after : List Record) (ended : Ended) (ts : List Ran) (old new : World) : Type 0 where
+  pub order : IsInOrder new
+  -- a script call changes no kept path
+  pub avoids : Avoids (is_kept places) (scripts_change ts)
+  pub entry : Option Record
+  pub end : IsEnd p ended entry
+  pub table : HasChangedRecord p.name entry before after
+  pub records : HasRecords new after
+  pub files : (file : OwnFile) → new (own_path p.name file) ≡ end_file p ended file
+  -- apart from that nothing has changed but what the script calls changed
+  pub rest : (q : Path) → IsOutside p.name q → new q ≡ changed (scripts_change ts) old q
+
+-- the unit: its calls are legal for its rows and were made, and the world is as the tables say
+pub record Unpacks (p : Package) (places : List Path) (before after : List Record) (ended : Ended) (ts : List Ran) (old new : State) : Type 0 where
+  pub legal : Legal gives [] ended (rows_of p) ts
+  pub made : MadeCalls (is_kept places) p ts old new
+  pub leaves : IsTrue old.honest → IsLeft p places before after ended ts old.world new.world
+
+-- Which records stand at some moment: those of before; with the package half-installed; then unpacked, or gone.
+pub data IsStage (p : Package) (before : List Record) : List Record → Type 0 where
+  as_before : IsStage p before before
+  half : (r : Record) → IsRecordOf p flag.Reinstreq state.HalfInstalled r → IsStage p before (put_record r before)
+  unpacked : (r s : Record) → IsRecordOf p flag.Reinstreq state.HalfInstalled r → IsRecordOf p flag.Ok state.Unpacked s → IsStage p before (put_record s (put_record r before))
+  forgotten : (r : Record) → IsRecordOf p flag.Reinstreq state.HalfInstalled r → IsStage p before (drop_record p.name (put_record r before))
+
+-- At each moment of it: the records are those of a stage, the package's files are whole, all kept places are as before.
+pub record IsAmid (p : Package) (places : List Path) (before : List Record) (old now : World) : Type 0 where
+  pub stage : List Record
+  pub is_stage : IsStage p before stage
+  pub records : HasRecords now stage
+  pub own : (file : OwnFile) → IsOwnMoment (own_node p.scripts file) (old (own_path p.name file)) (now (own_path p.name file))
+  pub rest : (q : Path) → IsOutside p.name q → is_kept places q ≡ true → now q ≡ old q

@@ -1,0 +1,10 @@
+//! Unpacking a package (Policy 6.6): its rows, its notes and the files of the administration.
+#![tactic(auto)]
+
+mod notes;
+mod rows;
+mod unpack;
+
+pub use notes::note_as;
+pub use rows::{Turn, preinst_call, run_rows};
+pub use unpack::unpack_package;

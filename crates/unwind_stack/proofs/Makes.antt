@@ -1,0 +1,26 @@
+-- How lists of calls that were made go on.
+use Rattle.std.proofs.Common.{◌≡◌, Bool, IsTrue, List, [], ◌++◌, map, sym, ap, subst, ◌∙◌, append_assoc}
+use Rattle.std.proofs.lemmas.List.{append-nil, map-append}
+use Rattle.host_core.specs.Paths.{Path}
+use Rattle.host_core.specs.World.{SameOn}
+use Rattle.host_core.specs.Host.{Ran, State, Since}
+use Rattle.host_core.specs.Scripts.{calls_none, calls_then, since_kept}
+use Rattle.unwind_stack.specs.declared.rows.Called.{Called}
+use Rattle.unwind_stack.specs.Transcript.{told_of, Makes}
+
+pub makes_none : (kept : Path → Bool) (P : List Ran → Type 0) (a : State) (told : List Called) → P [] → Makes kept P a a told told
+makes_none kept P a told here = ([], calls_none kept a, (here, sym (append-nil told)))
+
+pub makes_weaker : (kept : Path → Bool) (P Q : List Ran → Type 0) (a b : State) (told now : List Called) → ((ts : List Ran) → P ts → Q ts) → Makes kept P a b told now → Makes kept Q a b told now
+makes_weaker kept P Q a b told now so made = (made.0, made.1, (so made.0 made.2.0, made.2.1))
+
+pub makes_then : (kept : Path → Bool) (P Q R : List Ran → Type 0) (a b c : State) (told more now : List Called) → ((x y : List Ran) → P x → Q y → R (x ++ y)) → Makes kept P a b told more → Makes kept Q b c more now → Makes kept R a c told now
+makes_then kept P Q R a b c told more now both first second = (
+  first.0 ++ second.0,
+  calls_then kept first.0 second.0 a b c first.1 second.1,
+  (both first.0 second.0 first.2.0 second.2.0, second.2.1 ∙ ap (λ (l : List Called). l ++ map told_of second.0) first.2.1 ∙ append_assoc told (map told_of first.0) (map told_of second.0) ∙ ap (λ (l : List Called). told ++ l) (sym (map-append told_of first.0 second.0)))
+)
+
+-- what is kept stays over two parts
+pub moments_then : (kept : Path → Bool) (a b c : State) → (IsTrue a.honest → Since (SameOn kept a.world) a b) → b.honest ≡ a.honest → (IsTrue b.honest → Since (SameOn kept b.world) b c) → IsTrue a.honest → Since (SameOn kept a.world) a c
+moments_then kept a b c first same second h = since_kept kept a b c (first h) (second (subst IsTrue (sym same) h))
