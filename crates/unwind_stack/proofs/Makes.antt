@@ -18,7 +18,7 @@ pub makes_then : (kept : Path → Bool) (P Q R : List Ran → Type 0) (a b c : S
 makes_then kept P Q R a b c told more now both first second = (
   first.0 ++ second.0,
   calls_then kept first.0 second.0 a b c first.1 second.1,
-  (both first.0 second.0 first.2.0 second.2.0, second.2.1 ∙ ap (λ (l : List Called). l ++ map told_of second.0) first.2.1 ∙ append_assoc told (map told_of first.0) (map told_of second.0) ∙ ap (λ (l : List Called). told ++ l) (sym (map-append told_of first.0 second.0)))
+  (both first.0 second.0 first.2.0 second.2.0, second.2.1 ∙ ap (λ (l : List Called). l ++ map told_of second.0) first.2.1 ∙ append_assoc told (map told_of first.0) (map told_of second.0) ∙ ap (λ (l : List Called). told ++ l) (sym (map-append told_of first.0 second.0))),
 )
 
 -- what is kept stays over two parts
