@@ -3,6 +3,7 @@ ghost use Rattle.std.specs.Prelude.{◌≡◌, List, [], IfOk, IfErr, OnOk, IsTr
 ghost use Rattle.std.specs.Option.{option_copied};
 ghost use Rattle.host_core.specs.Host.{HasCause, Same, Silent, Since};
 ghost use Rattle.administration.specs.Fault.{HasAdministrationCause};
+ghost use Rattle.administration.specs.Files.{NoDirectory};
 ghost use Rattle.administration.specs.Places.{status_path};
 ghost use Rattle.administration.specs.declared.fault.AdministrationFault.TheVariants.{Device};
 ghost use Rattle.status_db.specs.declared.record.Record.{Record as ARecord};
@@ -42,6 +43,7 @@ fn read_node(
     requires { path ≡ status_path }
     ensures records { IfOk result (λ d. StandsFor node d) }
     ensures damage { IfErr result (IsNodeDamage node) }
+    ensures loose { IfOk result (λ d. NoDirectory node) }
     ensures standing { IfOk result (λ d. standing d ≡ d) }
     ensures device { IsErrOf result Device → ⊥ }
 {
@@ -77,6 +79,7 @@ fn open_at<H: Host>(
     requires { path ≡ status_path }
     ensures records { IsTrue (H.state host.old).honest → IfOk result (HasRecords (H.state host.old).world) }
     ensures damage { IsTrue (H.state host.old).honest → IfErr result (IsStatusDamage (H.state host.old).world) }
+    ensures loose { IsTrue (H.state host.old).honest → IfOk result (λ d. NoDirectory ((H.state host.old).world status_path)) }
     ensures standing { IfOk result (λ d. standing d ≡ d) }
     ensures same { IsTrue (H.state host.old).honest → Same (H.state host.old) (H.state host.new) }
     ensures silent { Silent (H.state host.old) (H.state host.new) }
@@ -91,6 +94,7 @@ impl Database {
     pub fn open<H: Host>(alloc: Global, host: &mut H) -> Result<Database, AdministrationFault>
         ensures records { IsTrue (H.state host.old).honest → IfOk result (HasRecords (H.state host.old).world) }
         ensures damage { IsTrue (H.state host.old).honest → IfErr result (IsStatusDamage (H.state host.old).world) }
+        ensures loose { IsTrue (H.state host.old).honest → IfOk result (λ d. NoDirectory ((H.state host.old).world status_path)) }
         ensures standing { IfOk result (λ d. standing d ≡ d) }
         ensures same { IsTrue (H.state host.old).honest → Same (H.state host.old) (H.state host.new) }
         ensures silent { Silent (H.state host.old) (H.state host.new) }

@@ -1,0 +1,17 @@
+use Rattle.std.proofs.Common.{◌≡◌, subst, List}
+use Rattle.std.specs.List.{list_any}
+use Rattle.std.specs.Str.{bytes_eq}
+use Rattle.std.specs.BTreeSet.{contains_text}
+use Rattle.host_core.specs.Paths.{Path}
+use Rattle.host_core.specs.Tree.{IsListing}
+use Rattle.file_lists.proofs.Among.{entries_listed}
+use Rattle.file_lists.proofs.reading.entries_in.Goals as goal
+
+pub returns-clause-entries : goal.returns-clause-entries
+returns-clause-entries g c = λ h.
+    let w = (g.H.Host.state c.args.host.now).world in
+    let names = c.in_ok-listing.listing.names in
+    let bad = c.in_ok-listing.listing.bad in
+    let set = c.in_ok-sorted.field-0 in
+    let listed = subst (λ (p : Path). IsListing w p names bad) c.in_ok-info.ensures (c.in_ok-listing.ensures.listed h) in
+    entries_listed w names bad set c.if-listing.false listed (λ q. subst (λ (l : List Path). contains_text set q ≡ list_any (bytes_eq q) l) c.as_slice.ensures (c.in_ok-sorted.ensures q))

@@ -1,0 +1,317 @@
+-- How the opening of one part goes on to the next.
+use Rattle.std.proofs.Common.{◌≡◌, ◌⊎◌, inl, inr, ℕ, Bool, true, false, List, [], ◌∷◌, ◌++◌, Option, Some, None, IsSome, Contains, nat_eq, Result, Ok, Err, IfOk, IfErr, refl, sym, ap, subst, ◌∙◌, MatchBool}
+use Rattle.std.specs.List.{AllByRecursion, list_any}
+use Rattle.std.specs.Str.{bytes_eq}
+use Rattle.std.proofs.lemmas.Slice.Eq.{bytes_eq-Decides}
+use Rattle.std.proofs.lemmas.Bool.{true≢false}
+use Rattle.std.proofs.lemmas.Cmp.{nat_eq_equiv}
+use Rattle.std.proofs.lemmas.Map.Views.{list_any-from_Contains}
+use Rattle.host_core.specs.Paths.{Path}
+use Rattle.host_core.specs.Tree.{has_slash, IsListing}
+use Rattle.host_core.specs.World.{World, HasParent, IsDirectory, IsLoose, KeepsBut}
+use Rattle.host_core.specs.Host.{State, Same, Since}
+use Rattle.host_core.specs.Moments.{since_same, since_then, since_weaker, since_now}
+use Rattle.host_core.specs.declared.fault.HostFault.{HostFault}
+use Rattle.host_core.specs.declared.fault.HostFault.TheVariants as host
+use Rattle.host_core.specs.declared.node.Node.{Node}
+use Rattle.administration.specs.Places.{home_path, info_path, status_path, diversions_path, updates_path, tmp_path, list_path, temporary, is_within}
+use Rattle.administration.specs.Directories.{IsMade, IsMaking, IsRemoved, IsStanding}
+use Rattle.administration.specs.declared.directories.Standing.{Standing}
+use Rattle.administration.specs.declared.directories.Standing.TheVariants.{Nothing, Loose}
+use Rattle.administration.specs.Fault.{fault_of}
+use Rattle.administration.specs.Files.{NoDirectory}
+use Rattle.administration.specs.declared.fault.AdministrationFault.{AdministrationFault}
+use Rattle.administration.specs.declared.fault.AdministrationFault.TheVariants.{Damaged, Device, NoMemory}
+use Rattle.administration.proofs.WholeFiles.{no_directory_none, no_directory_at}
+use Rattle.file_lists.specs.Info.{AreLoose, IsInfoDamage}
+use Rattle.file_lists.specs.Lists.{HasPlaces}
+use Rattle.file_lists.proofs.Kept.{has_places_kept}
+use Rattle.status_db.specs.declared.record.Record.{Record}
+use Rattle.status_db.specs.Status.{HasRecords, IsStatusDamage, StandsFor}
+use Rattle.opening.specs.Opened.{IsOpened}
+use Rattle.opening.specs.Least.{IsLeastOf}
+use Rattle.opening.specs.Leaving.{IsOpening, IsNewWay, is_way}
+use Rattle.opening.specs.Parts.{Part, Way, Status, Spare, Updates, Info, Diversions, Leftovers, IsFine, IsFirstFault, IsDamage, IsWithoutDiversions, IsLeftoversFault, HasBadName, IsLeastIn, Finds, Opens, fault_in, names_of, parts}
+
+pub opening_start : (w : World) → IsOpening w w
+opening_start w q out = inl refl
+
+after_new : (q : Path) (u v w : World) → IsNewWay q u v → (w q ≡ v q) ⊎ IsNewWay q v w → (w q ≡ u q) ⊎ IsNewWay q u w
+after_new q u v w new (inl same) = inr (record { way = new.way; missing = new.missing; made = subst IsDirectory (sym same) new.made })
+after_new q u v w new (inr again) = absurd (no_directory_none (subst IsDirectory again.missing new.made))
+
+after_same : (q : Path) (u v w : World) → v q ≡ u q → (w q ≡ v q) ⊎ IsNewWay q v w → (w q ≡ u q) ⊎ IsNewWay q u w
+after_same q u v w same (inl more) = inl (more ∙ same)
+after_same q u v w same (inr new) = inr (record { way = new.way; missing = sym same ∙ new.missing; made = new.made })
+
+after_either : (q : Path) (u v w : World) → (v q ≡ u q) ⊎ IsNewWay q u v → (w q ≡ v q) ⊎ IsNewWay q v w → (w q ≡ u q) ⊎ IsNewWay q u w
+after_either q u v w (inl same) second = after_same q u v w same second
+after_either q u v w (inr new) second = after_new q u v w new second
+
+pub opening_then : (u v w : World) → IsOpening u v → IsOpening v w → IsOpening u w
+opening_then u v w first second q out = after_either q u v w (first q out) (second q out)
+
+pub moments_then : (a b c : State) → Since (IsOpening a.world) a b → Since (IsOpening b.world) b c → Since (IsOpening a.world) a c
+moments_then a b c first second = since_then (IsOpening a.world) a b c first
+    (since_weaker (IsOpening b.world) (IsOpening a.world) b c (λ w later. opening_then a.world b.world w (since_now (IsOpening a.world) a b first) later) second)
+
+pub moments_same : (a b : State) → Same a b → Since (IsOpening a.world) a b
+moments_same a b same = since_same (IsOpening a.world) a b same (opening_start a.world)
+
+making_at : (p q : Path) (b : Bool) → bytes_eq p q ≡ b → (old now : World) → is_way p ≡ true → IsMaking p old now → (now q ≡ old q) ⊎ IsNewWay q old now
+making_at p q false e old now way making = inl (making.rest q (λ same. absurd (no_true p q e same)))
+  where
+  no_true : (p q : Path) → bytes_eq p q ≡ false → q ≡ p → ⊥
+  no_true p q e same = absurd (true≢false (sym ((bytes_eq-Decides p q).1 (sym same)) ∙ e))
+making_at p q true e old now way making = subst (λ r. (now r ≡ old r) ⊎ IsNewWay r old now) ((bytes_eq-Decides p q).0 e) (here making.target)
+  where
+  here : (now p ≡ old p) ⊎ ((old p ≡ None) × IsDirectory (now p)) → (now p ≡ old p) ⊎ IsNewWay p old now
+  here (inl same) = inl same
+  here (inr new) = inr (record { way = way; missing = new.0; made = new.1 })
+
+pub opening_making : (p : Path) (old now : World) → is_way p ≡ true → IsMaking p old now → IsOpening old now
+opening_making p old now way making q out = making_at p q (bytes_eq p q) refl old now way making
+
+pub moments_making : (p : Path) (a b : State) → is_way p ≡ true → Since (IsMaking p a.world) a b → Since (IsOpening a.world) a b
+moments_making p a b way since = since_weaker (IsMaking p a.world) (IsOpening a.world) a b (λ w making. opening_making p a.world w way making) since
+
+pub moments_clearing : (a b : State) → Since (KeepsBut (is_within tmp_path) a.world) a b → Since (IsOpening a.world) a b
+moments_clearing a b since = since_weaker (KeepsBut (is_within tmp_path) a.world) (IsOpening a.world) a b (λ w keeps q out. inl (keeps q out)) since
+
+-- what is fine stays so while later parts are opened
+
+directory_kept : (q : Path) (u v : World) → (v q ≡ u q) ⊎ IsNewWay q u v → IsDirectory (u q) → IsDirectory (v q)
+directory_kept q u v (inl same) is = subst IsDirectory (sym same) is
+directory_kept q u v (inr new) is = new.made
+
+pub plain_kept : (q : Path) (u v : World) → is_way q ≡ false → (v q ≡ u q) ⊎ IsNewWay q u v → v q ≡ u q
+plain_kept q u v plain (inl same) = same
+plain_kept q u v plain (inr new) = absurd (true≢false (sym new.way ∙ plain))
+
+-- a part that later steps leave fine
+abbrev pub IsEarly : Part → Type 0
+IsEarly (Way path) = is_within tmp_path path ≡ false
+IsEarly Status = Unit {0}
+IsEarly Spare = Unit {0}
+IsEarly Updates = Unit {0}
+IsEarly Info = Unit {0}
+IsEarly Diversions = Unit {0}
+IsEarly Leftovers = ⊥
+
+pub fine_kept : (part : Part) (u v : World) → IsEarly part → IsOpening u v → IsFine u part → IsFine v part
+fine_kept (Way path) u v early opening fine = directory_kept path u v (opening path early) fine
+fine_kept Status u v early opening fine =
+    let e = plain_kept status_path u v refl (opening status_path refl) in
+    (no_directory_at (v status_path) (u status_path) e fine.0, (fine.1.0, subst (λ n. StandsFor n fine.1.0) (sym e) fine.1.1))
+fine_kept Spare u v early opening fine =
+    no_directory_at (v (temporary status_path)) (u (temporary status_path)) (plain_kept (temporary status_path) u v refl (opening (temporary status_path) refl)) fine
+fine_kept Updates u v early opening fine = λ name plain.
+    plain_kept (updates_path ++ 47 ∷ name) u v refl (opening (updates_path ++ 47 ∷ name) refl) ∙ fine name plain
+fine_kept Info u v early opening fine = λ name plain.
+    no_directory_at (v (info_path ++ 47 ∷ name)) (u (info_path ++ 47 ∷ name)) (plain_kept (info_path ++ 47 ∷ name) u v refl (opening (info_path ++ 47 ∷ name) refl)) (fine name plain)
+fine_kept Diversions u v early opening fine = subst IsWithoutDiversions (sym (plain_kept diversions_path u v refl (opening diversions_path refl))) fine
+fine_kept Leftovers u v early opening fine = absurd early
+
+all_kept : (among : List Part) (u v : World) → AllByRecursion IsEarly among → IsOpening u v → AllByRecursion (IsFine u) among → AllByRecursion (IsFine v) among
+all_kept [] u v early opening fine = tt
+all_kept (part ∷ among) u v early opening fine = (fine_kept part u v early.0 opening fine.0, all_kept among u v early.1 opening fine.1)
+
+all_append : (P : Part → Type 0) (a b : List Part) → AllByRecursion P a → AllByRecursion P b → AllByRecursion P (a ++ b)
+all_append P [] b first second = second
+all_append P (part ∷ a) b first second = (first.0, all_append P a b first.1 second)
+
+fault_behind : (a b : List Part) (w : World) (file : Path) (line : ℕ) → AllByRecursion (IsFine w) a → IsFirstFault b w file line → IsFirstFault (a ++ b) w file line
+fault_behind [] b w file line fine fault = fault
+fault_behind (part ∷ a) b w file line fine fault = inr (fine.0, fault_behind a b w file line fine.1 fault)
+
+fault_before : (a b : List Part) (w : World) (file : Path) (line : ℕ) → IsFirstFault a w file line → IsFirstFault (a ++ b) w file line
+fault_before [] b w file line fault = absurd fault
+fault_before (part ∷ a) b w file line (inl here) = inl here
+fault_before (part ∷ a) b w file line (inr later) = inr (later.0, fault_before a b w file line later.1)
+
+finds_behind : (a b : List Part) (w : World) (fault : Option AdministrationFault) → AllByRecursion (IsFine w) a → Finds b w fault → Finds (a ++ b) w fault
+finds_behind a b w None fine finds = all_append (IsFine w) a b fine finds
+finds_behind a b w (Some (Damaged file line)) fine finds = fault_behind a b w file line fine finds
+finds_behind a b w (Some Device) fine finds = tt
+finds_behind a b w (Some NoMemory) fine finds = tt
+
+damage_before : (a b : List Part) (w : World) (fault : AdministrationFault) → IsDamage a w fault → IsDamage (a ++ b) w fault
+damage_before a b w (Damaged file line) finds = fault_before a b w file line finds
+damage_before a b w Device finds = tt
+damage_before a b w NoMemory finds = tt
+
+-- the parts after fine ones
+pub opens_then : (a b : List Part) (fault : Option AdministrationFault) (s t u : State) → AllByRecursion IsEarly a → Opens a None s t → Opens b fault t u → Opens (a ++ b) fault s u
+opens_then a b fault s t u early first second = record {
+  moments = moments_then s t u first.moments second.moments;
+  finds = finds_behind a b u.world fault (all_kept a t.world u.world early (since_now (IsOpening t.world) t u second.moments) first.finds) second.finds;
+}
+
+-- a fault ends the opening
+pub opens_stop : (a b : List Part) (fault : AdministrationFault) (s t : State) → Opens a (Some fault) s t → Opens (a ++ b) (Some fault) s t
+opens_stop a b fault s t first = record { moments = first.moments; finds = damage_before a b t.world fault first.finds }
+
+-- want of memory, or a fault of the host
+memory_damage : (among : List Part) (w : World) (fault : AdministrationFault) → fault ≡ NoMemory → IsDamage among w fault
+memory_damage among w fault is = subst (IsDamage among w) (sym is) tt
+
+pub opens_memory : (among : List Part) (fault : AdministrationFault) (s t : State) → fault ≡ NoMemory → Since (IsOpening s.world) s t → Opens among (Some fault) s t
+opens_memory among fault s t is moments = record { moments = moments; finds = memory_damage among t.world fault is }
+
+host_damage : (among : List Part) (w : World) (h : HostFault) (fault : AdministrationFault) → fault ≡ fault_of h → IsDamage among w fault
+host_damage among w host.Device fault is = subst (IsDamage among w) (sym is) tt
+host_damage among w host.NoMemory fault is = subst (IsDamage among w) (sym is) tt
+
+pub opens_host : (among : List Part) (h : HostFault) (fault : AdministrationFault) (s t : State) → fault ≡ fault_of h → Since (IsOpening s.world) s t → Opens among (Some fault) s t
+opens_host among h fault s t is moments = record { moments = moments; finds = host_damage among t.world h fault is }
+
+-- the same of the answer in which the fault comes
+pub ends_host : {T : Type 0} (among : List Part) (h : HostFault) (result : Result T AdministrationFault) (fault : AdministrationFault) (s t : State) → result ≡ Err fault → fault ≡ fault_of h → Since (IsOpening s.world) s t → Opens among (fault_in result) s t
+ends_host among h result fault s t e is moments = subst (λ r. Opens among (fault_in r) s t) (sym e) (opens_host among h fault s t is moments)
+
+pub ends_memory : {T : Type 0} (among : List Part) (result : Result T AdministrationFault) (fault : AdministrationFault) (s t : State) → result ≡ Err fault → fault ≡ NoMemory → Since (IsOpening s.world) s t → Opens among (fault_in result) s t
+ends_memory among result fault s t e is moments = subst (λ r. Opens among (fault_in r) s t) (sym e) (opens_memory among fault s t is moments)
+
+pub ends_stop : {T : Type 0} (a b : List Part) (result : Result T AdministrationFault) (fault given : AdministrationFault) (s t : State) → result ≡ Err fault → fault ≡ given → Opens a (Some given) s t → Opens (a ++ b) (fault_in result) s t
+ends_stop a b result fault given s t e is first = subst (λ r. Opens (a ++ b) (fault_in r) s t) (sym e) (subst (λ f. Opens (a ++ b) (Some f) s t) (sym is) (opens_stop a b given s t first))
+
+-- a directory that was made, or can't be
+pub way_made : (p q : Path) (s t : State) → p ≡ q → is_way q ≡ true → Since (IsMaking p s.world) s t → IsMade p s.world t.world → Opens (Way q ∷ []) None s t
+way_made p q s t e way since made = subst (λ r. Opens (Way r ∷ []) None s t) e
+    (record { moments = moments_making p s t (ap is_way e ∙ way) since; finds = (made.target, tt) })
+
+loose_kept : (p : Path) (old now : World) → IsMaking p old now → IsLoose (old p) → NoDirectory (now p)
+loose_kept p old now making loose = no_directory_here making.target
+  where
+  no_directory_here : (now p ≡ old p) ⊎ ((old p ≡ None) × IsDirectory (now p)) → NoDirectory (now p)
+  no_directory_here (inl same) = no_directory_at (now p) (old p) same loose.1
+  no_directory_here (inr new) = absurd (true≢false (sym (subst IsSome new.0 loose.0)))
+
+pub way_loose : (p q : Path) (fault : AdministrationFault) (s t : State) → p ≡ q → is_way q ≡ true → fault ≡ Damaged p 0 → Since (IsMaking p s.world) s t → IsLoose (s.world p) → Opens (Way q ∷ []) (Some fault) s t
+way_loose p q fault s t e way is since loose = subst (λ r. Opens (Way r ∷ []) (Some fault) s t) e (record {
+  moments = moments_making p s t (ap is_way e ∙ way) since;
+  finds = subst (IsDamage (Way p ∷ []) t.world) (sym is) (inl (refl, refl, loose_kept p s.world t.world (since_now (IsMaking p s.world) s t since) loose));
+})
+
+-- nothing stands at the temporary name, or a file
+pub spare_fine : (p : Path) (s t : State) → p ≡ temporary status_path → Same s t → NoDirectory (s.world p) → Opens (Spare ∷ []) None s t
+spare_fine p s t e same loose = record {
+  moments = moments_same s t same;
+  finds = (no_directory_at (t.world (temporary status_path)) (s.world p) (ap (λ w. w (temporary status_path)) same.world ∙ ap s.world (sym e)) loose, tt);
+}
+
+standing_loose : (b : Standing) (node : Option Node) → (b ≡ Nothing) ⊎ (b ≡ Loose) → IsStanding b node → NoDirectory node
+standing_loose b node (inl e) is = no_directory_at node None (subst (λ x. IsStanding x node) e is) no_directory_none
+standing_loose b node (inr e) is = (subst (λ x. IsStanding x node) e is).1
+
+pub spare_standing : (b : Standing) (p : Path) (s t : State) → p ≡ temporary status_path → Same s t → (b ≡ Nothing) ⊎ (b ≡ Loose) → IsStanding b (s.world p) → Opens (Spare ∷ []) None s t
+spare_standing b p s t e same which is = spare_fine p s t e same (standing_loose b (s.world p) which is)
+
+-- `tmp.ci`
+
+pub leftovers_same : (fault : AdministrationFault) (file : Path) (s t : State) → fault ≡ Damaged file 0 → Same s t → IsLeftoversFault s.world file → Opens (Leftovers ∷ []) (Some fault) s t
+leftovers_same fault file s t is same faulty = record {
+  moments = moments_same s t same;
+  finds = subst (IsDamage (Leftovers ∷ []) t.world) (sym is) (inl (refl, subst (λ w. IsLeftoversFault w file) (sym same.world) faulty));
+}
+
+pub leftovers_bad : (fault : AdministrationFault) (p : Path) (s t : State) → p ≡ tmp_path → fault ≡ Damaged p 0 → Same s t → HasBadName s.world p → Opens (Leftovers ∷ []) (Some fault) s t
+leftovers_bad fault p s t e is same bad = leftovers_same fault tmp_path s t (is ∙ ap (λ q. Damaged q 0) e) same (inl (refl, inr (subst (HasBadName s.world) e bad)))
+
+pub leftovers_removed : (p : Path) (a b c : State) → p ≡ tmp_path → Same a b → Since (KeepsBut (is_within p) b.world) b c → IsRemoved p b.world c.world → Opens (Leftovers ∷ []) None a c
+leftovers_removed p a b c e same since removed = record {
+  moments = moments_then a b c (moments_same a b same) (moments_clearing b c (subst (λ q. Since (KeepsBut (is_within q) b.world) b c) e since));
+  finds = ((subst (λ q. IsRemoved q b.world c.world) e removed).inside tmp_path refl, tt);
+}
+
+pub moments_removing : (p : Path) (a b c : State) → p ≡ tmp_path → Same a b → Since (KeepsBut (is_within p) b.world) b c → Since (IsOpening a.world) a c
+moments_removing p a b c e same since = moments_then a b c (moments_same a b same) (moments_clearing b c (subst (λ q. Since (KeepsBut (is_within q) b.world) b c) e since))
+
+pub on_true : {A : Type 0} (B : Type 0) (b : Bool) → b ≡ true → MatchBool b A B → A
+on_true B true e holds = holds
+on_true B false e holds = absurd (true≢false (sym e))
+
+pub on_false : (A : Type 0) {B : Type 0} (b : Bool) → b ≡ false → MatchBool b A B → B
+on_false A true e holds = absurd (true≢false e)
+on_false A false e holds = holds
+
+-- a directory's entry has it as its parent
+pub child_parent : (w : World) (front name : Path) → list_any (nat_eq 47) name ≡ false → IsDirectory (w front) → HasParent w (front ++ 47 ∷ name)
+child_parent w front name free is = (front, name, refl, (λ has. true≢false (sym (list_any-from_Contains nat_eq_equiv 47 name has) ∙ free)), is)
+
+-- the least entry of a directory that has to be empty
+
+listed_name : (w : World) (directory : Path) (names : List Path) (bad : Bool) → bad ≡ false → IsListing w directory names bad → (name : Path) → has_slash name ≡ false → IsSome (w (directory ++ 47 ∷ name)) → Contains names name
+listed_name w directory names bad e listing name plain there = elim (listing.whole name plain there) [
+  | inl has ↦ has
+  | inr odd ↦ absurd (true≢false (sym odd.1 ∙ e))
+]
+
+pub least_entry : (w : World) (directory : Path) (names : List Path) (bad : Bool) (name : Path) → bad ≡ false → IsListing w directory names bad → IsLeastOf names name → IsLeastIn w directory name
+least_entry w directory names bad name e listing least = record {
+  plain = (listing.there name least.among).0;
+  there = (listing.there name least.among).1;
+  least = λ other plain there. least.least other (listed_name w directory names bad e listing other plain there);
+}
+
+pub entry_damage : (w : World) (directory file : Path) (name : Path) (fault : AdministrationFault) → directory ≡ updates_path → file ≡ directory ++ 47 ∷ name → fault ≡ Damaged file 0 → IsLeastIn w updates_path name → IsDamage (Updates ∷ []) w fault
+entry_damage w directory file name fault place path is least = subst (IsDamage (Updates ∷ []) w) (sym is) (inl (refl, inr (name, path ∙ ap (λ d. d ++ 47 ∷ name) place, least)))
+
+-- what is known before later parts are opened stays
+
+pub home_kept : {among : List Part} {fault : Option AdministrationFault} (a b : State) → Opens among fault a b → IsDirectory (a.world home_path) → IsDirectory (b.world home_path)
+home_kept a b opens is = directory_kept home_path a.world b.world (since_now (IsOpening a.world) a b opens.moments home_path refl) is
+
+pub records_kept : {among : List Part} {fault : Option AdministrationFault} (table : List Record) (a b : State) → Opens among fault a b → HasRecords a.world table → HasRecords b.world table
+records_kept table a b opens has = subst (λ n. StandsFor n table) (sym (plain_kept status_path a.world b.world refl (since_now (IsOpening a.world) a b opens.moments status_path refl))) has
+
+pub listed_kept : {among : List Part} {fault : Option AdministrationFault} (names : List (List ℕ)) (places : List Path) (a b : State) → Opens among fault a b → HasPlaces a.world names places → HasPlaces b.world names places
+listed_kept names places a b opens has = has_places_kept a.world b.world names places
+    (λ name known. plain_kept (list_path name) a.world b.world refl (since_now (IsOpening a.world) a b opens.moments (list_path name) refl)) has
+
+-- reading alone
+
+found_info : {T : Type 0} (table : List Record) (v w : World) (result : Result T AdministrationFault) → w ≡ v → HasRecords v table → IfOk result (λ k. AreLoose v) → IfErr result (IsInfoDamage v (names_of table)) → Finds (Info ∷ []) w (fault_in result)
+found_info table v w (Ok k) same records loose damage = (subst AreLoose (sym same) loose, tt)
+found_info table v w (Err (Damaged file line)) same records loose damage =
+    inl (table, subst (λ u. HasRecords u table) (sym same) records, subst (λ u. IsInfoDamage u (names_of table) (Damaged file line)) (sym same) damage)
+found_info table v w (Err Device) same records loose damage = tt
+found_info table v w (Err NoMemory) same records loose damage = tt
+
+pub info_read : {T : Type 0} (result : Result T AdministrationFault) (table : List Record) (a b c : State) → Opens (Way info_path ∷ []) None a b → HasRecords b.world table → Same b c → IfOk result (λ k. AreLoose b.world) → IfErr result (IsInfoDamage b.world (names_of table)) → Opens (Way info_path ∷ Info ∷ []) (fault_in result) a c
+info_read result table a b c first records same loose damage =
+    opens_then (Way info_path ∷ []) (Info ∷ []) (fault_in result) a b c (refl, tt) first (record { moments = moments_same b c same; finds = found_info table b.world c.world result same.world records loose damage })
+
+status_fault : (v w : World) (fault : AdministrationFault) → w ≡ v → IsStatusDamage v fault → IsDamage (Status ∷ []) w fault
+status_fault v w (Damaged file line) same damage = inl (subst (λ u. IsStatusDamage u (Damaged file line)) (sym same) damage)
+status_fault v w Device same damage = tt
+status_fault v w NoMemory same damage = tt
+
+pub status_damaged : (fault : AdministrationFault) (a b : State) → Same a b → IsStatusDamage a.world fault → Opens (Status ∷ []) (Some fault) a b
+status_damaged fault a b same damage = record { moments = moments_same a b same; finds = status_fault a.world b.world fault same.world damage }
+
+pub status_read : (table : List Record) (a b : State) → Same a b → NoDirectory (a.world status_path) → HasRecords a.world table → Opens (Status ∷ []) None a b
+status_read table a b same loose records = record {
+  moments = moments_same a b same;
+  finds = (subst (λ u. IsFine u Status) (sym same.world) (loose, (table, records)), tt);
+}
+
+pub opened_of : (table : List Record) (places : List Path) (a b : State) → Opens parts None a b → HasRecords b.world table → HasPlaces b.world (names_of table) places → IsOpened table places b.world
+opened_of table places a b opens records listed = record {
+  home = opens.finds.1.1.1.0;
+  info = opens.finds.1.1.1.1.1.1.1.1.0;
+  entries = opens.finds.1.1.1.1.1.1.1.1.1.0;
+  status = opens.finds.1.1.1.1.0.0;
+  status_spare = opens.finds.1.1.1.1.1.0;
+  tmp = opens.finds.1.1.1.1.1.1.1.1.1.1.1.0;
+  records = records;
+  listed = listed;
+}
+
+pub listed_through : {among : List Part} {fault : Option AdministrationFault} (result : Result (List Path) AdministrationFault) (names : List (List ℕ)) (places : List Path) (a b : State) → Opens among fault a b → IfOk result (λ kept. kept ≡ places) → HasPlaces a.world names places → IfOk result (HasPlaces b.world names)
+listed_through (Ok kept) names places a b opens is has = subst (HasPlaces b.world names) (sym is) (listed_kept names places a b opens has)
+listed_through (Err fault) names places a b opens is has = tt
+
+pub opened_ok : (result : Result (List Record × List Path) AdministrationFault) (table : List Record) (a b : State) → Opens parts (fault_in result) a b → IfOk result (λ o. o.0 ≡ table) → HasRecords b.world table → IfOk result (λ o. HasPlaces b.world (names_of o.0) o.1) → IfOk result (λ o. IsOpened o.0 o.1 b.world)
+opened_ok (Ok o) table a b opens is records listed = opened_of o.0 o.1 a b opens (subst (HasRecords b.world) (sym is) records) listed
+opened_ok (Err fault) table a b opens is records listed = tt

@@ -1,0 +1,25 @@
+use Rattle.std.proofs.Common.{◌∷◌, [], refl, sym, subst, IsTrue}
+use Rattle.administration.specs.Places.{home_path, info_path, updates_path}
+use Rattle.opening.specs.Leaving.{root_path, var_path, lib_path}
+use Rattle.opening.specs.Parts.{Way, Status, Spare, Updates, Info, Diversions, Leftovers}
+use Rattle.status_db.specs.Status.{HasRecords}
+use Rattle.opening.proofs.Openings.{opens_then, opened_ok, records_kept, status_read}
+use Rattle.opening.proofs.open.open_administration.Goals as goal
+
+pub returns-clause-opens : goal.returns-clause-opens
+returns-clause-opens g c = λ h.
+    let h1 = subst IsTrue (sym c.open_ways.ensures.silent.honest) h in
+    let h2 = subst IsTrue (sym c.open.ensures.silent.honest) h1 in
+    opens_then (Way root_path ∷ Way var_path ∷ Way lib_path ∷ Way home_path ∷ []) (Status ∷ Spare ∷ Way updates_path ∷ Updates ∷ Way info_path ∷ Info ∷ Diversions ∷ Leftovers ∷ []) _ _ _ _ (refl, (refl, (refl, (refl, tt)))) (c.in_ok-open_ways.ensures.opens h)
+    (opens_then (Status ∷ []) (Spare ∷ Way updates_path ∷ Updates ∷ Way info_path ∷ Info ∷ Diversions ∷ Leftovers ∷ []) _ _ _ _ (tt, tt)
+    (status_read c.in_ok-database.database _ _ (c.open.ensures.same h1) (c.in_ok-database.ensures.loose h1) (c.in_ok-database.ensures.records h1)) (c.open_with.ensures.opens h2))
+
+pub returns-clause-opened : goal.returns-clause-opened
+returns-clause-opened g c = λ h.
+    let h1 = subst IsTrue (sym c.open_ways.ensures.silent.honest) h in
+    let h2 = subst IsTrue (sym c.open.ensures.silent.honest) h1 in
+    let all = opens_then (Way root_path ∷ Way var_path ∷ Way lib_path ∷ Way home_path ∷ []) (Status ∷ Spare ∷ Way updates_path ∷ Updates ∷ Way info_path ∷ Info ∷ Diversions ∷ Leftovers ∷ []) _ _ _ _ (refl, (refl, (refl, (refl, tt)))) (c.in_ok-open_ways.ensures.opens h)
+        (opens_then (Status ∷ []) (Spare ∷ Way updates_path ∷ Updates ∷ Way info_path ∷ Info ∷ Diversions ∷ Leftovers ∷ []) _ _ _ _ (tt, tt)
+        (status_read c.in_ok-database.database _ _ (c.open.ensures.same h1) (c.in_ok-database.ensures.loose h1) (c.in_ok-database.ensures.records h1)) (c.open_with.ensures.opens h2)) in
+    let later = records_kept c.in_ok-database.database _ _ (c.open_with.ensures.opens h2) (subst (λ w. HasRecords w c.in_ok-database.database) (sym (c.open.ensures.same h1).world) (c.in_ok-database.ensures.records h1)) in
+    opened_ok c.open_with.result c.in_ok-database.database _ _ all c.open_with.ensures.database later (c.open_with.ensures.places h2)

@@ -1,0 +1,55 @@
+use Rattle.std.proofs.Common.{◌∷◌, [], refl, sym, subst, IsTrue}
+use Rattle.std.proofs.lemmas.Result.{err_from_is_err_and}
+use Rattle.administration.specs.Places.{info_path, updates_path}
+use Rattle.opening.specs.Parts.{Way, Spare, Updates, Info, Diversions, Leftovers, names_of}
+use Rattle.opening.proofs.Openings.{ends_stop, opens_then, home_kept, records_kept, listed_through}
+use Rattle.opening.proofs.open.open_rest.Goals as goal
+
+pub open_updates-requires : goal.open_updates-requires
+open_updates-requires g c = λ h1.
+    let h = subst IsTrue c.check_spare.ensures.silent.honest h1 in
+    home_kept _ _ (c.in_ok-check_spare.ensures.opens h) (c.requires.home h)
+
+pub returns-in_err-open_updates-clause-opens : goal.returns-in_err-open_updates-clause-opens
+returns-in_err-open_updates-clause-opens g c = λ h.
+    let h1 = subst IsTrue (sym c.check_spare.ensures.silent.honest) h in
+    let p = err_from_is_err_and c.from_residual-in_err-open_updates.result c.from_residual-in_err-open_updates.ensures.1 in
+    ends_stop (Spare ∷ Way updates_path ∷ Updates ∷ []) (Way info_path ∷ Info ∷ Diversions ∷ Leftovers ∷ []) _ _ _ _ _ p.1 p.2
+    (opens_then (Spare ∷ []) (Way updates_path ∷ Updates ∷ []) _ _ _ _ (tt, tt) (c.in_ok-check_spare.ensures.opens h) (c.in_err-open_updates.ensures.opens h1))
+
+pub open_info-requires-clause-home : goal.open_info-requires-clause-home
+open_info-requires-clause-home g c = λ h2.
+    let h1 = subst IsTrue c.open_updates.ensures.silent.honest h2 in
+    let h = subst IsTrue c.check_spare.ensures.silent.honest h1 in
+    home_kept _ _ (c.in_ok-open_updates.ensures.opens h1) (home_kept _ _ (c.in_ok-check_spare.ensures.opens h) (c.requires.home h))
+
+pub open_info-requires-clause-records : goal.open_info-requires-clause-records
+open_info-requires-clause-records g c = λ h2.
+    let h1 = subst IsTrue c.open_updates.ensures.silent.honest h2 in
+    let h = subst IsTrue c.check_spare.ensures.silent.honest h1 in
+    records_kept _ _ _ (c.in_ok-open_updates.ensures.opens h1) (records_kept _ _ _ (c.in_ok-check_spare.ensures.opens h) (c.requires.records h))
+
+pub returns-in_err-keep-clause-opens : goal.returns-in_err-keep-clause-opens
+returns-in_err-keep-clause-opens g c = λ h.
+    let h1 = subst IsTrue (sym c.check_spare.ensures.silent.honest) h in
+    let h2 = subst IsTrue (sym c.open_updates.ensures.silent.honest) h1 in
+    let p = err_from_is_err_and c.from_residual-in_err-keep.result c.from_residual-in_err-keep.ensures.1 in
+    ends_stop (Spare ∷ Way updates_path ∷ Updates ∷ Way info_path ∷ Info ∷ []) (Diversions ∷ Leftovers ∷ []) _ _ _ _ _ p.1 p.2
+    (opens_then (Spare ∷ []) (Way updates_path ∷ Updates ∷ Way info_path ∷ Info ∷ []) _ _ _ _ (tt, tt) (c.in_ok-check_spare.ensures.opens h)
+    (opens_then (Way updates_path ∷ Updates ∷ []) (Way info_path ∷ Info ∷ []) _ _ _ _ (refl, (tt, tt)) (c.in_ok-open_updates.ensures.opens h1) (c.in_err-keep.ensures.opens h2)))
+
+pub returns-clause-opens : goal.returns-clause-opens
+returns-clause-opens g c = λ h.
+    let h1 = subst IsTrue (sym c.check_spare.ensures.silent.honest) h in
+    let h2 = subst IsTrue (sym c.open_updates.ensures.silent.honest) h1 in
+    let h3 = subst IsTrue (sym c.open_info.ensures.silent.honest) h2 in
+    opens_then (Spare ∷ []) (Way updates_path ∷ Updates ∷ Way info_path ∷ Info ∷ Diversions ∷ Leftovers ∷ []) _ _ _ _ (tt, tt) (c.in_ok-check_spare.ensures.opens h)
+    (opens_then (Way updates_path ∷ Updates ∷ []) (Way info_path ∷ Info ∷ Diversions ∷ Leftovers ∷ []) _ _ _ _ (refl, (tt, tt)) (c.in_ok-open_updates.ensures.opens h1)
+    (opens_then (Way info_path ∷ Info ∷ []) (Diversions ∷ Leftovers ∷ []) _ _ _ _ (refl, (tt, tt)) (c.in_ok-keep.ensures.opens h2) (c.settle_with.ensures.opens h3)))
+
+pub returns-clause-places : goal.returns-clause-places
+returns-clause-places g c = λ h.
+    let h1 = subst IsTrue (sym c.check_spare.ensures.silent.honest) h in
+    let h2 = subst IsTrue (sym c.open_updates.ensures.silent.honest) h1 in
+    let h3 = subst IsTrue (sym c.open_info.ensures.silent.honest) h2 in
+    listed_through c.settle_with.result (names_of c.args.database.now) c.in_ok-keep.keep _ _ (c.settle_with.ensures.opens h3) c.settle_with.ensures.places (c.in_ok-keep.ensures.places h2)

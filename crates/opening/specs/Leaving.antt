@@ -1,0 +1,34 @@
+-- What opening an administration changes.
+use Rattle.std.specs.Prelude.{◌≡◌, ◌⊎◌, Bool, true, false, List, [], ◌∷◌, None, codes}
+use Rattle.std.specs.List.{list_any}
+use Rattle.std.specs.Str.{bytes_eq}
+use Rattle.host_core.specs.Paths.{Path}
+use Rattle.host_core.specs.World.{World, IsDirectory}
+use Rattle.administration.specs.Places.{home_path, info_path, updates_path, tmp_path, is_within}
+
+abbrev pub root_path : Path
+root_path = []
+
+abbrev pub var_path : Path
+var_path = codes "/var"
+
+abbrev pub lib_path : Path
+lib_path = codes "/var/lib"
+
+-- the directories of the administration, and those above it
+abbrev pub ways : List Path
+ways = var_path ∷ lib_path ∷ home_path ∷ updates_path ∷ info_path ∷ []
+
+abbrev pub is_way : Path → Bool
+is_way q = list_any (bytes_eq q) ways
+
+-- one of them that was missing
+pub record IsNewWay (q : Path) (old now : World) : Type 0 where
+  pub way : is_way q ≡ true
+  pub missing : old q ≡ None
+  pub made : IsDirectory (now q)
+
+-- Nothing has changed but that missing directories of the administration were made, and that what a unit had left in
+-- `tmp.ci` may be gone.
+abbrev pub IsOpening : World → World → Type 0
+IsOpening old now = (q : Path) → is_within tmp_path q ≡ false → (now q ≡ old q) ⊎ IsNewWay q old now

@@ -1,0 +1,4 @@
+pub mod Leaving
+pub mod Least
+pub mod Parts
+pub mod Opened

@@ -1,0 +1,123 @@
+-- The parts of the administration in the order in which they are read, and what is wrong with one that can't be.
+use Rattle.std.specs.Prelude.{◌≡◌, ◌⊎◌, ℕ, false, List, [], ◌∷◌, ◌++◌, Option, Some, None, IsSome, map, Result, Ok, Err}
+use Rattle.std.specs.List.{AllByRecursion}
+use Rattle.std.specs.Ordering.{nat_cmp, is_lt}
+use Rattle.std.specs.Cmp.Lexicographic.{slice_cmp}
+use Rattle.std.specs.Str.{IsUtf8}
+use Rattle.host_core.specs.Paths.{Path}
+use Rattle.host_core.specs.Host.{State, Since}
+use Rattle.host_core.specs.Tree.{has_slash}
+use Rattle.host_core.specs.World.{World, IsDirectory, IsLoose}
+use Rattle.host_core.specs.declared.node.Node.{Node}
+use Rattle.host_core.specs.declared.node.Node.TheVariants.{File, Dir, Link}
+use Rattle.administration.specs.Places.{home_path, info_path, status_path, diversions_path, updates_path, tmp_path, temporary}
+use Rattle.administration.specs.Files.{NoDirectory}
+use Rattle.administration.specs.declared.fault.AdministrationFault.{AdministrationFault}
+use Rattle.administration.specs.declared.fault.AdministrationFault.TheVariants.{Damaged, Device, NoMemory}
+use Rattle.file_lists.specs.Info.{IsInfoDamage, AreLoose}
+use Rattle.status_db.specs.declared.record.Record.{Record}
+use Rattle.status_db.specs.Status.{HasRecords, IsStatusDamage}
+use Rattle.opening.specs.Leaving.{IsOpening, root_path, var_path, lib_path}
+
+-- the names of packages that have a record
+abbrev pub names_of : List Record → List (List ℕ)
+names_of records = map (λ r. r.name) records
+
+pub data Part : Type 0 where
+  -- a directory of the administration, or one above it
+  Way : (path : Path) → Part
+  -- the status file, and its temporary name
+  Status : Part
+  Spare : Part
+  -- noted records
+  Updates : Part
+  -- file lists and stored scripts
+  Info : Part
+  Diversions : Part
+  -- what a unit that was broken off left behind
+  Leftovers : Part
+
+abbrev pub parts : List Part
+parts = Way root_path ∷ Way var_path ∷ Way lib_path ∷ Way home_path ∷ Status ∷ Spare ∷ Way updates_path ∷ Updates ∷ Way info_path ∷ Info ∷ Diversions ∷ Leftovers ∷ []
+
+-- nothing stands in a directory
+abbrev pub IsEmptyIn : World → Path → Type 0
+IsEmptyIn w directory = (name : Path) → has_slash name ≡ false → w (directory ++ 47 ∷ name) ≡ None
+
+-- no diversion stands there: no file, or an empty one
+abbrev pub IsWithoutDiversions : Option Node → Type 0
+IsWithoutDiversions None = Unit {0}
+IsWithoutDiversions (Some (File bytes mode)) = bytes ≡ []
+IsWithoutDiversions (Some (Dir mode)) = ⊥
+IsWithoutDiversions (Some (Link target)) = ⊥
+
+-- a part that can be read
+abbrev pub IsFine : World → Part → Type 0
+IsFine w (Way path) = IsDirectory (w path)
+IsFine w Status = NoDirectory (w status_path) × ((table : List Record) × HasRecords w table)
+IsFine w Spare = NoDirectory (w (temporary status_path))
+IsFine w Updates = IsEmptyIn w updates_path
+IsFine w Info = AreLoose w
+IsFine w Diversions = IsWithoutDiversions (w diversions_path)
+IsFine w Leftovers = w tmp_path ≡ None
+
+-- the least name of what stands in a directory, where all names are text
+pub record IsLeastIn (w : World) (directory : Path) (name : Path) : Type 0 where
+  pub plain : has_slash name ≡ false
+  pub there : IsSome (w (directory ++ 47 ∷ name))
+  pub least : (other : Path) → has_slash other ≡ false → IsSome (w (directory ++ 47 ∷ other)) → is_lt (slice_cmp nat_cmp other name) ≡ false
+
+-- a name in a directory isn't text
+abbrev pub HasBadName : World → Path → Type 0
+HasBadName w directory = (name : Path) × (has_slash name ≡ false) × (IsUtf8 name → ⊥) × IsSome (w (directory ++ 47 ∷ name))
+
+-- an entry of a directory that has to be empty: the first; the directory itself where a name isn't text
+abbrev pub IsEntryFault : World → Path → Path → Type 0
+IsEntryFault w directory file = ((file ≡ directory) × HasBadName w directory) ⊎ ((name : Path) × (file ≡ directory ++ 47 ∷ name) × IsLeastIn w directory name)
+
+-- diversions aren't carried out yet: the first line of a file that isn't empty; line 0 where it is no file
+abbrev pub IsDiversionsFault : Option Node → ℕ → Type 0
+IsDiversionsFault None line = ⊥
+IsDiversionsFault (Some (File bytes mode)) line = (bytes ≡ [] → ⊥) × (line ≡ 1)
+IsDiversionsFault (Some (Dir mode)) line = line ≡ 0
+IsDiversionsFault (Some (Link target)) line = line ≡ 0
+
+-- `tmp.ci` is no directory, or has one in it or a name that isn't text
+abbrev pub IsLeftoversFault : World → Path → Type 0
+IsLeftoversFault w file =
+    ((file ≡ tmp_path) × (IsLoose (w tmp_path) ⊎ HasBadName w tmp_path)) ⊎ ((name : Path) × (file ≡ tmp_path ++ 47 ∷ name) × IsDirectory (w file))
+
+-- a part that can't be read, by the file and the line that are told
+abbrev pub IsFaulty : World → Part → Path → ℕ → Type 0
+IsFaulty w (Way path) file line = (file ≡ path) × (line ≡ 0) × NoDirectory (w path)
+IsFaulty w Status file line = IsStatusDamage w (Damaged file line)
+IsFaulty w Spare file line = (file ≡ temporary status_path) × (line ≡ 0) × IsDirectory (w file)
+IsFaulty w Updates file line = (line ≡ 0) × IsEntryFault w updates_path file
+IsFaulty w Info file line = (table : List Record) × HasRecords w table × IsInfoDamage w (names_of table) (Damaged file line)
+IsFaulty w Diversions file line = (file ≡ diversions_path) × IsDiversionsFault (w diversions_path) line
+IsFaulty w Leftovers file line = (line ≡ 0) × IsLeftoversFault w file
+
+-- among these parts the first that can't be read
+abbrev pub IsFirstFault : List Part → World → Path → ℕ → Type 0
+IsFirstFault [] w file line = ⊥
+IsFirstFault (part ∷ rest) w file line = IsFaulty w part file line ⊎ (IsFine w part × IsFirstFault rest w file line)
+
+-- why these parts can't be read
+abbrev pub IsDamage : List Part → World → AdministrationFault → Type 0
+IsDamage among w (Damaged file line) = IsFirstFault among w file line
+IsDamage among w Device = Unit {0}
+IsDamage among w NoMemory = Unit {0}
+
+-- what reading these parts came to: all are fine, or the fault is that of the first that isn't
+abbrev pub Finds : List Part → World → Option AdministrationFault → Type 0
+Finds among w None = AllByRecursion (IsFine w) among
+Finds among w (Some fault) = IsDamage among w fault
+
+abbrev pub fault_in : {T : Type 0} → Result T AdministrationFault → Option AdministrationFault
+fault_in (Ok value) = None
+fault_in (Err fault) = Some fault
+
+-- these parts were opened up to this fault
+pub record Opens (among : List Part) (fault : Option AdministrationFault) (old new : State) : Type 0 where
+  pub moments : Since (IsOpening old.world) old new
+  pub finds : Finds among new.world fault

@@ -1,0 +1,13 @@
+//! Opening an administration: its directories are made where missing, its files are read, and what
+//! a unit left behind that was broken off is removed.
+#![tactic(auto)]
+
+mod diversions;
+mod leftovers;
+mod lists;
+mod open;
+mod status_file;
+mod updates;
+mod ways;
+
+pub use open::open_administration;
