@@ -1,3 +1,5 @@
+pub mod Standing
 pub mod Refusals
 pub mod Units
 pub mod Run
+pub mod Commands

@@ -1,5 +1,5 @@
 -- Units and runs of them.
-use Rattle.std.specs.Prelude.{◌≡◌, ℕ, List, [], ◌∷◌, Option, Some, None, Result, Ok, Err, codes}
+use Rattle.std.specs.Prelude.{◌≡◌, ℕ, List, [], ◌∷◌, Option, Some, None, IsSomeAnd, Result, Ok, Err, codes}
 use Rattle.host_core.specs.Paths.{Path}
 use Rattle.host_core.specs.Host.{State}
 use Rattle.host_core.specs.declared.call.Script.TheVariants.{Preinst}
@@ -23,7 +23,8 @@ use Rattle.host_core.specs.declared.fault.HostFault.{HostFault}
 use Rattle.host_core.specs.declared.fault.HostFault.TheVariants as host
 use Rattle.unwind_stack.specs.declared.rows.Called.{Called}
 use Rattle.dpkg_session.specs.declared.report.Breakage.{Breakage}
-use Rattle.dpkg_session.specs.declared.report.Breakage.TheVariants.{Device, NoMemory}
+use Rattle.dpkg_session.specs.declared.report.Breakage.TheVariants.{Device, NoMemory, Closed}
+use Rattle.dpkg_session.specs.declared.report.Report.{Report}
 use Rattle.dpkg_session.specs.Refusals.{word_of}
 
 -- the named package, with its record at the end
@@ -87,3 +88,8 @@ pub record IsAnswered (p : Package) (after : List Record) (turn : Turn) (calls :
   pub told : u.calls.items ≡ calls
   pub replied : u.reply ≡ reply_to p turn
   pub touched : u.touched.items ≡ touched_of p after
+
+-- the answer of a session that is closed: one unit that was broken off, and nothing else
+pub record IsClosedReport (report : Report) : Type 0 where
+  pub units : report.units.items ≡ []
+  pub last : IsSomeAnd report.last (λ u. (u.calls.items ≡ []) × (u.touched.items ≡ []) × (u.reply ≡ Broken Closed))

@@ -4,8 +4,10 @@
 mod refusal;
 mod report;
 mod run;
+mod session;
 mod unit;
 
 pub use refusal::{Refusal, RelationField, Rule, Word, word_of};
 pub use report::{Breakage, Candidate, Failure, Reply, Report, Touched, Unit};
 pub use run::run_units;
+pub use session::{Command, Session};

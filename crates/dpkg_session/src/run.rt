@@ -157,6 +157,7 @@ pub fn run_units<H: Host>(
     ensures whole { IsNone result.last → IsRun candidates.now result.units.items keep.now database.old database.new (H.state host.old) (H.state host.new) }
     ensures part { HasRun candidates.now result.units.items keep.now database.old (H.state host.old) }
     ensures last { IfSome result.last (λ unit. IsBroken unit.reply) }
+    ensures cause { IfSome result.last (λ unit. IsBrokenBy Device unit.reply → (H.state host.old).faults < (H.state host.new).faults) }
     ensures order { IsNone result.last → IsTrue (H.state host.old).honest → IsInOrder (H.state host.new).world }
     ensures records { IsNone result.last → IsTrue (H.state host.old).honest → HasRecords (H.state host.new).world database.new }
     ensures honest { (H.state host.new).honest ≡ (H.state host.old).honest }

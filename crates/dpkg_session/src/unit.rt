@@ -62,7 +62,9 @@ fn failure_of(alloc: Global, incoming: &Package) -> Result<Failure, AllocError>
 }
 
 pub(crate) fn broken(alloc: Global, calls: Vec<Called>, breakage: Breakage) -> Unit
-    ensures { IsBrokenBy breakage result.reply }
+    ensures reply { IsBrokenBy breakage result.reply }
+    ensures told { result.calls.items ≡ calls.items }
+    ensures touched { result.touched.items ≡ [] }
 {
     Unit {
         calls,

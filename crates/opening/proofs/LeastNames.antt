@@ -35,8 +35,8 @@ least_first names name lesser none is = subst (IsLeastOf (names ++ name ∷ []))
   ];
 }
   where
-  empty : {x : List ℕ} → Contains [] x → ⊥
-  empty has = absurd (omega (arith, has.1))
+    empty : {x : List ℕ} → Contains [] x → ⊥
+    empty has = absurd (omega (arith, has.1))
 
 -- the one that was found stays
 least_stays : (names : List (List ℕ)) (found name lesser : List ℕ) → IsLeastOf names found → lesser ≡ found → is_lt (slice_cmp nat_cmp name found) ≡ false → IsLeastOf (names ++ name ∷ []) lesser

@@ -1,3 +1,2 @@
 mod Openings
 mod LeastNames
-

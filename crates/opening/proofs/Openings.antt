@@ -61,13 +61,13 @@ moments_same a b same = since_same (IsOpening a.world) a b same (opening_start a
 making_at : (p q : Path) (b : Bool) → bytes_eq p q ≡ b → (old now : World) → is_way p ≡ true → IsMaking p old now → (now q ≡ old q) ⊎ IsNewWay q old now
 making_at p q false e old now way making = inl (making.rest q (λ same. absurd (no_true p q e same)))
   where
-  no_true : (p q : Path) → bytes_eq p q ≡ false → q ≡ p → ⊥
-  no_true p q e same = absurd (true≢false (sym ((bytes_eq-Decides p q).1 (sym same)) ∙ e))
+    no_true : (p q : Path) → bytes_eq p q ≡ false → q ≡ p → ⊥
+    no_true p q e same = absurd (true≢false (sym ((bytes_eq-Decides p q).1 (sym same)) ∙ e))
 making_at p q true e old now way making = subst (λ r. (now r ≡ old r) ⊎ IsNewWay r old now) ((bytes_eq-Decides p q).0 e) (here making.target)
   where
-  here : (now p ≡ old p) ⊎ ((old p ≡ None) × IsDirectory (now p)) → (now p ≡ old p) ⊎ IsNewWay p old now
-  here (inl same) = inl same
-  here (inr new) = inr (record { way = way; missing = new.0; made = new.1 })
+    here : (now p ≡ old p) ⊎ ((old p ≡ None) × IsDirectory (now p)) → (now p ≡ old p) ⊎ IsNewWay p old now
+    here (inl same) = inl same
+    here (inr new) = inr (record { way = way; missing = new.0; made = new.1 })
 
 pub opening_making : (p : Path) (old now : World) → is_way p ≡ true → IsMaking p old now → IsOpening old now
 opening_making p old now way making q out = making_at p q (bytes_eq p q) refl old now way making
@@ -183,9 +183,9 @@ way_made p q s t e way since made = subst (λ r. Opens (Way r ∷ []) None s t) 
 loose_kept : (p : Path) (old now : World) → IsMaking p old now → IsLoose (old p) → NoDirectory (now p)
 loose_kept p old now making loose = no_directory_here making.target
   where
-  no_directory_here : (now p ≡ old p) ⊎ ((old p ≡ None) × IsDirectory (now p)) → NoDirectory (now p)
-  no_directory_here (inl same) = no_directory_at (now p) (old p) same loose.1
-  no_directory_here (inr new) = absurd (true≢false (sym (subst IsSome new.0 loose.0)))
+    no_directory_here : (now p ≡ old p) ⊎ ((old p ≡ None) × IsDirectory (now p)) → NoDirectory (now p)
+    no_directory_here (inl same) = no_directory_at (now p) (old p) same loose.1
+    no_directory_here (inr new) = absurd (true≢false (sym (subst IsSome new.0 loose.0)))
 
 pub way_loose : (p q : Path) (fault : AdministrationFault) (s t : State) → p ≡ q → is_way q ≡ true → fault ≡ Damaged p 0 → Since (IsMaking p s.world) s t → IsLoose (s.world p) → Opens (Way q ∷ []) (Some fault) s t
 way_loose p q fault s t e way is since loose = subst (λ r. Opens (Way r ∷ []) (Some fault) s t) e (record {

@@ -7,7 +7,9 @@ ghost use Rattle.administration.specs.Places.{tmp_path};
 ghost use Rattle.opening.specs.Parts.{Leftovers, Opens, fault_in};
 
 use crate::ways::damaged;
-use administration::{AdministrationFault, Flatness, Standing, inspect_flat, look, remove_flat, tmp_path};
+use administration::{
+    AdministrationFault, Flatness, Standing, inspect_flat, look, remove_flat, tmp_path,
+};
 use host_core::{Host, RootPath};
 use std::alloc::Global;
 

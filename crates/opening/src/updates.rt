@@ -71,10 +71,7 @@ fn check_updates<H: Host>(alloc: Global, host: &mut H) -> Result<(), Administrat
 }
 
 // The directory of noted records, which has to be empty.
-pub(crate) fn open_updates<H: Host>(
-    alloc: Global,
-    host: &mut H,
-) -> Result<(), AdministrationFault>
+pub(crate) fn open_updates<H: Host>(alloc: Global, host: &mut H) -> Result<(), AdministrationFault>
     requires { IsTrue (H.state host.old).honest → IsDirectory ((H.state host.old).world home_path) }
     ensures opens { IsTrue (H.state host.old).honest → Opens (Way updates_path ∷ Updates ∷ []) (fault_in result) (H.state host.old) (H.state host.new) }
     ensures silent { Silent (H.state host.old) (H.state host.new) }

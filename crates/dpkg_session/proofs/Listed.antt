@@ -1,0 +1,224 @@
+-- The places that recorded packages list stay those over units.
+use Rattle.std.proofs.Common.{◌≡◌, ◌≢◌, ◌⊎◌, ◌↔◌, inl, inr, ℕ, Bool, true, false, cond, List, [], ◌∷◌, ◌++◌, Option, Some, None, is_some, Result, Ok, Err, IsTrue, Contains, codes, arith, get_or, refl, sym, ap, subst, ◌∙◌, ◌||◌}
+use Rattle.std.proofs.lemmas.Bool.{true≢false, false_from_ne_true}
+use Rattle.std.proofs.lemmas.List.{append_cancel_left, append_cancel_right}
+use Rattle.std.proofs.lemmas.Map.Views.{Contains-from_any, list_any-from_Contains}
+use Rattle.std.proofs.lemmas.Slice.Eq.{bytes_eq-Decides}
+use Rattle.std.proofs.Math.Logic.{∥∥₁_map}
+use Rattle.std.specs.Cmp.{IsEquivalence}
+use Rattle.std.specs.List.{list_any}
+use Rattle.std.specs.Str.{bytes_eq}
+use Rattle.host_core.specs.Paths.{Path}
+use Rattle.host_core.specs.World.{World, IsDirectory, is_kept}
+use Rattle.host_core.specs.declared.call.Script.{Script}
+use Rattle.host_core.specs.declared.call.Script.TheVariants.{Preinst, Postinst, Prerm, Postrm}
+use Rattle.host_core.specs.declared.node.Node.{Node}
+use Rattle.host_core.specs.Host.{Ran, State, scripts_change}
+use Rattle.host_core.specs.Scripts.{changed_kept}
+use Rattle.administration.specs.Places.{home_path, info_path, list_path, status_path, temporary}
+use Rattle.file_lists.specs.Lists.{HasPlaces}
+use Rattle.file_lists.proofs.Kept.{IsBareList, has_places_grown, has_places_left}
+use Rattle.opening.specs.Parts.{names_of}
+use Rattle.package_files.specs.OwnFiles.{OwnFile, own_path}
+use Rattle.package_files.proofs.Endings.{own_apart, own_lasting, mark}
+use Rattle.package_tree.specs.declared.package.Package.{Package}
+use Rattle.package_tree.specs.declared.fault.TreeFault.{TreeFault}
+use Rattle.status_db.specs.Status.{HasRecords}
+use Rattle.status_db.specs.declared.record.Record.{Record}
+use Rattle.status_db.specs.Records.{record_in}
+use Rattle.unpack_engine.specs.Unpack.{HasChangedRecord, IsInOrder, IsLeft, IsOutside}
+use Rattle.dpkg_session.specs.declared.refusal.Word.{Word}
+use Rattle.dpkg_session.specs.declared.refusal.Word.TheVariants.{Files, Record as ItsRecord}
+use Rattle.dpkg_session.specs.declared.report.Candidate.{Candidate}
+use Rattle.dpkg_session.specs.declared.report.Unit.{Unit as AUnit}
+use Rattle.dpkg_session.specs.Refusals.{word_of}
+use Rattle.dpkg_session.specs.Run.{IsRun}
+use Rattle.dpkg_session.specs.Standing.{IsStanding, is_directory}
+use Rattle.dpkg_session.specs.Units.{IsUnitByWord, IsUnitOf}
+use Rattle.unpack_engine.specs.EndStates.{IsEnd, end_file}
+use Rattle.unwind_stack.specs.Transcript.{Ended, Committed, Unwound}
+
+-- a name among those of the records is one that has a record
+
+eq_sym : (a b : List ℕ) → bytes_eq a b ≡ bytes_eq b a
+eq_sym a b = by_case (bytes_eq a b) (bytes_eq b a) refl refl
+  where
+    by_case : (x y : Bool) → bytes_eq a b ≡ x → bytes_eq b a ≡ y → x ≡ y
+    by_case true true e f = refl
+    by_case false false e f = refl
+    by_case true false e f = absurd (true≢false (sym ((bytes_eq-Decides b a).1 (sym ((bytes_eq-Decides a b).0 e))) ∙ f))
+    by_case false true e f = absurd (true≢false (sym ((bytes_eq-Decides a b).1 (sym ((bytes_eq-Decides b a).0 f))) ∙ e))
+
+or_some : (b : Bool) (r : Record) (rest : Option Record) → (b || is_some rest) ≡ is_some (cond b (Some r) rest)
+or_some true r rest = refl
+or_some false r rest = refl
+
+pub any_named : (table : List Record) (n : List ℕ) → list_any (bytes_eq n) (names_of table) ≡ is_some (record_in table n)
+any_named [] n = refl
+any_named (r ∷ rs) n = ap (λ b. bytes_eq n r.name || b) (any_named rs n) ∙ ap (λ b. b || is_some (record_in rs n)) (eq_sym n r.name) ∙ or_some (bytes_eq r.name n) r (record_in rs n)
+
+bytes_equiv : IsEquivalence bytes_eq
+bytes_equiv = record {
+  refl = λ x. (bytes_eq-Decides x x).1 refl;
+  symm = eq_sym;
+  congr = λ x y z e. ap (λ u. bytes_eq u z) ((bytes_eq-Decides x y).0 e);
+}
+
+pub has_record : (table : List Record) (n : List ℕ) → Contains (names_of table) n → is_some (record_in table n) ≡ true
+has_record table n has = sym (any_named table n) ∙ list_any-from_Contains bytes_equiv n (names_of table) has
+
+pub is_named : (table : List Record) (n : List ℕ) → is_some (record_in table n) ≡ true → Contains (names_of table) n
+is_named table n is = Contains-from_any (λ x y e. (bytes_eq-Decides x y).0 e) n (names_of table) (any_named table n ∙ is)
+
+-- the records after one of a name was set or dropped
+
+looked_up : (b : Bool) (entry other : Option Record) → b ≡ true → cond b entry other ≡ entry
+looked_up true entry other e = refl
+looked_up false entry other e = absurd (true≢false (sym e))
+
+looked_past : (b : Bool) (entry other : Option Record) → b ≡ false → cond b entry other ≡ other
+looked_past false entry other e = refl
+looked_past true entry other e = absurd (true≢false e)
+
+at_name : (name : List ℕ) (entry : Option Record) (before after : List Record) → HasChangedRecord name entry before after → record_in after name ≡ entry
+at_name name entry before after table = table name ∙ looked_up (bytes_eq name name) entry (record_in before name) ((bytes_eq-Decides name name).1 refl)
+
+at_other : (name n : List ℕ) (entry : Option Record) (before after : List Record) → n ≢ name → HasChangedRecord name entry before after → record_in after n ≡ record_in before n
+at_other name n entry before after ne table = table n ∙ looked_past (bytes_eq name n) entry (record_in before n) (false_from_ne_true (bytes_eq name n) (λ t. ne (sym ((bytes_eq-Decides name n).0 t))))
+
+same_or_not : (n name : List ℕ) → (n ≡ name) ⊎ (n ≢ name)
+same_or_not n name = by_test (bytes_eq n name) refl
+  where
+    by_test : (b : Bool) → bytes_eq n name ≡ b → (n ≡ name) ⊎ (n ≢ name)
+    by_test true e = inl ((bytes_eq-Decides n name).0 e)
+    by_test false e = inr (λ same. true≢false (sym ((bytes_eq-Decides n name).1 same) ∙ e))
+
+module _ (name : List ℕ) (before after : List Record) (new_name : is_some (record_in before name) ≡ false) where
+  pub names_grown : (entry : Record) → HasChangedRecord name (Some entry) before after → (n : List ℕ) → Contains (names_of after) n ↔ (Contains (names_of before) n ⊎ (n ≡ name))
+  names_grown entry table n = (forth, back)
+    where
+      forth : Contains (names_of after) n → Contains (names_of before) n ⊎ (n ≡ name)
+      forth has = elim (same_or_not n name) [
+        | inl same ↦ inr same
+        | inr ne ↦ inl (is_named before n (ap is_some (sym (at_other name n (Some entry) before after ne table)) ∙ has_record after n has))
+      ]
+
+      back : Contains (names_of before) n ⊎ (n ≡ name) → Contains (names_of after) n
+      back (inl has) = elim (same_or_not n name) [
+        | inl same ↦ absurd (true≢false (sym (subst (λ x. is_some (record_in before x) ≡ true) same (has_record before n has)) ∙ new_name))
+        | inr ne ↦ is_named after n (ap is_some (at_other name n (Some entry) before after ne table) ∙ has_record before n has)
+      ]
+      back (inr same) = is_named after n (subst (λ x. is_some (record_in after x) ≡ true) (sym same) (ap is_some (at_name name (Some entry) before after table)))
+
+  pub names_left : HasChangedRecord name None before after → (n : List ℕ) → Contains (names_of after) n ↔ Contains (names_of before) n
+  names_left table n = (forth, back)
+    where
+      forth : Contains (names_of after) n → Contains (names_of before) n
+      forth has = elim (same_or_not n name) [
+        | inl same ↦ absurd (true≢false (sym (subst (λ x. is_some (record_in after x) ≡ true) same (has_record after n has)) ∙ ap is_some (at_name name None before after table)))
+        | inr ne ↦ is_named before n (ap is_some (sym (at_other name n None before after ne table)) ∙ has_record after n has)
+      ]
+
+      back : Contains (names_of before) n → Contains (names_of after) n
+      back has = elim (same_or_not n name) [
+        | inl same ↦ absurd (true≢false (sym (subst (λ x. is_some (record_in before x) ≡ true) same (has_record before n has)) ∙ new_name))
+        | inr ne ↦ is_named after n (ap is_some (at_other name n None before after ne table) ∙ has_record before n has)
+      ]
+
+-- the lists of other packages stay
+
+script_differs : (script : Script) → mark (Some script) ≢ 46
+script_differs Preinst e = absurd (omega (arith, e))
+script_differs Postinst e = absurd (omega (arith, e))
+script_differs Prerm e = absurd (omega (arith, e))
+script_differs Postrm e = absurd (omega (arith, e))
+
+list_of : (name : List ℕ) → list_path name ≡ own_path name None
+list_of name = refl
+
+names_of_lists : (n name : List ℕ) → list_path n ≡ list_path name → n ≡ name
+names_of_lists n name e = append_cancel_right n name (codes ".list") (append_cancel_left (codes "/var/lib/dpkg/info/") (n ++ codes ".list") (name ++ codes ".list") e)
+
+not_status : (rest : List ℕ) (q : Path) → get_or q 14 0 ≡ 115 → codes "/var/lib/dpkg/info/" ++ rest ≢ q
+not_status rest q at e = absurd (omega (arith, ap (λ (l : List ℕ). get_or l 14 0) e, at))
+
+pub list_outside : (n name : List ℕ) → n ≢ name → IsOutside name (list_path n)
+list_outside n name ne = record {
+  status = not_status (n ++ codes ".list") status_path refl;
+  status_spare = not_status (n ++ codes ".list") (temporary status_path) refl;
+  own = λ file. (not_own file, own_lasting n None (own_path name file));
+  tmp = refl;
+}
+  where
+    not_own : (file : OwnFile) → list_path n ≢ own_path name file
+    not_own None e = ne (names_of_lists n name e)
+    not_own (Some script) e = own_apart n name None (Some script) (λ same. script_differs script (sym same)) e
+
+-- a unit that was carried out leaves the places
+
+module _ (p : Package) (places : List Path) (before after : List Record) (ended : Ended) (ts : List Ran) (old new : World) (left : IsLeft p places before after ended ts old new) (new_name : is_some (record_in before p.name) ≡ false) where
+  list_stays : (n : List ℕ) → Contains (names_of before) n → new (list_path n) ≡ old (list_path n)
+  list_stays n has =
+      left.rest (list_path n) (list_outside n p.name (λ same. true≢false (sym (subst (λ x. is_some (record_in before x) ≡ true) same (has_record before n has)) ∙ new_name)))
+      ∙ changed_kept (is_kept places) (scripts_change ts) old left.avoids (list_path n) refl
+
+  listed_grown : (entry : Record) → left.entry ≡ Some entry → IsBareList (new (list_path p.name)) → HasPlaces old (names_of before) places → HasPlaces new (names_of after) places
+  listed_grown entry is bare has = has_places_grown old new (names_of before) (names_of after) p.name places
+      (names_grown p.name before after new_name entry (subst (λ e. HasChangedRecord p.name e before after) is left.table)) list_stays bare has
+
+  listed_less : left.entry ≡ None → HasPlaces old (names_of before) places → HasPlaces new (names_of after) places
+  listed_less is has = has_places_left old new (names_of before) (names_of after) places
+      (names_left p.name before after new_name (subst (λ e. HasChangedRecord p.name e before after) is left.table)) list_stays has
+
+  by_end : (e : Ended) → IsEnd p e left.entry → new (list_path p.name) ≡ end_file p e None → HasPlaces old (names_of before) places → HasPlaces new (names_of after) places
+  by_end Committed end file has = listed_grown end.0 end.1 (inr (420, file)) has
+  by_end (Unwound fall []) end file has = listed_less end has
+  by_end (Unwound fall (owner ∷ owners)) end file has = listed_grown end.0 end.1 (inl file) has
+
+  pub listed_left : HasPlaces old (names_of before) places → HasPlaces new (names_of after) places
+  listed_left has = by_end ended left.end (left.files None) has
+
+-- what is carried out has no record before
+
+cond_none : {T : Type 0} (b : Bool) (x : T) (rest : Option T) → cond b (Some x) rest ≡ None → (b ≡ false) × (rest ≡ None)
+cond_none true x rest e = absurd (true≢false (ap is_some e))
+cond_none false x rest e = (refl, e)
+
+pub no_record : (p : Package) (before : List Record) → word_of p before ≡ None → is_some (record_in before p.name) ≡ false
+no_record p before e = (cond_none (is_some (record_in before p.name)) ItsRecord _ (cond_none p.ships Files _ e).1).0
+
+-- the places after a run
+
+module _ (places : List Path) where
+  listed_word : (p : Package) (word : Option Word) (before after : List Record) (u : AUnit) (s t : State) → word_of p before ≡ word → IsUnitByWord p word places before after u s t → IsTrue s.honest → HasPlaces s.world (names_of before) places → HasPlaces t.world (names_of after) places
+  listed_word p (Some word) before after u s t e unit h has = subst (λ x. HasPlaces t.world (names_of x) places) (sym unit.table) (subst (λ x. HasPlaces x.world (names_of before) places) (sym unit.state) has)
+  listed_word p None before after u s t e unit h has =
+      listed_left p places before after unit.unpacked.ended unit.unpacked.ts s.world t.world (unit.unpacked.unit.leaves h) (no_record p before e) has
+
+  listed_unit : (label : List ℕ) (tree : Result Package TreeFault) (before after : List Record) (u : AUnit) (s t : State) → IsUnitOf label tree places before after u s t → IsTrue s.honest → HasPlaces s.world (names_of before) places → HasPlaces t.world (names_of after) places
+  listed_unit label (Err fault) before after u s t unit h has = subst (λ x. HasPlaces t.world (names_of x) places) (sym unit.table) (subst (λ x. HasPlaces x.world (names_of before) places) (sym unit.state) has)
+  listed_unit label (Ok p) before after u s t unit h has = listed_word p (word_of p before) before after u s t refl unit h has
+
+  pub listed_run : (cs : List Candidate) (us : List AUnit) (before after : List Record) (s t : State) → IsRun cs us places before after s t → IsTrue s.honest → HasPlaces s.world (names_of before) places → HasPlaces t.world (names_of after) places
+  listed_run [] [] before after s t run h has = subst (λ x. HasPlaces t.world (names_of x) places) (sym run.1) (subst (λ x. HasPlaces x.world (names_of before) places) (sym run.0) has)
+  listed_run [] (u ∷ us) before after s t run h has = absurd run
+  listed_run (c ∷ cs) [] before after s t run h has = absurd run
+  listed_run (c ∷ cs) (u ∷ us) before after s t run h has =
+      listed_run cs us run.1 after run.0 t run.4 (subst IsTrue (sym run.2) h) (listed_unit c.label c.tree before run.1 u s run.0 run.3 h has)
+
+-- what a session keeps
+
+directory_is : (found : Option Node) → IsDirectory found → is_directory found ≡ true
+directory_is found is = ap is_directory is.1
+
+pub standing_run : (cs : List Candidate) (us : List AUnit) (places : List Path) (before after : List Record) (s t : State) → IsRun cs us places before after s t → IsTrue s.honest → IsInOrder t.world → HasRecords t.world after → IsStanding before places s.world → IsStanding after places t.world
+standing_run cs us places before after s t run h order records standing = (
+  directory_is (t.world home_path) order.home,
+  directory_is (t.world info_path) order.info,
+  order.entries,
+  order.status,
+  order.status_spare,
+  order.tmp,
+  records,
+  ∥∥₁_map standing.7 (λ has. listed_run places cs us before after s t run h has),
+)
