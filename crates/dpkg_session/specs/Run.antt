@@ -1,7 +1,13 @@
 -- A run of units, one after another.
-use Rattle.std.specs.Prelude.{◌≡◌, List, [], ◌∷◌, ◌++◌, length, take}
+use Rattle.std.specs.Prelude.{◌≡◌, ◌⊎◌, List, [], ◌∷◌, ◌++◌, length, take, Option, Some, None, Result, Ok, Err}
 use Rattle.host_core.specs.Paths.{Path}
 use Rattle.host_core.specs.Host.{State}
+use Rattle.host_core.specs.World.{World}
+use Rattle.package_tree.specs.declared.fault.TreeFault.{TreeFault}
+use Rattle.package_tree.specs.declared.package.Package.{Package}
+use Rattle.unpack_engine.specs.Unpack.{IsAmid}
+use Rattle.dpkg_session.specs.declared.refusal.Word.{Word}
+use Rattle.dpkg_session.specs.Refusals.{word_of}
 use Rattle.status_db.specs.declared.record.Record.{Record}
 use Rattle.dpkg_session.specs.declared.report.Candidate.{Candidate}
 use Rattle.dpkg_session.specs.declared.report.Unit.{Unit as AUnit}
@@ -25,3 +31,19 @@ pub record HasRun (cs : List Candidate) (us : List AUnit) (places : List Path) (
   pub after : List Record
   pub end : State
   pub run : IsRun (take (length us) cs) us places before after s end
+
+-- at each moment of the unit of a package: nothing has changed where it is refused
+abbrev pub IsAmidByWord : Package → Option Word → List Path → List Record → World → World → Type 0
+IsAmidByWord p (Some word) places before old now = now ≡ old
+IsAmidByWord p None places before old now = IsAmid p places before old now
+
+-- at each moment of the unit of a tree
+abbrev pub IsAmidUnitOf : Result Package TreeFault → List Path → List Record → World → World → Type 0
+IsAmidUnitOf (Err fault) places before old now = now ≡ old
+IsAmidUnitOf (Ok p) places before old now = IsAmidByWord p (word_of p before) places before old now
+
+-- at each moment of a run: some units are done, and the next is under way
+abbrev pub IsAmidRun : List Candidate → List Path → List Record → State → World → Type 0
+IsAmidRun [] places before s now = now ≡ s.world
+IsAmidRun (c ∷ cs) places before s now = IsAmidUnitOf c.tree places before s.world now
+    ⊎ ((unit : AUnit) × (m : State) × (mid : List Record) × IsUnit c places before mid unit s m × IsAmidRun cs places mid m now)

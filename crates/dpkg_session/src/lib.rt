@@ -7,7 +7,6 @@ mod run;
 mod session;
 mod unit;
 
-pub use refusal::{Refusal, RelationField, Rule, Word, word_of};
+pub use refusal::{Refusal, RelationField, Rule, Word};
 pub use report::{Breakage, Candidate, Failure, Reply, Report, Touched, Unit};
-pub use run::run_units;
 pub use session::{Command, Session};

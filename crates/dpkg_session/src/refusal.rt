@@ -100,8 +100,8 @@ fn first_relation(incoming: &Package, records: &[Record]) -> Option<Word>
     None
 }
 
-/// What of an unpack isn't carried out yet, if anything.
-pub fn word_of(incoming: &Package, database: &Database) -> Option<Word>
+// What of an unpack isn't carried out yet, if anything.
+pub(crate) fn word_of(incoming: &Package, database: &Database) -> Option<Word>
     ensures { result ≡ word_of incoming.now database.now }
 {
     let records = database.records();

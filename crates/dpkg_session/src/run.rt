@@ -1,11 +1,12 @@
 // The units of a command, one after another.
 ghost use Rattle.std.specs.Prelude.{◌≡◌, ◌≤◌, ◌<◌, ◌⊎◌, IsTrue, IfOk, IfErr, OnOk, OnErr, IfSome, IsNone, MatchBool};
+ghost use Rattle.host_core.specs.Host.{Since};
 ghost use Rattle.status_db.specs.Status.{HasRecords};
 ghost use Rattle.unpack_engine.specs.Unpack.{IsInOrder};
 ghost use Rattle.dpkg_session.specs.declared.report.Breakage.TheVariants.{Device, NoMemory};
 ghost use Rattle.dpkg_session.specs.declared.refusal.Rule.TheVariants.{Tree};
 ghost use Rattle.dpkg_session.specs.Refusals.{word_of};
-ghost use Rattle.dpkg_session.specs.Run.{AddsUnit, IsRun, HasRun};
+ghost use Rattle.dpkg_session.specs.Run.{AddsUnit, IsAmidByWord, IsAmidRun, IsAmidUnitOf, IsRun, HasRun};
 ghost use Rattle.dpkg_session.specs.Units.{IsBroken, IsBrokenBy, IsRefusedUnit, IsUnit, IsUnitByWord};
 
 use crate::refusal::{Refusal, Rule, word_of};
@@ -65,6 +66,7 @@ fn unit_of_package<H: Host>(
     requires order { IsTrue (H.state host.old).honest → IsInOrder (H.state host.old).world }
     requires records { IsTrue (H.state host.old).honest → HasRecords (H.state host.old).world database.old }
     ensures unit { IsBroken result.reply ⊎ IsUnitByWord incoming.now (word_of incoming.now database.old) keep.now database.old database.new result (H.state host.old) (H.state host.new) }
+    ensures any_moment { IsTrue (H.state host.old).honest → Since (IsAmidByWord incoming.now (word_of incoming.now database.old) keep.now database.old (H.state host.old).world) (H.state host.old) (H.state host.new) }
     ensures honest { (H.state host.new).honest ≡ (H.state host.old).honest }
     ensures faults { (H.state host.old).faults ≤ (H.state host.new).faults }
     ensures cause { IsBrokenBy Device result.reply → (H.state host.old).faults < (H.state host.new).faults }
@@ -90,6 +92,7 @@ fn unit_of<H: Host>(
     requires order { IsTrue (H.state host.old).honest → IsInOrder (H.state host.old).world }
     requires records { IsTrue (H.state host.old).honest → HasRecords (H.state host.old).world database.old }
     ensures unit { IsBroken result.reply ⊎ IsUnit candidate.now keep.now database.old database.new result (H.state host.old) (H.state host.new) }
+    ensures any_moment { IsTrue (H.state host.old).honest → Since (IsAmidUnitOf candidate.now.tree keep.now database.old (H.state host.old).world) (H.state host.old) (H.state host.new) }
     ensures honest { (H.state host.new).honest ≡ (H.state host.old).honest }
     ensures faults { (H.state host.old).faults ≤ (H.state host.new).faults }
     ensures cause { IsBrokenBy Device result.reply → (H.state host.old).faults < (H.state host.new).faults }
@@ -129,6 +132,7 @@ fn run_one<H: Host>(
     ensures ok { OnOk result (AddsUnit candidate.now keep.now database.old database.new (H.state host.old) (H.state host.new) units.old.items units.new.items) }
     ensures err { OnErr result (units.new.items ≡ units.old.items) }
     ensures last { IfErr result (λ unit. IsBroken unit.reply) }
+    ensures any_moment { IsTrue (H.state host.old).honest → Since (IsAmidUnitOf candidate.now.tree keep.now database.old (H.state host.old).world) (H.state host.old) (H.state host.new) }
     ensures honest { (H.state host.new).honest ≡ (H.state host.old).honest }
     ensures faults { (H.state host.old).faults ≤ (H.state host.new).faults }
     ensures cause { IfErr result (λ unit. IsBrokenBy Device unit.reply → (H.state host.old).faults < (H.state host.new).faults) }
@@ -144,8 +148,8 @@ fn run_one<H: Host>(
     Ok(())
 }
 
-/// Runs the units of an unpack in the order of its candidates, up to one that is broken off.
-pub fn run_units<H: Host>(
+// The units of an unpack in the order of its candidates, up to one that is broken off.
+pub(crate) fn run_units<H: Host>(
     alloc: Global,
     host: &mut H,
     database: &mut Database,
@@ -156,6 +160,7 @@ pub fn run_units<H: Host>(
     requires records { IsTrue (H.state host.old).honest → HasRecords (H.state host.old).world database.old }
     ensures whole { IsNone result.last → IsRun candidates.now result.units.items keep.now database.old database.new (H.state host.old) (H.state host.new) }
     ensures part { HasRun candidates.now result.units.items keep.now database.old (H.state host.old) }
+    ensures any_moment { IsTrue (H.state host.old).honest → Since (IsAmidRun candidates.now keep.now database.old (H.state host.old)) (H.state host.old) (H.state host.new) }
     ensures last { IfSome result.last (λ unit. IsBroken unit.reply) }
     ensures cause { IfSome result.last (λ unit. IsBrokenBy Device unit.reply → (H.state host.old).faults < (H.state host.new).faults) }
     ensures order { IsNone result.last → IsTrue (H.state host.old).honest → IsInOrder (H.state host.new).world }

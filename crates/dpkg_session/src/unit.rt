@@ -115,8 +115,8 @@ fn breakage_of(fault: HostFault) -> Breakage
     }
 }
 
-/// Unpacks a package that isn't refused.
-pub fn unpack_unit<H: Host>(
+// Unpacks a package that isn't refused.
+pub(crate) fn unpack_unit<H: Host>(
     alloc: Global,
     host: &mut H,
     database: &mut Database,

@@ -1,7 +1,8 @@
-use Rattle.std.proofs.Common.{◌≡◌, ◌+◌, [], ◌∷◌, ◌++◌, length, take, subst, sym, ap, ◌∙◌, arith, length-append}
-use Rattle.std.proofs.lemmas.List.{take_more}
+use Rattle.std.proofs.Common.{◌≡◌, ◌+◌, [], ◌∷◌, ◌++◌, length, take, drop, refl, append_assoc, IsTrue, subst, sym, ap, ◌∙◌, arith, length-append}
+use Rattle.std.proofs.lemmas.List.{take_more, take-append-drop}
 use Rattle.dpkg_session.specs.declared.report.Candidate.{Candidate}
 use Rattle.dpkg_session.specs.Run.{IsRun}
+use Rattle.dpkg_session.proofs.Amid.{since_next, since_run_start}
 use Rattle.dpkg_session.proofs.Runs.{run_more, ready_after}
 use Rattle.dpkg_session.proofs.run.run_units.Goals as goal
 
@@ -27,4 +28,29 @@ loop-candidate-preserved g c =
       honest = c.run_one.ensures.honest ∙ inv.honest;
       faults = omega (arith, inv.faults, c.run_one.ensures.faults);
       ready = ready_after p places mid after adds.unit now new c.run_one.ensures.honest inv.ready adds.is;
+      moments = λ h.
+          let split = sym (take-append-drop (i + 1) candidates) ∙ ap (λ l. l ++ drop (i + 1) candidates) fronts ∙ append_assoc (take i candidates) (p ∷ []) (drop (i + 1) candidates) in
+          since_next candidates (take i candidates) c.loop-candidate.units.items p (drop (i + 1) candidates) places before mid old now new split inv.so_far (inv.moments h) (c.run_one.ensures.any_moment (subst IsTrue (sym inv.honest) h));
     }
+
+pub loop-candidate-init : goal.loop-candidate-init
+loop-candidate-init g c =
+    let old = g.H.Host.state c.args.host.now in
+    record {
+      count = ap length c.new-units.ensures.items;
+      so_far = subst (λ l. IsRun [] l c.args.keep.now c.args.database.now c.args.database.now old old) (sym c.new-units.ensures.items) (refl, refl);
+      honest = refl;
+      faults = omega arith;
+      ready = record { order = c.requires.order; records = c.requires.records };
+      moments = λ h. since_run_start c.args.candidates.now c.args.keep.now c.args.database.now old (c.requires.records h);
+    }
+
+pub returns-in-Err-clause-any_moment : goal.returns-in-Err-clause-any_moment
+returns-in-Err-clause-any_moment g c = λ h.
+    let inv = c.loop-candidate.invariant in
+    let i = c.loop-candidate.candidate-index in
+    let candidates = c.args.candidates.now in
+    let p = c.candidate-item.result in
+    let fronts = take_more candidates i p c.loop-candidate-test.true ∙ ap (λ (q : Candidate). take i candidates ++ q ∷ []) (sym c.candidate-item.is) in
+    let split = sym (take-append-drop (i + 1) candidates) ∙ ap (λ l. l ++ drop (i + 1) candidates) fronts ∙ append_assoc (take i candidates) (p ∷ []) (drop (i + 1) candidates) in
+    since_next candidates (take i candidates) c.loop-candidate.units.items p (drop (i + 1) candidates) _ _ _ _ _ _ split inv.so_far (inv.moments h) (c.run_one.ensures.any_moment (subst IsTrue (sym inv.honest) h))

@@ -1,5 +1,6 @@
-use Rattle.std.proofs.Common.{◌≡◌, ◌≤◌, length, take}
-use Rattle.dpkg_session.specs.Run.{IsRun}
+use Rattle.std.proofs.Common.{◌≡◌, ◌≤◌, IsTrue, length, take}
+use Rattle.host_core.specs.Host.{Since}
+use Rattle.dpkg_session.specs.Run.{IsAmidRun, IsRun}
 use Rattle.dpkg_session.proofs.Runs.{Ready}
 use Rattle.dpkg_session.proofs.run.run_units.Given as goal
 
@@ -13,4 +14,5 @@ invariant-loop-candidate g l =
       honest : now.honest ≡ old.honest;
       faults : old.faults ≤ now.faults;
       ready : Ready l.database now;
+      moments : IsTrue old.honest → Since (IsAmidRun l.candidates l.keep l.fn.database old) old now;
     }

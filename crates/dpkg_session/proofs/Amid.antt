@@ -1,0 +1,71 @@
+-- What holds at each moment of a run.
+use Rattle.std.proofs.Common.{◌≡◌, inl, inr, List, [], ◌∷◌, ◌++◌, Option, Some, None, Result, Ok, Err, refl, sym, subst}
+use Rattle.host_core.specs.Paths.{Path}
+use Rattle.host_core.specs.World.{World}
+use Rattle.host_core.specs.Host.{State, Since}
+use Rattle.host_core.specs.Moments.{since_start, since_then, since_weaker}
+use Rattle.package_files.specs.OwnFiles.{same}
+use Rattle.package_tree.specs.declared.package.Package.{Package}
+use Rattle.package_tree.specs.declared.fault.TreeFault.{TreeFault}
+use Rattle.status_db.specs.declared.record.Record.{Record}
+use Rattle.status_db.specs.Status.{HasRecords}
+use Rattle.unpack_engine.specs.Unpack.{IsAmid, as_before}
+use Rattle.dpkg_session.specs.declared.refusal.Word.{Word}
+use Rattle.dpkg_session.specs.declared.report.Candidate.{Candidate}
+use Rattle.dpkg_session.specs.declared.report.Unit.{Unit as AUnit}
+use Rattle.dpkg_session.specs.Refusals.{word_of}
+use Rattle.dpkg_session.specs.Run.{IsAmidByWord, IsAmidRun, IsAmidUnitOf, IsRun}
+
+-- nothing is done yet
+
+amid_start : (p : Package) (places : List Path) (before : List Record) (w : World) → HasRecords w before → IsAmid p places before w w
+amid_start p places before w records = record { stage = before; is_stage = as_before; records = records; own = λ file. same refl; rest = λ q out kept. refl }
+
+word_start : (p : Package) (word : Option Word) (places : List Path) (before : List Record) (w : World) → HasRecords w before → IsAmidByWord p word places before w w
+word_start p (Some word) places before w records = refl
+word_start p None places before w records = amid_start p places before w records
+
+unit_start : (tree : Result Package TreeFault) (places : List Path) (before : List Record) (w : World) → HasRecords w before → IsAmidUnitOf tree places before w w
+unit_start (Err fault) places before w records = refl
+unit_start (Ok p) places before w records = word_start p (word_of p before) places before w records
+
+pub since_unit_start : (tree : Result Package TreeFault) (places : List Path) (before : List Record) (s : State) → HasRecords s.world before → Since (IsAmidUnitOf tree places before s.world) s s
+since_unit_start tree places before s records = since_start (IsAmidUnitOf tree places before s.world) s (unit_start tree places before s.world records)
+
+run_start : (cs : List Candidate) (places : List Path) (before : List Record) (s : State) → HasRecords s.world before → IsAmidRun cs places before s s.world
+run_start [] places before s records = refl
+run_start (c ∷ cs) places before s records = inl (unit_start c.tree places before s.world records)
+
+pub since_run_start : (cs : List Candidate) (places : List Path) (before : List Record) (s : State) → HasRecords s.world before → Since (IsAmidRun cs places before s) s s
+since_run_start cs places before s records = since_start (IsAmidRun cs places before s) s (run_start cs places before s records)
+
+-- a refused unit
+
+pub since_refused_word : (p : Package) (word : Word) (found : Option Word) (places : List Path) (before : List Record) (s : State) → found ≡ Some word → Since (IsAmidByWord p found places before s.world) s s
+since_refused_word p word found places before s is = subst (λ o. Since (IsAmidByWord p o places before s.world) s s) (sym is) (since_start (λ w. w ≡ s.world) s refl)
+
+pub since_refused_tree : (fault : TreeFault) (tree : Result Package TreeFault) (places : List Path) (before : List Record) (s : State) → tree ≡ Err fault → Since (IsAmidUnitOf tree places before s.world) s s
+since_refused_tree fault tree places before s is = subst (λ t. Since (IsAmidUnitOf t places before s.world) s s) (sym is) (since_start (λ w. w ≡ s.world) s refl)
+
+-- the next unit of a run
+
+amid_next : (done : List Candidate) (us : List AUnit) (c : Candidate) (rest : List Candidate) (places : List Path) (before mid : List Record) (s m : State) (now : World) → IsRun done us places before mid s m → IsAmidUnitOf c.tree places mid m.world now → IsAmidRun (done ++ c ∷ rest) places before s now
+amid_next [] [] c rest places before mid s m now run amid =
+    inl (subst (λ x. IsAmidUnitOf c.tree places x s.world now) run.1 (subst (λ x. IsAmidUnitOf c.tree places mid x.world now) run.0 amid))
+amid_next [] (u ∷ us) c rest places before mid s m now run amid = absurd run
+amid_next (d ∷ done) [] c rest places before mid s m now run amid = absurd run
+amid_next (d ∷ done) (u ∷ us) c rest places before mid s m now run amid =
+    inr (u, run.0, run.1, run.3, amid_next done us c rest places run.1 mid run.0 m now run.4 amid)
+
+pub since_next : (cs done : List Candidate) (us : List AUnit) (c : Candidate) (rest : List Candidate) (places : List Path) (before mid : List Record) (s m t : State) → cs ≡ done ++ c ∷ rest → IsRun done us places before mid s m → Since (IsAmidRun cs places before s) s m → Since (IsAmidUnitOf c.tree places mid m.world) m t → Since (IsAmidRun cs places before s) s t
+since_next cs done us c rest places before mid s m t split run first second = since_then (IsAmidRun cs places before s) s m t first
+    (since_weaker (IsAmidUnitOf c.tree places mid m.world) (IsAmidRun cs places before s) m t
+    (λ w amid. subst (λ l. IsAmidRun l places before s w) (sym split) (amid_next done us c rest places before mid s m w run amid)) second)
+
+-- a tree that was read, and isn't refused
+
+pub since_carried_out : (p : Package) (found : Option Word) (places : List Path) (before : List Record) (s t : State) → found ≡ None → Since (IsAmid p places before s.world) s t → Since (IsAmidByWord p found places before s.world) s t
+since_carried_out p found places before s t is since = subst (λ o. Since (IsAmidByWord p o places before s.world) s t) (sym is) since
+
+pub since_read : (p : Package) (tree : Result Package TreeFault) (places : List Path) (before : List Record) (s t : State) → tree ≡ Ok p → Since (IsAmidByWord p (word_of p before) places before s.world) s t → Since (IsAmidUnitOf tree places before s.world) s t
+since_read p tree places before s t is since = subst (λ r. Since (IsAmidUnitOf r places before s.world) s t) (sym is) since
