@@ -3,3 +3,4 @@ pub mod Refusals
 pub mod Units
 pub mod Run
 pub mod Commands
+pub mod History

@@ -1,12 +1,14 @@
 //! A session over one root: commands as lists of units.
 #![tactic(auto)]
 
+mod laws;
 mod refusal;
 mod report;
 mod run;
 mod session;
 mod unit;
 
+pub use laws::history_stands;
 pub use refusal::{Refusal, RelationField, Rule, Word};
 pub use report::{Breakage, Candidate, Failure, Reply, Report, Touched, Unit};
 pub use session::{Command, Session};

@@ -1,0 +1,80 @@
+-- What commands leave is what a further command can open.
+use Rattle.std.proofs.Common.{List, [], ◌∷◌, ◌++◌, IsTrue, refl, sym, subst, ◌∙◌}
+use Rattle.host_core.specs.Paths.{Path, is_administration}
+use Rattle.host_core.specs.World.{World, SameOn, IsDirectory}
+use Rattle.host_core.specs.Host.{State}
+use Rattle.administration.specs.Places.{home_path, info_path, status_path, tmp_path, list_path, temporary}
+use Rattle.administration.proofs.WholeFiles.{no_directory_at}
+use Rattle.file_lists.proofs.Kept.{has_places_kept}
+use Rattle.opening.specs.Opened.{IsOpened}
+use Rattle.opening.specs.Parts.{names_of}
+use Rattle.status_db.specs.declared.record.Record.{Record}
+use Rattle.status_db.specs.Status.{StandsFor}
+use Rattle.dpkg_session.specs.declared.report.Candidate.{Candidate}
+use Rattle.dpkg_session.specs.declared.report.Unit.{Unit as AUnit}
+use Rattle.dpkg_session.specs.History.{Ran, IsCommand, IsHistory, Stands}
+use Rattle.dpkg_session.specs.Run.{IsRun}
+use Rattle.dpkg_session.proofs.Listed.{listed_run}
+use Rattle.dpkg_session.proofs.Runs.{Ready, ready_after}
+
+-- the administration is read from its own paths alone
+opened_outside : (table : List Record) (places : List Path) (old new : World) → SameOn is_administration old new → IsOpened table places old → IsOpened table places new
+opened_outside table places old new same opened = record {
+  home = subst IsDirectory (sym (same home_path refl)) opened.home;
+  info = subst IsDirectory (sym (same info_path refl)) opened.info;
+  entries = λ name plain. no_directory_at _ _ (same (info_path ++ 47 ∷ name) refl) (opened.entries name plain);
+  status = no_directory_at _ _ (same status_path refl) opened.status;
+  status_spare = no_directory_at _ _ (same (temporary status_path) refl) opened.status_spare;
+  tmp = same tmp_path refl ∙ opened.tmp;
+  records = subst (λ n. StandsFor n table) (sym (same status_path refl)) opened.records;
+  listed = has_places_kept old new (names_of table) places (λ name known. same (list_path name) refl) opened.listed;
+}
+
+ready_run : (cs : List Candidate) (us : List AUnit) (places : List Path) (before after : List Record) (s t : State) → IsRun cs us places before after s t → Ready before s → Ready after t
+ready_run [] [] places before after s t run ready = subst (λ x. Ready x t) (sym run.1) (subst (Ready before) (sym run.0) ready)
+ready_run [] (u ∷ us) places before after s t run ready = absurd run
+ready_run (c ∷ cs) [] places before after s t run ready = absurd run
+ready_run (c ∷ cs) (u ∷ us) places before after s t run ready = ready_run cs us places run.1 after run.0 t run.4 (ready_after c places before run.1 u s run.0 run.2 ready run.3)
+
+honest_run : (cs : List Candidate) (us : List AUnit) (places : List Path) (before after : List Record) (s t : State) → IsRun cs us places before after s t → IsTrue s.honest → IsTrue t.honest
+honest_run [] [] places before after s t run h = subst (λ x. IsTrue x.honest) (sym run.0) h
+honest_run [] (u ∷ us) places before after s t run h = absurd run
+honest_run (c ∷ cs) [] places before after s t run h = absurd run
+honest_run (c ∷ cs) (u ∷ us) places before after s t run h = honest_run cs us places run.1 after run.0 t run.4 (subst IsTrue (sym run.2) h)
+
+ready_opened : (table : List Record) (places : List Path) (s : State) → IsOpened table places s.world → Ready table s
+ready_opened table places s opened = record {
+  order = λ h. record { home = opened.home; info = opened.info; entries = opened.entries; status = opened.status; status_spare = opened.status_spare; tmp = opened.tmp };
+  records = λ h. opened.records;
+}
+
+opened_run : (cs : List Candidate) (us : List AUnit) (places : List Path) (before after : List Record) (s t : State) → IsRun cs us places before after s t → IsTrue s.honest → IsOpened before places s.world → IsOpened after places t.world
+opened_run cs us places before after s t run h opened =
+    let ready = ready_run cs us places before after s t run (ready_opened before places s opened) in
+    let h1 = honest_run cs us places before after s t run h in
+    record {
+      home = (ready.order h1).home;
+      info = (ready.order h1).info;
+      entries = (ready.order h1).entries;
+      status = (ready.order h1).status;
+      status_spare = (ready.order h1).status_spare;
+      tmp = (ready.order h1).tmp;
+      records = ready.records h1;
+      listed = listed_run places cs us before after s t run h opened.listed;
+    }
+
+pub stands_outside : (table : List Record) (old new : World) → SameOn is_administration old new → Stands table old → Stands table new
+stands_outside table old new same stands = (stands.0, opened_outside table stands.0 old new same stands.1)
+
+stands_command : (ran : Ran) (before after : List Record) (old new : World) → IsCommand ran before after old new → Stands after new
+stands_command ran before after old new command = (
+  command.places,
+  subst (IsOpened after command.places) command.to
+      (opened_run ran.candidates ran.units command.places before after command.start command.end command.run command.honest
+      (subst (IsOpened before command.places) (sym command.from) command.opened)),
+)
+
+pub stands_history : (commands : List Ran) (before after : List Record) (old new : World) → IsHistory commands before after old new → Stands before old → Stands after new
+stands_history [] before after old new history stands = subst (λ x. Stands x new) (sym history.0) (stands_outside before old new history.1 stands)
+stands_history (ran ∷ rest) before after old new history stands =
+    stands_history rest history.1 after history.2 new history.5 (stands_command ran before history.1 history.0 history.2 history.4)

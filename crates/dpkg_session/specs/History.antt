@@ -1,0 +1,37 @@
+-- Commands given one after another.
+use Rattle.std.specs.Prelude.{◌≡◌, true, List, [], ◌∷◌}
+use Rattle.host_core.specs.Paths.{Path, is_administration}
+use Rattle.host_core.specs.World.{World, SameOn}
+use Rattle.host_core.specs.Host.{State}
+use Rattle.opening.specs.Opened.{IsOpened}
+use Rattle.status_db.specs.declared.record.Record.{Record}
+use Rattle.dpkg_session.specs.declared.report.Candidate.{Candidate}
+use Rattle.dpkg_session.specs.declared.report.Unit.{Unit as AUnit}
+use Rattle.dpkg_session.specs.Run.{IsRun}
+
+-- a command's trees with the units that were reported
+pub record Ran : Type 0 where
+  pub candidates : List Candidate
+  pub units : List AUnit
+
+-- one command on an honest host whose administration stands for this table: its units, and the table and world that they leave
+pub record IsCommand (ran : Ran) (before after : List Record) (old new : World) : Type 0 where
+  pub start : State
+  pub end : State
+  pub places : List Path
+  pub honest : start.honest ≡ true
+  pub from : start.world ≡ old
+  pub to : end.world ≡ new
+  pub opened : IsOpened before places old
+  pub run : IsRun ran.candidates ran.units places before after start end
+
+-- each command finds the records that the one before it left; between two of them any path outside the administration
+-- may have changed
+abbrev pub IsHistory : List Ran → List Record → List Record → World → World → Type 0
+IsHistory [] before after old new = (after ≡ before) × SameOn is_administration old new
+IsHistory (ran ∷ rest) before after old new =
+    (found : World) × (mid : List Record) × (left : World) × SameOn is_administration old found × IsCommand ran before mid found left × IsHistory rest mid after left new
+
+-- the administration stands for this table
+abbrev pub Stands : List Record → World → Type 0
+Stands table w = (places : List Path) × IsOpened table places w
