@@ -1,12 +1,10 @@
 //! The program: it reads the words of its command line, carries out what they ask for, and ends with a status.
 #![tactic(auto)]
 
-mod answer;
-mod command;
-mod comparison;
-mod words;
+mod directories;
 
-use answer::{FAILED, run_words};
+use command_line::{FAILED, run_words};
+use directories::Directories;
 use std::io::Write;
 use std::process::ExitCode;
 use std::rt::Env;
@@ -22,8 +20,10 @@ fn main(rt: HostRuntime) -> ExitCode {
     let mut err = io::writer(&stderr);
     match words_of(&rt) {
         Ok(words) => {
+            let mut hosts = Directories::new(rt);
             let mut out = io::writer(&rt);
-            ExitCode::from(run_words(rt.alloc(), words.as_slice(), &mut out, &mut err))
+            let status = run_words(rt.alloc(), &mut hosts, words.as_slice(), &mut out, &mut err);
+            ExitCode::from(status)
         }
         Err(_) => {
             let _ = err.write_all(b"error: the words of the command line are not text\n");

@@ -1,0 +1,4 @@
+pub mod Comparisons
+pub mod Commands
+pub mod Unpacks
+pub mod Reports

@@ -1,0 +1,90 @@
+-- What a command writes, and the status that it ends with.
+use Rattle.std.specs.Prelude.{ℕ, List, [], ◌⊎◌, ◌≡◌, Bool, true, false, Option, Some, None, codes, if◌then◌else◌}
+use Rattle.std.specs.Option.{option_map_or}
+use Rattle.std.specs.Io.KnownBytes.{Appends}
+use Rattle.version_order.specs.VersionOrder.{version_order}
+use Rattle.version_order.specs.declared.fault.VersionFault.{VersionFault}
+use Rattle.administration.specs.declared.fault.AdministrationFault.{AdministrationFault}
+use Rattle.dpkg_session.specs.declared.report.Report.{Report}
+use Rattle.report_lines.specs.Openings.{opening_line}
+use Rattle.report_lines.specs.Reports.{report_lines, report_status}
+use Rattle.command_line.specs.Comparisons.{bad_version, bad_version_line, holds}
+use Rattle.command_line.specs.Unpacks.{HasUnpacked}
+use Rattle.command_line.specs.declared.comparison.Comparison.{Comparison}
+use Rattle.command_line.specs.declared.words.Asked.{Asked}
+use Rattle.command_line.specs.declared.words.Asked.TheVariants.{Names, CompareVersions, Unpack}
+use Rattle.command_line.specs.declared.words.Unpacking.{Unpacking}
+
+-- what is written to standard output and to standard error, and the status
+pub record Answer : Type 0 where
+  pub output : List ℕ
+  pub error : List ℕ
+  pub status : ℕ
+
+-- the names of the subcommands, one a line, in byte order
+abbrev pub names_answer : Answer
+names_answer = record { output = codes "compare-versions\nunpack\n"; error = []; status = 0 }
+
+-- a text that isn't a version is named on standard error
+abbrev pub bad_answer : List ℕ × VersionFault → Answer
+bad_answer bad = record { output = []; error = bad_version_line bad; status = 2 }
+
+-- 0 where the comparison holds, 1 where it doesn't, and 2 with a line for the first text that is no version
+abbrev pub comparison_answer : Comparison → Answer
+comparison_answer c = option_map_or bad_answer
+    (bad_version c.first c.second)
+    (record { output = []; error = []; status = if holds c.operator (version_order c.first c.second) then 0 else 1 })
+
+-- the lines of a report, and its status
+abbrev pub report_answer : Report → Answer
+report_answer done = record { output = report_lines done; error = []; status = report_status done }
+
+-- why the root can't be opened is told on standard error
+abbrev pub opening_answer : AdministrationFault → Answer
+opening_answer fault = record { output = []; error = opening_line fault; status = 2 }
+
+-- an unpack is answered by its report, unless the root can't be opened
+abbrev pub IsUnpackAnswer : Unpacking → Answer → Type 0
+IsUnpackAnswer u answer = ((done : Report) × HasUnpacked u.trees done × (answer ≡ report_answer done))
+    ⊎ ((fault : AdministrationFault) × (answer ≡ opening_answer fault))
+
+abbrev pub IsAnswerTo : Asked → Answer → Type 0
+IsAnswerTo Names answer = answer ≡ names_answer
+IsAnswerTo (CompareVersions c) answer = answer ≡ comparison_answer c
+IsAnswerTo (Unpack u) answer = IsUnpackAnswer u answer
+
+-- for want of memory
+abbrev pub memory_answer : Answer
+memory_answer = record { output = []; error = codes "broken memory\n"; status = 2 }
+
+-- a usage fault writes a text of usage to standard error alone
+abbrev pub usage_answer : List ℕ → Answer
+usage_answer text = record { output = []; error = text; status = 2 }
+
+-- What the words are answered with: the answer to what they ask for or, where they ask for nothing, a text on their use.
+abbrev pub IsAnswerOf : Option Asked → Answer → Type 0
+IsAnswerOf (Some asked) answer = IsAnswerTo asked answer
+IsAnswerOf None answer = (text : List ℕ) × (answer ≡ usage_answer text)
+
+-- or that memory is wanting
+abbrev pub IsAnswer : Option Asked → Answer → Type 0
+IsAnswer asked answer = IsAnswerOf asked answer ⊎ (answer ≡ memory_answer)
+
+-- only to these is anything written to standard output
+abbrev pub prints : Option Asked → Bool
+prints (Some Names) = true
+prints (Some (CompareVersions c)) = false
+prints (Some (Unpack u)) = true
+prints None = false
+
+-- an answer that has nothing for standard output is written to standard error
+pub record IsComplaint (answer : Answer) (old new : Option (List ℕ)) (ended : ℕ) : Type 0 where
+  pub status : ended ≡ answer.status
+  pub error : Appends old new answer.error
+  pub output : answer.output ≡ []
+
+-- an answer is written to what standard output and standard error held, and its status returned
+pub record IsWritten (answer : Answer) (output_old output_new error_old error_new : Option (List ℕ)) (ended : ℕ) : Type 0 where
+  pub status : ended ≡ answer.status
+  pub output : Appends output_old output_new answer.output
+  pub error : Appends error_old error_new answer.error

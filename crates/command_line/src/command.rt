@@ -1,0 +1,77 @@
+// The command line, as clap's commands and arguments.
+ghost use Rattle.std.specs.Prelude.{◌≡◌, IfOk, false};
+ghost use Rattle.clap.specs.Words.{app_of};
+ghost use Rattle.clap.specs.declared.builder.command.Command.TheViews.{out-Command as fields_of};
+ghost use Rattle.command_line.specs.Commands.{AddsRule, compare_versions_app, root_rule, trees_rule, unpack_app, whole_app, without_help, word_rule};
+
+use clap::{Arg, ArgAction, Command};
+use std::alloc::{AllocError, Global};
+
+// A word that has to be given.
+fn add_word<'a>(alloc: Global, command: Command<'a>, id: &'a str) -> Result<Command<'a>, AllocError>
+    requires { (fields_of command).has_globals ≡ false }
+    ensures { IfOk result (AddsRule command.entry (word_rule id.entry.now)) }
+{
+    let word = Arg::new(alloc, id).required(true).action(ArgAction::Set);
+    command.arg(word)
+}
+
+fn compare_versions_command<'a>(alloc: Global) -> Result<Command<'a>, AllocError>
+    ensures app { IfOk result (λ c. app_of c ≡ compare_versions_app) }
+    ensures local { IfOk result (λ c. (fields_of c).has_globals ≡ false) }
+{
+    let command = add_word(alloc, Command::new(alloc, "compare-versions"), "A")?;
+    let command = add_word(alloc, command, "OP")?;
+    add_word(alloc, command, "B")
+}
+
+// The root is the whole system's if it isn't given.
+fn add_root<'a>(alloc: Global, command: Command<'a>) -> Result<Command<'a>, AllocError>
+    requires { (fields_of command).has_globals ≡ false }
+    ensures { IfOk result (AddsRule command.entry root_rule) }
+{
+    let root = Arg::new(alloc, "root")
+        .long("root")
+        .action(ArgAction::Set)
+        .default_value("/");
+    command.arg(root)
+}
+
+fn add_trees<'a>(alloc: Global, command: Command<'a>) -> Result<Command<'a>, AllocError>
+    requires { (fields_of command).has_globals ≡ false }
+    ensures { IfOk result (AddsRule command.entry trees_rule) }
+{
+    let trees = Arg::new(alloc, "TREE")
+        .required(true)
+        .action(ArgAction::Append);
+    command.arg(trees)
+}
+
+fn unpack_command<'a>(alloc: Global) -> Result<Command<'a>, AllocError>
+    ensures app { IfOk result (λ c. app_of c ≡ unpack_app) }
+    ensures local { IfOk result (λ c. (fields_of c).has_globals ≡ false) }
+{
+    let command = add_root(alloc, Command::new(alloc, "unpack"))?;
+    add_trees(alloc, command)
+}
+
+// Help is no subcommand and no flag, so a call for it is a usage fault.
+fn without_help<'a>(command: Command<'a>) -> Command<'a>
+    ensures app { app_of result ≡ without_help (app_of command.entry) }
+    ensures local { (fields_of result).has_globals ≡ (fields_of command.entry).has_globals }
+{
+    command
+        .disable_help_flag(true)
+        .disable_help_subcommand(true)
+}
+
+/// The program's command with its subcommands.
+pub(crate) fn whole_command<'a>(alloc: Global) -> Result<Command<'a>, AllocError>
+    ensures { IfOk result (λ c. app_of c ≡ whole_app) }
+{
+    let compare_versions = compare_versions_command(alloc)?;
+    let unpack = unpack_command(alloc)?;
+    without_help(Command::new(alloc, "dpkg_cli"))
+        .subcommand(compare_versions)?
+        .subcommand(unpack)
+}

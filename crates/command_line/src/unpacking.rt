@@ -1,0 +1,95 @@
+// Carries out an unpack: the root is opened, then the trees are read, then the units run.
+ghost use Rattle.std.specs.Prelude.{◌≡◌, ◌≤◌, IfOk, false, map};
+ghost use Rattle.command_line.specs.Unpacks.{HasRunTrees, HasUnpacked};
+
+use crate::hosts::Hosts;
+use crate::words::Unpacking;
+use administration::AdministrationFault;
+use dpkg_session::{Candidate, Command, Report, Session};
+use package_tree::{Package, TreeFault, read_tree};
+use std::alloc::{AllocError, Global};
+use texts::Text;
+
+// What a tree gives; one that can't be opened has the host's fault.
+fn read_package<S: Hosts>(alloc: Global, hosts: &mut S, tree: &str) -> Result<Package, TreeFault>
+    ensures { S.faults hosts.old ≤ S.faults hosts.new }
+{
+    match hosts.open_tree(tree) {
+        Ok(mut host) => {
+            let read = read_tree(alloc, &mut host);
+            hosts.close(host);
+            return read;
+        }
+        Err(fault) => {
+            return Err(TreeFault::from(fault));
+        }
+    }
+}
+
+fn read_trees<S: Hosts>(
+    alloc: Global,
+    hosts: &mut S,
+    trees: &[Text],
+) -> Result<Vec<Candidate>, AllocError>
+    ensures labels { IfOk result (λ candidates. map (λ c. c.label) candidates.items ≡ trees.now) }
+    ensures faults { S.faults hosts.old ≤ S.faults hosts.new }
+{
+    let mut candidates = Vec::new(alloc);
+    for tree in trees {
+        let label = tree.copy()?;
+        let tree = read_package(alloc, hosts, tree.as_str());
+        candidates.push(Candidate { label, tree })?;
+    }
+    Ok(candidates)
+}
+
+fn run_trees<S: Hosts>(
+    alloc: Global,
+    hosts: &mut S,
+    session: &mut Session<S::Opened>,
+    trees: &[Text],
+) -> Result<Report, AllocError>
+    requires { session.old.closed ≡ false }
+    ensures done { IfOk result (λ done. HasRunTrees trees.now done session.old.keep session.old.database (S.Opened.state session.old.host)) }
+    ensures faults { S.faults hosts.old ≤ S.faults hosts.new }
+{
+    let command = Command::Unpack(read_trees(alloc, hosts, trees)?);
+    Ok(session.run(&command))
+}
+
+// An unpack on the host of the root, which is given back.
+fn unpack_on<S: Hosts>(
+    alloc: Global,
+    hosts: &mut S,
+    host: S::Opened,
+    trees: &[Text],
+) -> Result<Report, AdministrationFault>
+    ensures done { IfOk result (HasUnpacked trees.now) }
+    ensures faults { S.faults hosts.old ≤ S.faults hosts.new }
+{
+    match Session::open(alloc, host) {
+        Ok(mut session) => {
+            let done = run_trees(alloc, hosts, &mut session, trees);
+            hosts.close(session.into_host());
+            Ok(done?)
+        }
+        Err((host, fault)) => {
+            hosts.close(host);
+            Err(fault)
+        }
+    }
+}
+
+/// Unpacks the trees under the root, or tells why the root can't be opened. Want of memory outside of the units is told
+/// likewise.
+pub(crate) fn unpack<S: Hosts>(
+    alloc: Global,
+    hosts: &mut S,
+    unpacking: &Unpacking,
+) -> Result<Report, AdministrationFault>
+    ensures done { IfOk result (HasUnpacked unpacking.now.trees) }
+    ensures faults { S.faults hosts.old ≤ S.faults hosts.new }
+{
+    let host = hosts.open_root(unpacking.root.as_str())?;
+    unpack_on(alloc, hosts, host, unpacking.trees.as_slice())
+}

@@ -1,0 +1,252 @@
+// What the words of a command line ask for.
+ghost use Rattle.std.specs.Prelude.{◌≡◌, ◌⊎◌, IfErr, IfOk, None, Some, map, option_map, string_bytes};
+ghost use Rattle.clap.specs.Words.{all_of, first_of, found_of, kind_of, rows_of, subcommand_rows_of};
+ghost use Rattle.clap.specs.declared.error.kind.ErrorKind.TheVariants.{OutOfMemory};
+ghost use Rattle.command_line.specs.Commands.{asked_by, asked_in, asked_of, comparison_from, comparison_in, comparison_of, is_absolute, unpacking_from, unpacking_in, unpacking_of};
+ghost use Rattle.command_line.specs.declared.words.WordsFault.TheVariants.{NoMemory};
+
+use crate::command::whole_command;
+use crate::comparison::{Comparison, Operator};
+use clap::error::ErrorKind;
+use clap::{ArgMatches, Error};
+use std::alloc::{AllocError, Global};
+use texts::{Text, Texts};
+
+// What follows the words that clap has no fault in, but that ask for nothing.
+const SUBCOMMAND_USAGE: &str = "error: a subcommand is wanted\n\nUsage: dpkg_cli <COMMAND>\n";
+
+const COMPARE_VERSIONS_USAGE: &str =
+    "error: OP is one of lt, le, eq, ne, ge, gt\n\nUsage: dpkg_cli compare-versions <A> <OP> <B>\n";
+
+const UNPACK_USAGE: &str =
+    "error: DIR is an absolute path\n\nUsage: dpkg_cli unpack [--root <DIR>] <TREE>...\n";
+
+/// A root directory, and trees to be unpacked under it.
+#[derive(Drop)]
+pub struct Unpacking {
+    pub root: Text,
+    pub trees: Texts,
+}
+
+/// What is asked of the program.
+#[derive(Drop)]
+pub enum Asked {
+    /// The names of the subcommands.
+    Names,
+    CompareVersions(Comparison),
+    Unpack(Unpacking),
+}
+
+/// Why words ask for nothing: a text that says how they are used, or want of memory.
+#[derive(Debug, Drop)]
+pub enum WordsFault {
+    Usage(String),
+    NoMemory,
+}
+
+impl From<AllocError> for WordsFault {
+    ghost from_gives = { λ _ e. e ≡ NoMemory };
+
+    fn from(_error: AllocError) -> WordsFault {
+        WordsFault::NoMemory
+    }
+}
+
+fn usage(alloc: Global, text: &str) -> WordsFault {
+    match String::from_str(alloc, text) {
+        Ok(text) => WordsFault::Usage(text),
+        Err(_) => WordsFault::NoMemory,
+    }
+}
+
+fn fault_of(alloc: Global, error: &Error) -> WordsFault
+    ensures { kind_of error.now ≡ OutOfMemory → result ≡ NoMemory }
+{
+    if error.kind() == ErrorKind::OutOfMemory {
+        return WordsFault::NoMemory;
+    }
+    match format!(in alloc; "{error}") {
+        Ok(text) => WordsFault::Usage(text),
+        Err(_) => WordsFault::NoMemory,
+    }
+}
+
+fn owned_comparison(
+    alloc: Global,
+    first: &str,
+    operator: Operator,
+    second: &str,
+) -> Result<Comparison, AllocError>
+    ensures { IfOk result (λ c. (c.first ≡ first.now) × (c.operator ≡ operator) × (c.second ≡ second.now)) }
+{
+    let first = Text::from_str(alloc, first)?;
+    let second = Text::from_str(alloc, second)?;
+    Ok(Comparison {
+        first,
+        operator,
+        second,
+    })
+}
+
+/// The texts that clap found for a comparison.
+#[derive(Clone, Copy)]
+struct Compared<'a> {
+    first: &'a str,
+    operator: Operator,
+    second: &'a str,
+}
+
+fn read_comparison<'a>(
+    first: Option<&'a str>,
+    word: Option<&'a str>,
+    second: Option<&'a str>,
+) -> Option<Compared<'a>>
+    ensures { option_map comparison_in result
+        ≡ comparison_from (option_map (λ s. s.now) first.entry) (option_map (λ s. s.now) word.entry) (option_map (λ s. s.now) second.entry) }
+{
+    let (Some(first), Some(word), Some(second)) = (first, word, second) else {
+        return None;
+    };
+    match Operator::read(word) {
+        Some(operator) => Some(Compared {
+            first,
+            operator,
+            second,
+        }),
+        None => None,
+    }
+}
+
+fn text_of<'a>(found: &ArgMatches<'a>, id: &str) -> Option<&'a str>
+    ensures { option_map (λ s. s.now) result ≡ first_of id.now (rows_of (found_of found.now)) }
+{
+    found.get_str(id)
+}
+
+fn texts_compared<'a>(found: &ArgMatches<'a>) -> Option<Compared<'a>>
+    ensures { option_map comparison_in result ≡ comparison_of (rows_of (found_of found.now)) }
+{
+    read_comparison(
+        text_of(found, "A"),
+        text_of(found, "OP"),
+        text_of(found, "B"),
+    )
+}
+
+fn is_absolute(path: &str) -> bool
+    ensures { result ≡ is_absolute path.now }
+{
+    match path.as_bytes().first() {
+        Some(first) => *first == b'/',
+        None => false,
+    }
+}
+
+/// The texts that clap found for an unpack.
+#[derive(Clone, Copy)]
+struct Rooted<'a> {
+    root: &'a str,
+    trees: &'a [&'a str],
+}
+
+fn read_unpacking<'a>(root: Option<&'a str>, trees: Option<&'a [&'a str]>) -> Option<Rooted<'a>>
+    ensures { option_map unpacking_in result
+        ≡ unpacking_from (option_map (λ s. s.now) root.entry) (option_map (λ s. map (λ t. t.now) s.now) trees.entry) }
+{
+    let (Some(root), Some(trees)) = (root, trees) else {
+        return None;
+    };
+    if is_absolute(root) {
+        Some(Rooted { root, trees })
+    } else {
+        None
+    }
+}
+
+fn all_texts_of<'a>(found: &'a ArgMatches<'_>, id: &str) -> Option<&'a [&'a str]>
+    ensures { option_map (λ s. map (λ t. t.now) s.now) result ≡ all_of id.now (rows_of (found_of found.now)) }
+{
+    found.get_strs(id)
+}
+
+fn texts_unpacked<'a>(found: &'a ArgMatches<'_>) -> Option<Rooted<'a>>
+    ensures { option_map unpacking_in result ≡ unpacking_of (rows_of (found_of found.now)) }
+{
+    read_unpacking(text_of(found, "root"), all_texts_of(found, "TREE"))
+}
+
+fn copies(alloc: Global, texts: &[&str]) -> Result<Texts, AllocError>
+    ensures { IfOk result (λ copies. copies ≡ map (λ t. t.now) texts.now) }
+{
+    let mut all = Texts::new(alloc);
+    for text in texts {
+        all.push(Text::from_str(alloc, text)?)?;
+    }
+    Ok(all)
+}
+
+fn owned_unpacking(alloc: Global, root: &str, trees: &[&str]) -> Result<Unpacking, AllocError>
+    ensures { IfOk result (λ u. (u.root ≡ root.now) × (u.trees ≡ map (λ t. t.now) trees.now)) }
+{
+    let root = Text::from_str(alloc, root)?;
+    let trees = copies(alloc, trees)?;
+    Ok(Unpacking { root, trees })
+}
+
+fn comparison_asked(alloc: Global, found: &ArgMatches<'_>) -> Result<Asked, WordsFault>
+    ensures asked { IfOk result (λ asked. option_map Asked.CompareVersions (comparison_of (rows_of (found_of found.now))) ≡ Some asked) }
+    ensures usage { IfErr result (λ fault. (fault ≡ NoMemory) ⊎ (comparison_of (rows_of (found_of found.now)) ≡ None)) }
+{
+    match texts_compared(found) {
+        Some(c) => Ok(Asked::CompareVersions(owned_comparison(
+            alloc, c.first, c.operator, c.second,
+        )?)),
+        None => Err(usage(alloc, COMPARE_VERSIONS_USAGE)),
+    }
+}
+
+fn unpack_asked(alloc: Global, found: &ArgMatches<'_>) -> Result<Asked, WordsFault>
+    ensures asked { IfOk result (λ asked. option_map Asked.Unpack (unpacking_of (rows_of (found_of found.now))) ≡ Some asked) }
+    ensures usage { IfErr result (λ fault. (fault ≡ NoMemory) ⊎ (unpacking_of (rows_of (found_of found.now)) ≡ None)) }
+{
+    match texts_unpacked(found) {
+        Some(r) => Ok(Asked::Unpack(owned_unpacking(alloc, r.root, r.trees)?)),
+        None => Err(usage(alloc, UNPACK_USAGE)),
+    }
+}
+
+// What a subcommand asks for.
+fn asked_by(alloc: Global, name: &str, found: &ArgMatches<'_>) -> Result<Asked, WordsFault>
+    ensures asked { IfOk result (λ asked. asked_by name.now (rows_of (found_of found.now)) ≡ Some asked) }
+    ensures usage { IfErr result (λ fault. (fault ≡ NoMemory) ⊎ (asked_by name.now (rows_of (found_of found.now)) ≡ None)) }
+{
+    match name {
+        "compare-versions" => comparison_asked(alloc, found),
+        "unpack" => unpack_asked(alloc, found),
+        _ => Err(usage(alloc, SUBCOMMAND_USAGE)),
+    }
+}
+
+fn asked_in(alloc: Global, matches: &ArgMatches<'_>) -> Result<Asked, WordsFault>
+    ensures asked { IfOk result (λ asked. asked_in (subcommand_rows_of matches.now) ≡ Some asked) }
+    ensures usage { IfErr result (λ fault. (fault ≡ NoMemory) ⊎ (asked_in (subcommand_rows_of matches.now) ≡ None)) }
+{
+    match matches.subcommand() {
+        Some((name, found)) => asked_by(alloc, name, found),
+        None => Err(usage(alloc, SUBCOMMAND_USAGE)),
+    }
+}
+
+/// What the words ask for, the first of which is the program's name. A text of usage ends with a newline.
+pub fn command_of(alloc: Global, words: &[String]) -> Result<Asked, WordsFault>
+    ensures asked { IfOk result (λ asked. asked_of (map string_bytes words.now) ≡ Some asked) }
+    ensures usage { IfErr result (λ fault. (fault ≡ NoMemory) ⊎ (asked_of (map string_bytes words.now) ≡ None)) }
+{
+    if words.len() <= 1 {
+        return Ok(Asked::Names);
+    }
+    match whole_command(alloc)?.try_get_matches_from(words) {
+        Ok(matches) => asked_in(alloc, &matches),
+        Err(error) => Err(fault_of(alloc, &error)),
+    }
+}

@@ -1,3 +1,0 @@
-pub mod Comparisons
-pub mod Commands
-pub mod Reports

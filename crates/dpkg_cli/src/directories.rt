@@ -1,0 +1,58 @@
+// The directories of the real file system as hosts.
+ghost use Rattle.std.specs.Prelude.{◌≡◌, ◌≤◌, ◌<◌, ◌^◌, ◌-◌, IfOk, IsErrOf};
+ghost use Rattle.host_core.specs.declared.fault.HostFault.TheVariants.{Device};
+
+use command_line::Hosts;
+use host_core::HostFault;
+use host_files::FilesHost;
+
+/// Opens directories; a tree's path begins at the working directory.
+#[derive(Drop)]
+pub(crate) struct Directories {
+    rt: HostRuntime,
+    faults: u64,
+}
+
+impl Directories {
+    pub(crate) fn new(rt: HostRuntime) -> Directories
+        ensures { result.faults ≡ 0 }
+    {
+        Directories { rt, faults: 0 }
+    }
+
+    // Opens a directory, and counts a fault of the device. With a full count nothing is opened any more.
+    fn open(&mut self, directory: &str) -> Result<FilesHost, HostFault>
+        ensures faults { self.old.faults ≤ self.new.faults }
+        ensures cause { IsErrOf result Device → self.old.faults < self.new.faults }
+    {
+        if self.faults == u64::MAX {
+            return Err(HostFault::NoMemory);
+        }
+        match FilesHost::open(self.rt, directory) {
+            Ok(host) => Ok(host),
+            Err(HostFault::Device) => {
+                self.faults += 1;
+                Err(HostFault::Device)
+            }
+            Err(HostFault::NoMemory) => Err(HostFault::NoMemory),
+        }
+    }
+}
+
+impl Hosts for Directories {
+    type Opened = FilesHost;
+
+    ghost faults = { λ d. d.faults };
+
+    fn open_root(&mut self, directory: &str) -> Result<FilesHost, HostFault> {
+        self.open(directory)
+    }
+
+    fn open_tree(&mut self, tree: &str) -> Result<FilesHost, HostFault> {
+        self.open(tree)
+    }
+
+    fn close(&mut self, host: FilesHost) {
+        let _ = host;
+    }
+}

@@ -1,0 +1,11 @@
+pub mod Runs
+pub mod NamesRead
+pub mod Stepping
+pub mod Printed
+pub mod FieldLaws
+pub mod Fronts
+pub mod VersionSigns
+pub mod Complete
+pub mod PrintedAgain
+pub mod TakenApart
+pub mod FirstFault

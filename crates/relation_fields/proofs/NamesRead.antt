@@ -1,0 +1,24 @@
+-- Names of packages are ASCII.
+use Rattle.std.proofs.Common.{◌≡◌, ℕ, ◌<◌, true, List, length, arith}
+use Rattle.std.specs.Prelude.{IsAscii}
+use Rattle.std.specs.List.{list_all}
+use Rattle.std.specs.Str.{IsUtf8}
+use Rattle.std.proofs.lemmas.Bool.{and_parts, leb-true}
+use Rattle.std.proofs.lemmas.Bool.Decides.{nat_tests}
+use Rattle.std.proofs.lemmas.List.Sums.{AllPass-from_list_all}
+use Rattle.std.proofs.lemmas.Str.{IsUtf8-from_ascii}
+use Rattle.std.proofs.lemmas.Str.Ascii.{IsAscii-from_all}
+use Rattle.relation_fields.specs.Names.{is_name_sign, is_package_name}
+
+pub sign_ascii : (b : ℕ) → is_name_sign b ≡ true → b < 128
+sign_ascii b h = grind (arith, nat_tests)
+
+pub signs_ascii : (name : List ℕ) → list_all is_name_sign name ≡ true → IsAscii name
+signs_ascii name h = IsAscii-from_all name (λ i d l. sign_ascii _ (AllPass-from_list_all is_name_sign name h i d l))
+
+pub name_utf8 : (name : List ℕ) → is_package_name name ≡ true → IsUtf8 name
+name_utf8 name h = IsUtf8-from_ascii name (signs_ascii name (and_parts _ _ (and_parts _ _ h).1).1)
+
+-- a name has bytes
+pub name_some : (name word : List ℕ) → name ≡ word → is_package_name name ≡ true → 0 < length word
+name_some name word e h = rw (← e) (let k = leb-true 2 (length name) (and_parts _ _ h).0 in omega arith)

@@ -1,0 +1,29 @@
+//! Relations between packages (Policy 7.1 to 7.6): the fields that state them, read and printed, and the packages
+//! that they admit.
+#![tactic(auto)]
+
+mod alternative;
+mod clause;
+mod fault;
+mod form;
+mod laws;
+mod names;
+mod offer;
+mod provides;
+mod reading;
+mod relations;
+mod restriction;
+mod words;
+
+pub use alternative::Alternative;
+pub use clause::Clause;
+pub use fault::RelationFault;
+pub use form::Form;
+pub use laws::{
+    first_stray_byte, no_fault, one_fault, read_again, read_as_put_together, readable_is_printable,
+    reads_once,
+};
+pub use offer::Offer;
+pub use provides::{Provided, Provides};
+pub use relations::Relations;
+pub use restriction::{Comparison, Restriction};

@@ -1,0 +1,57 @@
+-- Faults and refusals in the program's own words: by name, then their fields.
+use Rattle.std.specs.Prelude.{ℕ, List, ◌++◌, codes, if◌then◌else◌}
+use Rattle.std.specs.Fmt.{decimal}
+use Rattle.std.specs.Str.{bytes_eq}
+use Rattle.control_fields.specs.declared.fault.ControlFault.{ControlFault}
+use Rattle.control_fields.specs.declared.fault.ControlFault.TheVariants as control
+use Rattle.package_tree.specs.declared.fault.FieldName.{FieldName}
+use Rattle.package_tree.specs.declared.fault.FieldName.TheVariants.{Package, Version, Essential}
+use Rattle.package_tree.specs.declared.fault.TreeFault.{TreeFault}
+use Rattle.package_tree.specs.declared.fault.TreeFault.TheVariants.{NoControl, Control, FieldMissing, FieldBad, PathBad, Device, NoMemory}
+use Rattle.dpkg_session.specs.Refusals.{relation_name}
+use Rattle.dpkg_session.specs.declared.refusal.Rule.{Rule}
+use Rattle.dpkg_session.specs.declared.refusal.Rule.TheVariants.{Tree, NotYet}
+use Rattle.dpkg_session.specs.declared.refusal.Word.{Word}
+use Rattle.dpkg_session.specs.declared.refusal.Word.TheVariants.{Files, Record as ItsRecord, Conffiles, Relation}
+
+-- a fault of control text, with its line
+abbrev pub control_text : ControlFault → List ℕ
+control_text (control.NoColon line) = codes "NoColon " ++ decimal line
+control_text (control.BadName line) = codes "BadName " ++ decimal line
+control_text (control.Twice line) = codes "Twice " ++ decimal line
+control_text (control.OrphanContinuation line) = codes "OrphanContinuation " ++ decimal line
+control_text (control.NotUtf8 line) = codes "NotUtf8 " ++ decimal line
+control_text control.NoMemory = codes "NoMemory"
+control_text (control.Second line) = codes "Second " ++ decimal line
+
+-- a field of the control file (Policy 5.3)
+abbrev pub field_word : FieldName → List ℕ
+field_word Package = codes "Package"
+field_word Version = codes "Version"
+field_word Essential = codes "Essential"
+
+-- a path under the root; the root itself is kept as the empty text
+abbrev pub path_text : List ℕ → List ℕ
+path_text path = if bytes_eq path (codes "") then codes "/" else path
+
+-- a tree's fault
+abbrev pub tree_text : TreeFault → List ℕ
+tree_text NoControl = codes "NoControl"
+tree_text (Control fault) = codes "Control " ++ control_text fault
+tree_text (FieldMissing name) = codes "FieldMissing " ++ field_word name
+tree_text (FieldBad name) = codes "FieldBad " ++ field_word name
+tree_text (PathBad path) = codes "PathBad " ++ path_text path
+tree_text Device = codes "Device"
+tree_text NoMemory = codes "NoMemory"
+
+-- what isn't carried out yet
+abbrev pub word_text : Word → List ℕ
+word_text Files = codes "files"
+word_text ItsRecord = codes "record"
+word_text Conffiles = codes "conffiles"
+word_text (Relation field) = relation_name field
+
+-- the rule of a refusal with its detail; of a tree's fault the fault is the rule
+abbrev pub rule_text : Rule → List ℕ
+rule_text (Tree fault) = tree_text fault
+rule_text (NotYet word) = codes "NotYet " ++ word_text word

@@ -1,0 +1,35 @@
+-- The last line of a unit: its reply.
+use Rattle.std.specs.Prelude.{ℕ, Bool, true, false, List, ◌++◌, codes}
+use Rattle.dpkg_session.specs.declared.report.Breakage.{Breakage}
+use Rattle.dpkg_session.specs.declared.report.Breakage.TheVariants.{Device, NoMemory, Closed}
+use Rattle.dpkg_session.specs.declared.report.Reply.{Reply}
+use Rattle.dpkg_session.specs.declared.report.Reply.TheVariants.{Done, Refused, Failed, Broken}
+use Rattle.report_lines.specs.Calls.{call_text}
+use Rattle.report_lines.specs.Faults.{rule_text}
+
+-- why a unit was broken off
+abbrev pub breakage_word : Breakage → List ℕ
+breakage_word Device = codes "device"
+breakage_word NoMemory = codes "memory"
+breakage_word Closed = codes "closed"
+
+-- `done`, `refused PKG RULE` with its detail, `failed PKG SCRIPT ARGS` or `broken WHY`
+abbrev pub reply_line : Reply → List ℕ
+reply_line Done = codes "done\n"
+reply_line (Refused r) = codes "refused " ++ (r.package ++ (codes " " ++ (rule_text r.rule ++ codes "\n")))
+reply_line (Failed f) = codes "failed " ++ (call_text f.package f.call ++ codes "\n")
+reply_line (Broken breakage) = codes "broken " ++ (breakage_word breakage ++ codes "\n")
+
+-- only of a unit that was carried out the touched packages are told
+abbrev pub tells_states : Reply → Bool
+tells_states Done = true
+tells_states (Refused r) = false
+tells_states (Failed f) = true
+tells_states (Broken breakage) = false
+
+-- 0 for what is done, 1 for what is refused or failed, 2 for what was broken off
+abbrev pub reply_status : Reply → ℕ
+reply_status Done = 0
+reply_status (Refused r) = 1
+reply_status (Failed f) = 1
+reply_status (Broken breakage) = 2

@@ -1,0 +1,92 @@
+// Faults and refusals in the program's own words.
+ghost use Rattle.std.specs.Prelude.{◌≡◌, IfOk, string_bytes};
+ghost use Rattle.report_lines.specs.Faults.{control_text, field_word, path_text, rule_text, tree_text, word_text};
+
+use control_fields::ControlFault;
+use dpkg_session::{Rule, Word};
+use host_core::RootPath;
+use package_tree::{FieldName, TreeFault};
+use std::alloc::{AllocError, Global};
+
+fn control_text(alloc: Global, fault: ControlFault) -> Result<String, AllocError>
+    ensures { IfOk result (λ text. string_bytes text ≡ control_text fault) }
+{
+    match fault {
+        ControlFault::NoColon(line) => format!(in alloc; "NoColon {line}"),
+        ControlFault::BadName(line) => format!(in alloc; "BadName {line}"),
+        ControlFault::Twice(line) => format!(in alloc; "Twice {line}"),
+        ControlFault::OrphanContinuation(line) => format!(in alloc; "OrphanContinuation {line}"),
+        ControlFault::NotUtf8(line) => format!(in alloc; "NotUtf8 {line}"),
+        ControlFault::NoMemory => String::from_str(alloc, "NoMemory"),
+        ControlFault::Second(line) => format!(in alloc; "Second {line}"),
+    }
+}
+
+fn field_word(name: FieldName) -> &'static str
+    ensures { result.now ≡ field_word name }
+{
+    match name {
+        FieldName::Package => "Package",
+        FieldName::Version => "Version",
+        FieldName::Essential => "Essential",
+    }
+}
+
+pub(crate) fn path_text(path: &RootPath) -> &str
+    ensures { result.now ≡ path_text path.now }
+{
+    match path.as_str() {
+        "" => "/",
+        path => path,
+    }
+}
+
+fn tree_text(alloc: Global, fault: &TreeFault) -> Result<String, AllocError>
+    ensures { IfOk result (λ text. string_bytes text ≡ tree_text fault.now) }
+{
+    match fault {
+        TreeFault::NoControl => String::from_str(alloc, "NoControl"),
+        TreeFault::Control(fault) => {
+            let fault = control_text(alloc, *fault)?;
+            format!(in alloc; "Control {fault}")
+        }
+        TreeFault::FieldMissing(name) => {
+            let name = field_word(*name);
+            format!(in alloc; "FieldMissing {name}")
+        }
+        TreeFault::FieldBad(name) => {
+            let name = field_word(*name);
+            format!(in alloc; "FieldBad {name}")
+        }
+        TreeFault::PathBad(path) => {
+            let path = path_text(path);
+            format!(in alloc; "PathBad {path}")
+        }
+        TreeFault::Device => String::from_str(alloc, "Device"),
+        TreeFault::NoMemory => String::from_str(alloc, "NoMemory"),
+    }
+}
+
+fn word_text(word: Word) -> &'static str
+    ensures { result.now ≡ word_text word }
+{
+    match word {
+        Word::Files => "files",
+        Word::Record => "record",
+        Word::Conffiles => "conffiles",
+        Word::Relation(field) => field.name(),
+    }
+}
+
+/// The rule of a refusal with its detail.
+pub(crate) fn rule_text(alloc: Global, rule: &Rule) -> Result<String, AllocError>
+    ensures { IfOk result (λ text. string_bytes text ≡ rule_text rule.now) }
+{
+    match rule {
+        Rule::Tree(fault) => tree_text(alloc, fault),
+        Rule::NotYet(word) => {
+            let word = word_text(*word);
+            format!(in alloc; "NotYet {word}")
+        }
+    }
+}
