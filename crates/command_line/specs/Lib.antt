@@ -1,4 +1,2 @@
-pub mod Comparisons
-pub mod Commands
 pub mod Unpacks
 pub mod Reports

@@ -8,12 +8,12 @@ use Rattle.administration.specs.declared.fault.AdministrationFault.{Administrati
 use Rattle.dpkg_session.specs.declared.report.Report.{Report}
 use Rattle.report_lines.specs.Openings.{opening_line}
 use Rattle.report_lines.specs.Reports.{report_lines, report_status}
-use Rattle.command_line.specs.Comparisons.{bad_version, bad_version_line, holds}
+use Rattle.command_words.specs.Comparisons.{bad_version, bad_version_line, holds}
 use Rattle.command_line.specs.Unpacks.{HasUnpacked}
-use Rattle.command_line.specs.declared.comparison.Comparison.{Comparison}
-use Rattle.command_line.specs.declared.words.Asked.{Asked}
-use Rattle.command_line.specs.declared.words.Asked.TheVariants.{Names, CompareVersions, Unpack}
-use Rattle.command_line.specs.declared.words.Unpacking.{Unpacking}
+use Rattle.command_words.specs.declared.comparison.Comparison.{Comparison}
+use Rattle.command_words.specs.declared.words.Asked.{Asked}
+use Rattle.command_words.specs.declared.words.Asked.TheVariants.{Names, CompareVersions, Unpack}
+use Rattle.command_words.specs.declared.words.Unpacking.{Unpacking}
 
 -- what is written to standard output and to standard error, and the status
 pub record Answer : Type 0 where

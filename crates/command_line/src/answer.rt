@@ -1,15 +1,16 @@
 // What the program writes for its words, and the status that it ends with.
 ghost use Rattle.std.specs.Prelude.{◌≡◌, ◌<◌, ◌≤◌, ◌⊎◌, IfOk, Some, map, string_bytes, true};
 ghost use Rattle.std.specs.Io.KnownBytes.{Appends};
-ghost use Rattle.command_line.specs.Commands.{asked_of};
+ghost use Rattle.command_words.specs.Commands.{asked_of};
 ghost use Rattle.command_line.specs.Reports.{Answer, IsAnswer, IsAnswerTo, IsComplaint, IsUnpackAnswer, IsWritten, bad_answer, comparison_answer, memory_answer, names_answer, opening_answer, prints, report_answer};
-ghost use Rattle.command_line.specs.declared.words.Asked.{Asked};
+ghost use Rattle.command_words.specs.declared.words.Asked.{Asked};
 
-use crate::comparison::{Comparison, Verdict, bad_version_line};
 use crate::hosts::Hosts;
 use crate::unpacking::unpack;
-use crate::words::{Asked, Unpacking, WordsFault, command_of};
 use administration::AdministrationFault;
+use command_words::{
+    Asked, Comparison, Unpacking, Verdict, WordsFault, bad_version_line, command_of,
+};
 use dpkg_session::Report;
 use report_lines::{opening_line, report_status, report_text};
 use std::alloc::Global;

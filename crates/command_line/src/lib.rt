@@ -1,14 +1,9 @@
-//! The words of a command line: what they ask for, and what the program answers.
+//! Carries out what the words of a command line ask for, over any hosts.
 #![tactic(auto)]
 
 mod answer;
-mod command;
-mod comparison;
 mod hosts;
 mod unpacking;
-mod words;
 
 pub use answer::{FAILED, run_words};
-pub use comparison::{Comparison, Operator};
 pub use hosts::Hosts;
-pub use words::{Asked, Unpacking, WordsFault, command_of};

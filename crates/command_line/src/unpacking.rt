@@ -3,8 +3,8 @@ ghost use Rattle.std.specs.Prelude.{◌≡◌, ◌≤◌, IfOk, false, map};
 ghost use Rattle.command_line.specs.Unpacks.{HasRunTrees, HasUnpacked};
 
 use crate::hosts::Hosts;
-use crate::words::Unpacking;
 use administration::AdministrationFault;
+use command_words::Unpacking;
 use dpkg_session::{Candidate, Command, Report, Session};
 use package_tree::{Package, TreeFault, read_tree};
 use std::alloc::{AllocError, Global};

@@ -1,7 +1,7 @@
 use Rattle.std.proofs.Common.{rules, ◌≡◌, refl, subst, inl}
 use Rattle.std.proofs.lemmas.Result.{IfOk-weaker}
 use Rattle.std.specs.Io.KnownBytes.{Appends}
-use Rattle.command_line.specs.Comparisons.{bad_version_line}
+use Rattle.command_words.specs.Comparisons.{bad_version_line}
 use Rattle.command_line.specs.Reports.{bad_answer}
 use Rattle.command_line.proofs.answer.bad_version.Goals as goal
 

@@ -1,8 +1,8 @@
 use Rattle.std.proofs.Common.{rules, ◌≡◌, map, string_bytes, Some, None, refl, inl, inr}
 use Rattle.std.proofs.lemmas.Result.{IfOk-weaker}
-use Rattle.command_line.specs.Commands.{asked_of}
+use Rattle.command_words.specs.Commands.{asked_of}
 use Rattle.command_line.specs.Reports.{memory_answer, names_answer, usage_answer}
-use Rattle.command_line.specs.declared.words.Asked.TheVariants.{Names, Unpack}
+use Rattle.command_words.specs.declared.words.Asked.TheVariants.{Names, Unpack}
 use Rattle.command_line.proofs.Writing.{appends_nothing}
 use Rattle.command_line.proofs.answer.write_answer.Goals as goal
 

@@ -2,7 +2,7 @@
 ghost use Rattle.std.specs.Prelude.{◌≡◌, IfOk, false};
 ghost use Rattle.clap.specs.Words.{app_of};
 ghost use Rattle.clap.specs.declared.builder.command.Command.TheViews.{out-Command as fields_of};
-ghost use Rattle.command_line.specs.Commands.{AddsRule, compare_versions_app, root_rule, trees_rule, unpack_app, whole_app, without_help, word_rule};
+ghost use Rattle.command_words.specs.Commands.{AddsRule, compare_versions_app, root_rule, trees_rule, unpack_app, whole_app, without_help, word_rule};
 
 use clap::{Arg, ArgAction, Command};
 use std::alloc::{AllocError, Global};

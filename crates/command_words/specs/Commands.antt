@@ -3,15 +3,15 @@ use Rattle.std.specs.Prelude.{◌≡◌, ℕ, Bool, false, List, [], ◌∷◌, 
 use Rattle.std.specs.Str.{bytes_eq}
 use Rattle.clap.specs.Words.{App, app_of, Kinds, Row, Rule, Text, all_of, fault_of, first_of, new_app, new_rule, subcommand_of, with_rule, with_subcommand}
 use Rattle.clap.specs.declared.builder.ArgAction.TheVariants.{Append, Set}
-use Rattle.command_line.specs.Comparisons.{operator_of}
-use Rattle.command_line.specs.declared.comparison.Comparison.{Comparison}
-use Rattle.command_line.specs.declared.words.Asked.{Asked}
-use Rattle.command_line.specs.declared.words.Compared.{Compared}
-use Rattle.command_line.specs.declared.words.Rooted.{Rooted}
-use Rattle.command_line.specs.declared.words.Unpacking.{Unpacking}
+use Rattle.command_words.specs.Comparisons.{operator_of}
+use Rattle.command_words.specs.declared.comparison.Comparison.{Comparison}
+use Rattle.command_words.specs.declared.words.Asked.{Asked}
+use Rattle.command_words.specs.declared.words.Compared.{Compared}
+use Rattle.command_words.specs.declared.words.Rooted.{Rooted}
+use Rattle.command_words.specs.declared.words.Unpacking.{Unpacking}
 use Rattle.clap.specs.declared.builder.command.Command.{Command}
 use Rattle.clap.specs.declared.builder.command.Command.TheViews.{out-Command}
-use Rattle.command_line.specs.declared.words.Asked.TheVariants.{Names, CompareVersions, Unpack}
+use Rattle.command_words.specs.declared.words.Asked.TheVariants.{Names, CompareVersions, Unpack}
 
 -- a word that has to be given, at its place
 abbrev pub word_rule : Text → Rule

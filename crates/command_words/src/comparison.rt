@@ -1,6 +1,6 @@
 // The comparison of two versions by an operator, and its answer.
 ghost use Rattle.std.specs.Prelude.{◌≡◌, ◌⊎◌, IfOk, Some, string_bytes};
-ghost use Rattle.command_line.specs.Comparisons.{IsBadText, IsVerdict, bad_version_line, holds, operator_of};
+ghost use Rattle.command_words.specs.Comparisons.{IsBadText, IsVerdict, bad_version_line, holds, operator_of};
 ghost use Rattle.version_order.specs.Versions.{fault_of};
 
 use std::alloc::{AllocError, Global};
@@ -81,7 +81,7 @@ fn fault_verdict(text: &str, fault: VersionFault) -> Verdict<'_>
 
 impl Comparison {
     /// The answer, for which the first text is read before the second.
-    pub(crate) fn verdict(&self, alloc: Global) -> Verdict<'_>
+    pub fn verdict(&self, alloc: Global) -> Verdict<'_>
         ensures { IsVerdict self.now.first self.now.operator self.now.second result }
     {
         let first = match Version::parse(alloc, self.first.as_str().as_bytes()) {
@@ -101,7 +101,7 @@ impl Comparison {
 }
 
 /// The line that names a text that is no version.
-pub(crate) fn bad_version_line(
+pub fn bad_version_line(
     alloc: Global,
     text: &str,
     fault: VersionFault,

@@ -2,8 +2,8 @@
 ghost use Rattle.std.specs.Prelude.{◌≡◌, ◌⊎◌, IfErr, IfOk, None, Some, map, option_map, string_bytes};
 ghost use Rattle.clap.specs.Words.{all_of, first_of, found_of, kind_of, rows_of, subcommand_rows_of};
 ghost use Rattle.clap.specs.declared.error.kind.ErrorKind.TheVariants.{OutOfMemory};
-ghost use Rattle.command_line.specs.Commands.{asked_by, asked_in, asked_of, comparison_from, comparison_in, comparison_of, is_absolute, unpacking_from, unpacking_in, unpacking_of};
-ghost use Rattle.command_line.specs.declared.words.WordsFault.TheVariants.{NoMemory};
+ghost use Rattle.command_words.specs.Commands.{asked_by, asked_in, asked_of, comparison_from, comparison_in, comparison_of, is_absolute, unpacking_from, unpacking_in, unpacking_of};
+ghost use Rattle.command_words.specs.declared.words.WordsFault.TheVariants.{NoMemory};
 
 use crate::command::whole_command;
 use crate::comparison::{Comparison, Operator};

@@ -9,10 +9,10 @@ use Rattle.version_order.specs.Versions.{fault_of}
 use Rattle.version_order.specs.VersionOrder.{version_order}
 use Rattle.version_order.specs.declared.fault.VersionFault.{VersionFault}
 use Rattle.version_order.specs.declared.fault.VersionFault.TheVariants.{Empty, Epoch, EmptyPart, Char, NoMemory}
-use Rattle.command_line.specs.declared.comparison.Operator.{Operator}
-use Rattle.command_line.specs.declared.comparison.Verdict.{Verdict}
-use Rattle.command_line.specs.declared.comparison.Verdict.TheVariants.{Holds, Fails, Bad, OutOfMemory}
-use Rattle.command_line.specs.declared.comparison.Operator.TheVariants.{Lt, Le, Eq, Ne, Ge, Gt}
+use Rattle.command_words.specs.declared.comparison.Operator.{Operator}
+use Rattle.command_words.specs.declared.comparison.Verdict.{Verdict}
+use Rattle.command_words.specs.declared.comparison.Verdict.TheVariants.{Holds, Fails, Bad, OutOfMemory}
+use Rattle.command_words.specs.declared.comparison.Operator.TheVariants.{Lt, Le, Eq, Ne, Ge, Gt}
 
 -- the operator of a word
 abbrev pub operator_of : List ℕ → Option Operator
