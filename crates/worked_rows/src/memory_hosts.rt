@@ -1,0 +1,217 @@
+// A root and trees in memory.
+use crate::answers::{answer, expect, text_of};
+use command_line::Hosts;
+use host_core::{Host, HostFault, Node, Outcome, RootPath};
+use host_memory::{MemoryHost, Planned};
+use std::alloc::{AllocError, Global};
+use std::process::Abort;
+use std::test::Fail;
+use texts::{Bytes, Text};
+
+/// A file of a tree: the word that names the tree, the path under it, and what stands there.
+pub(crate) type TreeFile = (&'static str, &'static str, &'static str);
+
+/// A root that goes from one command to the next, and trees that are made each time they are opened.
+#[derive(Drop)]
+pub(crate) struct MemoryHosts {
+    alloc: Global,
+    root: Option<MemoryHost>,
+    trees: &'static [TreeFile],
+    // whether a tree is open, which is given back before the root
+    in_tree: bool,
+    faults: u64,
+}
+
+fn file(alloc: Global, text: &str) -> Result<Node, AllocError> {
+    let bytes = Bytes::from_slice(alloc, text.as_bytes())?;
+    Ok(Node::File { bytes, mode: 0o755 })
+}
+
+// Sets what a file holds.
+fn put(alloc: Global, host: &mut MemoryHost, path: &str, text: &str) -> Result<(), AllocError> {
+    let path = RootPath::from_str(alloc, path)?;
+    host.place(&path, file(alloc, text)?)?;
+    Ok(())
+}
+
+// The host of the tree that a word names.
+fn tree_of(alloc: Global, files: &[TreeFile], tree: &str) -> Result<MemoryHost, AllocError> {
+    let mut host = MemoryHost::new(alloc)?;
+    for (name, path, text) in files {
+        if *name == tree {
+            put(alloc, &mut host, path, text)?;
+        }
+    }
+    Ok(host)
+}
+
+// A call that makes the directory /made and tries to remove the status file.
+fn planned(alloc: Global, outcome: Outcome) -> Result<Planned, AllocError> {
+    let mut planned = Planned::new(alloc, outcome);
+    let made = RootPath::from_str(alloc, "/made")?;
+    planned.add(made, Some(Node::Dir { mode: 0o755 }))?;
+    let status = RootPath::from_str(alloc, "/var/lib/dpkg/status")?;
+    planned.add(status, None)?;
+    Ok(planned)
+}
+
+/// An empty root whose calls end as told, and then with status 0.
+pub(crate) fn hosts(
+    alloc: Global,
+    trees: &'static [TreeFile],
+    outcomes: &[Outcome],
+) -> Result<MemoryHosts, AllocError> {
+    let mut host = MemoryHost::new(alloc)?;
+    for outcome in outcomes {
+        host.plan(planned(alloc, *outcome)?)?;
+    }
+    Ok(MemoryHosts {
+        alloc,
+        root: Some(host),
+        trees,
+        in_tree: false,
+        faults: 0,
+    })
+}
+
+// What a file holds; nothing where none stands.
+fn text_at(alloc: Global, host: &mut MemoryHost, path: &str) -> Result<String, AllocError> {
+    match host.node(&RootPath::from_str(alloc, path)?) {
+        Ok(Some(Node::File { bytes, .. })) => String::from_str(alloc, text_of(bytes.as_slice())),
+        Ok(Some(_)) => String::from_str(alloc, "directory"),
+        Ok(None) => Ok(String::new(alloc)),
+        Err(_) => Err(AllocError),
+    }
+}
+
+// Adds what a file holds, behind a bar.
+fn add_text(
+    alloc: Global,
+    host: &mut MemoryHost,
+    path: &str,
+    text: &mut String,
+) -> Result<(), AllocError> {
+    text.push('|')?;
+    text.push_str(text_at(alloc, host, path)?.as_str())
+}
+
+// The names in `info`, each with a space before it.
+fn add_names(names: &[Text], text: &mut String) -> Result<(), AllocError> {
+    for name in names {
+        text.push(' ')?;
+        text.push_str(name.as_str())?;
+    }
+    Ok(())
+}
+
+fn add_info(alloc: Global, host: &mut MemoryHost, text: &mut String) -> Result<(), AllocError> {
+    match host.list(&RootPath::from_str(alloc, "/var/lib/dpkg/info")?) {
+        Ok(listing) => add_names(listing.names.as_slice(), text),
+        Err(_) => Err(AllocError),
+    }
+}
+
+// The names in `info`, and behind bars the status file, the list and the stored preinst of alpha, what stands where
+// incoming scripts lie, what scripts wrote, and what the administrator did.
+fn left_in(alloc: Global, host: &mut MemoryHost) -> Result<String, AllocError> {
+    let mut text = String::new(alloc);
+    add_info(alloc, host, &mut text)?;
+    for path in LEFT {
+        add_text(alloc, host, path, &mut text)?;
+    }
+    Ok(text)
+}
+
+const LEFT: &[&str] = &[
+    "/var/lib/dpkg/status",
+    "/var/lib/dpkg/info/alpha.list",
+    "/var/lib/dpkg/info/alpha.preinst",
+    "/var/lib/dpkg/tmp.ci",
+    "/made",
+    "/etc/motd",
+];
+
+impl MemoryHosts {
+    pub(crate) fn has_root(&self) -> bool {
+        self.root.is_some()
+    }
+
+    /// What is left under the root. A list that is missing is that of the root alone.
+    fn left(&mut self) -> Result<String, AllocError> {
+        match &mut self.root {
+            Some(host) => left_in(self.alloc, host),
+            None => String::from_str(self.alloc, "the root wasn't given back"),
+        }
+    }
+
+    // Writes a file as the administrator does: a path, a space and the text.
+    fn write(&mut self, words: &str) -> Result<(), AllocError> {
+        if let (Some(host), Some((path, text))) = (&mut self.root, words.split_once(' ')) {
+            put(self.alloc, host, path, text)?;
+        }
+        Ok(())
+    }
+
+    /// Adds the answer to a line of words; a line that begins with `write` is the administrator's.
+    fn step(&mut self, line: &str, text: &mut String) -> Result<(), AllocError> {
+        match line.strip_prefix("write ") {
+            Some(words) => self.write(words),
+            None => text.push_str(answer(self.alloc, self, line)?.as_str()),
+        }
+    }
+}
+
+// The answers to lines of words, and what is left.
+fn told(
+    alloc: Global,
+    trees: &'static [TreeFile],
+    outcomes: &[Outcome],
+    lines: &[&str],
+) -> Result<String, AllocError> {
+    let mut hosts = hosts(alloc, trees, outcomes)?;
+    let mut text = String::new(alloc);
+    for line in lines {
+        hosts.step(line, &mut text)?;
+    }
+    text.push_str(hosts.left()?.as_str())?;
+    Ok(text)
+}
+
+/// Stops the test where the answers to lines of words, and what is left then, aren't the row's.
+pub(crate) fn check(
+    rt: &(impl Abort + AllocGlobal),
+    trees: &'static [TreeFile],
+    outcomes: &[Outcome],
+    lines: &[&str],
+    row: &str,
+) -> Result<(), Fail> {
+    expect(rt, told(rt.alloc(), trees, outcomes, lines)?.as_str(), row);
+    Ok(())
+}
+
+impl Hosts for MemoryHosts {
+    type Opened = MemoryHost;
+
+    ghost faults = { λ h. h.faults };
+
+    fn open_root(&mut self, _directory: &str) -> Result<MemoryHost, HostFault> {
+        match self.root.take() {
+            Some(host) => Ok(host),
+            None => Err(HostFault::NoMemory),
+        }
+    }
+
+    fn open_tree(&mut self, tree: &str) -> Result<MemoryHost, HostFault> {
+        let host = tree_of(self.alloc, self.trees, tree)?;
+        self.in_tree = true;
+        Ok(host)
+    }
+
+    fn close(&mut self, host: MemoryHost) {
+        if self.in_tree {
+            self.in_tree = false;
+        } else {
+            self.root = Some(host);
+        }
+    }
+}

@@ -1,0 +1,178 @@
+// Unpacks on real files, with real scripts.
+use crate::answers::{answer, expect};
+use crate::real_hosts::RealHosts;
+use std::process::Command;
+use std::test::Fail;
+use std::{env, fs, process};
+
+// The path of a new directory.
+fn new_directory(rt: &HostRuntime) -> Result<String, Fail> {
+    let base = env::temp_dir(rt)?;
+    let base = base.as_str();
+    let id = process::id(rt.process());
+    let directory = format!(in rt.alloc(); "{base}/worked_rows_{id}")?;
+    fs::create_dir(rt, directory.as_str())?;
+    Ok(directory)
+}
+
+// Runs lines of shell, which have the path of the directory as their first argument.
+fn prepare(rt: &HostRuntime, directory: &str, lines: &str) -> Result<(), Fail> {
+    let mut command = Command::new(rt.alloc(), "/bin/sh")?;
+    command.arg("-euc")?.arg(lines)?.arg("sh")?.arg(directory)?;
+    let status = command.status(rt)?;
+    if status.success() {
+        Ok(())
+    } else {
+        Err(Fail::new("the directory can't be prepared"))
+    }
+}
+
+// Adds the answer to the unpack of a tree under the root, and how many calls and faults the host counts.
+fn unpack(rt: &HostRuntime, directory: &str, tree: &str, text: &mut String) -> Result<(), Fail> {
+    let alloc = rt.alloc();
+    let line = format!(in alloc; "dpkg_cli unpack --root {directory}/root {directory}/{tree}")?;
+    let mut hosts = RealHosts::new(*rt);
+    let told = answer(alloc, &mut hosts, line.as_str())?;
+    let calls = hosts.calls;
+    let broken = hosts.broken;
+    text.push_str(format!(in alloc; "{told}calls {calls} faults {broken}\n")?.as_str())?;
+    Ok(())
+}
+
+// Unpacks the first tree, runs further lines, and unpacks the second.
+fn told(rt: &HostRuntime, lines: &[&str], trees: &[&str]) -> Result<String, Fail> {
+    let directory = new_directory(rt)?;
+    let mut text = String::new(rt.alloc());
+    for (lines, tree) in lines.iter().zip(trees) {
+        prepare(rt, directory.as_str(), lines)?;
+        unpack(rt, directory.as_str(), tree, &mut text)?;
+    }
+    fs::remove_dir_all(rt, directory.as_str())?;
+    Ok(text)
+}
+
+const PREINST_WITHOUT_BITS: &str = "cd \"$1\"
+mkdir -p root t/DEBIAN
+printf 'Package: alpha\\nVersion: 1.0\\n' >t/DEBIAN/control
+printf '#!/bin/sh\\nexit 0\\n' >t/DEBIAN/preinst
+chmod 644 t/DEBIAN/preinst";
+
+#[test]
+fn preinst_cannot_be_run(rt: HostRuntime) -> Result<(), Fail> {
+    let row = "call new alpha preinst install: not started
+state alpha none
+failed alpha preinst install
+||1
+calls 1 faults 0
+";
+    expect(
+        &rt,
+        told(&rt, &[PREINST_WITHOUT_BITS], &["t"])?.as_str(),
+        row,
+    );
+    Ok(())
+}
+
+const PREINST_KILLS_ITSELF: &str = "cd \"$1\"
+mkdir -p root t/DEBIAN
+printf 'Package: alpha\\nVersion: 1.0\\n' >t/DEBIAN/control
+printf '#!/bin/sh\\nkill -9 $$\\n' >t/DEBIAN/preinst
+chmod 755 t/DEBIAN/preinst";
+
+#[test]
+fn preinst_kills_itself(rt: HostRuntime) -> Result<(), Fail> {
+    let row = "call new alpha preinst install: killed
+state alpha none
+failed alpha preinst install
+||1
+calls 1 faults 0
+";
+    expect(
+        &rt,
+        told(&rt, &[PREINST_KILLS_ITSELF], &["t"])?.as_str(),
+        row,
+    );
+    Ok(())
+}
+
+// The script ends with another status where it sees something wrong.
+const PREINST_LOOKS: &str = "cd \"$1\"
+mkdir -p root t/DEBIAN
+printf 'Package: alpha\\nVersion: 1.0\\n' >t/DEBIAN/control
+{
+  printf '#!/bin/sh\\nroot=%s/root\\n' \"$1\"
+  cat <<'END'
+[ \"$(pwd -P)\" = \"$(cd \"$root\" && pwd -P)\" ] || exit 11
+[ \"$DPKG_ROOT\" = \"$root\" ] || exit 12
+[ \"$DPKG_ADMINDIR\" = \"$root/var/lib/dpkg\" ] || exit 13
+[ \"$DPKG_MAINTSCRIPT_PACKAGE\" = alpha ] || exit 14
+[ \"$DPKG_MAINTSCRIPT_NAME\" = preinst ] || exit 15
+[ \"$PATH\" = /usr/sbin:/usr/bin:/sbin:/bin ] || exit 16
+[ \"$#$*\" = 1install ] || exit 17
+[ -z \"$(cat)\" ] || exit 18
+END
+} >t/DEBIAN/preinst
+chmod 755 t/DEBIAN/preinst";
+
+#[test]
+fn script_sees_its_surroundings(rt: HostRuntime) -> Result<(), Fail> {
+    let row = "call new alpha preinst install: exit 0
+state alpha 1.0 install ok unpacked
+done
+||0
+calls 1 faults 0
+";
+    expect(&rt, told(&rt, &[PREINST_LOOKS], &["t"])?.as_str(), row);
+    Ok(())
+}
+
+// Nobody makes a directory in /proc, root neither.
+const ROOT_IN_PROC: &str = "cd \"$1\"
+ln -s /proc root
+mkdir -p t/DEBIAN
+printf 'Package: alpha\\nVersion: 1.0\\n' >t/DEBIAN/control
+printf '#!/bin/sh\\nexit 0\\n' >t/DEBIAN/preinst
+chmod 755 t/DEBIAN/preinst";
+
+#[test]
+fn root_cannot_be_written_at_first(rt: HostRuntime) -> Result<(), Fail> {
+    let row = "|broken device
+|2
+calls 0 faults 1
+call new alpha preinst install: exit 0
+state alpha 1.0 install ok unpacked
+done
+||0
+calls 1 faults 0
+";
+    let lines = [ROOT_IN_PROC, "rm \"$1/root\"\nmkdir \"$1/root\""];
+    expect(&rt, told(&rt, &lines, &["t", "t"])?.as_str(), row);
+    Ok(())
+}
+
+// The preinst takes the directory of stored scripts away, so that none can be stored.
+const INFO_GOES_AWAY: &str = "cd \"$1\"
+mkdir -p root t/DEBIAN b/DEBIAN
+printf 'Package: alpha\\nVersion: 1.0\\n' >t/DEBIAN/control
+printf 'Package: bravo\\nVersion: 1\\n' >b/DEBIAN/control
+printf '#!/bin/sh\\nmv var/lib/dpkg/info away\\n' >t/DEBIAN/preinst
+chmod 755 t/DEBIAN/preinst";
+
+#[test]
+fn directory_goes_away_in_a_unit(rt: HostRuntime) -> Result<(), Fail> {
+    let row = "call new alpha preinst install: exit 0
+broken device
+||2
+calls 1 faults 1
+state bravo 1 install ok unpacked
+done
+||0
+calls 0 faults 0
+";
+    let lines = [
+        INFO_GOES_AWAY,
+        "mv \"$1/root/away\" \"$1/root/var/lib/dpkg/info\"",
+    ];
+    expect(&rt, told(&rt, &lines, &["t", "b"])?.as_str(), row);
+    Ok(())
+}

@@ -1,0 +1,223 @@
+// Unpacks over a root in memory: the answers, and what is left.
+use crate::memory_hosts::{TreeFile, check};
+use host_core::Outcome;
+use std::test::Fail;
+
+const CONTROL: &str = "/DEBIAN/control";
+
+const ALPHA: &str = "Package: alpha\nVersion: 1.0\n";
+
+pub(crate) const WITH_PREINST: &[TreeFile] = &[
+    ("t", CONTROL, ALPHA),
+    ("t", "/DEBIAN/preinst", "#!/bin/sh\n"),
+];
+
+pub(crate) const WITH_POSTRM: &[TreeFile] = &[
+    ("t", CONTROL, ALPHA),
+    ("t", "/DEBIAN/preinst", "#!/bin/sh\n"),
+    ("t", "/DEBIAN/postrm", "#!/bin/sh\n"),
+];
+
+// Trees that are named by what is refused of them, and two that are not.
+const TREES: &[TreeFile] = &[
+    ("empty", "/DEBIAN/preinst", "#!/bin/sh\n"),
+    ("bare", CONTROL, "Package: alpha\n"),
+    ("colon", CONTROL, "Package\n"),
+    ("name", CONTROL, "Package: A\nVersion: 1.0\n"),
+    ("version", CONTROL, "Package: alpha\nVersion: 1_0\n"),
+    ("files", CONTROL, ALPHA),
+    ("files", "/usr/bin/x", "x"),
+    (
+        "depends",
+        CONTROL,
+        "Package: alpha\nVersion: 1.0\nDepends: bravo\n",
+    ),
+    ("conffile", CONTROL, ALPHA),
+    ("conffile", "/DEBIAN/conffiles", "/etc/x\n"),
+    (
+        "both",
+        CONTROL,
+        "Package: alpha\nVersion: 1.0\nDepends: bravo\n",
+    ),
+    ("both", "/DEBIAN/conffiles", "/etc/x\n"),
+    ("both", "/etc/x", "x"),
+    ("a", CONTROL, ALPHA),
+    ("a", "/DEBIAN/preinst", "#!/bin/sh\n"),
+    ("b", CONTROL, "Package: bravo\nVersion: 1\n"),
+    ("b", "/DEBIAN/preinst", "#!/bin/sh\n"),
+];
+
+const ONCE: &[&str] = &["dpkg_cli unpack t"];
+
+const TWICE: &[&str] = &["dpkg_cli unpack t", "dpkg_cli unpack t"];
+
+#[test]
+fn preinst_fails(rt: HostRuntime) -> Result<(), Fail> {
+    let row = "call new alpha preinst install: exit 1
+state alpha none
+failed alpha preinst install
+||1
+|||||directory|";
+    check(&rt, WITH_PREINST, &[Outcome::Exit(1)], ONCE, row)
+}
+
+#[test]
+fn preinst_is_killed(rt: HostRuntime) -> Result<(), Fail> {
+    let row = "call new alpha preinst install: killed
+state alpha none
+failed alpha preinst install
+||1
+|||||directory|";
+    check(&rt, WITH_PREINST, &[Outcome::Killed], ONCE, row)
+}
+
+#[test]
+fn preinst_fails_and_is_undone(rt: HostRuntime) -> Result<(), Fail> {
+    let row = "call new alpha preinst install: exit 1
+call new alpha postrm abort-install: exit 0
+state alpha none
+failed alpha preinst install
+||1
+|||||directory|";
+    check(&rt, WITH_POSTRM, &[Outcome::Exit(1)], ONCE, row)
+}
+
+#[test]
+fn undo_fails(rt: HostRuntime) -> Result<(), Fail> {
+    let row = "call new alpha preinst install: exit 1
+call new alpha postrm abort-install: exit 1
+state alpha 1.0 install reinstreq half-installed
+failed alpha preinst install
+||1
+refused alpha NotYet record
+||1
+|Package: alpha
+Status: install reinstreq half-installed
+Version: 1.0
+||||directory|";
+    check(
+        &rt,
+        WITH_POSTRM,
+        &[Outcome::Exit(1), Outcome::Exit(1)],
+        TWICE,
+        row,
+    )
+}
+
+#[test]
+fn preinst_succeeds(rt: HostRuntime) -> Result<(), Fail> {
+    let row = "call new alpha preinst install: exit 0
+state alpha 1.0 install ok unpacked
+done
+||0
+refused alpha NotYet record
+||1
+ alpha.list alpha.preinst|Package: alpha
+Status: install ok unpacked
+Version: 1.0
+|/.
+|#!/bin/sh
+|||";
+    check(&rt, WITH_PREINST, &[], TWICE, row)
+}
+
+const REFUSED: &[&str] = &[
+    "dpkg_cli unpack empty",
+    "dpkg_cli unpack bare",
+    "dpkg_cli unpack colon",
+    "dpkg_cli unpack name",
+    "dpkg_cli unpack version",
+    "dpkg_cli unpack files",
+    "dpkg_cli unpack depends",
+    "dpkg_cli unpack conffile",
+    "dpkg_cli unpack both",
+];
+
+#[test]
+fn trees_are_refused(rt: HostRuntime) -> Result<(), Fail> {
+    let row = "refused empty NoControl
+||1
+refused bare FieldMissing Version
+||1
+refused colon Control NoColon 1
+||1
+refused name FieldBad Package
+||1
+refused version FieldBad Version
+||1
+refused alpha NotYet files
+||1
+refused alpha NotYet Depends
+||1
+refused alpha NotYet conffiles
+||1
+refused alpha NotYet files
+||1
+||||||";
+    check(&rt, TREES, &[], REFUSED, row)
+}
+
+#[test]
+fn second_tree_is_unpacked(rt: HostRuntime) -> Result<(), Fail> {
+    let row = "refused empty NoControl
+call new alpha preinst install: exit 0
+state alpha 1.0 install ok unpacked
+done
+||1
+ alpha.list alpha.preinst|Package: alpha
+Status: install ok unpacked
+Version: 1.0
+|/.
+|#!/bin/sh
+|||";
+    check(&rt, TREES, &[], &["dpkg_cli unpack empty a"], row)
+}
+
+#[test]
+fn administrator_writes_between_two_unpacks(rt: HostRuntime) -> Result<(), Fail> {
+    let lines = [
+        "dpkg_cli unpack b",
+        "write /etc/motd hello",
+        "dpkg_cli unpack a",
+    ];
+    let row = "call new bravo preinst install: exit 0
+state bravo 1 install ok unpacked
+done
+||0
+call new alpha preinst install: exit 0
+state alpha 1.0 install ok unpacked
+done
+||0
+ alpha.list alpha.preinst bravo.list bravo.preinst|Package: alpha
+Status: install ok unpacked
+Version: 1.0
+
+Package: bravo
+Status: install ok unpacked
+Version: 1
+|/.
+|#!/bin/sh
+|||hello";
+    check(&rt, TREES, &[], &lines, row)
+}
+
+#[test]
+fn line_without_colon_is_damage(rt: HostRuntime) -> Result<(), Fail> {
+    let lines = [
+        "write /var/lib/dpkg/status Package: alpha\nStatus\n",
+        "dpkg_cli unpack a",
+    ];
+    let row = "|damaged /var/lib/dpkg/status 2\n|2\n|Package: alpha\nStatus\n|||||";
+    check(&rt, TREES, &[], &lines, row)
+}
+
+#[test]
+fn unknown_state_is_damage(rt: HostRuntime) -> Result<(), Fail> {
+    let lines = [
+        "write /var/lib/dpkg/status Package: alpha\nStatus: install ok triggers-pending\nVersion: 1\n",
+        "dpkg_cli unpack a",
+    ];
+    let row =
+        "|damaged /var/lib/dpkg/status 2\n|2\n|Package: alpha\nStatus: install ok triggers-pending\nVersion: 1\n|||||";
+    check(&rt, TREES, &[], &lines, row)
+}

@@ -1,0 +1,57 @@
+// What words ask for: the names of the subcommands, comparisons of versions, and faults of usage.
+use crate::answers::answer;
+use crate::memory_hosts::{check, hosts};
+use std::alloc::{AllocError, Global};
+use std::test::Fail;
+
+const COMPARISONS: &[&str] = &[
+    "dpkg_cli compare-versions 1.0~rc1 lt 1.0",
+    "dpkg_cli compare-versions 1.0 eq 1.0-0",
+    "dpkg_cli compare-versions 1.10 gt 1.9",
+    "dpkg_cli compare-versions 1.001 eq 1.1",
+    "dpkg_cli compare-versions 1.0+ gt 1.0a",
+    "dpkg_cli compare-versions 1.0a ge 1.0+",
+    "dpkg_cli compare-versions 1- eq 1",
+];
+
+const FAULTS: &[&str] = &[
+    "dpkg_cli fetch",
+    "dpkg_cli unpack",
+    "dpkg_cli unpack --root rel t",
+    "dpkg_cli compare-versions 1 is 1",
+    "dpkg_cli --help",
+];
+
+#[test]
+fn no_words_name_the_subcommands(rt: HostRuntime) -> Result<(), Fail> {
+    check(
+        &rt,
+        &[],
+        &[],
+        &["dpkg_cli"],
+        "compare-versions\nunpack\n||0\n||||||",
+    )
+}
+
+#[test]
+fn versions_are_compared(rt: HostRuntime) -> Result<(), Fail> {
+    let row = "||0\n||0\n||0\n||0\n||0\n||1\n|bad version 1-: EmptyPart\n|2\n||||||";
+    check(&rt, &[], &[], COMPARISONS, row)
+}
+
+pub(crate) fn worded(alloc: Global, line: &str) -> Result<String, AllocError> {
+    answer(alloc, &mut hosts(alloc, &[], &[])?, line)
+}
+
+// Nothing on standard output, the usage on standard error, and status 2.
+pub(crate) fn is_usage(text: &str) -> bool {
+    text.starts_with("|error: ") && text.contains("Usage: dpkg_cli") && text.ends_with("\n|2\n")
+}
+
+#[test]
+fn faults_of_usage_are_told(rt: HostRuntime) -> Result<(), Fail> {
+    for line in FAULTS {
+        assert!(rt; is_usage(worded(rt.alloc(), line)?.as_str()), "{line}");
+    }
+    Ok(())
+}
