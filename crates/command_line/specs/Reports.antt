@@ -9,7 +9,7 @@ use Rattle.dpkg_session.specs.declared.report.Report.{Report}
 use Rattle.report_lines.specs.Openings.{opening_line}
 use Rattle.report_lines.specs.Reports.{report_lines, report_status}
 use Rattle.command_words.specs.Comparisons.{bad_version, bad_version_line, holds}
-use Rattle.command_line.specs.Unpacks.{HasUnpacked}
+use Rattle.command_line.specs.Unpacks.{Behind, HasUnpacked, IsRootFault}
 use Rattle.command_words.specs.declared.comparison.Comparison.{Comparison}
 use Rattle.command_words.specs.declared.words.Asked.{Asked}
 use Rattle.command_words.specs.declared.words.Asked.TheVariants.{Names, CompareVersions, Unpack}
@@ -44,14 +44,14 @@ abbrev pub opening_answer : AdministrationFault → Answer
 opening_answer fault = record { output = []; error = opening_line fault; status = 2 }
 
 -- an unpack is answered by its report, unless the root can't be opened
-abbrev pub IsUnpackAnswer : Unpacking → Answer → Type 0
-IsUnpackAnswer u answer = ((done : Report) × HasUnpacked u.trees done × (answer ≡ report_answer done))
-    ⊎ ((fault : AdministrationFault) × (answer ≡ opening_answer fault))
+abbrev pub IsUnpackAnswer : Behind → Behind → Unpacking → Answer → Type 0
+IsUnpackAnswer root tree u answer = ((done : Report) × HasUnpacked root tree u done × (answer ≡ report_answer done))
+    ⊎ ((fault : AdministrationFault) × IsRootFault root u.root fault × (answer ≡ opening_answer fault))
 
-abbrev pub IsAnswerTo : Asked → Answer → Type 0
-IsAnswerTo Names answer = answer ≡ names_answer
-IsAnswerTo (CompareVersions c) answer = answer ≡ comparison_answer c
-IsAnswerTo (Unpack u) answer = IsUnpackAnswer u answer
+abbrev pub IsAnswerTo : Behind → Behind → Asked → Answer → Type 0
+IsAnswerTo root tree Names answer = answer ≡ names_answer
+IsAnswerTo root tree (CompareVersions c) answer = answer ≡ comparison_answer c
+IsAnswerTo root tree (Unpack u) answer = IsUnpackAnswer root tree u answer
 
 -- for want of memory
 abbrev pub memory_answer : Answer
@@ -62,13 +62,13 @@ abbrev pub usage_answer : List ℕ → Answer
 usage_answer text = record { output = []; error = text; status = 2 }
 
 -- What the words are answered with: the answer to what they ask for or, where they ask for nothing, a text on their use.
-abbrev pub IsAnswerOf : Option Asked → Answer → Type 0
-IsAnswerOf (Some asked) answer = IsAnswerTo asked answer
-IsAnswerOf None answer = (text : List ℕ) × (answer ≡ usage_answer text)
+abbrev pub IsAnswerOf : Behind → Behind → Option Asked → Answer → Type 0
+IsAnswerOf root tree (Some asked) answer = IsAnswerTo root tree asked answer
+IsAnswerOf root tree None answer = (text : List ℕ) × (answer ≡ usage_answer text)
 
 -- or that memory is wanting
-abbrev pub IsAnswer : Option Asked → Answer → Type 0
-IsAnswer asked answer = IsAnswerOf asked answer ⊎ (answer ≡ memory_answer)
+abbrev pub IsAnswer : Behind → Behind → Option Asked → Answer → Type 0
+IsAnswer root tree asked answer = IsAnswerOf root tree asked answer ⊎ (answer ≡ memory_answer)
 
 -- only to these is anything written to standard output
 abbrev pub prints : Option Asked → Bool

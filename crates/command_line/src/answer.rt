@@ -115,7 +115,7 @@ fn answer_unpack<S: Hosts, O: Write, E: Write>(
     err: &mut E,
 ) -> io::Result<u8>
     ensures written { IfOk result (λ status. (answer : Answer)
-        × (IsUnpackAnswer unpacking.now answer ⊎ (answer ≡ memory_answer))
+        × (IsUnpackAnswer (S.root hosts.old) (S.tree hosts.old) unpacking.now answer ⊎ (answer ≡ memory_answer))
         × IsWritten answer (O.contents out.old) (O.contents out.new) (E.contents err.old) (E.contents err.new) status) }
     ensures bound { IfOk result (λ status. status ≤ 2) }
 {
@@ -133,7 +133,7 @@ fn write_answer<S: Hosts, O: Write, E: Write>(
     out: &mut O,
     err: &mut E,
 ) -> io::Result<u8>
-    ensures written { IfOk result (λ status. (answer : Answer) × IsAnswer (asked_of (map string_bytes words.now)) answer
+    ensures written { IfOk result (λ status. (answer : Answer) × IsAnswer (S.root hosts.old) (S.tree hosts.old) (asked_of (map string_bytes words.now)) answer
         × IsWritten answer (O.contents out.old) (O.contents out.new) (E.contents err.old) (E.contents err.new) status) }
     ensures bound { IfOk result (λ status. status ≤ 2) }
     ensures quiet { (out.new ≡ out.old) ⊎ (prints (asked_of (map string_bytes words.now)) ≡ true) }
@@ -156,7 +156,7 @@ pub fn run_words<S: Hosts, O: Write, E: Write>(
     err: &mut E,
 ) -> u8
     ensures bound { result ≤ 2 }
-    ensures answered { result < 2 → (asked : Asked) × (asked_of (map string_bytes words.now) ≡ Some asked) × ((answer : Answer) × IsAnswerTo asked answer
+    ensures answered { result < 2 → (asked : Asked) × (asked_of (map string_bytes words.now) ≡ Some asked) × ((answer : Answer) × IsAnswerTo (S.root hosts.old) (S.tree hosts.old) asked answer
         × IsWritten answer (O.contents out.old) (O.contents out.new) (E.contents err.old) (E.contents err.new) result) }
     ensures quiet { (out.new ≡ out.old) ⊎ (prints (asked_of (map string_bytes words.now)) ≡ true) }
 {

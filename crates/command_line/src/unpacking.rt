@@ -1,6 +1,9 @@
 // Carries out an unpack: the root is opened, then the trees are read, then the units run.
-ghost use Rattle.std.specs.Prelude.{◌≡◌, ◌≤◌, IfOk, false, map};
-ghost use Rattle.command_line.specs.Unpacks.{HasRunTrees, HasUnpacked};
+ghost use Rattle.std.specs.Prelude.{◌≡◌, ◌≤◌, ◌⊎◌, List, ℕ, IfOk, IfErr, false, map};
+ghost use Rattle.std.specs.List.{All};
+ghost use Rattle.host_core.specs.Host.{State};
+ghost use Rattle.administration.specs.declared.fault.AdministrationFault.TheVariants.{NoMemory};
+ghost use Rattle.command_line.specs.Unpacks.{HasRunTrees, HasUnpacked, IsLabelled, IsReadFor, IsRefusedOn, IsRootFault, IsUnpackedOn};
 
 use crate::hosts::Hosts;
 use administration::AdministrationFault;
@@ -12,7 +15,9 @@ use texts::Text;
 
 // What a tree gives; one that can't be opened has the host's fault.
 fn read_package<S: Hosts>(alloc: Global, hosts: &mut S, tree: &str) -> Result<Package, TreeFault>
-    ensures { S.faults hosts.old ≤ S.faults hosts.new }
+    ensures read { IsReadFor (S.tree hosts.old) tree.now result }
+    ensures trees { (word : List ℕ) (s : State) → S.tree hosts.new word s → S.tree hosts.old word s }
+    ensures faults { S.faults hosts.old ≤ S.faults hosts.new }
 {
     match hosts.open_tree(tree) {
         Ok(mut host) => {
@@ -32,6 +37,8 @@ fn read_trees<S: Hosts>(
     trees: &[Text],
 ) -> Result<Vec<Candidate>, AllocError>
     ensures labels { IfOk result (λ candidates. map (λ c. c.label) candidates.items ≡ trees.now) }
+    ensures read { IfOk result (λ candidates. All (IsLabelled (S.tree hosts.old)) candidates.items) }
+    ensures trees { (word : List ℕ) (s : State) → S.tree hosts.new word s → S.tree hosts.old word s }
     ensures faults { S.faults hosts.old ≤ S.faults hosts.new }
 {
     let mut candidates = Vec::new(alloc);
@@ -50,7 +57,7 @@ fn run_trees<S: Hosts>(
     trees: &[Text],
 ) -> Result<Report, AllocError>
     requires { session.old.closed ≡ false }
-    ensures done { IfOk result (λ done. HasRunTrees trees.now done session.old.keep session.old.database (S.Opened.state session.old.host)) }
+    ensures done { IfOk result (λ done. HasRunTrees (S.tree hosts.old) trees.now done session.old.keep session.old.database (S.Opened.state session.old.host)) }
     ensures faults { S.faults hosts.old ≤ S.faults hosts.new }
 {
     let command = Command::Unpack(read_trees(alloc, hosts, trees)?);
@@ -64,7 +71,8 @@ fn unpack_on<S: Hosts>(
     host: S::Opened,
     trees: &[Text],
 ) -> Result<Report, AdministrationFault>
-    ensures done { IfOk result (HasUnpacked trees.now) }
+    ensures done { IfOk result (IsUnpackedOn (S.tree hosts.old) (S.Opened.state host) trees.now) }
+    ensures refused { IfErr result (λ fault. IsRefusedOn (S.Opened.state host) fault ⊎ (fault ≡ NoMemory)) }
     ensures faults { S.faults hosts.old ≤ S.faults hosts.new }
 {
     match Session::open(alloc, host) {
@@ -87,7 +95,8 @@ pub(crate) fn unpack<S: Hosts>(
     hosts: &mut S,
     unpacking: &Unpacking,
 ) -> Result<Report, AdministrationFault>
-    ensures done { IfOk result (HasUnpacked unpacking.now.trees) }
+    ensures done { IfOk result (HasUnpacked (S.root hosts.old) (S.tree hosts.old) unpacking.now) }
+    ensures refused { IfErr result (IsRootFault (S.root hosts.old) unpacking.now.root) }
     ensures faults { S.faults hosts.old ≤ S.faults hosts.new }
 {
     let host = hosts.open_root(unpacking.root.as_str())?;

@@ -1,5 +1,5 @@
 // The directories of the real file system as hosts.
-ghost use Rattle.std.specs.Prelude.{◌≡◌, ◌≤◌, ◌<◌, ◌^◌, ◌-◌, IfOk, IsErrOf};
+ghost use Rattle.std.specs.Prelude.{◌≡◌, ◌≤◌, ◌<◌, ◌^◌, ◌-◌, ⊤, IfOk, IsErrOf};
 ghost use Rattle.host_core.specs.declared.fault.HostFault.TheVariants.{Device};
 
 use command_line::Hosts;
@@ -43,6 +43,11 @@ impl Hosts for Directories {
     type Opened = FilesHost;
 
     ghost faults = { λ d. d.faults };
+
+    // of what stands on the disk nothing is claimed
+    ghost root = { λ _ _ _. ⊤ };
+
+    ghost tree = { λ _ _ _. ⊤ };
 
     fn open_root(&mut self, directory: &str) -> Result<FilesHost, HostFault> {
         self.open(directory)

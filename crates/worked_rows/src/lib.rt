@@ -16,6 +16,8 @@ mod real_hosts;
 #[cfg(test)]
 mod real_rows;
 #[cfg(test)]
+mod relation_rows;
+#[cfg(test)]
 mod unpack_rows;
 #[cfg(test)]
 mod version_rows;

@@ -1,4 +1,6 @@
 // A root and trees in memory.
+ghost use Rattle.std.specs.Prelude.{⊤};
+
 use crate::answers::{answer, expect, text_of};
 use command_line::Hosts;
 use host_core::{Host, HostFault, Node, Outcome, RootPath};
@@ -193,6 +195,10 @@ impl Hosts for MemoryHosts {
     type Opened = MemoryHost;
 
     ghost faults = { λ h. h.faults };
+
+    ghost root = { λ _ _ _. ⊤ };
+
+    ghost tree = { λ _ _ _. ⊤ };
 
     fn open_root(&mut self, _directory: &str) -> Result<MemoryHost, HostFault> {
         match self.root.take() {

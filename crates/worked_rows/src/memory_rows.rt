@@ -3,9 +3,11 @@
 use crate::answers::answer;
 use crate::control_rows::{PARAGRAPH, read};
 use crate::memory_hosts::{TreeFile, hosts};
+use crate::relation_rows::read_field;
 use crate::unpack_rows::{WITH_POSTRM, WITH_PREINST};
 use crate::word_rows::{is_usage, worded};
 use host_core::Outcome;
+use relation_fields::Form;
 use std::alloc::{AllocError, Global};
 use std::process::Abort;
 
@@ -106,5 +108,15 @@ const READINGS: &[&str] = &[PARAGRAPH, "NoMemory", "paragraph\nNoMemory"];
 fn control_text_is_read_and_written(rt: HostRuntime) {
     if let Ok(text) = read(rt.alloc(), b"Package: aa\nVersion: 1") {
         assert!(rt; READINGS.contains(&text.as_str()), "{text}");
+    }
+}
+
+const CLAUSES: &[&str] = &["bravo (>= 1) | charlie\ndelta\n", "NoMemory"];
+
+#[test]
+fn relation_field_is_read_and_printed(rt: HostRuntime) {
+    let field = "bravo (>= 1) | charlie, delta:any";
+    if let Ok(text) = read_field(rt.alloc(), field, Form::Alternatives) {
+        assert!(rt; CLAUSES.contains(&text.as_str()), "{text}");
     }
 }

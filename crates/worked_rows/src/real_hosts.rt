@@ -1,4 +1,6 @@
 // Directories of the real file system as roots and trees.
+ghost use Rattle.std.specs.Prelude.{⊤};
+
 use command_line::Hosts;
 use host_core::HostFault;
 use host_files::FilesHost;
@@ -28,6 +30,10 @@ impl Hosts for RealHosts {
     type Opened = FilesHost;
 
     ghost faults = { λ h. h.opened };
+
+    ghost root = { λ _ _ _. ⊤ };
+
+    ghost tree = { λ _ _ _. ⊤ };
 
     // With a full count nothing is opened any more.
     fn open_root(&mut self, directory: &str) -> Result<FilesHost, HostFault> {

@@ -21,7 +21,7 @@ returns-in-Err-clause-written g c =
     IfOk-weaker c.not_opened.result _ _ (λ status h. (
       h.0,
       elim h.1 [
-        | inl told ↦ inl (inr (c.in-Err.fault, told))
+        | inl told ↦ inl (inr (c.in-Err.fault, c.in-Err.ensures.refused, told))
         | inr memory ↦ inr memory
       ],
       record {

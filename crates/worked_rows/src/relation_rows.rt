@@ -1,0 +1,133 @@
+// Relation fields: what is read of them, how they are printed, and which packages their clauses admit.
+use crate::answers::expect;
+use relation_fields::{Form, Offer, Provided, Provides, RelationFault, Relations};
+use std::alloc::{AllocError, Global};
+use std::test::Fail;
+use version_order::Version;
+
+const FIELD_ROWS: &[(&str, &str)] = &[
+    (
+        "bravo (>= 1) | charlie, delta:any",
+        "bravo (>= 1) | charlie\ndelta\n",
+    ),
+    ("bravo (== 1)", "Operator"),
+    ("B (= 1)", "Name"),
+    ("bravo,,delta", "bravo\ndelta\n"),
+    ("bravo (< 2)", "bravo (<= 2)\n"),
+    ("bravo (>= )", "Version"),
+    ("bravo:amd64", "Name"),
+];
+
+const PLAIN_ROWS: &[(&str, &str)] = &[
+    ("bravo | charlie", "Syntax(6)"),
+    ("bravo (> 2)", "bravo (>= 2)\n"),
+];
+
+const PROVIDES_ROWS: &[(&str, &str)] = &[
+    ("mta, web (= 2)", "mta\nweb 2\n"),
+    ("web (>= 2)", "Operator"),
+    ("mta | web", "Syntax(4)"),
+];
+
+// A relation field, and whether each of its clauses admits alpha 1.5, which provides these.
+const ADMISSION_ROWS: &[(&str, &str, &str)] = &[
+    ("alpha, alpha (<< 1.5), alpha (>= 1.0)", "", "yes no yes "),
+    ("web, web (= 2), bravo | web", "web", "yes no yes "),
+    ("web (>= 2), web (>> 2), web", "web (= 2)", "yes no yes "),
+];
+
+fn fault_text(alloc: Global, fault: RelationFault) -> Result<String, AllocError> {
+    format!(in alloc; "{fault:?}")
+}
+
+// The clauses of a copy, a line for each.
+fn printed(alloc: Global, relations: &Relations) -> Result<String, AllocError> {
+    let mut text = String::new(alloc);
+    for clause in relations.copy()?.clauses() {
+        text.push_str(clause.copy()?.printed()?.as_str())?;
+        text.push_str("\n")?;
+    }
+    Ok(text)
+}
+
+pub(crate) fn read_field(alloc: Global, field: &str, form: Form) -> Result<String, AllocError> {
+    match Relations::read(alloc, field.as_bytes(), form) {
+        Ok(relations) => printed(alloc, &relations),
+        Err(fault) => fault_text(alloc, fault),
+    }
+}
+
+fn push_entry(text: &mut String, entry: &Provided) -> Result<(), AllocError> {
+    text.push_str(entry.name.as_str())?;
+    if let Some(version) = &entry.version {
+        text.push_str(" ")?;
+        text.push_str(version.text())?;
+    }
+    text.push_str("\n")
+}
+
+// The entries of a copy, a line for each.
+fn entries(alloc: Global, provides: &Provides) -> Result<String, AllocError> {
+    let mut text = String::new(alloc);
+    for entry in provides.copy()?.entries() {
+        push_entry(&mut text, &entry.copy()?)?;
+    }
+    Ok(text)
+}
+
+fn read_provides(alloc: Global, field: &str) -> Result<String, AllocError> {
+    match Provides::read(alloc, field.as_bytes()) {
+        Ok(provides) => entries(alloc, &provides),
+        Err(fault) => fault_text(alloc, fault),
+    }
+}
+
+fn admitted(alloc: Global, relations: &Relations, offer: &Offer) -> Result<String, AllocError> {
+    let mut text = String::new(alloc);
+    for clause in relations.clauses() {
+        text.push_str(if clause.admits(offer) { "yes " } else { "no " })?;
+    }
+    Ok(text)
+}
+
+#[test]
+fn fields_with_alternatives_are_read(rt: HostRuntime) -> Result<(), Fail> {
+    for (field, row) in FIELD_ROWS {
+        let answer = read_field(rt.alloc(), field, Form::Alternatives)?;
+        expect(&rt, answer.as_str(), row);
+    }
+    Ok(())
+}
+
+#[test]
+fn plain_fields_are_read(rt: HostRuntime) -> Result<(), Fail> {
+    for (field, row) in PLAIN_ROWS {
+        let answer = read_field(rt.alloc(), field, Form::Plain)?;
+        expect(&rt, answer.as_str(), row);
+    }
+    Ok(())
+}
+
+#[test]
+fn provides_is_read(rt: HostRuntime) -> Result<(), Fail> {
+    for (field, row) in PROVIDES_ROWS {
+        expect(&rt, read_provides(rt.alloc(), field)?.as_str(), row);
+    }
+    Ok(())
+}
+
+#[test]
+fn clauses_admit_packages(rt: HostRuntime) -> Result<(), Fail> {
+    let version = Version::parse(rt.alloc(), b"1.5")?;
+    for (field, provides, row) in ADMISSION_ROWS {
+        let relations = Relations::read(rt.alloc(), field.as_bytes(), Form::Alternatives)?;
+        let provides = Provides::read(rt.alloc(), provides.as_bytes())?;
+        let offer = Offer {
+            name: "alpha",
+            version: &version,
+            provides: &provides,
+        };
+        expect(&rt, admitted(rt.alloc(), &relations, &offer)?.as_str(), row);
+    }
+    Ok(())
+}
