@@ -18,6 +18,7 @@ use Rattle.host_core.specs.Scripts.{changed_kept}
 use Rattle.administration.specs.Places.{home_path, info_path, list_path, status_path, temporary}
 use Rattle.file_lists.specs.Lists.{HasPlaces}
 use Rattle.file_lists.proofs.Kept.{IsBareList, has_places_grown, has_places_left}
+use Rattle.opening.specs.Opened.{IsOpened}
 use Rattle.opening.specs.Parts.{names_of}
 use Rattle.package_files.specs.OwnFiles.{OwnFile, own_path}
 use Rattle.package_files.proofs.Endings.{own_apart, own_lasting, mark}
@@ -210,6 +211,18 @@ module _ (places : List Path) where
 
 directory_is : (found : Option Node) → IsDirectory found → is_directory found ≡ true
 directory_is found is = ap is_directory is.1
+
+pub standing_opened : (table : List Record) (places : List Path) (w : World) → IsOpened table places w → IsStanding table places w
+standing_opened table places w opened = (
+  directory_is (w home_path) opened.home,
+  directory_is (w info_path) opened.info,
+  opened.entries,
+  opened.status,
+  opened.status_spare,
+  opened.tmp,
+  opened.records,
+  ∣ opened.listed ∣₁,
+)
 
 pub standing_run : (cs : List Candidate) (us : List AUnit) (places : List Path) (before after : List Record) (s t : State) → IsRun cs us places before after s t → IsTrue s.honest → IsInOrder t.world → HasRecords t.world after → IsStanding before places s.world → IsStanding after places t.world
 standing_run cs us places before after s t run h order records standing = (

@@ -3,7 +3,7 @@ ghost use Rattle.std.specs.Prelude.{◌≡◌, ◌≤◌, ◌<◌, ◌⊎◌, Is
 ghost use Rattle.host_core.specs.Host.{Since};
 ghost use Rattle.status_db.specs.Status.{HasRecords};
 ghost use Rattle.unpack_engine.specs.Unpack.{IsInOrder};
-ghost use Rattle.dpkg_session.specs.declared.report.Breakage.TheVariants.{Device, NoMemory};
+ghost use Rattle.dpkg_session.specs.declared.report.Breakage.TheVariants.{Device, NoMemory, Closed};
 ghost use Rattle.dpkg_session.specs.declared.refusal.Rule.TheVariants.{Tree};
 ghost use Rattle.dpkg_session.specs.Refusals.{word_of};
 ghost use Rattle.dpkg_session.specs.Run.{AddsUnit, IsAmidByWord, IsAmidRun, IsAmidUnitOf, IsRun, HasRun};
@@ -70,6 +70,7 @@ fn unit_of_package<H: Host>(
     ensures honest { (H.state host.new).honest ≡ (H.state host.old).honest }
     ensures faults { (H.state host.old).faults ≤ (H.state host.new).faults }
     ensures cause { IsBrokenBy Device result.reply → (H.state host.old).faults < (H.state host.new).faults }
+    ensures not_closed { IsBrokenBy Closed result.reply → ⊥ }
 {
     match word_of(incoming, database) {
         Some(word) => {
@@ -96,6 +97,7 @@ fn unit_of<H: Host>(
     ensures honest { (H.state host.new).honest ≡ (H.state host.old).honest }
     ensures faults { (H.state host.old).faults ≤ (H.state host.new).faults }
     ensures cause { IsBrokenBy Device result.reply → (H.state host.old).faults < (H.state host.new).faults }
+    ensures not_closed { IsBrokenBy Closed result.reply → ⊥ }
 {
     match &candidate.tree {
         Ok(incoming) => {
@@ -136,6 +138,7 @@ fn run_one<H: Host>(
     ensures honest { (H.state host.new).honest ≡ (H.state host.old).honest }
     ensures faults { (H.state host.old).faults ≤ (H.state host.new).faults }
     ensures cause { IfErr result (λ unit. IsBrokenBy Device unit.reply → (H.state host.old).faults < (H.state host.new).faults) }
+    ensures not_closed { IfErr result (λ unit. IsBrokenBy Closed unit.reply → ⊥) }
 {
     if units.reserve(1).is_err() {
         return Err(broken(alloc, Vec::new(alloc), Breakage::NoMemory));
@@ -163,6 +166,7 @@ pub(crate) fn run_units<H: Host>(
     ensures any_moment { IsTrue (H.state host.old).honest → Since (IsAmidRun candidates.now keep.now database.old (H.state host.old)) (H.state host.old) (H.state host.new) }
     ensures last { IfSome result.last (λ unit. IsBroken unit.reply) }
     ensures cause { IfSome result.last (λ unit. IsBrokenBy Device unit.reply → (H.state host.old).faults < (H.state host.new).faults) }
+    ensures not_closed { IfSome result.last (λ unit. IsBrokenBy Closed unit.reply → ⊥) }
     ensures order { IsNone result.last → IsTrue (H.state host.old).honest → IsInOrder (H.state host.new).world }
     ensures records { IsNone result.last → IsTrue (H.state host.old).honest → HasRecords (H.state host.new).world database.new }
     ensures honest { (H.state host.new).honest ≡ (H.state host.old).honest }

@@ -95,6 +95,7 @@ impl<H: Host> Session<H> {
         ensures honest { (H.state self.new.host).honest ≡ (H.state self.old.host).honest }
         ensures faults { (H.state self.old.host).faults ≤ (H.state self.new.host).faults }
         ensures cause { self.old.closed ≡ false → IfSome result.last (λ unit. IsBrokenBy Device unit.reply → (H.state self.old.host).faults < (H.state self.new.host).faults) }
+        ensures not_closed { self.old.closed ≡ false → IfSome result.last (λ unit. IsBrokenBy Closed unit.reply → ⊥) }
     {
         if self.closed {
             return closed_report(self.alloc);

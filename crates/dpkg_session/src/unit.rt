@@ -7,7 +7,7 @@ ghost use Rattle.host_core.specs.Host.{HasCause, Since};
 ghost use Rattle.status_db.specs.Status.{HasRecords};
 ghost use Rattle.unpack_engine.specs.Unpack.{IsAmid, IsInOrder};
 ghost use Rattle.unpack_engine.specs.Units.{HasUnpacked};
-ghost use Rattle.dpkg_session.specs.declared.report.Breakage.TheVariants.{Device, NoMemory};
+ghost use Rattle.dpkg_session.specs.declared.report.Breakage.TheVariants.{Device, NoMemory, Closed};
 ghost use Rattle.dpkg_session.specs.Units.{IsAnswered, IsBroken, IsBrokenBy, IsUnit, IsUnpacked, breakage_of, reply_to, touched_of};
 
 use crate::report::{Breakage, Failure, Reply, Touched, Unit};
@@ -130,6 +130,7 @@ pub(crate) fn unpack_unit<H: Host>(
     ensures honest { (H.state host.new).honest ≡ (H.state host.old).honest }
     ensures faults { (H.state host.old).faults ≤ (H.state host.new).faults }
     ensures cause { IsBrokenBy Device result.reply → (H.state host.old).faults < (H.state host.new).faults }
+    ensures not_closed { IsBrokenBy Closed result.reply → ⊥ }
 {
     let mut calls = Vec::new(alloc);
     match unpack_package(alloc, host, database, keep, incoming, &mut calls) {
