@@ -1,5 +1,5 @@
 -- What making a directory and removing the files in one leave.
-use Rattle.std.proofs.Common.{◌≡◌, ◌⊎◌, inl, inr, ℕ, Bool, true, false, List, [], ◌∷◌, ◌++◌, Option, Some, None, IsTrue, Result, Ok, Err, OnOk, arith, append_assoc, refl, sym, ap, subst, ◌∙◌, Contains}
+use Rattle.std.proofs.Common.{◌≡◌, ◌⊎◌, inl, inr, Bool, true, false, List, [], ◌∷◌, ◌++◌, Option, Some, None, IsTrue, Result, Ok, Err, OnOk, arith, append_assoc, refl, sym, ap, subst, ◌∙◌, Contains}
 use Rattle.std.specs.Prelude.{IsSome, MatchBool}
 use Rattle.std.specs.Str.{bytes_eq}
 use Rattle.std.proofs.lemmas.Slice.Eq.{bytes_eq-Decides}
@@ -12,10 +12,9 @@ use Rattle.host_core.specs.Laws.{put_same, put_other}
 use Rattle.host_core.specs.Moments.{Through, since_does, since_weaker}
 use Rattle.host_core.specs.declared.fault.HostFault.{HostFault}
 use Rattle.host_core.specs.declared.node.Node.{Node}
-use Rattle.host_core.specs.declared.node.Node.TheVariants.{Dir}
 use Rattle.administration.specs.Places.{is_within}
 use Rattle.administration.specs.Files.{NoDirectory, IsDropped, IsDropping}
-use Rattle.administration.specs.Directories.{IsMade, IsMaking, IsFlat, IsEmptying, IsRemoved, IsPassed}
+use Rattle.administration.specs.Directories.{new_directory, IsMade, IsMaking, IsFlat, IsEmptying, IsRemoved, IsPassed}
 use Rattle.administration.proofs.WholeFiles.{no_directory_none, no_directory_at}
 use Rattle.administration.proofs.Within.{first_name, below_within, directory_within, within_is, outside_differs, directory_differs, one_more}
 
@@ -24,20 +23,21 @@ use Rattle.administration.proofs.Within.{first_name, below_within, directory_wit
 pub making_start : (p : Path) (w : World) → IsMaking p w w
 making_start p w = record { target = inl refl; rest = λ q ne. refl }
 
-through_make : (p : Path) (m : ℕ) (old w : World) → w ≡ old → old p ≡ None → Through (IsMaking p old) w (MakeDir p m)
-through_make p m old w is none = subst (λ v. Through (IsMaking p old) v (MakeDir p m)) (sym is) record {
+through_make : (p : Path) (old w : World) → w ≡ old → old p ≡ None → Through (IsMaking p old) w (MakeDir p 493)
+through_make p old w is none = subst (λ v. Through (IsMaking p old) v (MakeDir p 493)) (sym is) record {
   before = making_start p old;
   inside = λ t part. absurd part;
-  behind = record { target = inr (none, (m, put_same old p p (Some (Dir m)) refl)); rest = λ q ne. put_other old p q (Some (Dir m)) ne };
+  behind = record { target = inr (none, put_same old p p new_directory refl); rest = λ q ne. put_other old p q new_directory ne };
 }
 
-pub making_does : {T : Type 0} (p : Path) (m : ℕ) (old : World) (a b : State) (result : Result T HostFault) → a.world ≡ old → old p ≡ None → Does (MakeDir p m) a b result → Since (IsMaking p old) a b
-making_does p m old a b result is none does = since_does _ result (MakeDir p m) a b does (through_make p m old a.world is none)
+pub making_does : {T : Type 0} (p : Path) (old : World) (a b : State) (result : Result T HostFault) → a.world ≡ old → old p ≡ None → Does (MakeDir p 493) a b result → Since (IsMaking p old) a b
+making_does p old a b result is none does = since_does _ result (MakeDir p 493) a b does (through_make p old a.world is none)
 
-pub made_by : {T : Type 0} (p : Path) (m : ℕ) (old : World) (a b : State) (x : T) → a.world ≡ old → old p ≡ None → Does (MakeDir p m) a b (Ok x) → IsMade p old b.world
-made_by p m old a b x is none does =
-    let e = does.world ∙ ap (λ w. put w p (Some (Dir m))) is in
-    record { target = (m, ap (λ w. w p) e ∙ put_same old p p (Some (Dir m)) refl); before = inr none; rest = λ q ne. ap (λ w. w q) e ∙ put_other old p q (Some (Dir m)) ne }
+pub made_by : {T : Type 0} (p : Path) (old : World) (a b : State) (x : T) → a.world ≡ old → old p ≡ None → Does (MakeDir p 493) a b (Ok x) → IsMade p old b.world
+made_by p old a b x is none does =
+    let e = does.world ∙ ap (λ w. put w p new_directory) is in
+    let here = ap (λ w. w p) e ∙ put_same old p p new_directory refl in
+    record { target = (493, here); before = inr (none, here); rest = λ q ne. ap (λ w. w q) e ∙ put_other old p q new_directory ne }
 
 -- one name more at which no directory stands
 passed_here : (n : Option Node) (b : Bool) → b ≡ false → MatchBool b (IsDirectory n) (NoDirectory n) → NoDirectory n

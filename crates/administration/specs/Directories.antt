@@ -5,6 +5,7 @@ use Rattle.host_core.specs.Paths.{Path}
 use Rattle.host_core.specs.World.{World, IsDirectory, IsLoose, KeepsBut}
 use Rattle.host_core.specs.Tree.{has_slash}
 use Rattle.host_core.specs.declared.node.Node.{Node}
+use Rattle.host_core.specs.declared.node.Node.TheVariants.{Dir}
 use Rattle.administration.specs.Places.{is_within}
 use Rattle.administration.specs.Files.{NoDirectory, KeepsBeside}
 use Rattle.administration.specs.declared.directories.Standing.{Standing}
@@ -17,14 +18,18 @@ IsStanding Nothing node = node ≡ None
 IsStanding Loose node = IsLoose node
 IsStanding Directory node = IsDirectory node
 
+-- a directory that was made: with mode 755
+abbrev pub new_directory : Option Node
+new_directory = Some (Dir 493)
+
 -- a directory stands there: the one of before, or a new one where nothing stood
 pub record IsMade (path : Path) (old new : World) : Type 0 where
   pub target : IsDirectory (new path)
-  pub before : (new path ≡ old path) ⊎ (old path ≡ None)
+  pub before : (new path ≡ old path) ⊎ ((old path ≡ None) × (new path ≡ new_directory))
   pub rest : KeepsBeside path old new
 
 pub record IsMaking (path : Path) (old now : World) : Type 0 where
-  pub target : (now path ≡ old path) ⊎ ((old path ≡ None) × IsDirectory (now path))
+  pub target : (now path ≡ old path) ⊎ ((old path ≡ None) × (now path ≡ new_directory))
   pub rest : KeepsBeside path old now
 
 -- the directory and all below it is gone
@@ -46,12 +51,12 @@ pub record IsFlat (w : World) (directory : Path) (names : List Path) : Type 0 wh
 abbrev pub HasFlatness : World → Path → Flatness → Type 0
 HasFlatness w directory (Flat names) = IsFlat w directory names
 HasFlatness w directory BadName = (name : Path) × (has_slash name ≡ false) × (IsUtf8 name → ⊥) × IsSome (w (directory ++ 47 ∷ name))
-HasFlatness w directory (Holds path) = (name : Path) × (path ≡ directory ++ 47 ∷ name) × IsDirectory (w path)
+HasFlatness w directory (Holds path) = (name : Path) × (has_slash name ≡ false) × (path ≡ directory ++ 47 ∷ name) × IsDirectory (w path)
 
 -- the same among some names
 abbrev pub IsFirstDirectory : World → Path → List Path → Option Path → Type 0
 IsFirstDirectory w directory names None = IsPassed w directory names
-IsFirstDirectory w directory names (Some path) = (name : Path) × (path ≡ directory ++ 47 ∷ name) × IsDirectory (w path)
+IsFirstDirectory w directory names (Some path) = (name : Path) × Contains names name × (path ≡ directory ++ 47 ∷ name) × IsDirectory (w path)
 
 -- some entries of a directory are gone, and these among them
 pub record IsEmptying (directory : Path) (taken : List Path) (old now : World) : Type 0 where

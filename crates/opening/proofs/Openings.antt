@@ -14,20 +14,21 @@ use Rattle.host_core.specs.Moments.{since_same, since_then, since_weaker, since_
 use Rattle.host_core.specs.declared.fault.HostFault.{HostFault}
 use Rattle.host_core.specs.declared.fault.HostFault.TheVariants as host
 use Rattle.host_core.specs.declared.node.Node.{Node}
+use Rattle.host_core.specs.declared.node.Node.TheVariants.{File, Dir, Link}
 use Rattle.administration.specs.Places.{home_path, info_path, status_path, diversions_path, updates_path, tmp_path, list_path, temporary, is_within}
-use Rattle.administration.specs.Directories.{IsMade, IsMaking, IsRemoved, IsStanding}
+use Rattle.administration.specs.Directories.{new_directory, IsMade, IsMaking, IsRemoved, IsStanding}
 use Rattle.administration.specs.declared.directories.Standing.{Standing}
 use Rattle.administration.specs.declared.directories.Standing.TheVariants.{Nothing, Loose}
 use Rattle.administration.specs.Fault.{fault_of}
 use Rattle.administration.specs.Files.{NoDirectory}
 use Rattle.administration.specs.declared.fault.AdministrationFault.{AdministrationFault}
 use Rattle.administration.specs.declared.fault.AdministrationFault.TheVariants.{Damaged, Device, NoMemory}
-use Rattle.administration.proofs.WholeFiles.{no_directory_none, no_directory_at}
+use Rattle.administration.proofs.WholeFiles.{no_directory_none, no_directory_at, no_directory_file}
 use Rattle.file_lists.specs.Info.{AreLoose, IsInfoDamage}
 use Rattle.file_lists.specs.Lists.{HasPlaces}
 use Rattle.file_lists.proofs.Kept.{has_places_kept}
 use Rattle.status_db.specs.declared.record.Record.{Record}
-use Rattle.status_db.specs.Status.{HasRecords, IsStatusDamage, StandsFor}
+use Rattle.status_db.specs.Status.{HasRecords, IsFileOrNothing, IsStatusDamage, StandsFor}
 use Rattle.opening.specs.Opened.{IsOpened}
 use Rattle.opening.specs.Least.{IsLeastOf}
 use Rattle.opening.specs.Leaving.{IsOpening, IsNewWay, is_way}
@@ -37,8 +38,8 @@ pub opening_start : (w : World) → IsOpening w w
 opening_start w q out = inl refl
 
 after_new : (q : Path) (u v w : World) → IsNewWay q u v → (w q ≡ v q) ⊎ IsNewWay q v w → (w q ≡ u q) ⊎ IsNewWay q u w
-after_new q u v w new (inl same) = inr (record { way = new.way; missing = new.missing; made = subst IsDirectory (sym same) new.made })
-after_new q u v w new (inr again) = absurd (no_directory_none (subst IsDirectory again.missing new.made))
+after_new q u v w new (inl same) = inr (record { way = new.way; missing = new.missing; made = same ∙ new.made })
+after_new q u v w new (inr again) = absurd (no_directory_none (subst IsDirectory again.missing (493, new.made)))
 
 after_same : (q : Path) (u v w : World) → v q ≡ u q → (w q ≡ v q) ⊎ IsNewWay q v w → (w q ≡ u q) ⊎ IsNewWay q u w
 after_same q u v w same (inl more) = inl (more ∙ same)
@@ -65,7 +66,7 @@ making_at p q false e old now way making = inl (making.rest q (λ same. absurd (
     no_true p q e same = absurd (true≢false (sym ((bytes_eq-Decides p q).1 (sym same)) ∙ e))
 making_at p q true e old now way making = subst (λ r. (now r ≡ old r) ⊎ IsNewWay r old now) ((bytes_eq-Decides p q).0 e) (here making.target)
   where
-    here : (now p ≡ old p) ⊎ ((old p ≡ None) × IsDirectory (now p)) → (now p ≡ old p) ⊎ IsNewWay p old now
+    here : (now p ≡ old p) ⊎ ((old p ≡ None) × (now p ≡ new_directory)) → (now p ≡ old p) ⊎ IsNewWay p old now
     here (inl same) = inl same
     here (inr new) = inr (record { way = way; missing = new.0; made = new.1 })
 
@@ -82,7 +83,7 @@ moments_clearing a b since = since_weaker (KeepsBut (is_within tmp_path) a.world
 
 directory_kept : (q : Path) (u v : World) → (v q ≡ u q) ⊎ IsNewWay q u v → IsDirectory (u q) → IsDirectory (v q)
 directory_kept q u v (inl same) is = subst IsDirectory (sym same) is
-directory_kept q u v (inr new) is = new.made
+directory_kept q u v (inr new) is = (493, new.made)
 
 pub plain_kept : (q : Path) (u v : World) → is_way q ≡ false → (v q ≡ u q) ⊎ IsNewWay q u v → v q ≡ u q
 plain_kept q u v plain (inl same) = same
@@ -102,7 +103,7 @@ pub fine_kept : (part : Part) (u v : World) → IsEarly part → IsOpening u v �
 fine_kept (Way path) u v early opening fine = directory_kept path u v (opening path early) fine
 fine_kept Status u v early opening fine =
     let e = plain_kept status_path u v refl (opening status_path refl) in
-    (no_directory_at (v status_path) (u status_path) e fine.0, (fine.1.0, subst (λ n. StandsFor n fine.1.0) (sym e) fine.1.1))
+    (subst IsFileOrNothing (sym e) fine.0, (fine.1.0, subst (λ n. StandsFor n fine.1.0) (sym e) fine.1.1))
 fine_kept Spare u v early opening fine =
     no_directory_at (v (temporary status_path)) (u (temporary status_path)) (plain_kept (temporary status_path) u v refl (opening (temporary status_path) refl)) fine
 fine_kept Updates u v early opening fine = λ name plain.
@@ -183,7 +184,7 @@ way_made p q s t e way since made = subst (λ r. Opens (Way r ∷ []) None s t) 
 loose_kept : (p : Path) (old now : World) → IsMaking p old now → IsLoose (old p) → NoDirectory (now p)
 loose_kept p old now making loose = no_directory_here making.target
   where
-    no_directory_here : (now p ≡ old p) ⊎ ((old p ≡ None) × IsDirectory (now p)) → NoDirectory (now p)
+    no_directory_here : (now p ≡ old p) ⊎ ((old p ≡ None) × (now p ≡ new_directory)) → NoDirectory (now p)
     no_directory_here (inl same) = no_directory_at (now p) (old p) same loose.1
     no_directory_here (inr new) = absurd (true≢false (sym (subst IsSome new.0 loose.0)))
 
@@ -290,10 +291,17 @@ status_fault v w NoMemory same damage = tt
 pub status_damaged : (fault : AdministrationFault) (a b : State) → Same a b → IsStatusDamage a.world fault → Opens (Status ∷ []) (Some fault) a b
 status_damaged fault a b same damage = record { moments = moments_same a b same; finds = status_fault a.world b.world fault same.world damage }
 
-pub status_read : (table : List Record) (a b : State) → Same a b → NoDirectory (a.world status_path) → HasRecords a.world table → Opens (Status ∷ []) None a b
-status_read table a b same loose records = record {
+-- where a file stands, or nothing, no directory does
+file_no_directory : (n : Option Node) → IsFileOrNothing n → NoDirectory n
+file_no_directory None is = no_directory_none
+file_no_directory (Some (File bytes mode)) is = no_directory_file (File bytes mode) (bytes, mode, refl)
+file_no_directory (Some (Dir mode)) is = absurd is
+file_no_directory (Some (Link target)) is = absurd is
+
+pub status_read : (table : List Record) (a b : State) → Same a b → IsFileOrNothing (a.world status_path) → HasRecords a.world table → Opens (Status ∷ []) None a b
+status_read table a b same file records = record {
   moments = moments_same a b same;
-  finds = (subst (λ u. IsFine u Status) (sym same.world) (loose, (table, records)), tt);
+  finds = (subst (λ u. IsFine u Status) (sym same.world) (file, (table, records)), tt);
 }
 
 pub opened_of : (table : List Record) (places : List Path) (a b : State) → Opens parts None a b → HasRecords b.world table → HasPlaces b.world (names_of table) places → IsOpened table places b.world
@@ -301,7 +309,7 @@ opened_of table places a b opens records listed = record {
   home = opens.finds.1.1.1.0;
   info = opens.finds.1.1.1.1.1.1.1.1.0;
   entries = opens.finds.1.1.1.1.1.1.1.1.1.0;
-  status = opens.finds.1.1.1.1.0.0;
+  status = file_no_directory (b.world status_path) opens.finds.1.1.1.1.0.0;
   status_spare = opens.finds.1.1.1.1.1.0;
   tmp = opens.finds.1.1.1.1.1.1.1.1.1.1.1.0;
   records = records;

@@ -3,7 +3,8 @@ use Rattle.std.specs.Prelude.{◌≡◌, ◌⊎◌, Bool, true, false, List, [],
 use Rattle.std.specs.List.{list_any}
 use Rattle.std.specs.Str.{bytes_eq}
 use Rattle.host_core.specs.Paths.{Path}
-use Rattle.host_core.specs.World.{World, IsDirectory}
+use Rattle.host_core.specs.World.{World}
+use Rattle.administration.specs.Directories.{new_directory}
 use Rattle.administration.specs.Places.{home_path, info_path, updates_path, tmp_path, is_within}
 
 abbrev pub root_path : Path
@@ -22,11 +23,11 @@ ways = var_path ∷ lib_path ∷ home_path ∷ updates_path ∷ info_path ∷ []
 abbrev pub is_way : Path → Bool
 is_way q = list_any (bytes_eq q) ways
 
--- one of them that was missing
+-- one of them that was missing, made with mode 755
 pub record IsNewWay (q : Path) (old now : World) : Type 0 where
   pub way : is_way q ≡ true
   pub missing : old q ≡ None
-  pub made : IsDirectory (now q)
+  pub made : now q ≡ new_directory
 
 -- Nothing has changed but that missing directories of the administration were made, and that what a unit had left in
 -- `tmp.ci` may be gone.

@@ -16,7 +16,7 @@ use Rattle.administration.specs.declared.fault.AdministrationFault.{Administrati
 use Rattle.administration.specs.declared.fault.AdministrationFault.TheVariants.{Damaged, Device, NoMemory}
 use Rattle.file_lists.specs.Info.{IsInfoDamage, AreLoose}
 use Rattle.status_db.specs.declared.record.Record.{Record}
-use Rattle.status_db.specs.Status.{HasRecords, IsStatusDamage}
+use Rattle.status_db.specs.Status.{HasRecords, IsFileOrNothing, IsStatusDamage}
 use Rattle.opening.specs.Leaving.{IsOpening, root_path, var_path, lib_path}
 
 -- the names of packages that have a record
@@ -54,7 +54,7 @@ IsWithoutDiversions (Some (Link target)) = ⊥
 -- a part that can be read
 abbrev pub IsFine : World → Part → Type 0
 IsFine w (Way path) = IsDirectory (w path)
-IsFine w Status = NoDirectory (w status_path) × ((table : List Record) × HasRecords w table)
+IsFine w Status = IsFileOrNothing (w status_path) × ((table : List Record) × HasRecords w table)
 IsFine w Spare = NoDirectory (w (temporary status_path))
 IsFine w Updates = IsEmptyIn w updates_path
 IsFine w Info = AreLoose w
@@ -85,7 +85,7 @@ IsDiversionsFault (Some (Link target)) line = line ≡ 0
 -- `tmp.ci` is no directory, or has one in it or a name that isn't text
 abbrev pub IsLeftoversFault : World → Path → Type 0
 IsLeftoversFault w file =
-    ((file ≡ tmp_path) × (IsLoose (w tmp_path) ⊎ HasBadName w tmp_path)) ⊎ ((name : Path) × (file ≡ tmp_path ++ 47 ∷ name) × IsDirectory (w file))
+    ((file ≡ tmp_path) × (IsLoose (w tmp_path) ⊎ HasBadName w tmp_path)) ⊎ ((name : Path) × (has_slash name ≡ false) × (file ≡ tmp_path ++ 47 ∷ name) × IsDirectory (w file))
 
 -- a part that can't be read, by the file and the line that are told
 abbrev pub IsFaulty : World → Part → Path → ℕ → Type 0

@@ -196,6 +196,13 @@ put_none path w v e = record { target = λ free. ap (λ u. u path) e ∙ free; s
 beside : (name : List ℕ) (n : Option Node) (file other : OwnFile) (w v : World) → mark file ≢ mark other → IsPut (own_path name other) n w v → v (own_path name file) ≡ w (own_path name file)
 beside name n file other w v ne put = put.rest (own_path name file) (own_apart name name file other ne) (own_lasting name file (own_path name other))
 
+-- and where nothing stood at its temporary name, nothing does
+spare_stays : (name : List ℕ) (n : Option Node) (file other : OwnFile) (w v : World) → IsPut (own_path name other) n w v → w (temporary (own_path name file)) ≡ None → v (temporary (own_path name file)) ≡ None
+spare_stays name n file other w v put none = elim (decide (temporary (own_path name file)) (temporary (own_path name other))) [
+  | inl e ↦ ap v e ∙ put.spare (ap w (sym e) ∙ none)
+  | inr ne ↦ put.rest (temporary (own_path name file)) (λ e. own_lasting name other (own_path name file) (sym e)) ne ∙ none
+]
+
 module _ (name : List ℕ) (scripts : Scripts) (w0 w1 w2 w3 w4 : World) where
   abbrev PutsScript : Script → World → World → Type 0
   PutsScript script w v = IsPut (own_path name (Some script)) (own_node scripts (Some script)) w v
@@ -203,6 +210,7 @@ module _ (name : List ℕ) (scripts : Scripts) (w0 w1 w2 w3 w4 : World) where
   pub put_four : PutsScript Preinst w0 w1 → PutsScript Postinst w1 w2 → PutsScript Prerm w2 w3 → PutsScript Postrm w3 w4 → HasPutScripts name scripts w0 w4
   put_four p1 p2 p3 p4 = record {
     stands = λ free script. at p1 p2 p3 p4 free script;
+    spares = λ file none. spare_stays name _ file (Some Postrm) w3 w4 p4 (spare_stays name _ file (Some Prerm) w2 w3 p3 (spare_stays name _ file (Some Postinst) w1 w2 p2 (spare_stays name _ file (Some Preinst) w0 w1 p1 none)));
     rest = λ q out. p4.rest q (out Postrm).0 (out Postrm).1 ∙ p3.rest q (out Prerm).0 (out Prerm).1 ∙ p2.rest q (out Postinst).0 (out Postinst).1 ∙ p1.rest q (out Preinst).0 (out Preinst).1;
   }
     where
@@ -230,6 +238,7 @@ script_mark Postrm e = absurd (omega (arith, e))
 pub installed_all : (name : List ℕ) (scripts : Scripts) (w0 w1 w2 : World) → IsPut (own_path name None) (own_node scripts None) w0 w1 → HasPutScripts name scripts w1 w2 → IsInstalled name scripts w0 w2
 installed_all name scripts w0 w1 w2 list more = record {
   stands = at;
+  spares = λ file none. more.spares file (spare_stays name _ file None w0 w1 list none);
   rest = λ q out. more.rest q (λ s. out (Some s)) ∙ list.rest q (out None).0 (out None).1;
 }
   where

@@ -56,11 +56,13 @@ KeepsBesideOwn name old new = (q : Path) → ((file : OwnFile) → (q ≢ own_pa
 -- the scripts were put at their free places
 pub record HasPutScripts (name : List ℕ) (scripts : Scripts) (old new : World) : Type 0 where
   pub stands : ((script : Script) → old (own_path name (Some script)) ≡ None) → (script : Script) → new (own_path name (Some script)) ≡ own_node scripts (Some script)
+  pub spares : (file : OwnFile) → old (temporary (own_path name file)) ≡ None → new (temporary (own_path name file)) ≡ None
   pub rest : (q : Path) → ((script : Script) → (q ≢ own_path name (Some script)) × (q ≢ temporary (own_path name (Some script)))) → new q ≡ old q
 
--- the list and the scripts stand there, where none stood before
+-- the list and the scripts stand there, where none stood before, and nothing new at their temporary names
 pub record IsInstalled (name : List ℕ) (scripts : Scripts) (old new : World) : Type 0 where
   pub stands : ((file : OwnFile) → old (own_path name file) ≡ None) → (file : OwnFile) → new (own_path name file) ≡ own_node scripts file
+  pub spares : (file : OwnFile) → old (temporary (own_path name file)) ≡ None → new (temporary (own_path name file)) ≡ None
   pub rest : KeepsBesideOwn name old new
 
 -- At each moment: each of these files is what it was, or gone, or whole what it is to be.

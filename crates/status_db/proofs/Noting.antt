@@ -16,7 +16,7 @@ use Rattle.administration.specs.Places.{home_path, status_path, temporary}
 use Rattle.administration.specs.Files.{NoDirectory, KeepsBesideFile, IsReplaced, IsReplacing}
 use Rattle.administration.proofs.WholeFiles.{no_directory_file, no_directory_none, no_directory_at}
 use Rattle.status_db.specs.declared.record.Record.{Record}
-use Rattle.status_db.specs.Status.{IsStatus, StandsFor, HasRecords, IsStatusReady, IsNoted, IsNoting}
+use Rattle.status_db.specs.Status.{IsStatus, StandsFor, HasRecords, IsFileOf, IsStatusReady, IsNoted, IsNoting}
 
 -- the file has the text of these records
 abbrev pub Holds : Node → List Record → Type 0
@@ -27,6 +27,9 @@ holds_file node rs holds = (holds.0, 420, holds.1)
 
 stands_for : (found : Option Node) (node : Node) (rs : List Record) → Holds node rs → found ≡ Some node → StandsFor found rs
 stands_for found node rs holds e = subst (λ (o : Option Node). StandsFor o rs) (ap (λ (n : Node). Some n) (sym holds.1) ∙ sym e) holds.2
+
+file_of : (found : Option Node) (node : Node) (rs : List Record) → Holds node rs → found ≡ Some node → IsFileOf found rs
+file_of found node rs holds e = (holds.0, e ∙ ap (λ (n : Node). Some n) holds.1, holds.2)
 
 no_slash : (u : Path) → list_any (nat_eq 47) u ≡ false → Contains u 47 → ⊥
 no_slash u free has = true≢false (sym (list_any-from_Contains nat_eq_equiv 47 u has) ∙ free)
@@ -49,6 +52,7 @@ file_stands found node rs holds e = no_directory_at found (Some node) e (no_dire
 pub noted_file : (rs : List Record) (node : Node) (old new : World) → Holds node rs → IsStatusReady old → IsReplaced status_path node old new → IsNoted rs old new
 noted_file rs node old new holds ready is = record {
   records = stands_for (new status_path) node rs holds is.target;
+  file = file_of (new status_path) node rs holds is.target;
   ready = record {
     home = home_stays old new is.rest ready.home;
     target = file_stands (new status_path) node rs holds is.target;
@@ -61,6 +65,10 @@ status_by : (rs : List Record) (node : Node) (old now : World) → Holds node rs
 status_by rs node old now holds (inl e) = inl e
 status_by rs node old now holds (inr e) = inr (stands_for (now status_path) node rs holds e)
 
+file_by : (rs : List Record) (node : Node) (old now : World) → Holds node rs → (now status_path ≡ old status_path) ⊎ (now status_path ≡ Some node) → (now status_path ≡ old status_path) ⊎ IsFileOf (now status_path) rs
+file_by rs node old now holds (inl e) = inl e
+file_by rs node old now holds (inr e) = inr (file_of (now status_path) node rs holds e)
+
 target_by : (rs : List Record) (node : Node) (old now : World) → Holds node rs → NoDirectory (old status_path) → (now status_path ≡ old status_path) ⊎ (now status_path ≡ Some node) → NoDirectory (now status_path)
 target_by rs node old now holds none (inl e) = no_directory_at (now status_path) (old status_path) e none
 target_by rs node old now holds none (inr e) = file_stands (now status_path) node rs holds e
@@ -68,12 +76,13 @@ target_by rs node old now holds none (inr e) = file_stands (now status_path) nod
 pub noting_file : (rs : List Record) (node : Node) (old now : World) → Holds node rs → IsStatusReady old → IsReplacing status_path node old now → IsNoting rs old now
 noting_file rs node old now holds ready is = record {
   status = status_by rs node old now holds is.target;
+  file = file_by rs node old now holds is.target;
   ready = record { home = home_stays old now is.rest ready.home; target = target_by rs node old now holds ready.target is.target; spare = is.spare };
   rest = is.rest;
 }
 
 pub noting_start : (rs : List Record) (w : World) → IsStatusReady w → IsNoting rs w w
-noting_start rs w ready = record { status = inl refl; ready = ready; rest = λ q ne_p ne_t. refl }
+noting_start rs w ready = record { status = inl refl; file = inl refl; ready = ready; rest = λ q ne_p ne_t. refl }
 
 pub noted_by : {T : Type 0} (rs : List Record) (node : Node) (path : Path) (old new : World) (result : Result T HostFault) → path ≡ status_path → Holds node rs → IsStatusReady old → OnOk result (IsReplaced path node old new) → OnOk result (IsNoted rs old new)
 noted_by rs node path old new (Ok x) e holds ready is = noted_file rs node old new holds ready (subst (λ p. IsReplaced p node old new) e is)

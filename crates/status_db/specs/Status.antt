@@ -36,6 +36,17 @@ StandsFor node records = ∥ IsStatus (text_of node) records ∥₁
 abbrev pub HasRecords : World → List Record → Type 0
 HasRecords w records = StandsFor (w status_path) records
 
+-- a file, or nothing
+abbrev pub IsFileOrNothing : Option Node → Type 0
+IsFileOrNothing None = Unit {0}
+IsFileOrNothing (Some (File bytes mode)) = Unit {0}
+IsFileOrNothing (Some (Dir mode)) = ⊥
+IsFileOrNothing (Some (Link target)) = ⊥
+
+-- a file of mode 644 that stands for these records
+abbrev pub IsFileOf : Option Node → List Record → Type 0
+IsFileOf found records = (bytes : List ℕ) × (found ≡ Some (File bytes 420)) × ∥ IsStatus bytes records ∥₁
+
 -- why no records are read of a node: a faulty line, or line 0 where it is no file
 abbrev pub IsDamageAt : Option Node → ℕ → Type 0
 IsDamageAt None line = IsFirstFault [] line
@@ -67,11 +78,13 @@ pub record IsStatusReady (w : World) : Type 0 where
 -- the status file stands for these records, and nothing else has changed
 pub record IsNoted (noted : List Record) (old new : World) : Type 0 where
   pub records : HasRecords new noted
+  pub file : IsFileOf (new status_path) noted
   pub ready : IsStatusReady new
   pub rest : KeepsBesideFile status_path old new
 
 -- at each moment: the records of before, or these
 pub record IsNoting (noted : List Record) (old now : World) : Type 0 where
   pub status : (now status_path ≡ old status_path) ⊎ HasRecords now noted
+  pub file : (now status_path ≡ old status_path) ⊎ IsFileOf (now status_path) noted
   pub ready : IsStatusReady now
   pub rest : KeepsBesideFile status_path old now

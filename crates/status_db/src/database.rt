@@ -8,7 +8,7 @@ ghost use Rattle.administration.specs.Places.{status_path};
 ghost use Rattle.administration.specs.declared.fault.AdministrationFault.TheVariants.{Device};
 ghost use Rattle.status_db.specs.declared.record.Record.{Record as ARecord};
 ghost use Rattle.status_db.specs.Records.{AreApart, record_in, put_record, drop_record, standing};
-ghost use Rattle.status_db.specs.Status.{IsStatus, StandsFor, HasRecords, IsFileDamage, IsNodeDamage, IsStatusDamage, IsStatusReady, IsNoted, IsNoting};
+ghost use Rattle.status_db.specs.Status.{IsStatus, StandsFor, HasRecords, IsFileOrNothing, IsFileDamage, IsNodeDamage, IsStatusDamage, IsStatusReady, IsNoted, IsNoting};
 
 use crate::reading::{StatusFault, read_text};
 use crate::record::Record;
@@ -44,6 +44,7 @@ fn read_node(
     ensures records { IfOk result (λ d. StandsFor node d) }
     ensures damage { IfErr result (IsNodeDamage node) }
     ensures loose { IfOk result (λ d. NoDirectory node) }
+    ensures file { IfOk result (λ d. IsFileOrNothing node) }
     ensures standing { IfOk result (λ d. standing d ≡ d) }
     ensures device { IsErrOf result Device → ⊥ }
 {
@@ -80,6 +81,7 @@ fn open_at<H: Host>(
     ensures records { IsTrue (H.state host.old).honest → IfOk result (HasRecords (H.state host.old).world) }
     ensures damage { IsTrue (H.state host.old).honest → IfErr result (IsStatusDamage (H.state host.old).world) }
     ensures loose { IsTrue (H.state host.old).honest → IfOk result (λ d. NoDirectory ((H.state host.old).world status_path)) }
+    ensures file { IsTrue (H.state host.old).honest → IfOk result (λ d. IsFileOrNothing ((H.state host.old).world status_path)) }
     ensures standing { IfOk result (λ d. standing d ≡ d) }
     ensures same { IsTrue (H.state host.old).honest → Same (H.state host.old) (H.state host.new) }
     ensures silent { Silent (H.state host.old) (H.state host.new) }
@@ -95,6 +97,7 @@ impl Database {
         ensures records { IsTrue (H.state host.old).honest → IfOk result (HasRecords (H.state host.old).world) }
         ensures damage { IsTrue (H.state host.old).honest → IfErr result (IsStatusDamage (H.state host.old).world) }
         ensures loose { IsTrue (H.state host.old).honest → IfOk result (λ d. NoDirectory ((H.state host.old).world status_path)) }
+        ensures file { IsTrue (H.state host.old).honest → IfOk result (λ d. IsFileOrNothing ((H.state host.old).world status_path)) }
         ensures standing { IfOk result (λ d. standing d ≡ d) }
         ensures same { IsTrue (H.state host.old).honest → Same (H.state host.old) (H.state host.new) }
         ensures silent { Silent (H.state host.old) (H.state host.new) }

@@ -12,7 +12,7 @@ returns-clause-opens g c = λ h.
     let h2 = subst IsTrue (sym c.open.ensures.silent.honest) h1 in
     opens_then (Way root_path ∷ Way var_path ∷ Way lib_path ∷ Way home_path ∷ []) (Status ∷ Spare ∷ Way updates_path ∷ Updates ∷ Way info_path ∷ Info ∷ Diversions ∷ Leftovers ∷ []) _ _ _ _ (refl, (refl, (refl, (refl, tt)))) (c.in_ok-open_ways.ensures.opens h)
     (opens_then (Status ∷ []) (Spare ∷ Way updates_path ∷ Updates ∷ Way info_path ∷ Info ∷ Diversions ∷ Leftovers ∷ []) _ _ _ _ (tt, tt)
-    (status_read c.in_ok-database.database _ _ (c.open.ensures.same h1) (c.in_ok-database.ensures.loose h1) (c.in_ok-database.ensures.records h1)) (c.open_with.ensures.opens h2))
+    (status_read c.in_ok-database.database _ _ (c.open.ensures.same h1) (c.in_ok-database.ensures.file h1) (c.in_ok-database.ensures.records h1)) (c.open_with.ensures.opens h2))
 
 pub returns-clause-opened : goal.returns-clause-opened
 returns-clause-opened g c = λ h.
@@ -20,6 +20,6 @@ returns-clause-opened g c = λ h.
     let h2 = subst IsTrue (sym c.open.ensures.silent.honest) h1 in
     let all = opens_then (Way root_path ∷ Way var_path ∷ Way lib_path ∷ Way home_path ∷ []) (Status ∷ Spare ∷ Way updates_path ∷ Updates ∷ Way info_path ∷ Info ∷ Diversions ∷ Leftovers ∷ []) _ _ _ _ (refl, (refl, (refl, (refl, tt)))) (c.in_ok-open_ways.ensures.opens h)
     (opens_then (Status ∷ []) (Spare ∷ Way updates_path ∷ Updates ∷ Way info_path ∷ Info ∷ Diversions ∷ Leftovers ∷ []) _ _ _ _ (tt, tt)
-    (status_read c.in_ok-database.database _ _ (c.open.ensures.same h1) (c.in_ok-database.ensures.loose h1) (c.in_ok-database.ensures.records h1)) (c.open_with.ensures.opens h2)) in
+    (status_read c.in_ok-database.database _ _ (c.open.ensures.same h1) (c.in_ok-database.ensures.file h1) (c.in_ok-database.ensures.records h1)) (c.open_with.ensures.opens h2)) in
     let later = records_kept c.in_ok-database.database _ _ (c.open_with.ensures.opens h2) (subst (λ w. HasRecords w c.in_ok-database.database) (sym (c.open.ensures.same h1).world) (c.in_ok-database.ensures.records h1)) in
     opened_ok c.open_with.result c.in_ok-database.database _ _ all c.open_with.ensures.database later (c.open_with.ensures.places h2)
