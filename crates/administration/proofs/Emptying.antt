@@ -23,21 +23,21 @@ use Rattle.administration.proofs.Within.{first_name, below_within, directory_wit
 pub making_start : (p : Path) (w : World) → IsMaking p w w
 making_start p w = record { target = inl refl; rest = λ q ne. refl }
 
-through_make : (p : Path) (old w : World) → w ≡ old → old p ≡ None → Through (IsMaking p old) w (MakeDir p 493)
-through_make p old w is none = subst (λ v. Through (IsMaking p old) v (MakeDir p 493)) (sym is) record {
+through_make : (p : Path) (old w : World) → w ≡ old → old p ≡ None → Through (IsMaking p old) w (MakeDir p 0o755)
+through_make p old w is none = subst (λ v. Through (IsMaking p old) v (MakeDir p 0o755)) (sym is) record {
   before = making_start p old;
   inside = λ t part. absurd part;
   behind = record { target = inr (none, put_same old p p new_directory refl); rest = λ q ne. put_other old p q new_directory ne };
 }
 
-pub making_does : {T : Type 0} (p : Path) (old : World) (a b : State) (result : Result T HostFault) → a.world ≡ old → old p ≡ None → Does (MakeDir p 493) a b result → Since (IsMaking p old) a b
-making_does p old a b result is none does = since_does _ result (MakeDir p 493) a b does (through_make p old a.world is none)
+pub making_does : {T : Type 0} (p : Path) (old : World) (a b : State) (result : Result T HostFault) → a.world ≡ old → old p ≡ None → Does (MakeDir p 0o755) a b result → Since (IsMaking p old) a b
+making_does p old a b result is none does = since_does _ result (MakeDir p 0o755) a b does (through_make p old a.world is none)
 
-pub made_by : {T : Type 0} (p : Path) (old : World) (a b : State) (x : T) → a.world ≡ old → old p ≡ None → Does (MakeDir p 493) a b (Ok x) → IsMade p old b.world
+pub made_by : {T : Type 0} (p : Path) (old : World) (a b : State) (x : T) → a.world ≡ old → old p ≡ None → Does (MakeDir p 0o755) a b (Ok x) → IsMade p old b.world
 made_by p old a b x is none does =
     let e = does.world ∙ ap (λ w. put w p new_directory) is in
     let here = ap (λ w. w p) e ∙ put_same old p p new_directory refl in
-    record { target = (493, here); before = inr (none, here); rest = λ q ne. ap (λ w. w q) e ∙ put_other old p q new_directory ne }
+    record { target = (0o755, here); before = inr (none, here); rest = λ q ne. ap (λ w. w q) e ∙ put_other old p q new_directory ne }
 
 -- one name more at which no directory stands
 passed_here : (n : Option Node) (b : Bool) → b ≡ false → MatchBool b (IsDirectory n) (NoDirectory n) → NoDirectory n

@@ -20,7 +20,7 @@ IsStanding Directory node = IsDirectory node
 
 -- a directory that was made: with mode 755
 abbrev pub new_directory : Option Node
-new_directory = Some (Dir 493)
+new_directory = Some (Dir 0o755)
 
 -- a directory stands there: the one of before, or a new one where nothing stood
 pub record IsMade (path : Path) (old new : World) : Type 0 where

@@ -172,7 +172,7 @@ module _ (p : Package) (places : List Path) (before after : List Record) (ended 
       (names_left p.name before after new_name (subst (λ e. HasChangedRecord p.name e before after) is left.table)) list_stays has
 
   by_end : (e : Ended) → IsEnd p e left.entry → new (list_path p.name) ≡ end_file p e None → HasPlaces old (names_of before) places → HasPlaces new (names_of after) places
-  by_end Committed end file has = listed_grown end.0 end.1 (inr (420, file)) has
+  by_end Committed end file has = listed_grown end.0 end.1 (inr (0o644, file)) has
   by_end (Unwound fall []) end file has = listed_less end has
   by_end (Unwound fall (owner ∷ owners)) end file has = listed_grown end.0 end.1 (inl file) has
 

@@ -219,7 +219,7 @@ pub Fits-way : (w m : World) (path : Path) (node : Node) → IsOpenTo w path →
 Fits-way w m path node open_to way bare = record {
   above = λ some top below. elim (some_or_none (w top)) [
     | inl there ↦ subst (λ (o : Option Node). IsDirectory o) (sym (way_stays w m path top way there)) (open_to top below there)
-    | inr missing ↦ (493, way.made top below missing)
+    | inr missing ↦ (0o755, way.made top below missing)
   ];
   below = bare;
 }
@@ -241,7 +241,7 @@ bare_way w m path way bare rest = way_elsewhere w m path (path ++ 47 ∷ rest) w
 
 -- the next directory of a way fits
 pub Fits-next : (w m : World) (front path : Path) → IsOpenTo w path → IsIn front path → HasWay w m front → Fits m front (Some new_directory)
-Fits-next w m front path open_to in_front way = Fits-way w m front new_directory (open_above w front path in_front open_to) way (λ no_dir. absurd (no_dir (493, refl)))
+Fits-next w m front path open_to in_front way = Fits-way w m front new_directory (open_above w front path in_front open_to) way (λ no_dir. absurd (no_dir (0o755, refl)))
 
 -- and so does the node at its end
 pub Fits-placed : (w m : World) (path : Path) (node : Node) → CanPlace w path node → HasWay w m path → Fits m path (Some node)

@@ -36,7 +36,7 @@ pub record CanPlace (w : World) (path : Path) (node : Node) : Type 0 where
 
 -- the directory that is made where one is missing has the mode 0o755
 abbrev pub new_directory : Node
-new_directory = Dir 493
+new_directory = Dir 0o755
 
 -- of the missing directories above a path some are made, and nothing else
 abbrev pub HasPartWay : World → World → Path → Type 0

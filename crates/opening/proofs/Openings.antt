@@ -39,7 +39,7 @@ opening_start w q out = inl refl
 
 after_new : (q : Path) (u v w : World) → IsNewWay q u v → (w q ≡ v q) ⊎ IsNewWay q v w → (w q ≡ u q) ⊎ IsNewWay q u w
 after_new q u v w new (inl same) = inr (record { way = new.way; missing = new.missing; made = same ∙ new.made })
-after_new q u v w new (inr again) = absurd (no_directory_none (subst IsDirectory again.missing (493, new.made)))
+after_new q u v w new (inr again) = absurd (no_directory_none (subst IsDirectory again.missing (0o755, new.made)))
 
 after_same : (q : Path) (u v w : World) → v q ≡ u q → (w q ≡ v q) ⊎ IsNewWay q v w → (w q ≡ u q) ⊎ IsNewWay q u w
 after_same q u v w same (inl more) = inl (more ∙ same)
@@ -83,7 +83,7 @@ moments_clearing a b since = since_weaker (KeepsBut (is_within tmp_path) a.world
 
 directory_kept : (q : Path) (u v : World) → (v q ≡ u q) ⊎ IsNewWay q u v → IsDirectory (u q) → IsDirectory (v q)
 directory_kept q u v (inl same) is = subst IsDirectory (sym same) is
-directory_kept q u v (inr new) is = (493, new.made)
+directory_kept q u v (inr new) is = (0o755, new.made)
 
 pub plain_kept : (q : Path) (u v : World) → is_way q ≡ false → (v q ≡ u q) ⊎ IsNewWay q u v → v q ≡ u q
 plain_kept q u v plain (inl same) = same

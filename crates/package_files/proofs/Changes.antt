@@ -114,7 +114,7 @@ script_loose None = no_directory_none
 script_loose (Some script) = kind_of_file script.node script.file
 
 pub own_nodes : (scripts : Scripts) (file : OwnFile) → NoDirectory (own_node scripts file)
-own_nodes scripts None = no_directory_file root_list (codes "/.\n", 420, refl)
+own_nodes scripts None = no_directory_file root_list (codes "/.\n", 0o644, refl)
 own_nodes scripts (Some script) = script_loose (script_of scripts script)
 
 -- one part of the work, and one after another

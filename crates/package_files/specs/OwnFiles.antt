@@ -25,7 +25,7 @@ own_path name file = info_file (name ++ ending file)
 
 -- the list of a package that has no paths: the root alone
 abbrev pub root_list : Node
-root_list = File (codes "/.\n") 420
+root_list = File (codes "/.\n") 0o644
 
 -- what stands there once the scripts are stored and the list is that of a package without files
 abbrev pub own_node : Scripts → OwnFile → Option Node

@@ -20,10 +20,10 @@ use Rattle.status_db.specs.Status.{IsStatus, StandsFor, HasRecords, IsFileOf, Is
 
 -- the file has the text of these records
 abbrev pub Holds : Node → List Record → Type 0
-Holds node rs = (bytes : List ℕ) × (node ≡ File bytes 420) × ∥ IsStatus bytes rs ∥₁
+Holds node rs = (bytes : List ℕ) × (node ≡ File bytes 0o644) × ∥ IsStatus bytes rs ∥₁
 
 pub holds_file : (node : Node) (rs : List Record) → Holds node rs → IsFile node
-holds_file node rs holds = (holds.0, 420, holds.1)
+holds_file node rs holds = (holds.0, 0o644, holds.1)
 
 stands_for : (found : Option Node) (node : Node) (rs : List Record) → Holds node rs → found ≡ Some node → StandsFor found rs
 stands_for found node rs holds e = subst (λ (o : Option Node). StandsFor o rs) (ap (λ (n : Node). Some n) (sym holds.1) ∙ sym e) holds.2

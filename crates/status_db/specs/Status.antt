@@ -45,7 +45,7 @@ IsFileOrNothing (Some (Link target)) = ⊥
 
 -- a file of mode 644 that stands for these records
 abbrev pub IsFileOf : Option Node → List Record → Type 0
-IsFileOf found records = (bytes : List ℕ) × (found ≡ Some (File bytes 420)) × ∥ IsStatus bytes records ∥₁
+IsFileOf found records = (bytes : List ℕ) × (found ≡ Some (File bytes 0o644)) × ∥ IsStatus bytes records ∥₁
 
 -- why no records are read of a node: a faulty line, or line 0 where it is no file
 abbrev pub IsDamageAt : Option Node → ℕ → Type 0
