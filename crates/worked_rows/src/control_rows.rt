@@ -4,10 +4,10 @@ use control_fields::{ControlFault, Paragraph, read_one, read_paragraphs, write_p
 use std::alloc::{AllocError, Global};
 use std::test::Fail;
 
-/// A text without its last newline, as it is read and written.
-pub(crate) const PARAGRAPH: &str = "paragraph\nPackage: aa\nVersion: 1\n";
+// A text without its last newline, as it is read and written.
+const PARAGRAPH: &str = "paragraph\nPackage: aa\nVersion: 1\n";
 
-const ROWS: &[(&[u8], &str)] = &[
+pub(crate) const ROWS: &[(&[u8], &str)] = &[
     (b" x: 1\nPackage: aa\n", "OrphanContinuation(1)"),
     (b"Package: aa\npackage: bb\n", "Twice(2)"),
     (b"Package: aa\nVersion: 1", PARAGRAPH),
@@ -20,7 +20,7 @@ const ROWS: &[(&[u8], &str)] = &[
     ),
 ];
 
-const ONE_PARAGRAPH_ROWS: &[(&[u8], &str)] = &[
+pub(crate) const ONE_PARAGRAPH_ROWS: &[(&[u8], &str)] = &[
     (b"Package: aa\n\nPackage: bb\n", "Second(3)"),
     (b"Version: 1\nPACKAGE: aa\n", "aa"),
 ];
@@ -57,7 +57,7 @@ fn package_in(paragraph: &Paragraph) -> &str {
 }
 
 // What a text that is to be one paragraph says of its package.
-fn package_of(alloc: Global, bytes: &[u8]) -> Result<String, AllocError> {
+pub(crate) fn package_of(alloc: Global, bytes: &[u8]) -> Result<String, AllocError> {
     match read_one(alloc, bytes) {
         Ok(paragraph) => String::from_str(alloc, package_in(&paragraph.copy()?)),
         Err(fault) => fault_text(alloc, fault),

@@ -155,7 +155,7 @@ impl MemoryHosts {
     }
 
     /// Adds the answer to a line of words; a line that begins with `write` is the administrator's.
-    fn step(&mut self, line: &str, text: &mut String) -> Result<(), AllocError> {
+    pub(crate) fn step(&mut self, line: &str, text: &mut String) -> Result<(), AllocError> {
         match line.strip_prefix("write ") {
             Some(words) => self.write(words),
             None => text.push_str(answer(self.alloc, self, line)?.as_str()),

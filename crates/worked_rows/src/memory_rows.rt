@@ -1,33 +1,60 @@
 // The same answers where an allocation is refused, which scripts/refused_memory does at each one in turn: in place of
 // the row only a want of memory may come. Where the test's own memory is refused, there is no answer.
-use crate::answers::answer;
-use crate::control_rows::{PARAGRAPH, read};
+use crate::control_rows::{ONE_PARAGRAPH_ROWS, ROWS, package_of, read};
 use crate::memory_hosts::{TreeFile, hosts};
-use crate::relation_rows::read_field;
-use crate::unpack_rows::{WITH_POSTRM, WITH_PREINST};
-use crate::word_rows::{is_usage, worded};
+use crate::relation_rows::{FIELD_ROWS, PROVIDES_ROWS, read_field, read_provides};
+use crate::unpack_rows::{DAMAGING, REFUSALS, TREES, WITH_POSTRM, WITH_PREINST};
+use crate::word_rows::{FAULTS, is_usage, worded};
 use host_core::Outcome;
 use relation_fields::Form;
 use std::alloc::{AllocError, Global};
 use std::process::Abort;
 
-// The root has to come back whatever the answer.
-fn told(
+// The answer to a line of words after other lines, which have to be answered as told. The root has to come back
+// whatever the answer.
+fn told_after(
     alloc: Global,
     trees: &'static [TreeFile],
     outcomes: &[Outcome],
+    before: (&str, &str),
     line: &str,
 ) -> Result<String, AllocError> {
     let mut hosts = hosts(alloc, trees, outcomes)?;
-    let mut text = answer(alloc, &mut hosts, line)?;
+    let mut text = String::new(alloc);
+    hosts.step(before.0, &mut text)?;
+    if text.as_str() != before.1 {
+        return Err(AllocError);
+    }
+    text.clear();
+    hosts.step(line, &mut text)?;
     if !hosts.has_root() {
         text.push_str("the root wasn't given back")?;
     }
     Ok(text)
 }
 
-// Told on standard error, or as the fault of the tree; where the test's buffers can't grow, a write fails.
-const WANTS: &[&str] = &["|broken memory\n|2\n", "||2\n", "refused t NoMemory\n||1\n"];
+// A line that does nothing, and what comes of it.
+const NOTHING: (&str, &str) = ("write /etc/motd", "");
+
+fn told(
+    alloc: Global,
+    trees: &'static [TreeFile],
+    outcomes: &[Outcome],
+    line: &str,
+) -> Result<String, AllocError> {
+    told_after(alloc, trees, outcomes, NOTHING, line)
+}
+
+// Told on standard error; where the test's buffers can't grow, a write fails.
+const WANTS: &[&str] = &["|broken memory\n|2\n", "||2\n"];
+
+// Told as the fault of the tree.
+fn is_unread_tree(text: &str) -> bool {
+    match text.strip_suffix(" NoMemory\n||1\n") {
+        Some(refused) => refused.starts_with("refused ") && !refused.contains('\n'),
+        None => false,
+    }
+}
 
 // Whether a unit was broken off for want of memory, behind the lines of calls that it made.
 fn is_broken_off(text: &str, calls: &str) -> bool {
@@ -38,12 +65,7 @@ fn is_broken_off(text: &str, calls: &str) -> bool {
 }
 
 fn is_want(text: &str, calls: &str) -> bool {
-    for want in WANTS {
-        if text == *want {
-            return true;
-        }
-    }
-    is_broken_off(text, calls)
+    WANTS.contains(&text) || is_unread_tree(text) || is_broken_off(text, calls)
 }
 
 // The row is the lines of calls and what follows them.
@@ -58,6 +80,33 @@ fn check(rt: &impl Abort, told: &Result<String, AllocError>, calls: &str, rest: 
 }
 
 #[test]
+fn preinst_fails(rt: HostRuntime) {
+    let told = told(
+        rt.alloc(),
+        WITH_PREINST,
+        &[Outcome::Exit(1)],
+        "dpkg_cli unpack t",
+    );
+    let calls = "call new alpha preinst install: exit 1\n";
+    let rest = "state alpha none\nfailed alpha preinst install\n||1\n";
+    check(&rt, &told, calls, rest);
+}
+
+#[test]
+fn preinst_fails_and_is_undone(rt: HostRuntime) {
+    let told = told(
+        rt.alloc(),
+        WITH_POSTRM,
+        &[Outcome::Exit(1)],
+        "dpkg_cli unpack t",
+    );
+    let calls =
+        "call new alpha preinst install: exit 1\ncall new alpha postrm abort-install: exit 0\n";
+    let rest = "state alpha none\nfailed alpha preinst install\n||1\n";
+    check(&rt, &told, calls, rest);
+}
+
+#[test]
 fn undo_fails(rt: HostRuntime) {
     let outcomes = [Outcome::Exit(1), Outcome::Exit(1)];
     let told = told(rt.alloc(), WITH_POSTRM, &outcomes, "dpkg_cli unpack t");
@@ -68,16 +117,63 @@ fn undo_fails(rt: HostRuntime) {
     check(&rt, &told, calls, rest);
 }
 
+const UNPACKED: (&str, &str) = (
+    "call new alpha preinst install: exit 0\n",
+    "state alpha 1.0 install ok unpacked\ndone\n||0\n",
+);
+
 #[test]
 fn preinst_succeeds(rt: HostRuntime) {
     let told = told(rt.alloc(), WITH_PREINST, &[], "dpkg_cli unpack t");
-    let calls = "call new alpha preinst install: exit 0\n";
-    check(
-        &rt,
-        &told,
-        calls,
-        "state alpha 1.0 install ok unpacked\ndone\n||0\n",
-    );
+    check(&rt, &told, UNPACKED.0, UNPACKED.1);
+}
+
+#[test]
+fn unpacked_package_is_refused(rt: HostRuntime) {
+    let done =
+        "call new alpha preinst install: exit 0\nstate alpha 1.0 install ok unpacked\ndone\n||0\n";
+    let line = "dpkg_cli unpack t";
+    let told = told_after(rt.alloc(), WITH_PREINST, &[], (line, done), line);
+    check(&rt, &told, "", "refused alpha NotYet record\n||1\n");
+}
+
+#[test]
+fn trees_are_refused(rt: HostRuntime) {
+    for (line, row) in REFUSALS {
+        check(&rt, &told(rt.alloc(), TREES, &[], line), "", row);
+    }
+}
+
+// What follows the first tree's line, which may be a want of memory itself.
+fn behind_first(text: &str) -> Option<&str> {
+    match text.strip_prefix("refused empty NoControl\n") {
+        Some(rest) => Some(rest),
+        None => text.strip_prefix("refused empty NoMemory\n"),
+    }
+}
+
+#[test]
+fn second_tree_is_unpacked(rt: HostRuntime) {
+    let done = "state alpha 1.0 install ok unpacked\ndone\n||1\n";
+    if let Ok(text) = told(rt.alloc(), TREES, &[], "dpkg_cli unpack empty a") {
+        let rest = behind_first(text.as_str()).unwrap_or(text.as_str());
+        assert!(rt;
+            rest.strip_prefix(UNPACKED.0) == Some(done) || is_want(rest, UNPACKED.0),
+            "{text}"
+        );
+    }
+}
+
+#[test]
+fn line_without_colon_is_damage(rt: HostRuntime) {
+    let told = told_after(rt.alloc(), TREES, &[], (DAMAGING, ""), "dpkg_cli unpack a");
+    check(&rt, &told, "", "|damaged /var/lib/dpkg/status 2\n|2\n");
+}
+
+#[test]
+fn no_words_name_the_subcommands(rt: HostRuntime) {
+    let told = worded(rt.alloc(), "dpkg_cli");
+    check(&rt, &told, "", "compare-versions\nunpack\n||0\n");
 }
 
 #[test]
@@ -93,30 +189,53 @@ fn bad_version_is_told(rt: HostRuntime) {
 }
 
 #[test]
-fn usage_is_told(rt: HostRuntime) {
-    if let Ok(text) = worded(rt.alloc(), "dpkg_cli unpack") {
+fn faults_of_usage_are_told(rt: HostRuntime) {
+    for line in FAULTS {
+        if let Ok(text) = worded(rt.alloc(), line) {
+            assert!(rt;
+                is_usage(text.as_str()) || is_want(text.as_str(), ""),
+                "{text}"
+            );
+        }
+    }
+}
+
+// A reading, or what stands in its place.
+fn check_reading(rt: &impl Abort, told: &Result<String, AllocError>, row: &str) {
+    if let Ok(text) = told {
+        let text = text.as_str();
         assert!(rt;
-            is_usage(text.as_str()) || is_want(text.as_str(), ""),
+            text == row || text == "NoMemory" || text == "paragraph\nNoMemory",
             "{text}"
         );
     }
 }
 
-const READINGS: &[&str] = &[PARAGRAPH, "NoMemory", "paragraph\nNoMemory"];
-
 #[test]
 fn control_text_is_read_and_written(rt: HostRuntime) {
-    if let Ok(text) = read(rt.alloc(), b"Package: aa\nVersion: 1") {
-        assert!(rt; READINGS.contains(&text.as_str()), "{text}");
+    for (bytes, row) in ROWS {
+        check_reading(&rt, &read(rt.alloc(), bytes), row);
     }
 }
 
-const CLAUSES: &[&str] = &["bravo (>= 1) | charlie\ndelta\n", "NoMemory"];
+#[test]
+fn one_paragraph_is_read(rt: HostRuntime) {
+    for (bytes, row) in ONE_PARAGRAPH_ROWS {
+        check_reading(&rt, &package_of(rt.alloc(), bytes), row);
+    }
+}
 
 #[test]
-fn relation_field_is_read_and_printed(rt: HostRuntime) {
-    let field = "bravo (>= 1) | charlie, delta:any";
-    if let Ok(text) = read_field(rt.alloc(), field, Form::Alternatives) {
-        assert!(rt; CLAUSES.contains(&text.as_str()), "{text}");
+fn relation_fields_are_read_and_printed(rt: HostRuntime) {
+    for (field, row) in FIELD_ROWS {
+        let told = read_field(rt.alloc(), field, Form::Alternatives);
+        check_reading(&rt, &told, row);
+    }
+}
+
+#[test]
+fn provides_is_read(rt: HostRuntime) {
+    for (field, row) in PROVIDES_ROWS {
+        check_reading(&rt, &read_provides(rt.alloc(), field), row);
     }
 }

@@ -5,7 +5,7 @@ use std::alloc::{AllocError, Global};
 use std::test::Fail;
 use version_order::Version;
 
-const FIELD_ROWS: &[(&str, &str)] = &[
+pub(crate) const FIELD_ROWS: &[(&str, &str)] = &[
     (
         "bravo (>= 1) | charlie, delta:any",
         "bravo (>= 1) | charlie\ndelta\n",
@@ -23,7 +23,7 @@ const PLAIN_ROWS: &[(&str, &str)] = &[
     ("bravo (> 2)", "bravo (>= 2)\n"),
 ];
 
-const PROVIDES_ROWS: &[(&str, &str)] = &[
+pub(crate) const PROVIDES_ROWS: &[(&str, &str)] = &[
     ("mta, web (= 2)", "mta\nweb 2\n"),
     ("web (>= 2)", "Operator"),
     ("mta | web", "Syntax(4)"),
@@ -75,7 +75,7 @@ fn entries(alloc: Global, provides: &Provides) -> Result<String, AllocError> {
     Ok(text)
 }
 
-fn read_provides(alloc: Global, field: &str) -> Result<String, AllocError> {
+pub(crate) fn read_provides(alloc: Global, field: &str) -> Result<String, AllocError> {
     match Provides::read(alloc, field.as_bytes()) {
         Ok(provides) => entries(alloc, &provides),
         Err(fault) => fault_text(alloc, fault),

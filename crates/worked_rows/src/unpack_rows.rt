@@ -19,7 +19,7 @@ pub(crate) const WITH_POSTRM: &[TreeFile] = &[
 ];
 
 // Trees that are named by what is refused of them, and two that are not.
-const TREES: &[TreeFile] = &[
+pub(crate) const TREES: &[TreeFile] = &[
     ("empty", "/DEBIAN/preinst", "#!/bin/sh\n"),
     ("bare", CONTROL, "Package: alpha\n"),
     ("colon", CONTROL, "Package\n"),
@@ -121,40 +121,44 @@ Version: 1.0
     check(&rt, WITH_PREINST, &[], TWICE, row)
 }
 
-const REFUSED: &[&str] = &[
-    "dpkg_cli unpack empty",
-    "dpkg_cli unpack bare",
-    "dpkg_cli unpack colon",
-    "dpkg_cli unpack name",
-    "dpkg_cli unpack version",
-    "dpkg_cli unpack files",
-    "dpkg_cli unpack depends",
-    "dpkg_cli unpack conffile",
-    "dpkg_cli unpack both",
+/// Lines of words, and how the program refuses what they name.
+pub(crate) const REFUSALS: &[(&str, &str)] = &[
+    ("dpkg_cli unpack empty", "refused empty NoControl\n||1\n"),
+    (
+        "dpkg_cli unpack bare",
+        "refused bare FieldMissing Version\n||1\n",
+    ),
+    (
+        "dpkg_cli unpack colon",
+        "refused colon Control NoColon 1\n||1\n",
+    ),
+    (
+        "dpkg_cli unpack name",
+        "refused name FieldBad Package\n||1\n",
+    ),
+    (
+        "dpkg_cli unpack version",
+        "refused version FieldBad Version\n||1\n",
+    ),
+    ("dpkg_cli unpack files", "refused alpha NotYet files\n||1\n"),
+    (
+        "dpkg_cli unpack depends",
+        "refused alpha NotYet Depends\n||1\n",
+    ),
+    (
+        "dpkg_cli unpack conffile",
+        "refused alpha NotYet conffiles\n||1\n",
+    ),
+    ("dpkg_cli unpack both", "refused alpha NotYet files\n||1\n"),
 ];
 
 #[test]
 fn trees_are_refused(rt: HostRuntime) -> Result<(), Fail> {
-    let row = "refused empty NoControl
-||1
-refused bare FieldMissing Version
-||1
-refused colon Control NoColon 1
-||1
-refused name FieldBad Package
-||1
-refused version FieldBad Version
-||1
-refused alpha NotYet files
-||1
-refused alpha NotYet Depends
-||1
-refused alpha NotYet conffiles
-||1
-refused alpha NotYet files
-||1
-||||||";
-    check(&rt, TREES, &[], REFUSED, row)
+    for (line, row) in REFUSALS {
+        let row = format!(in rt.alloc(); "{row}||||||")?;
+        check(&rt, TREES, &[], &[line], row.as_str())?;
+    }
+    Ok(())
 }
 
 #[test]
@@ -201,12 +205,12 @@ Version: 1
     check(&rt, TREES, &[], &lines, row)
 }
 
+/// What the administrator does to a status file whose second line has no colon.
+pub(crate) const DAMAGING: &str = "write /var/lib/dpkg/status Package: alpha\nStatus\n";
+
 #[test]
 fn line_without_colon_is_damage(rt: HostRuntime) -> Result<(), Fail> {
-    let lines = [
-        "write /var/lib/dpkg/status Package: alpha\nStatus\n",
-        "dpkg_cli unpack a",
-    ];
+    let lines = [DAMAGING, "dpkg_cli unpack a"];
     let row = "|damaged /var/lib/dpkg/status 2\n|2\n|Package: alpha\nStatus\n|||||";
     check(&rt, TREES, &[], &lines, row)
 }

@@ -14,7 +14,7 @@ const COMPARISONS: &[&str] = &[
     "dpkg_cli compare-versions 1- eq 1",
 ];
 
-const FAULTS: &[&str] = &[
+pub(crate) const FAULTS: &[&str] = &[
     "dpkg_cli fetch",
     "dpkg_cli unpack",
     "dpkg_cli unpack --root rel t",
