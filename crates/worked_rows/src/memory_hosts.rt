@@ -1,5 +1,6 @@
 // A root and trees in memory.
-ghost use Rattle.std.specs.Prelude.{⊤};
+ghost use Rattle.std.specs.Prelude.{◌≡◌, IsTrue, Some, option_map};
+ghost use Rattle.host_memory.specs.Memory.{memory_state};
 
 use crate::answers::{answer, expect, text_of};
 use command_line::Hosts;
@@ -196,9 +197,11 @@ impl Hosts for MemoryHosts {
 
     ghost faults = { λ h. h.faults };
 
-    ghost root = { λ _ _ _. ⊤ };
+    // one root stands behind every word
+    ghost root = { λ h _ state. option_map memory_state h.root ≡ Some state };
 
-    ghost tree = { λ _ _ _. ⊤ };
+    // whatever stands in it, a tree holds what it tells
+    ghost tree = { λ _ _ state. IsTrue state.honest };
 
     fn open_root(&mut self, _directory: &str) -> Result<MemoryHost, HostFault> {
         match self.root.take() {

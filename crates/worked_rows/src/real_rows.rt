@@ -18,7 +18,9 @@ fn new_directory(rt: &HostRuntime) -> Result<String, Fail> {
 // Runs lines of shell, which have the path of the directory as their first argument.
 fn prepare(rt: &HostRuntime, directory: &str, lines: &str) -> Result<(), Fail> {
     let mut command = Command::new(rt.alloc(), "/bin/sh")?;
-    command.arg("-euc")?.arg(lines)?.arg("sh")?.arg(directory)?;
+    for word in ["-euc", lines, "sh", directory] {
+        command.arg(word)?;
+    }
     let status = command.status(rt)?;
     if status.success() {
         Ok(())
