@@ -14,7 +14,9 @@ use Rattle.host_core.specs.declared.fault.HostFault.{HostFault}
 use Rattle.host_core.specs.declared.node.Node.{Node}
 use Rattle.administration.specs.Places.{is_within}
 use Rattle.administration.specs.Files.{NoDirectory, IsDropped, IsDropping}
-use Rattle.administration.specs.Directories.{new_directory, IsMade, IsMaking, IsFlat, IsEmptying, IsRemoved, IsPassed}
+use Rattle.administration.specs.Directories.{new_directory, IsMade, IsMaking, IsFlat, IsEmptying, IsRemoved, IsPassed, IsFirstDirectory}
+use Rattle.administration.specs.Least.{IsLeastIn, IsLesser}
+use Rattle.administration.proofs.LeastNames.{least_in, least_more, least_passed}
 use Rattle.administration.proofs.WholeFiles.{no_directory_none, no_directory_at}
 use Rattle.administration.proofs.Within.{first_name, below_within, directory_within, within_is, outside_differs, directory_differs, one_more}
 
@@ -39,14 +41,29 @@ made_by p old a b x is none does =
     let here = ap (λ w. w p) e ∙ put_same old p p new_directory refl in
     record { target = (0o755, here); before = inr (none, here); rest = λ q ne. ap (λ w. w q) e ∙ put_other old p q new_directory ne }
 
--- one name more at which no directory stands
+-- one name more at which a directory stands, or none
+directory_here : (n : Option Node) (b : Bool) → b ≡ true → MatchBool b (IsDirectory n) (NoDirectory n) → IsDirectory n
+directory_here n true e is = is
+directory_here n false e is = absurd (true≢false (sym e))
+
 passed_here : (n : Option Node) (b : Bool) → b ≡ false → MatchBool b (IsDirectory n) (NoDirectory n) → NoDirectory n
 passed_here n true e is = absurd (true≢false e)
 passed_here n false e is = is
 
-pub passed_more : (w v : World) (d name : Path) (names : List Path) (b : Bool) → IsPassed w d names → v ≡ w → b ≡ false → MatchBool b (IsDirectory (v (d ++ 47 ∷ name))) (NoDirectory (v (d ++ 47 ∷ name))) → IsPassed w d (names ++ name ∷ [])
-passed_more w v d name names b before same e is = one_more (λ n. NoDirectory (w (d ++ 47 ∷ n))) names name before
+pub first_more : (w v : World) (d : Path) (names : List Path) (found : Option Path) (name lesser : Path) (b : Bool) → IsFirstDirectory w d names found → v ≡ w → b ≡ true → MatchBool b (IsDirectory (v (d ++ 47 ∷ name))) (NoDirectory (v (d ++ 47 ∷ name))) → IsLesser found name lesser → IsFirstDirectory w d (names ++ name ∷ []) (Some lesser)
+first_more w v d names found name lesser b before same e is least = least_more (λ n. IsDirectory (w (d ++ 47 ∷ n))) names found name lesser before
+    (subst (λ u. IsDirectory (u (d ++ 47 ∷ name))) same (directory_here (v (d ++ 47 ∷ name)) b e is)) least
+
+pub first_passed : (w v : World) (d : Path) (names : List Path) (found : Option Path) (name : Path) (b : Bool) → IsFirstDirectory w d names found → v ≡ w → b ≡ false → MatchBool b (IsDirectory (v (d ++ 47 ∷ name))) (NoDirectory (v (d ++ 47 ∷ name))) → IsFirstDirectory w d (names ++ name ∷ []) found
+first_passed w v d names found name b before same e is = least_passed (λ n. IsDirectory (w (d ++ 47 ∷ n))) names found name before
     (no_directory_at (w (d ++ 47 ∷ name)) (v (d ++ 47 ∷ name)) (ap (λ u. u (d ++ 47 ∷ name)) (sym same)) (passed_here (v (d ++ 47 ∷ name)) b e is))
+
+directory_stands : (n : Option Node) → IsDirectory n → IsSome n
+directory_stands None is = absurd (no_directory_none is)
+directory_stands (Some node) is = refl
+
+pub first_in : (w : World) (d : Path) (names : List Path) (bad : Bool) (name : Path) → bad ≡ false → IsListing w d names bad → IsFirstDirectory w d names (Some name) → IsLeastIn IsDirectory w d name
+first_in w d names bad name e listing first = least_in IsDirectory directory_stands w d names bad name e listing first
 
 -- removing one after another
 

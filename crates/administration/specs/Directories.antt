@@ -8,6 +8,7 @@ use Rattle.host_core.specs.declared.node.Node.{Node}
 use Rattle.host_core.specs.declared.node.Node.TheVariants.{Dir}
 use Rattle.administration.specs.Places.{is_within}
 use Rattle.administration.specs.Files.{NoDirectory, KeepsBeside}
+use Rattle.administration.specs.Least.{IsLeast, IsLeastIn}
 use Rattle.administration.specs.declared.directories.Standing.{Standing}
 use Rattle.administration.specs.declared.directories.Standing.TheVariants.{Nothing, Loose, Directory}
 use Rattle.administration.specs.declared.directories.Flatness.{Flatness}
@@ -47,16 +48,15 @@ pub record IsFlat (w : World) (directory : Path) (names : List Path) : Type 0 wh
   pub loose : IsPassed w directory names
   pub whole : (name : Path) → has_slash name ≡ false → IsSome (w (directory ++ 47 ∷ name)) → Contains names name
 
--- what was found in a directory: nothing against its flatness, a name that isn't text, or a directory in it
+-- what was found in a directory: nothing against its flatness, a name that isn't text, or the first directory in it
 abbrev pub HasFlatness : World → Path → Flatness → Type 0
 HasFlatness w directory (Flat names) = IsFlat w directory names
 HasFlatness w directory BadName = (name : Path) × (has_slash name ≡ false) × (IsUtf8 name → ⊥) × IsSome (w (directory ++ 47 ∷ name))
-HasFlatness w directory (Holds path) = (name : Path) × (has_slash name ≡ false) × (path ≡ directory ++ 47 ∷ name) × IsDirectory (w path)
+HasFlatness w directory (Holds path) = (name : Path) × (path ≡ directory ++ 47 ∷ name) × IsLeastIn IsDirectory w directory name
 
--- the same among some names
+-- the first of these names at which a directory stands
 abbrev pub IsFirstDirectory : World → Path → List Path → Option Path → Type 0
-IsFirstDirectory w directory names None = IsPassed w directory names
-IsFirstDirectory w directory names (Some path) = (name : Path) × Contains names name × (path ≡ directory ++ 47 ∷ name) × IsDirectory (w path)
+IsFirstDirectory w directory names found = IsLeast (λ name. IsDirectory (w (directory ++ 47 ∷ name))) names found
 
 -- some entries of a directory are gone, and these among them
 pub record IsEmptying (directory : Path) (taken : List Path) (old now : World) : Type 0 where

@@ -5,3 +5,4 @@ pub mod Files
 pub mod Directories
 pub mod Scripts
 pub mod Names
+pub mod Least

@@ -1,11 +1,12 @@
 // Directories of the administration: made where missing, and removed with the files in them.
-ghost use Rattle.std.specs.Prelude.{◌≡◌, ◌++◌, ◌∷◌, [], IsTrue, IfOk, OnOk, MatchBool};
+ghost use Rattle.std.specs.Prelude.{◌≡◌, ◌++◌, ◌∷◌, [], IsTrue, IfOk, OnOk, MatchBool, option_copied};
 ghost use Rattle.host_core.specs.World.{HasParent, IsDirectory, IsLoose, KeepsBut};
 ghost use Rattle.host_core.specs.Host.{HasCause, Same, Silent, Since};
 ghost use Rattle.administration.specs.Places.{is_within};
 ghost use Rattle.administration.specs.Files.{NoDirectory, IsDropped, IsDropping};
 ghost use Rattle.administration.specs.Directories.{IsMade, IsMaking, IsStanding, IsFlat, IsFirstDirectory, IsRemoved, HasFlatness, IsEmptying};
 
+use crate::least::lesser;
 use crate::whole::discard;
 use host_core::{Host, HostFault, Node, RootPath};
 use texts::{Text, Texts};
@@ -96,23 +97,24 @@ fn is_directory_in<H: Host>(
     }
 }
 
-// The first of these names at which a directory stands.
-fn first_directory<H: Host>(
+// Of these names the least at which a directory stands.
+fn first_directory<'a, H: Host>(
     host: &mut H,
     directory: &RootPath,
-    names: &[Text],
-) -> Result<Option<RootPath>, HostFault>
-    ensures found { IsTrue (H.state host.old).honest → IfOk result (IsFirstDirectory (H.state host.old).world directory.now names.now) }
+    names: &'a [Text],
+) -> Result<Option<&'a Text>, HostFault>
+    ensures found { IsTrue (H.state host.old).honest → IfOk result (λ found. IsFirstDirectory (H.state host.old).world directory.now names.entry.now (option_copied found)) }
     ensures same { IsTrue (H.state host.old).honest → Same (H.state host.old) (H.state host.new) }
     ensures silent { Silent (H.state host.old) (H.state host.new) }
     ensures cause { HasCause (H.state host.old) (H.state host.new) result }
 {
+    let mut first = None;
     for name in names {
         if is_directory_in(host, directory, name)? {
-            return Ok(Some(directory.child(name)?));
+            first = Some(lesser(first, name));
         }
     }
-    Ok(None)
+    Ok(first)
 }
 
 /// Looks into a directory.
@@ -127,8 +129,8 @@ pub fn inspect_flat<H: Host>(host: &mut H, directory: &RootPath) -> Result<Flatn
         return Ok(Flatness::BadName);
     }
     match first_directory(host, directory, listing.names.as_slice())? {
-        Some(path) => {
-            return Ok(Flatness::Holds(path));
+        Some(name) => {
+            return Ok(Flatness::Holds(directory.child(name)?));
         }
         None => {
             return Ok(Flatness::Flat(listing.names));

@@ -3,6 +3,7 @@
 
 mod directories;
 mod fault;
+mod least;
 mod names;
 mod places;
 mod scripts;
@@ -10,6 +11,7 @@ mod whole;
 
 pub use directories::{Flatness, Standing, inspect_flat, look, make_directory, remove_flat};
 pub use fault::AdministrationFault;
+pub use least::lesser;
 pub use names::is_package_name;
 pub use places::{
     diversions_path, home_path, info_path, list_path, script_path, status_path, tmp_path,

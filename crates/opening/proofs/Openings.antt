@@ -1,5 +1,5 @@
 -- How the opening of one part goes on to the next.
-use Rattle.std.proofs.Common.{◌≡◌, ◌⊎◌, inl, inr, ℕ, Bool, true, false, List, [], ◌∷◌, ◌++◌, Option, Some, None, IsSome, Contains, nat_eq, Result, Ok, Err, IfOk, IfErr, refl, sym, ap, subst, ◌∙◌, MatchBool}
+use Rattle.std.proofs.Common.{◌≡◌, ◌⊎◌, inl, inr, ℕ, Bool, true, false, List, [], ◌∷◌, ◌++◌, Option, Some, None, IsSome, nat_eq, Result, Ok, Err, IfOk, IfErr, refl, sym, ap, subst, ◌∙◌, MatchBool}
 use Rattle.std.specs.List.{AllByRecursion, list_any}
 use Rattle.std.specs.Str.{bytes_eq}
 use Rattle.std.proofs.lemmas.Slice.Eq.{bytes_eq-Decides}
@@ -21,6 +21,7 @@ use Rattle.administration.specs.declared.directories.Standing.{Standing}
 use Rattle.administration.specs.declared.directories.Standing.TheVariants.{Nothing, Loose}
 use Rattle.administration.specs.Fault.{fault_of}
 use Rattle.administration.specs.Files.{NoDirectory}
+use Rattle.administration.specs.Least.{IsLeast, IsLeastIn}
 use Rattle.administration.specs.declared.fault.AdministrationFault.{AdministrationFault}
 use Rattle.administration.specs.declared.fault.AdministrationFault.TheVariants.{Damaged, Device, NoMemory}
 use Rattle.administration.proofs.WholeFiles.{no_directory_none, no_directory_at, no_directory_file}
@@ -30,9 +31,8 @@ use Rattle.file_lists.proofs.Kept.{has_places_kept}
 use Rattle.status_db.specs.declared.record.Record.{Record}
 use Rattle.status_db.specs.Status.{HasRecords, IsFileOrNothing, IsStatusDamage, StandsFor}
 use Rattle.opening.specs.Opened.{IsOpened}
-use Rattle.opening.specs.Least.{IsLeastOf}
 use Rattle.opening.specs.Leaving.{IsOpening, IsNewWay, is_way}
-use Rattle.opening.specs.Parts.{Part, Way, Status, Spare, Updates, Info, Diversions, Leftovers, IsFine, IsFirstFault, IsDamage, IsWithoutDiversions, IsLeftoversFault, HasBadName, IsLeastIn, Finds, Opens, fault_in, names_of, parts}
+use Rattle.opening.specs.Parts.{Part, Way, Status, Spare, Updates, Info, Diversions, Leftovers, IsFine, IsFirstFault, IsDamage, IsWithoutDiversions, IsLeftoversFault, HasBadName, Finds, Opens, fault_in, names_of, parts}
 
 pub opening_start : (w : World) → IsOpening w w
 opening_start w q out = inl refl
@@ -240,22 +240,19 @@ on_false A false e holds = holds
 pub child_parent : (w : World) (front name : Path) → list_any (nat_eq 47) name ≡ false → IsDirectory (w front) → HasParent w (front ++ 47 ∷ name)
 child_parent w front name free is = (front, name, refl, (λ has. true≢false (sym (list_any-from_Contains nat_eq_equiv 47 name has) ∙ free)), is)
 
--- the least entry of a directory that has to be empty
+-- a directory that has to be empty
 
-listed_name : (w : World) (directory : Path) (names : List Path) (bad : Bool) → bad ≡ false → IsListing w directory names bad → (name : Path) → has_slash name ≡ false → IsSome (w (directory ++ 47 ∷ name)) → Contains names name
-listed_name w directory names bad e listing name plain there = elim (listing.whole name plain there) [
-  | inl has ↦ has
-  | inr odd ↦ absurd (true≢false (sym odd.1 ∙ e))
-]
+none_of : (n : Option Node) → (IsSome n → ⊥) → n ≡ None
+none_of None not = refl
+none_of (Some node) not = absurd (not refl)
 
-pub least_entry : (w : World) (directory : Path) (names : List Path) (bad : Bool) (name : Path) → bad ≡ false → IsListing w directory names bad → IsLeastOf names name → IsLeastIn w directory name
-least_entry w directory names bad name e listing least = record {
-  plain = (listing.there name least.among).0;
-  there = (listing.there name least.among).1;
-  least = λ other plain there. least.least other (listed_name w directory names bad e listing other plain there);
-}
+pub no_entry : (w : World) (directory : Path) (names : List Path) (bad : Bool) → bad ≡ false → IsListing w directory names bad → IsLeast (λ n. Unit {0}) names None → (name : Path) → has_slash name ≡ false → w (directory ++ 47 ∷ name) ≡ None
+no_entry w directory names bad e listing none name plain = none_of (w (directory ++ 47 ∷ name)) (λ some. elim (listing.whole name plain some) [
+  | inl has ↦ none name has tt
+  | inr odd ↦ true≢false (sym odd.1 ∙ e)
+])
 
-pub entry_damage : (w : World) (directory file : Path) (name : Path) (fault : AdministrationFault) → directory ≡ updates_path → file ≡ directory ++ 47 ∷ name → fault ≡ Damaged file 0 → IsLeastIn w updates_path name → IsDamage (Updates ∷ []) w fault
+pub entry_damage : (w : World) (directory file : Path) (name : Path) (fault : AdministrationFault) → directory ≡ updates_path → file ≡ directory ++ 47 ∷ name → fault ≡ Damaged file 0 → IsLeastIn IsSome w updates_path name → IsDamage (Updates ∷ []) w fault
 entry_damage w directory file name fault place path is least = subst (IsDamage (Updates ∷ []) w) (sym is) (inl (refl, inr (name, path ∙ ap (λ d. d ++ 47 ∷ name) place, least)))
 
 -- what is known before later parts are opened stays

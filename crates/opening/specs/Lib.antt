@@ -1,4 +1,3 @@
 pub mod Leaving
-pub mod Least
 pub mod Parts
 pub mod Opened

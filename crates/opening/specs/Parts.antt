@@ -1,8 +1,6 @@
 -- The parts of the administration in the order in which they are read, and what is wrong with one that can't be.
 use Rattle.std.specs.Prelude.{◌≡◌, ◌⊎◌, ℕ, false, List, [], ◌∷◌, ◌++◌, Option, Some, None, IsSome, map, Result, Ok, Err}
 use Rattle.std.specs.List.{AllByRecursion}
-use Rattle.std.specs.Ordering.{nat_cmp, is_lt}
-use Rattle.std.specs.Cmp.Lexicographic.{slice_cmp}
 use Rattle.std.specs.Str.{IsUtf8}
 use Rattle.host_core.specs.Paths.{Path}
 use Rattle.host_core.specs.Host.{State, Since}
@@ -12,6 +10,7 @@ use Rattle.host_core.specs.declared.node.Node.{Node}
 use Rattle.host_core.specs.declared.node.Node.TheVariants.{File, Dir, Link}
 use Rattle.administration.specs.Places.{home_path, info_path, status_path, diversions_path, updates_path, tmp_path, temporary}
 use Rattle.administration.specs.Files.{NoDirectory}
+use Rattle.administration.specs.Least.{IsLeastIn}
 use Rattle.administration.specs.declared.fault.AdministrationFault.{AdministrationFault}
 use Rattle.administration.specs.declared.fault.AdministrationFault.TheVariants.{Damaged, Device, NoMemory}
 use Rattle.file_lists.specs.Info.{IsInfoDamage, AreLoose}
@@ -61,19 +60,13 @@ IsFine w Info = AreLoose w
 IsFine w Diversions = IsWithoutDiversions (w diversions_path)
 IsFine w Leftovers = w tmp_path ≡ None
 
--- the least name of what stands in a directory, where all names are text
-pub record IsLeastIn (w : World) (directory : Path) (name : Path) : Type 0 where
-  pub plain : has_slash name ≡ false
-  pub there : IsSome (w (directory ++ 47 ∷ name))
-  pub least : (other : Path) → has_slash other ≡ false → IsSome (w (directory ++ 47 ∷ other)) → is_lt (slice_cmp nat_cmp other name) ≡ false
-
 -- a name in a directory isn't text
 abbrev pub HasBadName : World → Path → Type 0
 HasBadName w directory = (name : Path) × (has_slash name ≡ false) × (IsUtf8 name → ⊥) × IsSome (w (directory ++ 47 ∷ name))
 
 -- an entry of a directory that has to be empty: the first; the directory itself where a name isn't text
 abbrev pub IsEntryFault : World → Path → Path → Type 0
-IsEntryFault w directory file = ((file ≡ directory) × HasBadName w directory) ⊎ ((name : Path) × (file ≡ directory ++ 47 ∷ name) × IsLeastIn w directory name)
+IsEntryFault w directory file = ((file ≡ directory) × HasBadName w directory) ⊎ ((name : Path) × (file ≡ directory ++ 47 ∷ name) × IsLeastIn IsSome w directory name)
 
 -- diversions aren't carried out yet: the first line of a file that isn't empty; line 0 where it is no file
 abbrev pub IsDiversionsFault : Option Node → ℕ → Type 0
@@ -82,10 +75,10 @@ IsDiversionsFault (Some (File bytes mode)) line = (bytes ≡ [] → ⊥) × (lin
 IsDiversionsFault (Some (Dir mode)) line = line ≡ 0
 IsDiversionsFault (Some (Link target)) line = line ≡ 0
 
--- `tmp.ci` is no directory, or has one in it or a name that isn't text
+-- `tmp.ci` is no directory, has a name in it that isn't text, or a directory, of which the first is told
 abbrev pub IsLeftoversFault : World → Path → Type 0
 IsLeftoversFault w file =
-    ((file ≡ tmp_path) × (IsLoose (w tmp_path) ⊎ HasBadName w tmp_path)) ⊎ ((name : Path) × (has_slash name ≡ false) × (file ≡ tmp_path ++ 47 ∷ name) × IsDirectory (w file))
+    ((file ≡ tmp_path) × (IsLoose (w tmp_path) ⊎ HasBadName w tmp_path)) ⊎ ((name : Path) × (file ≡ tmp_path ++ 47 ∷ name) × IsLeastIn IsDirectory w tmp_path name)
 
 -- a part that can't be read, by the file and the line that are told
 abbrev pub IsFaulty : World → Part → Path → ℕ → Type 0

@@ -1,42 +1,23 @@
 // Noted records: none are carried out yet, so that the directory has to be empty.
 ghost use Rattle.std.specs.Prelude.{◌≡◌, ◌∷◌, [], IsTrue, Some, option_copied};
-ghost use Rattle.std.specs.Ordering.{nat_cmp, is_lt};
-ghost use Rattle.std.specs.Cmp.Lexicographic.{slice_cmp};
 ghost use Rattle.host_core.specs.Host.{Silent};
 ghost use Rattle.host_core.specs.Tree.{IsListing};
 ghost use Rattle.host_core.specs.World.{World, IsDirectory};
 ghost use Rattle.administration.specs.Fault.{HasAdministrationCause};
 ghost use Rattle.administration.specs.declared.fault.AdministrationFault.TheVariants.{Device};
+ghost use Rattle.administration.specs.Least.{IsLeast};
 ghost use Rattle.administration.specs.Places.{home_path, updates_path};
-ghost use Rattle.opening.specs.Least.{IsLeast, IsLesser};
 ghost use Rattle.opening.specs.Parts.{Way, Updates, Finds, Opens, fault_in};
 
 use crate::ways::{damaged, make_way};
-use administration::{AdministrationFault, updates_path};
+use administration::{AdministrationFault, lesser, updates_path};
 use host_core::{Host, Listing, RootPath};
 use std::alloc::Global;
-use std::cmp::Ordering;
 use texts::Text;
-
-fn is_less(name: &Text, other: &Text) -> bool
-    ensures { result ≡ is_lt (slice_cmp nat_cmp name.now other.now) }
-{
-    name.as_str().as_bytes().cmp(other.as_str().as_bytes()) == Ordering::Less
-}
-
-// Of the name that was found and another the one that is before.
-fn lesser<'a>(found: Option<&'a Text>, name: &'a Text) -> &'a Text
-    ensures { IsLesser (option_copied found.entry) name.entry.now result.now }
-{
-    match found {
-        Some(least) if !is_less(name, least) => least,
-        _ => name,
-    }
-}
 
 // The least of these names.
 fn least(names: &[Text]) -> Option<&Text>
-    ensures { IsLeast names.now (option_copied result) }
+    ensures { IsLeast (λ _. Unit {0}) names.now (option_copied result) }
 {
     let mut least = None;
     for name in names {
