@@ -1,5 +1,5 @@
 -- What was read for words stays so where what stands behind them was known before.
-use Rattle.std.proofs.Common.{◌≡◌, ◌⊎◌, ◌++◌, ◌∷◌, [], ℕ, List, Result, inl, inr, subst, sym}
+use Rattle.std.proofs.Common.{◌≡◌, ◌++◌, ◌∷◌, [], ℕ, List, Result, inl, inr, subst, sym}
 use Rattle.std.specs.List.{All}
 use Rattle.std.proofs.lemmas.List.Elements.{All-push, All-weaker}
 use Rattle.host_core.specs.Host.{State}
@@ -7,7 +7,7 @@ use Rattle.package_tree.specs.declared.fault.TreeFault.{TreeFault}
 use Rattle.package_tree.specs.declared.package.Package.{Package}
 use Rattle.dpkg_session.specs.declared.report.Candidate.{Candidate}
 use Rattle.dpkg_session.specs.declared.report.Report.{Report}
-use Rattle.command_line.specs.Unpacks.{Behind, HasRunTrees, IsLabelled, IsReadFor, IsReading, IsUnpackedOn}
+use Rattle.command_line.specs.Unpacks.{Behind, IsLabelled, IsReadFor, IsUnpackedOn}
 
 -- whatever stood behind a word later stood behind it before
 abbrev pub Stayed : Behind → Behind → Type 0
