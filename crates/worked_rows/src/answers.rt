@@ -1,16 +1,25 @@
-// The answer of the program to words, as one text.
+// What the crates answer, each answer as one text, and in the modules below the rows that it is to equal.
+mod control_rows;
+mod memory_hosts;
+mod path_rows;
+mod real_rows;
+mod relation_rows;
+mod version_rows;
+
 use command_line::{Hosts, run_words};
+use control_fields::{Paragraph, read_one, read_paragraphs, write_paragraph};
+use relation_fields::{Form, Provided, Provides, Relations};
 use std::alloc::{AllocError, Global};
 use std::process::Abort;
 use std::str;
 
-/// Stops the test where the answer isn't the row's.
-pub(crate) fn expect(rt: &impl Abort, answer: &str, row: &str) {
+// Stops the test where the answer isn't the row's.
+fn expect(rt: &impl Abort, answer: &str, row: &str) {
     assert_eq!(rt; answer, row);
 }
 
-/// What stands in bytes that are to be text.
-pub(crate) fn text_of(bytes: &[u8]) -> &str {
+// What stands in bytes that are to be text.
+fn text_of(bytes: &[u8]) -> &str {
     str::from_utf8(bytes).unwrap_or("bytes that are no text")
 }
 
@@ -23,13 +32,9 @@ fn words_of(alloc: Global, line: &str) -> Result<Vec<String>, AllocError> {
     Ok(words)
 }
 
-/// What the program answers to a line of words, the first of which is its name: its output, behind the first bar what
-/// it writes to standard error, and behind the second its status.
-pub(crate) fn answer<S: Hosts>(
-    alloc: Global,
-    hosts: &mut S,
-    line: &str,
-) -> Result<String, AllocError> {
+// What the program answers to a line of words, the first of which is its name: its output, behind the first bar what
+// it writes to standard error, and behind the second its status.
+fn answer<S: Hosts>(alloc: Global, hosts: &mut S, line: &str) -> Result<String, AllocError> {
     let words = words_of(alloc, line)?;
     let mut out = Vec::new(alloc);
     let mut err = Vec::new(alloc);
@@ -37,4 +42,84 @@ pub(crate) fn answer<S: Hosts>(
     let out = text_of(out.as_slice());
     let err = text_of(err.as_slice());
     format!(in alloc; "{out}|{err}|{status}\n")
+}
+
+// The paragraphs as they are written, each behind a line of its own.
+fn written(alloc: Global, paragraphs: &[Paragraph]) -> Result<String, AllocError> {
+    let mut text = String::new(alloc);
+    for paragraph in paragraphs {
+        text.push_str("paragraph\n")?;
+        match write_paragraph(alloc, paragraph) {
+            Ok(bytes) => text.push_str(text_of(bytes.as_slice()))?,
+            Err(fault) => text.push_str(format!(in alloc; "{fault:?}")?.as_str())?,
+        }
+    }
+    Ok(text)
+}
+
+// Control text as it is read and written.
+fn read_control(alloc: Global, bytes: &[u8]) -> Result<String, AllocError> {
+    match read_paragraphs(alloc, bytes) {
+        Ok(paragraphs) => written(alloc, paragraphs.as_slice()),
+        Err(fault) => format!(in alloc; "{fault:?}"),
+    }
+}
+
+fn package_in(paragraph: &Paragraph) -> &str {
+    match paragraph.get(b"package") {
+        Some(field) => text_of(field.first.as_slice()),
+        None => "no package",
+    }
+}
+
+// What a text that is to be one paragraph says of its package.
+fn package_of(alloc: Global, bytes: &[u8]) -> Result<String, AllocError> {
+    match read_one(alloc, bytes) {
+        Ok(paragraph) => String::from_str(alloc, package_in(&paragraph.copy()?)),
+        Err(fault) => format!(in alloc; "{fault:?}"),
+    }
+}
+
+// The clauses of a copy, a line for each.
+fn printed(alloc: Global, relations: &Relations) -> Result<String, AllocError> {
+    let mut text = String::new(alloc);
+    for clause in relations.copy()?.clauses() {
+        text.push_str(clause.copy()?.printed()?.as_str())?;
+        text.push_str("\n")?;
+    }
+    Ok(text)
+}
+
+// A relation field as it is read and printed.
+fn read_field(alloc: Global, field: &str, form: Form) -> Result<String, AllocError> {
+    match Relations::read(alloc, field.as_bytes(), form) {
+        Ok(relations) => printed(alloc, &relations),
+        Err(fault) => format!(in alloc; "{fault:?}"),
+    }
+}
+
+fn push_entry(text: &mut String, entry: &Provided) -> Result<(), AllocError> {
+    text.push_str(entry.name.as_str())?;
+    if let Some(version) = &entry.version {
+        text.push_str(" ")?;
+        text.push_str(version.text())?;
+    }
+    text.push_str("\n")
+}
+
+// The entries of a copy, a line for each.
+fn entries(alloc: Global, provides: &Provides) -> Result<String, AllocError> {
+    let mut text = String::new(alloc);
+    for entry in provides.copy()?.entries() {
+        push_entry(&mut text, &entry.copy()?)?;
+    }
+    Ok(text)
+}
+
+// A Provides field as it is read.
+fn read_provides(alloc: Global, field: &str) -> Result<String, AllocError> {
+    match Provides::read(alloc, field.as_bytes()) {
+        Ok(provides) => entries(alloc, &provides),
+        Err(fault) => format!(in alloc; "{fault:?}"),
+    }
 }

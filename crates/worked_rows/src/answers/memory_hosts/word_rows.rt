@@ -1,7 +1,5 @@
 // What words ask for: the names of the subcommands, comparisons of versions, and faults of usage.
-use crate::answers::answer;
-use crate::memory_hosts::{check, hosts};
-use std::alloc::{AllocError, Global};
+use super::{check, is_usage, worded};
 use std::test::Fail;
 
 const COMPARISONS: &[&str] = &[
@@ -37,15 +35,6 @@ fn no_words_name_the_subcommands(rt: HostRuntime) -> Result<(), Fail> {
 fn versions_are_compared(rt: HostRuntime) -> Result<(), Fail> {
     let row = "||0\n||0\n||0\n||0\n||0\n||1\n|bad version 1-: EmptyPart\n|2\n||||||";
     check(&rt, &[], &[], COMPARISONS, row)
-}
-
-pub(crate) fn worded(alloc: Global, line: &str) -> Result<String, AllocError> {
-    answer(alloc, &mut hosts(alloc, &[], &[])?, line)
-}
-
-// Nothing on standard output, the usage on standard error, and status 2.
-pub(crate) fn is_usage(text: &str) -> bool {
-    text.starts_with("|error: ") && text.contains("Usage: dpkg_cli") && text.ends_with("\n|2\n")
 }
 
 #[test]

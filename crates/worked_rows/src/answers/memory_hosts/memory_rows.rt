@@ -1,10 +1,11 @@
 // The same answers where an allocation is refused, which scripts/refused_memory does at each one in turn: in place of
 // the row only a want of memory may come. Where the test's own memory is refused, there is no answer.
-use crate::control_rows::{ONE_PARAGRAPH_ROWS, ROWS, package_of, read};
-use crate::memory_hosts::{TreeFile, hosts};
-use crate::relation_rows::{FIELD_ROWS, PROVIDES_ROWS, read_field, read_provides};
-use crate::unpack_rows::{DAMAGING, REFUSALS, TREES, WITH_POSTRM, WITH_PREINST};
-use crate::word_rows::{FAULTS, is_usage, worded};
+use super::unpack_rows::{DAMAGING, REFUSALS, TREES, WITH_POSTRM, WITH_PREINST};
+use super::word_rows::FAULTS;
+use super::{TreeFile, hosts, is_usage, worded};
+use crate::answers::control_rows::{ONE_PARAGRAPH_ROWS, ROWS};
+use crate::answers::relation_rows::{FIELD_ROWS, PROVIDES_ROWS};
+use crate::answers::{package_of, read_control, read_field, read_provides};
 use host_core::Outcome;
 use relation_fields::Form;
 use std::alloc::{AllocError, Global};
@@ -214,7 +215,7 @@ fn check_reading(rt: &impl Abort, told: &Result<String, AllocError>, row: &str) 
 #[test]
 fn control_text_is_read_and_written(rt: HostRuntime) {
     for (bytes, row) in ROWS {
-        check_reading(&rt, &read(rt.alloc(), bytes), row);
+        check_reading(&rt, &read_control(rt.alloc(), bytes), row);
     }
 }
 

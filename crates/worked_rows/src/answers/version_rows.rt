@@ -1,5 +1,5 @@
 // Versions: which texts are read, and the order of long ones.
-use crate::answers::expect;
+use super::expect;
 use std::alloc::{AllocError, Global};
 use std::test::Fail;
 use version_order::Version;

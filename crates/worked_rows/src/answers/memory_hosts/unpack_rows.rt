@@ -1,5 +1,5 @@
 // Unpacks over a root in memory: the answers, and what is left.
-use crate::memory_hosts::{TreeFile, check};
+use super::{TreeFile, check};
 use host_core::Outcome;
 use std::test::Fail;
 

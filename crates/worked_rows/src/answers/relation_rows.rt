@@ -1,6 +1,6 @@
 // Relation fields: what is read of them, how they are printed, and which packages their clauses admit.
-use crate::answers::expect;
-use relation_fields::{Form, Offer, Provided, Provides, RelationFault, Relations};
+use super::{expect, read_field, read_provides};
+use relation_fields::{Form, Offer, Provides, Relations};
 use std::alloc::{AllocError, Global};
 use std::test::Fail;
 use version_order::Version;
@@ -35,52 +35,6 @@ const ADMISSION_ROWS: &[(&str, &str, &str)] = &[
     ("web, web (= 2), bravo | web", "web", "yes no yes "),
     ("web (>= 2), web (>> 2), web", "web (= 2)", "yes no yes "),
 ];
-
-fn fault_text(alloc: Global, fault: RelationFault) -> Result<String, AllocError> {
-    format!(in alloc; "{fault:?}")
-}
-
-// The clauses of a copy, a line for each.
-fn printed(alloc: Global, relations: &Relations) -> Result<String, AllocError> {
-    let mut text = String::new(alloc);
-    for clause in relations.copy()?.clauses() {
-        text.push_str(clause.copy()?.printed()?.as_str())?;
-        text.push_str("\n")?;
-    }
-    Ok(text)
-}
-
-pub(crate) fn read_field(alloc: Global, field: &str, form: Form) -> Result<String, AllocError> {
-    match Relations::read(alloc, field.as_bytes(), form) {
-        Ok(relations) => printed(alloc, &relations),
-        Err(fault) => fault_text(alloc, fault),
-    }
-}
-
-fn push_entry(text: &mut String, entry: &Provided) -> Result<(), AllocError> {
-    text.push_str(entry.name.as_str())?;
-    if let Some(version) = &entry.version {
-        text.push_str(" ")?;
-        text.push_str(version.text())?;
-    }
-    text.push_str("\n")
-}
-
-// The entries of a copy, a line for each.
-fn entries(alloc: Global, provides: &Provides) -> Result<String, AllocError> {
-    let mut text = String::new(alloc);
-    for entry in provides.copy()?.entries() {
-        push_entry(&mut text, &entry.copy()?)?;
-    }
-    Ok(text)
-}
-
-pub(crate) fn read_provides(alloc: Global, field: &str) -> Result<String, AllocError> {
-    match Provides::read(alloc, field.as_bytes()) {
-        Ok(provides) => entries(alloc, &provides),
-        Err(fault) => fault_text(alloc, fault),
-    }
-}
 
 fn admitted(alloc: Global, relations: &Relations, offer: &Offer) -> Result<String, AllocError> {
     let mut text = String::new(alloc);

@@ -1,8 +1,12 @@
-// A root and trees in memory.
+// A root and trees in memory, and in the modules below what is answered over them.
 ghost use Rattle.std.specs.Prelude.{◌≡◌, IsTrue, Some, option_map};
 ghost use Rattle.host_memory.specs.Memory.{memory_state};
 
-use crate::answers::{answer, expect, text_of};
+mod memory_rows;
+mod unpack_rows;
+mod word_rows;
+
+use super::{answer, expect, text_of};
 use command_line::Hosts;
 use host_core::{Host, HostFault, Node, Outcome, RootPath};
 use host_memory::{MemoryHost, Planned};
@@ -11,12 +15,12 @@ use std::process::Abort;
 use std::test::Fail;
 use texts::{Bytes, Text};
 
-/// A file of a tree: the word that names the tree, the path under it, and what stands there.
-pub(crate) type TreeFile = (&'static str, &'static str, &'static str);
+// A file of a tree: the word that names the tree, the path under it, and what stands there.
+type TreeFile = (&'static str, &'static str, &'static str);
 
-/// A root that goes from one command to the next, and trees that are made each time they are opened.
+// A root that goes from one command to the next, and trees that are made each time they are opened.
 #[derive(Drop)]
-pub(crate) struct MemoryHosts {
+struct MemoryHosts {
     alloc: Global,
     root: Option<MemoryHost>,
     trees: &'static [TreeFile],
@@ -58,8 +62,8 @@ fn planned(alloc: Global, outcome: Outcome) -> Result<Planned, AllocError> {
     Ok(planned)
 }
 
-/// An empty root whose calls end as told, and then with status 0.
-pub(crate) fn hosts(
+// An empty root whose calls end as told, and then with status 0.
+fn hosts(
     alloc: Global,
     trees: &'static [TreeFile],
     outcomes: &[Outcome],
@@ -135,11 +139,11 @@ const LEFT: &[&str] = &[
 ];
 
 impl MemoryHosts {
-    pub(crate) fn has_root(&self) -> bool {
+    fn has_root(&self) -> bool {
         self.root.is_some()
     }
 
-    /// What is left under the root. A list that is missing is that of the root alone.
+    // What is left under the root. A list that is missing is that of the root alone.
     fn left(&mut self) -> Result<String, AllocError> {
         match &mut self.root {
             Some(host) => left_in(self.alloc, host),
@@ -155,8 +159,8 @@ impl MemoryHosts {
         Ok(())
     }
 
-    /// Adds the answer to a line of words; a line that begins with `write` is the administrator's.
-    pub(crate) fn step(&mut self, line: &str, text: &mut String) -> Result<(), AllocError> {
+    // Adds the answer to a line of words; a line that begins with `write` is the administrator's.
+    fn step(&mut self, line: &str, text: &mut String) -> Result<(), AllocError> {
         match line.strip_prefix("write ") {
             Some(words) => self.write(words),
             None => text.push_str(answer(self.alloc, self, line)?.as_str()),
@@ -180,8 +184,8 @@ fn told(
     Ok(text)
 }
 
-/// Stops the test where the answers to lines of words, and what is left then, aren't the row's.
-pub(crate) fn check(
+// Stops the test where the answers to lines of words, and what is left then, aren't the row's.
+fn check(
     rt: &(impl Abort + AllocGlobal),
     trees: &'static [TreeFile],
     outcomes: &[Outcome],
@@ -190,6 +194,16 @@ pub(crate) fn check(
 ) -> Result<(), Fail> {
     expect(rt, told(rt.alloc(), trees, outcomes, lines)?.as_str(), row);
     Ok(())
+}
+
+// The answer over an empty root.
+fn worded(alloc: Global, line: &str) -> Result<String, AllocError> {
+    answer(alloc, &mut hosts(alloc, &[], &[])?, line)
+}
+
+// Nothing on standard output, the usage on standard error, and status 2.
+fn is_usage(text: &str) -> bool {
+    text.starts_with("|error: ") && text.contains("Usage: dpkg_cli") && text.ends_with("\n|2\n")
 }
 
 impl Hosts for MemoryHosts {

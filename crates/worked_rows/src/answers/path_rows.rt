@@ -1,5 +1,5 @@
 // Texts as paths under the root, and as paths that a package may ship.
-use crate::answers::expect;
+use super::expect;
 use host_core::{RootPath, ShipPath};
 use std::alloc::{AllocError, Global};
 use std::test::Fail;
