@@ -1,6 +1,6 @@
 // The command line, as clap's commands and arguments.
-ghost use Rattle.std.specs.Prelude.{◌≡◌, IfOk, false};
-ghost use Rattle.clap.specs.Words.{app_of};
+ghost use Rattle.std.specs.Prelude.{◌≡◌, IfOk, codes, false};
+ghost use Rattle.clap.specs.Words.{app_of, new_app, with_subcommand};
 ghost use Rattle.clap.specs.declared.builder.command.Command.TheViews.{out-Command as fields_of};
 ghost use Rattle.command_words.specs.Commands.{AddsRule, compare_versions_app, root_rule, trees_rule, unpack_app, whole_app, without_help, word_rule};
 
@@ -65,13 +65,18 @@ fn without_help<'a>(command: Command<'a>) -> Command<'a>
         .disable_help_subcommand(true)
 }
 
+// The program's command with its first subcommand.
+fn comparing_command<'a>(alloc: Global) -> Result<Command<'a>, AllocError>
+    ensures { IfOk result (λ c. app_of c ≡ with_subcommand (without_help (new_app (codes "dpkg_cli"))) compare_versions_app.top) }
+{
+    let compare_versions = compare_versions_command(alloc)?;
+    without_help(Command::new(alloc, "dpkg_cli")).subcommand(compare_versions)
+}
+
 /// The program's command with its subcommands.
 pub(crate) fn whole_command<'a>(alloc: Global) -> Result<Command<'a>, AllocError>
     ensures { IfOk result (λ c. app_of c ≡ whole_app) }
 {
-    let compare_versions = compare_versions_command(alloc)?;
     let unpack = unpack_command(alloc)?;
-    without_help(Command::new(alloc, "dpkg_cli"))
-        .subcommand(compare_versions)?
-        .subcommand(unpack)
+    comparing_command(alloc)?.subcommand(unpack)
 }

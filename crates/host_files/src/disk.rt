@@ -1,5 +1,5 @@
 // What stands at one of the system's paths. No function here follows a link at the path's end.
-ghost use Rattle.std.specs.Prelude.{◌≡◌, ◌↔◌, IsTrue};
+ghost use Rattle.std.specs.Prelude.{◌≡◌, ◌↔◌, IfErr, IsTrue};
 ghost use Rattle.host_files.specs.Entries.{permissions_of, IsAbsence};
 
 use std::fs::Metadata;
@@ -19,7 +19,10 @@ fn is_absent(error: &Error) -> bool
         || error.raw_os_error() == Some(NAME_TOO_LONG)
 }
 
-pub(crate) fn stat(rt: &HostRuntime, place: &str) -> io::Result<Option<Metadata>> {
+/// What the system tells of the place; nothing where nothing stands.
+pub(crate) fn stat(rt: &HostRuntime, place: &str) -> io::Result<Option<Metadata>>
+    ensures { IfErr result (λ error. IsAbsence error → ⊥) }
+{
     match fs::symlink_metadata(rt, place) {
         Ok(found) => Ok(Some(found)),
         Err(error) if is_absent(&error) => Ok(None),
@@ -27,14 +30,20 @@ pub(crate) fn stat(rt: &HostRuntime, place: &str) -> io::Result<Option<Metadata>
     }
 }
 
-pub(crate) fn is_directory(rt: &HostRuntime, place: &str) -> io::Result<bool> {
+/// Whether a directory stands at the place.
+pub(crate) fn is_directory(rt: &HostRuntime, place: &str) -> io::Result<bool>
+    ensures { IfErr result (λ error. IsAbsence error → ⊥) }
+{
     match stat(rt, place)? {
         Some(found) => Ok(found.is_dir()),
         None => Ok(false),
     }
 }
 
-pub(crate) fn is_file(rt: &HostRuntime, place: &str) -> io::Result<bool> {
+/// Whether a file stands at the place.
+pub(crate) fn is_file(rt: &HostRuntime, place: &str) -> io::Result<bool>
+    ensures { IfErr result (λ error. IsAbsence error → ⊥) }
+{
     match stat(rt, place)? {
         Some(found) => Ok(found.is_file()),
         None => Ok(false),

@@ -1,8 +1,17 @@
 // The host over a real directory.
+ghost use Rattle.std.specs.Prelude.{◌≡◌, OnOk};
+ghost use Rattle.host_files.specs.Entries.{permissions_of};
+
+use crate::command::{command_of, is_start_error, outcome_of};
+use crate::disk::{is_file, mode_of, stat};
 use crate::fault::fault_of;
+use crate::looking::{listing_at, node_at};
 use crate::root::Root;
-use crate::{changing, looking, starting};
 use host_core::{Call, Host, HostFault, Keep, Listing, Node, Outcome, RootPath};
+use std::fs::{DirBuilder, Metadata, OpenFile, OpenOptions, Permissions};
+use std::io::{Error, ErrorKind, Write};
+use std::os::unix::fs::{DirBuilderExt, OpenOptionsExt, PermissionsExt};
+use std::process::{Command, Stdio};
 use std::{fs, io};
 
 /// A call that was made, and how it ended.
@@ -29,7 +38,42 @@ fn check_directory(rt: &HostRuntime, directory: &str) -> io::Result<()> {
     if fs::metadata(rt, directory)?.is_dir() {
         Ok(())
     } else {
-        Err(io::Error::from(io::ErrorKind::NotADirectory))
+        Err(Error::from(ErrorKind::NotADirectory))
+    }
+}
+
+// The system leaves out the bit for the group where the user isn't of that group.
+fn check_mode(found: &Metadata, mode: u16) -> io::Result<()>
+    ensures { OnOk result (permissions_of found.now ≡ mode) }
+{
+    if mode_of(found) == mode {
+        Ok(())
+    } else {
+        Err(Error::from(ErrorKind::PermissionDenied))
+    }
+}
+
+// The mode is set last: the umask narrows it at first, and a write takes bits away.
+fn write_bytes(rt: &HostRuntime, place: &str, bytes: &[u8], mode: u16) -> io::Result<()> {
+    let mut file = OpenOptions::new()
+        .write(true)
+        .create_new(true)
+        .mode(0o600)
+        .open(rt, place)?;
+    file.write_all(bytes)?;
+    file.set_permissions(Permissions::from_mode(u32::from(mode)))?;
+    check_mode(&file.metadata()?, mode)
+}
+
+// The empty input is opened here: that it is missing would read as a missing script.
+fn wait_for(rt: &HostRuntime, command: &mut Command) -> io::Result<Outcome> {
+    command.stdin(Stdio::from(fs::open(rt, "/dev/null")?));
+    command.stdout(Stdio::inherit());
+    command.stderr(Stdio::inherit());
+    match command.spawn(rt) {
+        Ok(mut child) => Ok(outcome_of(&child.wait()?)),
+        Err(error) if is_start_error(&error) => Ok(Outcome::NotStarted),
+        Err(error) => Err(error),
     }
 }
 
@@ -128,6 +172,87 @@ impl FilesHost {
     }
 }
 
+// The steps of the device, and the start of a script. All memory that one takes is taken before its change.
+impl FilesHost {
+    ghost use Rattle.std.specs.Prelude.{◌≡◌, IfOk, OnOk, string_bytes};
+    ghost use Rattle.host_core.specs.World.{IsFile};
+    ghost use Rattle.host_files.specs.Places.{place_of};
+
+    // The place of a step: the names above it are those of directories, and of no link.
+    fn place_of_step(&self, path: &RootPath) -> io::Result<String>
+        ensures { IfOk result (λ place. string_bytes place ≡ place_of (string_bytes self.now.root.front) path.now) }
+    {
+        if self.root.reaches(&self.rt, path)? {
+            Ok(self.root.place(path)?)
+        } else {
+            Err(Error::from(ErrorKind::NotADirectory))
+        }
+    }
+
+    // Writes a file where nothing stands.
+    fn write_file(&self, path: &RootPath, node: &Node) -> io::Result<()>
+        ensures { OnOk result (IsFile node.now) }
+    {
+        let Node::File { bytes, mode } = node else {
+            return Err(Error::from(ErrorKind::InvalidInput));
+        };
+        let place = self.place_of_step(path)?;
+        write_bytes(&self.rt, place.as_str(), bytes.as_slice(), *mode)
+    }
+
+    // Makes a directory where nothing stands.
+    fn make_directory(&self, path: &RootPath, mode: u16) -> io::Result<()> {
+        let place = self.place_of_step(path)?;
+        let place = place.as_str();
+        DirBuilder::new().mode(0o700).create(&self.rt, place)?;
+        fs::set_permissions(&self.rt, place, Permissions::from_mode(u32::from(mode)))?;
+        check_mode(&fs::symlink_metadata(&self.rt, place)?, mode)
+    }
+
+    // Moves a file or link over a file, a link or nothing.
+    fn move_over(&self, from: &RootPath, to: &RootPath) -> io::Result<()> {
+        let from = self.place_of_step(from)?;
+        let to = self.place_of_step(to)?;
+        match stat(&self.rt, from.as_str())? {
+            Some(found) if found.is_dir() => Err(Error::from(ErrorKind::IsADirectory)),
+            _ => fs::rename(&self.rt, from.as_str(), to.as_str()),
+        }
+    }
+
+    // Removes a file or link.
+    fn unlink(&self, path: &RootPath) -> io::Result<()> {
+        let place = self.place_of_step(path)?;
+        fs::remove_file(&self.rt, place.as_str())
+    }
+
+    // Removes a directory that has no entries.
+    fn unlink_directory(&self, path: &RootPath) -> io::Result<()> {
+        let place = self.place_of_step(path)?;
+        fs::remove_dir(&self.rt, place.as_str())
+    }
+
+    // Whether a file stands at the path, and the directory can be worked in: a start that fails for want
+    // of the directory would read as one for want of the script.
+    fn can_start(&self, at: &RootPath) -> io::Result<bool> {
+        let directory = RootPath::from_str(self.rt.alloc(), "/.")?;
+        fs::metadata(&self.rt, self.root.place(&directory)?)?;
+        if !self.root.reaches(&self.rt, at)? {
+            return Ok(false);
+        }
+        let place = self.root.place(at)?;
+        is_file(&self.rt, place.as_str())
+    }
+
+    // Starts the script of a call and waits for its end.
+    fn start(&self, call: &Call) -> io::Result<Outcome> {
+        let mut command = command_of(self.rt.alloc(), &self.root, call)?;
+        if !self.can_start(&call.at)? {
+            return Ok(Outcome::NotStarted);
+        }
+        wait_for(&self.rt, &mut command)
+    }
+}
+
 impl Host for FilesHost {
     ghost use Rattle.host_files.specs.FilesState.{files_state, files_tree};
 
@@ -137,43 +262,43 @@ impl Host for FilesHost {
 
     fn node(&mut self, path: &RootPath) -> Result<Option<Node>, HostFault> {
         self.guard()?;
-        let found = looking::node_at(&self.rt, &self.root, path);
+        let found = node_at(&self.rt, &self.root, path);
         self.settle(found)
     }
 
     fn list(&mut self, path: &RootPath) -> Result<Listing, HostFault> {
         self.guard()?;
-        let found = looking::listing_at(&self.rt, &self.root, path);
+        let found = listing_at(&self.rt, &self.root, path);
         self.settle(found)
     }
 
     fn write_new(&mut self, path: &RootPath, node: &Node) -> Result<(), HostFault> {
         self.guard()?;
-        let done = changing::write_new(&self.rt, &self.root, path, node);
+        let done = self.write_file(path, node);
         self.settle(done)
     }
 
     fn make_dir(&mut self, path: &RootPath, mode: u16) -> Result<(), HostFault> {
         self.guard()?;
-        let done = changing::make_dir(&self.rt, &self.root, path, mode);
+        let done = self.make_directory(path, mode);
         self.settle(done)
     }
 
     fn rename(&mut self, from: &RootPath, to: &RootPath) -> Result<(), HostFault> {
         self.guard()?;
-        let done = changing::rename(&self.rt, &self.root, from, to);
+        let done = self.move_over(from, to);
         self.settle(done)
     }
 
     fn remove(&mut self, path: &RootPath) -> Result<(), HostFault> {
         self.guard()?;
-        let done = changing::remove(&self.rt, &self.root, path);
+        let done = self.unlink(path);
         self.settle(done)
     }
 
     fn remove_dir(&mut self, path: &RootPath) -> Result<(), HostFault> {
         self.guard()?;
-        let done = changing::remove_dir(&self.rt, &self.root, path);
+        let done = self.unlink_directory(path);
         self.settle(done)
     }
 
@@ -182,7 +307,7 @@ impl Host for FilesHost {
         self.guard()?;
         let called = call.copy()?;
         self.calls.reserve(1)?;
-        let ended = starting::run(&self.rt, &self.root, call);
+        let ended = self.start(call);
         self.note(called, ended)
     }
 }

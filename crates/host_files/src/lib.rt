@@ -1,12 +1,11 @@
 //! A root directory of the real file system, whose scripts are started as child processes.
 #![tactic(auto)]
 
-mod changing;
+mod command;
 mod disk;
 mod fault;
 mod files_host;
 mod looking;
 mod root;
-mod starting;
 
 pub use files_host::{FilesHost, Made};

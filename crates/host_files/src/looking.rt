@@ -1,8 +1,8 @@
 // Reading nodes and the names in directories.
-ghost use Rattle.std.specs.Prelude.{◌≡◌, ◌≤◌, ◌+◌, ◌^◌, ◌↔◌, None, IfOk, OnOk, IsTrue, length, map, string_bytes, vec_len};
+ghost use Rattle.std.specs.Prelude.{◌≡◌, ◌≤◌, ◌+◌, ◌^◌, ◌↔◌, None, IfOk, IfSome, OnOk, IsTrue, length, map, string_bytes, vec_len};
 ghost use Rattle.std.specs.IoError.{error_kind, raw_os_error};
 ghost use Rattle.std.specs.declared.io.ErrorKind.TheVariants.{InvalidFilename};
-ghost use Rattle.host_files.specs.Entries.{IsNodeOf, IsNoText, AreInOrder};
+ghost use Rattle.host_files.specs.Entries.{IsNode, IsNodeOf, IsNoText, AreInOrder};
 
 use crate::disk::{is_directory, mode_of, stat};
 use crate::root::Root;
@@ -20,7 +20,9 @@ const MAX_FILE: u64 = 1 << 30;
 const MAX_ENTRIES: usize = 1 << 20;
 
 /// What stands at the path; nothing does below what is no directory.
-pub(crate) fn node_at(rt: &HostRuntime, root: &Root, path: &RootPath) -> io::Result<Option<Node>> {
+pub(crate) fn node_at(rt: &HostRuntime, root: &Root, path: &RootPath) -> io::Result<Option<Node>>
+    ensures { IfOk result (λ found. IfSome found IsNode) }
+{
     if !root.reaches(rt, path)? {
         return Ok(None);
     }

@@ -1,5 +1,6 @@
 // The root directory, and where the paths under it lie among the system's paths.
-ghost use Rattle.std.specs.Prelude.{◌≡◌, ◌++◌, IfOk, string_bytes, codes};
+ghost use Rattle.std.specs.Prelude.{◌≡◌, ◌++◌, [], IfErr, IfOk, Ok, string_bytes, codes, true};
+ghost use Rattle.host_files.specs.Entries.{IsMissing};
 ghost use Rattle.host_files.specs.Places.{IsFront, place_of, place_in};
 
 use crate::disk::is_directory;
@@ -73,7 +74,10 @@ impl Root {
     }
 
     /// Whether each name above the path is that of a directory, and of no link.
-    pub(crate) fn reaches(&self, rt: &HostRuntime, path: &RootPath) -> io::Result<bool> {
+    pub(crate) fn reaches(&self, rt: &HostRuntime, path: &RootPath) -> io::Result<bool>
+        ensures root { path.now ≡ [] → result ≡ Ok true }
+        ensures missing { IfErr result (λ error. IsMissing error → ⊥) }
+    {
         let Some((above, _)) = path.as_str().rsplit_once('/') else {
             return Ok(true);
         };

@@ -1,10 +1,11 @@
 // The status file's text.
-ghost use Rattle.std.specs.Prelude.{◌≡◌, IfOk, OnOk, ℕ, List, map};
+ghost use Rattle.std.specs.Prelude.{◌≡◌, ◌++◌, ◌∷◌, [], IfOk, OnOk, ℕ, List, false, map};
 ghost use Rattle.std.specs.List.{AllByRecursion};
+ghost use Rattle.control_fields.specs.Names.{stands};
 ghost use Rattle.host_core.specs.declared.node.Node.TheVariants.{File};
 ghost use Rattle.version_order.specs.Versions.{IsVersion};
 ghost use Rattle.status_db.specs.Records.{AreApart, standing};
-ghost use Rattle.status_db.specs.Writable.{first_fields};
+ghost use Rattle.status_db.specs.Writable.{first_fields, line_field};
 ghost use Rattle.status_db.specs.Paragraphs.{status_text, paragraph_of};
 ghost use Rattle.status_db.specs.Status.{IsStatus};
 
@@ -26,23 +27,38 @@ fn status_text(alloc: Global, entry: &Record) -> Result<Vec<u8>, AllocError>
     Ok(text)
 }
 
-fn first_fields(alloc: Global, entry: &Record) -> Result<Paragraph, AllocError>
-    ensures fields { IfOk result (λ p. p ≡ first_fields entry.now.name (status_text entry.now.want entry.now.flag entry.now.state) entry.now.version) }
+// Adds a field of one line, whose name doesn't stand yet.
+fn add_line(
+    alloc: Global,
+    name: &[u8],
+    value: &[u8],
+    fields: &mut Paragraph,
+) -> Result<(), AllocError>
+    requires { stands name.now fields.old ≡ false }
+    ensures { OnOk result (fields.new ≡ fields.old ++ line_field name.now value.now ∷ []) }
+{
+    fields.push(Field::one_line(alloc, name, value)?)
+}
+
+fn add_first_fields(alloc: Global, entry: &Record, fields: &mut Paragraph) -> Result<(), AllocError>
+    requires { fields.old ≡ [] }
+    ensures fields { OnOk result (fields.new ≡ first_fields entry.now.name (status_text entry.now.want entry.now.flag entry.now.state) entry.now.version) }
     ensures version { OnOk result (IsVersion entry.now.version) }
 {
     let status = status_text(alloc, entry)?;
-    let mut fields = Paragraph::new(alloc);
-    fields.push(Field::one_line(alloc, b"Package", entry.name.as_str().as_bytes())?)?;
-    fields.push(Field::one_line(alloc, b"Status", status.as_slice())?)?;
-    fields.push(Field::one_line(alloc, b"Version", entry.version.text().as_bytes())?)?;
-    Ok(fields)
+    let name = entry.name.as_str().as_bytes();
+    let version = entry.version.text().as_bytes();
+    add_line(alloc, b"Package", name, fields)?;
+    add_line(alloc, b"Status", status.as_slice(), fields)?;
+    add_line(alloc, b"Version", version, fields)
 }
 
 fn paragraph_of(alloc: Global, entry: &Record) -> Result<Paragraph, AllocError>
     ensures paragraph { IfOk result (λ p. p ≡ paragraph_of entry.now) }
     ensures version { OnOk result (IsVersion entry.now.version) }
 {
-    let mut paragraph = first_fields(alloc, entry)?;
+    let mut paragraph = Paragraph::new(alloc);
+    add_first_fields(alloc, entry, &mut paragraph)?;
     for field in entry.fields.fields() {
         paragraph.push(field.copy()?)?;
     }

@@ -1,5 +1,5 @@
 use Rattle.std.proofs.Common.{refl}
-use Rattle.host_files.proofs.starting.set_variables.Goals as goal
+use Rattle.host_files.proofs.command.set_variables.Goals as goal
 
 -- each variable in turn, the last one first, and then the texts that they were set to
 pub returns-clause-set : goal.returns-clause-set

@@ -1,17 +1,15 @@
-// Starting a script and waiting for its end.
+// The command of a call, and what the system tells of its start and end.
 ghost use Rattle.std.specs.Prelude.{◌≡◌, ◌++◌, ℕ, List, Some, None, false, IfOk, OnOk, string_bytes};
 ghost use Rattle.std.specs.Process.{exit_code, command_program, command_args, command_dir, command_var, clears_env, SameProgramAndArgs, SameEnv, SameDir};
 ghost use Rattle.std.specs.IoError.{raw_os_error};
 ghost use Rattle.host_files.specs.Commands.{set_to, variable_of, outcome_of, is_start_error};
 ghost use Rattle.host_files.specs.Places.{place_in};
 
-use crate::disk::is_file;
 use crate::root::Root;
-use host_core::{Call, Outcome, RootPath};
+use host_core::{Call, Outcome};
 use std::alloc::{AllocError, Global};
-use std::io::{Error, ErrorKind};
-use std::process::{Command, ExitStatus, Stdio};
-use std::{fs, io};
+use std::io::Error;
+use std::process::{Command, ExitStatus};
 use texts::Text;
 
 // the system's numbers for a file that can't be started
@@ -27,7 +25,8 @@ const ETXTBSY: i32 = 26;
 
 const ELOOP: i32 = 40;
 
-fn is_start_error(error: &Error) -> bool
+/// Whether the script is one that can't be started, or is missing.
+pub(crate) fn is_start_error(error: &Error) -> bool
     ensures { result ≡ is_start_error (raw_os_error error.now) }
 {
     matches!(
@@ -36,7 +35,8 @@ fn is_start_error(error: &Error) -> bool
     )
 }
 
-fn outcome_of(status: &ExitStatus) -> Outcome
+/// How a script ended that was started.
+pub(crate) fn outcome_of(status: &ExitStatus) -> Outcome
     ensures { result ≡ outcome_of (exit_code status.now) }
 {
     match status.code() {
@@ -83,8 +83,8 @@ fn set_variables(root: &Root, call: &Call, command: &mut Command) -> Result<(), 
     Ok(())
 }
 
-// The command of a call, with the root as its working directory.
-fn command_of(alloc: Global, root: &Root, call: &Call) -> Result<Command, AllocError>
+/// The command of a call, with the root as its working directory. All memory of the start is taken here.
+pub(crate) fn command_of(alloc: Global, root: &Root, call: &Call) -> Result<Command, AllocError>
     ensures program { IfOk result (λ c. command_program c ≡ place_in (string_bytes root.now.directory) (string_bytes root.now.front) call.now.at) }
     ensures args { IfOk result (λ c. command_args c ≡ call.now.args) }
     ensures dir { IfOk result (λ c. command_dir c ≡ Some (string_bytes root.now.directory)) }
@@ -96,36 +96,4 @@ fn command_of(alloc: Global, root: &Root, call: &Call) -> Result<Command, AllocE
     command.current_dir(root.directory())?;
     set_variables(root, call, &mut command)?;
     Ok(command)
-}
-
-// Whether a file stands at the path, and the directory can be worked in: a start that fails for want
-// of the directory would read as one for want of the script.
-fn can_start(rt: &HostRuntime, root: &Root, at: &RootPath) -> io::Result<bool> {
-    fs::metadata(rt, root.place(&RootPath::from_str(rt.alloc(), "/.")?)?)?;
-    if !root.reaches(rt, at)? {
-        return Ok(false);
-    }
-    let place = root.place(at)?;
-    is_file(rt, place.as_str())
-}
-
-/// Starts the script of a call and waits for its end. All memory is taken before the start.
-pub(crate) fn run(rt: &HostRuntime, root: &Root, call: &Call) -> io::Result<Outcome> {
-    let mut command = command_of(rt.alloc(), root, call)?;
-    if !can_start(rt, root, &call.at)? {
-        return Ok(Outcome::NotStarted);
-    }
-    start(rt, &mut command)
-}
-
-// The empty input is opened here: that it is missing would read as a missing script.
-fn start(rt: &HostRuntime, command: &mut Command) -> io::Result<Outcome> {
-    command.stdin(Stdio::from(fs::open(rt, "/dev/null")?));
-    command.stdout(Stdio::inherit());
-    command.stderr(Stdio::inherit());
-    match command.spawn(rt) {
-        Ok(mut child) => Ok(outcome_of(&child.wait()?)),
-        Err(error) if is_start_error(&error) => Ok(Outcome::NotStarted),
-        Err(error) => Err(error),
-    }
 }
