@@ -88,21 +88,19 @@ impl MemoryHost {
         ensures ended { IfOk result (λ outcome. HasEnded (is_kept keep.now) call.now outcome self.old self.new) }
         ensures err { OnErr result ((memory_state self.new ≡ memory_state self.old) × (planned_of self.new ≡ planned_of self.old)) }
     {
-        let called = call.copy()?;
         self.steps.reserve(1)?;
         self.calls.reserve(1)?;
+        let called = call.copy()?;
         let ending = ending_of(&self.pending);
         let carried = carry_out(self.alloc, &mut self.files, keep, ending.change)?;
         let outcome = ending.outcome;
         self.pending.pop_front();
-        self.steps.push(Done::Scripted(carried.step)).unwrap();
-        self.calls
-            .push(Made {
-                call: called,
-                outcome,
-                change: carried.told,
-            })
-            .unwrap();
+        self.steps.push_reserved(Done::Scripted(carried.step));
+        self.calls.push_reserved(Made {
+            call: called,
+            outcome,
+            change: carried.told,
+        });
         Ok(outcome)
     }
 
@@ -148,43 +146,45 @@ impl Host for MemoryHost {
     }
 
     fn write_new(&mut self, path: &RootPath, node: &Node) -> Result<(), HostFault> {
-        let done = Done::Wrote(path.copy()?, node.copy()?);
+        let at = path.copy()?;
+        let written = node.copy()?;
         self.steps.reserve(1)?;
         self.files.put(self.alloc, path.as_str(), node.copy()?)?;
-        self.steps.push(done).unwrap();
+        self.steps.push_reserved(Done::Wrote(at, written));
         Ok(())
     }
 
     fn make_dir(&mut self, path: &RootPath, mode: u16) -> Result<(), HostFault> {
-        let done = Done::MadeDir(path.copy()?, mode);
+        let at = path.copy()?;
         self.steps.reserve(1)?;
         self.files
             .put(self.alloc, path.as_str(), Node::Dir { mode })?;
-        self.steps.push(done).unwrap();
+        self.steps.push_reserved(Done::MadeDir(at, mode));
         Ok(())
     }
 
     fn rename(&mut self, from: &RootPath, to: &RootPath) -> Result<(), HostFault> {
-        let done = Done::Moved(from.copy()?, to.copy()?);
+        let left = from.copy()?;
+        let reached = to.copy()?;
         self.steps.reserve(1)?;
         move_node(self.alloc, &mut self.files, from, to)?;
-        self.steps.push(done).unwrap();
+        self.steps.push_reserved(Done::Moved(left, reached));
         Ok(())
     }
 
     fn remove(&mut self, path: &RootPath) -> Result<(), HostFault> {
-        let done = Done::Took(path.copy()?);
+        let at = path.copy()?;
         self.steps.reserve(1)?;
         self.files.take(path.as_str());
-        self.steps.push(done).unwrap();
+        self.steps.push_reserved(Done::Took(at));
         Ok(())
     }
 
     fn remove_dir(&mut self, path: &RootPath) -> Result<(), HostFault> {
-        let done = Done::RemovedDir(path.copy()?);
+        let at = path.copy()?;
         self.steps.reserve(1)?;
         self.files.take(path.as_str());
-        self.steps.push(done).unwrap();
+        self.steps.push_reserved(Done::RemovedDir(at));
         Ok(())
     }
 

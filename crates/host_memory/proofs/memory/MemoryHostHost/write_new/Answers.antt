@@ -10,6 +10,6 @@ pub put-requires : goal.put-requires
 put-requires c =
     let w = get_by_text c.args.self.now.files.nodes in
     let path = c.args.path.now in
-    let node = Some c.in_ok-copy-3.field-0 in
+    let node = Some c.in_ok-copy.field-0 in
     subst (λ (p : Path). Fits w p node) (sym c.as_str.ensures)
     (Fits-new w path node (IsTree-from_test w c.args.self.now.files.tree) (c.requires.parent refl) (absent_not_directory (w path) (c.requires.absent refl)))
