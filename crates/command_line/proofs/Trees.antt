@@ -1,44 +1,65 @@
--- What was read for words stays so where what stands behind them was known before.
+-- What was read for words, and the run of it, between a moment before and one after.
 use Rattle.std.proofs.Common.{◌≡◌, ◌++◌, ◌∷◌, [], ℕ, List, Result, inl, inr, subst, sym}
 use Rattle.std.specs.List.{All}
 use Rattle.std.proofs.lemmas.List.Elements.{All-push, All-weaker}
 use Rattle.host_core.specs.Host.{State}
+use Rattle.host_core.specs.Paths.{Path}
+use Rattle.status_db.specs.declared.record.Record.{Record}
 use Rattle.package_tree.specs.declared.fault.TreeFault.{TreeFault}
 use Rattle.package_tree.specs.declared.package.Package.{Package}
 use Rattle.dpkg_session.specs.declared.report.Candidate.{Candidate}
 use Rattle.dpkg_session.specs.declared.report.Report.{Report}
-use Rattle.command_line.specs.Unpacks.{Behind, IsLabelled, IsReadFor, IsUnpackedOn}
+use Rattle.command_line.specs.Unpacks.{Around, HasRunTrees, IsLabelled, IsReadFor, IsUnpackedOn}
 
--- whatever stood behind a word later stood behind it before
-abbrev pub Stayed : Behind → Behind → Type 0
-Stayed before later = (word : List ℕ) (s : State) → later word s → before word s
+-- what is known of trees between two moments is known between an earlier one and a later one
+pub record Within (outer inner : Around) : Type 0 where
+  pub tree : (word : List ℕ) (s : State) → inner.tree word s → outer.tree word s
+  pub seen : (s : State) → inner.seen s → outer.seen s
+  pub failed : inner.failed → outer.failed
 
-pub read_before : (before later : Behind) → Stayed before later → (word : List ℕ) (read : Result Package TreeFault) → IsReadFor later word read → IsReadFor before word read
-read_before before later stayed word read (inl r) = inl (record {
+pub read_within : (outer inner : Around) → Within outer inner → (word : List ℕ) (read : Result Package TreeFault) → IsReadFor inner word read → IsReadFor outer word read
+read_within outer inner within word read (inl r) = inl (record {
   state = r.state;
-  behind = stayed word r.state r.behind;
+  behind = within.tree word r.state r.behind;
   reads = r.reads;
+  end = r.end;
+  given = within.seen r.end r.given;
+  cause = r.cause;
 })
-read_before before later stayed word read (inr unopened) = inr unopened
+read_within outer inner within word read (inr (inl failed)) = inr (inl (failed.0, within.failed failed.1))
+read_within outer inner within word read (inr (inr memory)) = inr (inr memory)
 
--- one candidate more, whose tree was read by a host that was opened later
-pub labelled_push : (before later : Behind) (cs more : List Candidate) (c : Candidate) → more ≡ cs ++ c ∷ [] → Stayed before later → All (IsLabelled before) cs → IsReadFor later c.label c.tree → All (IsLabelled before) more
-labelled_push before later cs more c e stayed all this =
-    subst (All (IsLabelled before)) (sym e) (All-push (IsLabelled before) cs c all (read_before before later stayed c.label c.tree this))
+pub labelled_within : (outer inner : Around) → Within outer inner → (cs : List Candidate) → All (IsLabelled inner) cs → All (IsLabelled outer) cs
+labelled_within outer inner within = All-weaker (IsLabelled inner) (IsLabelled outer) (λ c. read_within outer inner within c.label c.tree)
 
-pub unpacked_before : (before later : Behind) → Stayed before later → (begun : State) (trees : List (List ℕ)) (done : Report) → IsUnpackedOn later begun trees done → IsUnpackedOn before begun trees done
-unpacked_before before later stayed begun trees done u = record {
+-- one candidate more, whose tree was read later
+pub labelled_push : (outer before later : Around) (cs more : List Candidate) (c : Candidate) → more ≡ cs ++ c ∷ [] → Within outer before → Within outer later
+    → All (IsLabelled before) cs → IsReadFor later c.label c.tree → All (IsLabelled outer) more
+labelled_push outer before later cs more c e first last all this =
+    subst (All (IsLabelled outer)) (sym e) (All-push (IsLabelled outer) cs c (labelled_within outer before first cs all) (read_within outer later last c.label c.tree this))
+
+pub run_within : (outer inner : Around) → Within outer inner → (trees : List (List ℕ)) (done : Report) (places : List Path) (table : List Record) (s end : State)
+    → HasRunTrees inner trees done places table s end → HasRunTrees outer trees done places table s end
+run_within outer inner within trees done places table s end ran = record {
+  candidates = ran.candidates;
+  labels = ran.labels;
+  read = labelled_within outer inner within ran.candidates ran.read;
+  part = ran.part;
+  whole = ran.whole;
+  last = ran.last;
+  cause = ran.cause;
+  any_moment = ran.any_moment;
+}
+
+pub unpacked_within : (outer inner : Around) → Within outer inner → ((s : State) → inner.left s → outer.left s)
+    → (begun : State) (trees : List (List ℕ)) (done : Report) → IsUnpackedOn inner begun trees done → IsUnpackedOn outer begun trees done
+unpacked_within outer inner within left begun trees done u = record {
   places = u.places;
   table = u.table;
   state = u.state;
   opens = u.opens;
   opened = u.opened;
-  ran = record {
-    candidates = u.ran.candidates;
-    labels = u.ran.labels;
-    read = All-weaker (IsLabelled later) (IsLabelled before) (λ c. read_before before later stayed c.label c.tree) u.ran.candidates u.ran.read;
-    part = u.ran.part;
-    whole = u.ran.whole;
-    last = u.ran.last;
-  };
+  end = u.end;
+  given = left u.end u.given;
+  ran = run_within outer inner within trees done u.places u.table u.state u.end u.ran;
 }

@@ -1,5 +1,5 @@
 -- What a command writes, and the status that it ends with.
-use Rattle.std.specs.Prelude.{ℕ, List, [], ◌⊎◌, ◌≡◌, Bool, true, false, Option, Some, None, codes, if◌then◌else◌}
+use Rattle.std.specs.Prelude.{ℕ, List, [], ◌⊎◌, ◌≡◌, Bool, true, false, Option, Some, None, Result, Ok, Err, codes, if◌then◌else◌}
 use Rattle.std.specs.Option.{option_map_or}
 use Rattle.std.specs.Io.KnownBytes.{Appends}
 use Rattle.version_order.specs.VersionOrder.{version_order}
@@ -9,7 +9,7 @@ use Rattle.dpkg_session.specs.declared.report.Report.{Report}
 use Rattle.report_lines.specs.Openings.{opening_line}
 use Rattle.report_lines.specs.Reports.{report_lines, report_status}
 use Rattle.command_words.specs.Comparisons.{bad_version, bad_version_line, holds}
-use Rattle.command_line.specs.Unpacks.{Behind, HasUnpacked, IsRootFault}
+use Rattle.command_line.specs.Unpacks.{Around, HasUnpacked, IsRootFault}
 use Rattle.command_words.specs.declared.comparison.Comparison.{Comparison}
 use Rattle.command_words.specs.declared.words.Asked.{Asked}
 use Rattle.command_words.specs.declared.words.Asked.TheVariants.{Names, CompareVersions, Unpack}
@@ -43,15 +43,20 @@ report_answer done = record { output = report_lines done; error = []; status = r
 abbrev pub opening_answer : AdministrationFault → Answer
 opening_answer fault = record { output = []; error = opening_line fault; status = 2 }
 
--- an unpack is answered by its report, unless the root can't be opened
-abbrev pub IsUnpackAnswer : Behind → Behind → Unpacking → Answer → Type 0
-IsUnpackAnswer root tree u answer = ((done : Report) × HasUnpacked root tree u done × (answer ≡ report_answer done))
-    ⊎ ((fault : AdministrationFault) × IsRootFault root u.root fault × (answer ≡ opening_answer fault))
+-- what came of an unpack: its report, or why the root couldn't be opened
+abbrev pub HasEndedAs : Around → Unpacking → Result Report AdministrationFault → Type 0
+HasEndedAs a u (Ok done) = HasUnpacked a u done
+HasEndedAs a u (Err fault) = IsRootFault a u.root fault
 
-abbrev pub IsAnswerTo : Behind → Behind → Asked → Answer → Type 0
-IsAnswerTo root tree Names answer = answer ≡ names_answer
-IsAnswerTo root tree (CompareVersions c) answer = answer ≡ comparison_answer c
-IsAnswerTo root tree (Unpack u) answer = IsUnpackAnswer root tree u answer
+abbrev pub unpack_answer : Result Report AdministrationFault → Answer
+unpack_answer (Ok done) = report_answer done
+unpack_answer (Err fault) = opening_answer fault
+
+-- the answer to what is asked for; an unpack has ended as its answer tells
+abbrev pub IsAnswerTo : Around → Asked → Answer → Type 0
+IsAnswerTo a Names answer = answer ≡ names_answer
+IsAnswerTo a (CompareVersions c) answer = answer ≡ comparison_answer c
+IsAnswerTo a (Unpack u) answer = (ended : Result Report AdministrationFault) × HasEndedAs a u ended × (answer ≡ unpack_answer ended)
 
 -- for want of memory
 abbrev pub memory_answer : Answer
@@ -62,13 +67,9 @@ abbrev pub usage_answer : List ℕ → Answer
 usage_answer text = record { output = []; error = text; status = 2 }
 
 -- What the words are answered with: the answer to what they ask for or, where they ask for nothing, a text on their use.
-abbrev pub IsAnswerOf : Behind → Behind → Option Asked → Answer → Type 0
-IsAnswerOf root tree (Some asked) answer = IsAnswerTo root tree asked answer
-IsAnswerOf root tree None answer = (text : List ℕ) × (answer ≡ usage_answer text)
-
--- or that memory is wanting
-abbrev pub IsAnswer : Behind → Behind → Option Asked → Answer → Type 0
-IsAnswer root tree asked answer = IsAnswerOf root tree asked answer ⊎ (answer ≡ memory_answer)
+abbrev pub IsAnswerOf : Around → Option Asked → Answer → Type 0
+IsAnswerOf a (Some asked) answer = IsAnswerTo a asked answer
+IsAnswerOf a None answer = (text : List ℕ) × (answer ≡ usage_answer text)
 
 -- only to these is anything written to standard output
 abbrev pub prints : Option Asked → Bool
@@ -76,6 +77,13 @@ prints (Some Names) = true
 prints (Some (CompareVersions c)) = false
 prints (Some (Unpack u)) = true
 prints None = false
+
+-- only for this is a host opened
+abbrev pub unpacks : Option Asked → Bool
+unpacks (Some Names) = false
+unpacks (Some (CompareVersions c)) = false
+unpacks (Some (Unpack u)) = true
+unpacks None = false
 
 -- an answer that has nothing for standard output is written to standard error
 pub record IsComplaint (answer : Answer) (old new : Option (List ℕ)) (ended : ℕ) : Type 0 where
@@ -88,3 +96,12 @@ pub record IsWritten (answer : Answer) (output_old output_new error_old error_ne
   pub status : ended ≡ answer.status
   pub output : Appends output_old output_new answer.output
   pub error : Appends error_old error_new answer.error
+
+-- an answer is written, or in its place that memory is wanting
+abbrev pub IsTold : Answer → Option (List ℕ) → Option (List ℕ) → Option (List ℕ) → Option (List ℕ) → ℕ → Type 0
+IsTold answer output_old output_new error_old error_new ended = IsWritten answer output_old output_new error_old error_new ended
+    ⊎ IsWritten memory_answer output_old output_new error_old error_new ended
+
+-- the same of one that has nothing for standard output
+abbrev pub IsComplained : Answer → Option (List ℕ) → Option (List ℕ) → ℕ → Type 0
+IsComplained answer old new ended = IsComplaint answer old new ended ⊎ IsComplaint memory_answer old new ended

@@ -1,7 +1,7 @@
 -- What the report on an unpack has to do with the words for the root and the trees.
 use Rattle.std.specs.Prelude.{◌≡◌, ◌⊎◌, ◌<◌, ℕ, List, map, IsTrue, IsNone, IfSome, Some, None, Result, Ok, Err}
 use Rattle.std.specs.List.{All}
-use Rattle.host_core.specs.Host.{State}
+use Rattle.host_core.specs.Host.{Since, State}
 use Rattle.host_core.specs.Paths.{Path}
 use Rattle.host_core.specs.World.{World}
 use Rattle.administration.specs.declared.fault.AdministrationFault.{AdministrationFault}
@@ -13,8 +13,9 @@ use Rattle.package_tree.specs.Tree.{IsTreeFault, IsTreeOf}
 use Rattle.package_tree.specs.declared.fault.TreeFault.{TreeFault}
 use Rattle.package_tree.specs.declared.fault.TreeFault.TheVariants as tree_faults
 use Rattle.package_tree.specs.declared.package.Package.{Package}
-use Rattle.dpkg_session.specs.Run.{HasRun, IsRun}
-use Rattle.dpkg_session.specs.Units.{IsBroken}
+use Rattle.dpkg_session.specs.Run.{HasRun, IsAmidRun, IsRun}
+use Rattle.dpkg_session.specs.Units.{IsBroken, IsBrokenBy}
+use Rattle.dpkg_session.specs.declared.report.Breakage.TheVariants as breakages
 use Rattle.dpkg_session.specs.declared.report.Candidate.{Candidate}
 use Rattle.dpkg_session.specs.declared.report.Report.{Report}
 use Rattle.command_words.specs.declared.words.Unpacking.{Unpacking}
@@ -23,60 +24,93 @@ use Rattle.command_words.specs.declared.words.Unpacking.{Unpacking}
 abbrev pub Behind : Type 1
 Behind = List ℕ → State → Type 0
 
+-- in which states hosts were given back
+abbrev pub Given : Type 1
+Given = State → Type 0
+
+-- What is known of the hosts of a command: the states behind words for the root and for trees before it, the states in
+-- which they were given back by its end, and whether the device failed on opening one and no root was opened.
+pub record Around : Type 1 where
+  pub root : Behind
+  pub tree : Behind
+  pub left : Given
+  pub seen : Given
+  pub failed : Type 0
+  pub unopened : Type 0
+
+abbrev pub around : Behind → Behind → Given → Given → Type 0 → Type 0 → Around
+around root tree left seen failed unopened = record { root = root; tree = tree; left = left; seen = seen; failed = failed; unopened = unopened }
+
 -- what a tree reads as: its package, or its first fault
 abbrev pub Reads : World → Result Package TreeFault → Type 0
 Reads w (Ok read) = IsTreeOf w read
 Reads w (Err fault) = IsTreeFault w fault
 
--- the tree behind a word reads so
-pub record IsReading (tree : Behind) (word : List ℕ) (read : Result Package TreeFault) : Type 0 where
+-- the tree behind a word reads so, on a host that was given back; a fault of the device is one that this host counts
+pub record IsReading (a : Around) (word : List ℕ) (read : Result Package TreeFault) : Type 0 where
   pub state : State
-  pub behind : tree word state
+  pub behind : a.tree word state
   pub reads : IsTrue state.honest → Reads state.world read
-
--- what is read for a word, unless no host could be opened for it
-abbrev pub IsReadFor : Behind → List ℕ → Result Package TreeFault → Type 0
-IsReadFor tree word read = IsReading tree word read ⊎ ((read ≡ Err tree_faults.Device) ⊎ (read ≡ Err tree_faults.NoMemory))
-
-abbrev pub IsLabelled : Behind → Candidate → Type 0
-IsLabelled tree c = IsReadFor tree c.label c.tree
-
--- a unit was run for each candidate
-pub record IsWholeRun (candidates : List Candidate) (done : Report) (places : List Path) (table : List Record) (s : State) : Type 0 where
-  pub after : List Record
   pub end : State
+  pub given : a.seen end
+  pub cause : read ≡ Err tree_faults.Device → state.faults < end.faults
+
+-- what is read for a word, unless no host could be opened for it: the device failed, or memory was wanting
+abbrev pub IsReadFor : Around → List ℕ → Result Package TreeFault → Type 0
+IsReadFor a word read = IsReading a word read ⊎ (((read ≡ Err tree_faults.Device) × a.failed) ⊎ (read ≡ Err tree_faults.NoMemory))
+
+abbrev pub IsLabelled : Around → Candidate → Type 0
+IsLabelled a c = IsReadFor a c.label c.tree
+
+-- a unit was run for each candidate, and the host was left so
+pub record IsWholeRun (candidates : List Candidate) (done : Report) (places : List Path) (table : List Record) (s end : State) : Type 0 where
+  pub after : List Record
   pub run : IsRun candidates done.units.items places table after s end
 
 -- The units are a run of the first of some candidates, which are labelled with the words of the trees and are what was
--- read for these, from these records and kept places. They are a run of all, unless one was broken off.
-pub record HasRunTrees (tree : Behind) (trees : List (List ℕ)) (done : Report) (places : List Path) (table : List Record) (s : State) : Type 0 where
+-- read for these, from these records and kept places. They are a run of all, unless one was broken off. In any case
+-- each world since is one of a moment of the run.
+pub record HasRunTrees (a : Around) (trees : List (List ℕ)) (done : Report) (places : List Path) (table : List Record) (s end : State) : Type 0 where
   pub candidates : List Candidate
   pub labels : map (λ (c : Candidate). c.label) candidates ≡ trees
-  pub read : All (IsLabelled tree) candidates
+  pub read : All (IsLabelled a) candidates
   pub part : HasRun candidates done.units.items places table s
-  pub whole : IsNone done.last → IsWholeRun candidates done places table s
+  pub whole : IsNone done.last → IsWholeRun candidates done places table s end
   pub last : IfSome done.last (λ unit. IsBroken unit.reply)
+  pub cause : IfSome done.last (λ unit. IsBrokenBy breakages.Device unit.reply → s.faults < end.faults)
+  pub any_moment : IsTrue s.honest → Since (IsAmidRun candidates places table s) s end
 
--- the same, from the records and kept places of the administration that was opened on a host
-pub record IsUnpackedOn (tree : Behind) (begun : State) (trees : List (List ℕ)) (done : Report) : Type 0 where
+-- the same, from the records and kept places of the administration that was opened on a host, to the state in which
+-- this host was given back
+pub record IsUnpackedOn (a : Around) (begun : State) (trees : List (List ℕ)) (done : Report) : Type 0 where
   pub places : List Path
   pub table : List Record
   pub state : State
   pub opens : IsTrue begun.honest → Opens parts None begun state
   pub opened : IsTrue begun.honest → IsOpened table places state.world
-  pub ran : HasRunTrees tree trees done places table state
+  pub end : State
+  pub given : a.left end
+  pub ran : HasRunTrees a trees done places table state end
 
 -- the same, on a host behind the root's word
-abbrev pub HasUnpacked : Behind → Behind → Unpacking → Report → Type 0
-HasUnpacked root tree u done = (begun : State) × root u.root begun × IsUnpackedOn tree begun u.trees done
+abbrev pub HasUnpacked : Around → Unpacking → Report → Type 0
+HasUnpacked a u done = (begun : State) × a.root u.root begun × IsUnpackedOn a begun u.trees done
 
--- the administration of a host couldn't be opened, for this fault
-pub record IsRefusedOn (begun : State) (fault : AdministrationFault) : Type 0 where
-  pub left : State
-  pub opens : IsTrue begun.honest → Opens parts (Some fault) begun left
-  pub cause : fault ≡ opening_faults.Device → begun.faults < left.faults
+-- the administration of a host couldn't be opened, for this fault, and the host was given back
+pub record IsRefusedOn (left : Given) (begun : State) (fault : AdministrationFault) : Type 0 where
+  pub end : State
+  pub given : left end
+  pub opens : IsTrue begun.honest → Opens parts (Some fault) begun end
+  pub cause : fault ≡ opening_faults.Device → begun.faults < end.faults
 
--- the same of a host behind the root's word, unless none could be opened or memory ended before the first tree was read
-abbrev pub IsRootFault : Behind → List ℕ → AdministrationFault → Type 0
-IsRootFault root word fault =
-    ((begun : State) × root word begun × IsRefusedOn begun fault) ⊎ ((fault ≡ opening_faults.Device) ⊎ (fault ≡ opening_faults.NoMemory))
+-- the administration of a host was opened, and the host given back for want of memory to read the trees
+pub record IsStoppedOn (left : Given) (begun : State) : Type 0 where
+  pub end : State
+  pub given : left end
+  pub opens : IsTrue begun.honest → Opens parts None begun end
+
+-- so it went on a host behind the root's word, unless none could be opened: the device failed, or memory was wanting
+abbrev pub IsRootFault : Around → List ℕ → AdministrationFault → Type 0
+IsRootFault a word fault =
+    ((begun : State) × a.root word begun × (IsRefusedOn a.left begun fault ⊎ ((fault ≡ opening_faults.NoMemory) × IsStoppedOn a.left begun)))
+    ⊎ (a.unopened × (((fault ≡ opening_faults.Device) × a.failed) ⊎ (fault ≡ opening_faults.NoMemory)))

@@ -1,9 +1,11 @@
 // What the program writes for its words, and the status that it ends with.
-ghost use Rattle.std.specs.Prelude.{◌≡◌, ◌<◌, ◌≤◌, ◌⊎◌, IfOk, Some, map, string_bytes, true};
+ghost use Rattle.std.specs.Prelude.{◌≡◌, ◌<◌, ◌≤◌, ◌⊎◌, IfOk, Result, map, string_bytes, true};
 ghost use Rattle.std.specs.Io.KnownBytes.{Appends};
 ghost use Rattle.command_words.specs.Commands.{asked_of};
-ghost use Rattle.command_line.specs.Reports.{Answer, IsAnswer, IsAnswerTo, IsComplaint, IsUnpackAnswer, IsWritten, bad_answer, comparison_answer, memory_answer, names_answer, opening_answer, prints, report_answer};
-ghost use Rattle.command_words.specs.declared.words.Asked.{Asked};
+ghost use Rattle.administration.specs.declared.fault.AdministrationFault.{AdministrationFault as AFault};
+ghost use Rattle.dpkg_session.specs.declared.report.Report.{Report as AReport};
+ghost use Rattle.command_line.specs.Reports.{Answer, HasEndedAs, IsAnswerOf, IsComplained, IsComplaint, IsTold, IsWritten, bad_answer, comparison_answer, memory_answer, names_answer, opening_answer, prints, report_answer, unpack_answer, unpacks};
+ghost use Rattle.command_line.specs.Unpacks.{around};
 
 use crate::hosts::Hosts;
 use crate::unpacking::unpack;
@@ -43,9 +45,7 @@ fn bad_version<E: Write>(
     fault: VersionFault,
     err: &mut E,
 ) -> io::Result<u8>
-    ensures written { IfOk result (λ status. (answer : Answer)
-        × ((answer ≡ bad_answer (text.now, fault)) ⊎ (answer ≡ memory_answer))
-        × IsComplaint answer (E.contents err.old) (E.contents err.new) status) }
+    ensures written { IfOk result (IsComplained (bad_answer (text.now, fault)) (E.contents err.old) (E.contents err.new)) }
     ensures bound { IfOk result (λ status. status ≤ 2) }
 {
     match bad_version_line(alloc, text, fault) {
@@ -55,9 +55,7 @@ fn bad_version<E: Write>(
 }
 
 fn compare_versions<E: Write>(alloc: Global, comparison: &Comparison, err: &mut E) -> io::Result<u8>
-    ensures written { IfOk result (λ status. (answer : Answer)
-        × ((answer ≡ comparison_answer comparison.now) ⊎ (answer ≡ memory_answer))
-        × IsComplaint answer (E.contents err.old) (E.contents err.new) status) }
+    ensures written { IfOk result (IsComplained (comparison_answer comparison.now) (E.contents err.old) (E.contents err.new)) }
     ensures bound { IfOk result (λ status. status ≤ 2) }
 {
     match comparison.verdict(alloc) {
@@ -81,9 +79,7 @@ fn write_report<O: Write, E: Write>(
     out: &mut O,
     err: &mut E,
 ) -> io::Result<u8>
-    ensures written { IfOk result (λ status. (answer : Answer)
-        × ((answer ≡ report_answer done.now) ⊎ (answer ≡ memory_answer))
-        × IsWritten answer (O.contents out.old) (O.contents out.new) (E.contents err.old) (E.contents err.new) status) }
+    ensures written { IfOk result (IsTold (report_answer done.now) (O.contents out.old) (O.contents out.new) (E.contents err.old) (E.contents err.new)) }
     ensures bound { IfOk result (λ status. status ≤ 2) }
 {
     match report_text(alloc, done) {
@@ -96,9 +92,7 @@ fn write_report<O: Write, E: Write>(
 }
 
 fn not_opened<E: Write>(alloc: Global, fault: &AdministrationFault, err: &mut E) -> io::Result<u8>
-    ensures written { IfOk result (λ status. (answer : Answer)
-        × ((answer ≡ opening_answer fault.now) ⊎ (answer ≡ memory_answer))
-        × IsComplaint answer (E.contents err.old) (E.contents err.new) status) }
+    ensures written { IfOk result (IsComplained (opening_answer fault.now) (E.contents err.old) (E.contents err.new)) }
     ensures bound { IfOk result (λ status. status ≤ 2) }
 {
     match opening_line(alloc, fault) {
@@ -114,9 +108,9 @@ fn answer_unpack<S: Hosts, O: Write, E: Write>(
     out: &mut O,
     err: &mut E,
 ) -> io::Result<u8>
-    ensures written { IfOk result (λ status. (answer : Answer)
-        × (IsUnpackAnswer (S.root hosts.old) (S.tree hosts.old) unpacking.now answer ⊎ (answer ≡ memory_answer))
-        × IsWritten answer (O.contents out.old) (O.contents out.new) (E.contents err.old) (E.contents err.new) status) }
+    ensures ended { (ended : Result AReport AFault)
+        × HasEndedAs (around (S.root hosts.old) (S.tree hosts.old) (S.left hosts.new) (S.seen hosts.new) (S.faults hosts.old < S.faults hosts.new) (S.unopened hosts.old hosts.new)) unpacking.now ended
+        × IfOk result (IsTold (unpack_answer ended) (O.contents out.old) (O.contents out.new) (E.contents err.old) (E.contents err.new)) }
     ensures bound { IfOk result (λ status. status ≤ 2) }
 {
     match unpack(alloc, hosts, unpacking) {
@@ -133,10 +127,12 @@ fn write_answer<S: Hosts, O: Write, E: Write>(
     out: &mut O,
     err: &mut E,
 ) -> io::Result<u8>
-    ensures written { IfOk result (λ status. (answer : Answer) × IsAnswer (S.root hosts.old) (S.tree hosts.old) (asked_of (map string_bytes words.now)) answer
-        × IsWritten answer (O.contents out.old) (O.contents out.new) (E.contents err.old) (E.contents err.new) status) }
+    ensures answered { (answer : Answer)
+        × (IsAnswerOf (around (S.root hosts.old) (S.tree hosts.old) (S.left hosts.new) (S.seen hosts.new) (S.faults hosts.old < S.faults hosts.new) (S.unopened hosts.old hosts.new)) (asked_of (map string_bytes words.now)) answer ⊎ ((answer ≡ memory_answer) × (hosts.new ≡ hosts.old)))
+        × IfOk result (IsTold answer (O.contents out.old) (O.contents out.new) (E.contents err.old) (E.contents err.new)) }
     ensures bound { IfOk result (λ status. status ≤ 2) }
     ensures quiet { (out.new ≡ out.old) ⊎ (prints (asked_of (map string_bytes words.now)) ≡ true) }
+    ensures unopened { (hosts.new ≡ hosts.old) ⊎ (unpacks (asked_of (map string_bytes words.now)) ≡ true) }
 {
     match command_of(alloc, words) {
         Ok(Asked::Names) => list_names(out),
@@ -156,9 +152,11 @@ pub fn run_words<S: Hosts, O: Write, E: Write>(
     err: &mut E,
 ) -> u8
     ensures bound { result ≤ 2 }
-    ensures answered { result < 2 → (asked : Asked) × (asked_of (map string_bytes words.now) ≡ Some asked) × ((answer : Answer) × IsAnswerTo (S.root hosts.old) (S.tree hosts.old) asked answer
-        × IsWritten answer (O.contents out.old) (O.contents out.new) (E.contents err.old) (E.contents err.new) result) }
+    ensures answered { (answer : Answer)
+        × (IsAnswerOf (around (S.root hosts.old) (S.tree hosts.old) (S.left hosts.new) (S.seen hosts.new) (S.faults hosts.old < S.faults hosts.new) (S.unopened hosts.old hosts.new)) (asked_of (map string_bytes words.now)) answer ⊎ ((answer ≡ memory_answer) × (hosts.new ≡ hosts.old)))
+        × (IsWritten answer (O.contents out.old) (O.contents out.new) (E.contents err.old) (E.contents err.new) result ⊎ (result ≡ 2)) }
     ensures quiet { (out.new ≡ out.old) ⊎ (prints (asked_of (map string_bytes words.now)) ≡ true) }
+    ensures unopened { (hosts.new ≡ hosts.old) ⊎ (unpacks (asked_of (map string_bytes words.now)) ≡ true) }
 {
     match write_answer(alloc, hosts, words, out, err) {
         Ok(status) => status,

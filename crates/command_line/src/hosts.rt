@@ -1,5 +1,5 @@
 // Where roots and trees are opened.
-ghost use Rattle.std.specs.Prelude.{◌≡◌, ◌≤◌, ◌<◌, ℕ, List, IfOk, IsErrOf};
+ghost use Rattle.std.specs.Prelude.{◌≡◌, ◌≤◌, ◌<◌, ℕ, List, IfOk, IsErrOf, OnErr};
 ghost use Rattle.host_core.specs.Host.{State};
 ghost use Rattle.host_core.specs.declared.fault.HostFault.TheVariants.{Device};
 
@@ -18,10 +18,21 @@ pub trait Hosts {
     /// Which states a host has that is opened for a TREE. The trees stay as they are while others are read.
     ghost tree: { Self → List ℕ → State → Type 0 };
 
+    /// In which states the host of a root was given back.
+    ghost left: { Self → State → Type 0 };
+
+    /// In which states the hosts of trees were given back.
+    ghost seen: { Self → State → Type 0 };
+
+    /// Whether no root was opened from one moment to another.
+    ghost unopened: { Self → Self → Type 0 };
+
     /// The host for the directory of `--root`.
     fn open_root(&mut self, directory: &str) -> Result<Self::Opened, HostFault>
         ensures opened { IfOk result (λ host. root self.old directory.now (Self.Opened.state host)) }
+        ensures unopened { OnErr result (unopened self.old self.new) }
         ensures trees { (word : List ℕ) (s : State) → tree self.new word s → tree self.old word s }
+        ensures seen { (s : State) → seen self.old s → seen self.new s }
         ensures faults { faults self.old ≤ faults self.new }
         ensures cause { IsErrOf result Device → faults self.old < faults self.new };
 
@@ -29,11 +40,21 @@ pub trait Hosts {
     fn open_tree(&mut self, directory: &str) -> Result<Self::Opened, HostFault>
         ensures opened { IfOk result (λ host. tree self.old directory.now (Self.Opened.state host)) }
         ensures trees { (word : List ℕ) (s : State) → tree self.new word s → tree self.old word s }
+        ensures seen { (s : State) → seen self.old s → seen self.new s }
         ensures faults { faults self.old ≤ faults self.new }
         ensures cause { IsErrOf result Device → faults self.old < faults self.new };
 
-    /// Takes a host back.
-    fn close(&mut self, host: Self::Opened)
+    /// Takes the host of a root back.
+    fn close_root(&mut self, host: Self::Opened)
+        ensures given { left self.new (Self.Opened.state host) }
         ensures trees { (word : List ℕ) (s : State) → tree self.new word s → tree self.old word s }
+        ensures seen { (s : State) → seen self.old s → seen self.new s }
+        ensures faults { faults self.new ≡ faults self.old };
+
+    /// Takes the host of a TREE back.
+    fn close_tree(&mut self, host: Self::Opened)
+        ensures given { seen self.new (Self.Opened.state host) }
+        ensures trees { (word : List ℕ) (s : State) → tree self.new word s → tree self.old word s }
+        ensures seen { (s : State) → seen self.old s → seen self.new s }
         ensures faults { faults self.new ≡ faults self.old };
 }

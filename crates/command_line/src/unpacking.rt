@@ -1,9 +1,9 @@
 // Carries out an unpack: the root is opened, then the trees are read, then the units run.
-ghost use Rattle.std.specs.Prelude.{◌≡◌, ◌≤◌, ◌⊎◌, List, ℕ, IfOk, IfErr, false, map};
+ghost use Rattle.std.specs.Prelude.{◌≡◌, ◌<◌, ◌≤◌, ◌⊎◌, List, ℕ, IfOk, IfErr, OnErr, false, map};
 ghost use Rattle.std.specs.List.{All};
 ghost use Rattle.host_core.specs.Host.{State};
 ghost use Rattle.administration.specs.declared.fault.AdministrationFault.TheVariants.{NoMemory};
-ghost use Rattle.command_line.specs.Unpacks.{HasRunTrees, HasUnpacked, IsLabelled, IsReadFor, IsRefusedOn, IsRootFault, IsUnpackedOn};
+ghost use Rattle.command_line.specs.Unpacks.{HasRunTrees, HasUnpacked, IsLabelled, IsReadFor, IsRefusedOn, IsRootFault, IsStoppedOn, IsUnpackedOn, around};
 
 use crate::hosts::Hosts;
 use administration::AdministrationFault;
@@ -15,14 +15,15 @@ use texts::Text;
 
 // What a tree gives; one that can't be opened has the host's fault.
 fn read_package<S: Hosts>(alloc: Global, hosts: &mut S, tree: &str) -> Result<Package, TreeFault>
-    ensures read { IsReadFor (S.tree hosts.old) tree.now result }
+    ensures read { IsReadFor (around (S.root hosts.old) (S.tree hosts.old) (S.left hosts.new) (S.seen hosts.new) (S.faults hosts.old < S.faults hosts.new) (S.unopened hosts.old hosts.new)) tree.now result }
     ensures trees { (word : List ℕ) (s : State) → S.tree hosts.new word s → S.tree hosts.old word s }
+    ensures seen { (s : State) → S.seen hosts.old s → S.seen hosts.new s }
     ensures faults { S.faults hosts.old ≤ S.faults hosts.new }
 {
     match hosts.open_tree(tree) {
         Ok(mut host) => {
             let read = read_tree(alloc, &mut host);
-            hosts.close(host);
+            hosts.close_tree(host);
             return read;
         }
         Err(fault) => {
@@ -37,8 +38,9 @@ fn read_trees<S: Hosts>(
     trees: &[Text],
 ) -> Result<Vec<Candidate>, AllocError>
     ensures labels { IfOk result (λ candidates. map (λ c. c.label) candidates.items ≡ trees.now) }
-    ensures read { IfOk result (λ candidates. All (IsLabelled (S.tree hosts.old)) candidates.items) }
+    ensures read { IfOk result (λ candidates. All (IsLabelled (around (S.root hosts.old) (S.tree hosts.old) (S.left hosts.new) (S.seen hosts.new) (S.faults hosts.old < S.faults hosts.new) (S.unopened hosts.old hosts.new))) candidates.items) }
     ensures trees { (word : List ℕ) (s : State) → S.tree hosts.new word s → S.tree hosts.old word s }
+    ensures seen { (s : State) → S.seen hosts.old s → S.seen hosts.new s }
     ensures faults { S.faults hosts.old ≤ S.faults hosts.new }
 {
     let mut candidates = Vec::new(alloc);
@@ -57,7 +59,9 @@ fn run_trees<S: Hosts>(
     trees: &[Text],
 ) -> Result<Report, AllocError>
     requires { session.old.closed ≡ false }
-    ensures done { IfOk result (λ done. HasRunTrees (S.tree hosts.old) trees.now done session.old.keep session.old.database (S.Opened.state session.old.host)) }
+    ensures done { IfOk result (λ done. HasRunTrees (around (S.root hosts.old) (S.tree hosts.old) (S.left hosts.new) (S.seen hosts.new) (S.faults hosts.old < S.faults hosts.new) (S.unopened hosts.old hosts.new)) trees.now done session.old.keep session.old.database (S.Opened.state session.old.host) (S.Opened.state session.new.host)) }
+    ensures unread { OnErr result (S.Opened.state session.new.host ≡ S.Opened.state session.old.host) }
+    ensures seen { (s : State) → S.seen hosts.old s → S.seen hosts.new s }
     ensures faults { S.faults hosts.old ≤ S.faults hosts.new }
 {
     let command = Command::Unpack(read_trees(alloc, hosts, trees)?);
@@ -71,18 +75,18 @@ fn unpack_on<S: Hosts>(
     host: S::Opened,
     trees: &[Text],
 ) -> Result<Report, AdministrationFault>
-    ensures done { IfOk result (IsUnpackedOn (S.tree hosts.old) (S.Opened.state host) trees.now) }
-    ensures refused { IfErr result (λ fault. IsRefusedOn (S.Opened.state host) fault ⊎ (fault ≡ NoMemory)) }
+    ensures done { IfOk result (IsUnpackedOn (around (S.root hosts.old) (S.tree hosts.old) (S.left hosts.new) (S.seen hosts.new) (S.faults hosts.old < S.faults hosts.new) (S.unopened hosts.old hosts.new)) (S.Opened.state host) trees.now) }
+    ensures refused { IfErr result (λ fault. IsRefusedOn (S.left hosts.new) (S.Opened.state host) fault ⊎ ((fault ≡ NoMemory) × IsStoppedOn (S.left hosts.new) (S.Opened.state host))) }
     ensures faults { S.faults hosts.old ≤ S.faults hosts.new }
 {
     match Session::open(alloc, host) {
         Ok(mut session) => {
             let done = run_trees(alloc, hosts, &mut session, trees);
-            hosts.close(session.into_host());
+            hosts.close_root(session.into_host());
             Ok(done?)
         }
         Err((host, fault)) => {
-            hosts.close(host);
+            hosts.close_root(host);
             Err(fault)
         }
     }
@@ -95,8 +99,8 @@ pub(crate) fn unpack<S: Hosts>(
     hosts: &mut S,
     unpacking: &Unpacking,
 ) -> Result<Report, AdministrationFault>
-    ensures done { IfOk result (HasUnpacked (S.root hosts.old) (S.tree hosts.old) unpacking.now) }
-    ensures refused { IfErr result (IsRootFault (S.root hosts.old) unpacking.now.root) }
+    ensures done { IfOk result (HasUnpacked (around (S.root hosts.old) (S.tree hosts.old) (S.left hosts.new) (S.seen hosts.new) (S.faults hosts.old < S.faults hosts.new) (S.unopened hosts.old hosts.new)) unpacking.now) }
+    ensures refused { IfErr result (IsRootFault (around (S.root hosts.old) (S.tree hosts.old) (S.left hosts.new) (S.seen hosts.new) (S.faults hosts.old < S.faults hosts.new) (S.unopened hosts.old hosts.new)) unpacking.now.root) }
     ensures faults { S.faults hosts.old ≤ S.faults hosts.new }
 {
     let host = hosts.open_root(unpacking.root.as_str())?;

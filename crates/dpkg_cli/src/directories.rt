@@ -49,6 +49,12 @@ impl Hosts for Directories {
 
     ghost tree = { λ _ _ _. ⊤ };
 
+    ghost left = { λ _ _. ⊤ };
+
+    ghost seen = { λ _ _. ⊤ };
+
+    ghost unopened = { λ _ _. ⊤ };
+
     fn open_root(&mut self, directory: &str) -> Result<FilesHost, HostFault> {
         self.open(directory)
     }
@@ -57,7 +63,11 @@ impl Hosts for Directories {
         self.open(tree)
     }
 
-    fn close(&mut self, host: FilesHost) {
+    fn close_root(&mut self, host: FilesHost) {
+        let _ = host;
+    }
+
+    fn close_tree(&mut self, host: FilesHost) {
         let _ = host;
     }
 }

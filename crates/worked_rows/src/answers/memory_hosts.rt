@@ -1,5 +1,5 @@
 // A root and trees in memory, and in the modules below what is answered over them.
-ghost use Rattle.std.specs.Prelude.{◌≡◌, IsTrue, Some, option_map};
+ghost use Rattle.std.specs.Prelude.{◌≡◌, ⊤, IsTrue, Some, option_map};
 ghost use Rattle.host_memory.specs.Memory.{memory_state};
 
 mod memory_rows;
@@ -24,8 +24,6 @@ struct MemoryHosts {
     alloc: Global,
     root: Option<MemoryHost>,
     trees: &'static [TreeFile],
-    // whether a tree is open, which is given back before the root
-    in_tree: bool,
     faults: u64,
 }
 
@@ -76,7 +74,6 @@ fn hosts(
         alloc,
         root: Some(host),
         trees,
-        in_tree: false,
         faults: 0,
     })
 }
@@ -217,6 +214,13 @@ impl Hosts for MemoryHosts {
     // whatever stands in it, a tree holds what it tells
     ghost tree = { λ _ _ state. IsTrue state.honest };
 
+    // the root is kept as it was given back
+    ghost left = { λ h state. option_map memory_state h.root ≡ Some state };
+
+    ghost seen = { λ _ _. ⊤ };
+
+    ghost unopened = { λ old new. option_map memory_state new.root ≡ option_map memory_state old.root };
+
     fn open_root(&mut self, _directory: &str) -> Result<MemoryHost, HostFault> {
         match self.root.take() {
             Some(host) => Ok(host),
@@ -225,16 +229,14 @@ impl Hosts for MemoryHosts {
     }
 
     fn open_tree(&mut self, tree: &str) -> Result<MemoryHost, HostFault> {
-        let host = tree_of(self.alloc, self.trees, tree)?;
-        self.in_tree = true;
-        Ok(host)
+        Ok(tree_of(self.alloc, self.trees, tree)?)
     }
 
-    fn close(&mut self, host: MemoryHost) {
-        if self.in_tree {
-            self.in_tree = false;
-        } else {
-            self.root = Some(host);
-        }
+    fn close_root(&mut self, host: MemoryHost) {
+        self.root = Some(host);
+    }
+
+    fn close_tree(&mut self, host: MemoryHost) {
+        let _ = host;
     }
 }

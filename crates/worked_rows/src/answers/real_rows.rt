@@ -39,6 +39,12 @@ impl Hosts for RealHosts {
 
     ghost tree = { λ _ _ _. ⊤ };
 
+    ghost left = { λ _ _. ⊤ };
+
+    ghost seen = { λ _ _. ⊤ };
+
+    ghost unopened = { λ _ _. ⊤ };
+
     // With a full count nothing is opened any more.
     fn open_root(&mut self, directory: &str) -> Result<FilesHost, HostFault> {
         if self.opened == u64::MAX {
@@ -52,9 +58,13 @@ impl Hosts for RealHosts {
         self.open_root(tree)
     }
 
-    fn close(&mut self, host: FilesHost) {
+    fn close_root(&mut self, host: FilesHost) {
         self.calls = host.calls().len();
         self.broken = host.faults();
+    }
+
+    fn close_tree(&mut self, host: FilesHost) {
+        let _ = host;
     }
 }
 
