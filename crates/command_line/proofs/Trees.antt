@@ -48,6 +48,7 @@ run_within outer inner within trees done places table s end ran = record {
   whole = ran.whole;
   last = ran.last;
   cause = ran.cause;
+  told = ran.told;
   any_moment = ran.any_moment;
 }
 

@@ -14,7 +14,7 @@ use Rattle.package_tree.specs.declared.fault.TreeFault.{TreeFault}
 use Rattle.package_tree.specs.declared.fault.TreeFault.TheVariants as tree_faults
 use Rattle.package_tree.specs.declared.package.Package.{Package}
 use Rattle.dpkg_session.specs.Run.{HasRun, IsAmidRun, IsRun}
-use Rattle.dpkg_session.specs.Units.{IsBroken, IsBrokenBy}
+use Rattle.dpkg_session.specs.Units.{IsBroken, IsBrokenBy, TellsCalls}
 use Rattle.dpkg_session.specs.declared.report.Breakage.TheVariants as breakages
 use Rattle.dpkg_session.specs.declared.report.Candidate.{Candidate}
 use Rattle.dpkg_session.specs.declared.report.Report.{Report}
@@ -69,7 +69,7 @@ pub record IsWholeRun (candidates : List Candidate) (done : Report) (places : Li
 
 -- The units are a run of the first of some candidates, which are labelled with the words of the trees and are what was
 -- read for these, from these records and kept places. They are a run of all, unless one was broken off. In any case
--- each world since is one of a moment of the run.
+-- the calls that are told are the host's own list, and each world since is one of a moment of the run.
 pub record HasRunTrees (a : Around) (trees : List (List ℕ)) (done : Report) (places : List Path) (table : List Record) (s end : State) : Type 0 where
   pub candidates : List Candidate
   pub labels : map (λ (c : Candidate). c.label) candidates ≡ trees
@@ -78,6 +78,7 @@ pub record HasRunTrees (a : Around) (trees : List (List ℕ)) (done : Report) (p
   pub whole : IsNone done.last → IsWholeRun candidates done places table s end
   pub last : IfSome done.last (λ unit. IsBroken unit.reply)
   pub cause : IfSome done.last (λ unit. IsBrokenBy breakages.Device unit.reply → s.faults < end.faults)
+  pub told : TellsCalls s end done
   pub any_moment : IsTrue s.honest → Since (IsAmidRun candidates places table s) s end
 
 -- the same, from the records and kept places of the administration that was opened on a host, to the state in which

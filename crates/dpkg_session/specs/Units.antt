@@ -1,5 +1,5 @@
 -- Units and runs of them.
-use Rattle.std.specs.Prelude.{◌≡◌, ℕ, List, [], ◌∷◌, Option, Some, None, IsSomeAnd, Result, Ok, Err, codes}
+use Rattle.std.specs.Prelude.{◌≡◌, ℕ, List, [], ◌∷◌, ◌++◌, Option, Some, None, IsSomeAnd, Result, Ok, Err, codes}
 use Rattle.host_core.specs.Paths.{Path}
 use Rattle.host_core.specs.Host.{State}
 use Rattle.host_core.specs.declared.call.Script.TheVariants.{Preinst}
@@ -21,6 +21,7 @@ use Rattle.dpkg_session.specs.declared.report.Reply.TheVariants.{Done, Refused, 
 use Rattle.dpkg_session.specs.declared.report.Unit.{Unit as AUnit}
 use Rattle.host_core.specs.declared.fault.HostFault.{HostFault}
 use Rattle.host_core.specs.declared.fault.HostFault.TheVariants as host
+use Rattle.unwind_stack.specs.Transcript.{TellsAll}
 use Rattle.unwind_stack.specs.declared.rows.Called.{Called}
 use Rattle.dpkg_session.specs.declared.report.Breakage.{Breakage}
 use Rattle.dpkg_session.specs.declared.report.Breakage.TheVariants.{Device, NoMemory, Closed}
@@ -93,3 +94,20 @@ pub record IsAnswered (p : Package) (after : List Record) (turn : Turn) (calls :
 pub record IsClosedReport (report : Report) : Type 0 where
   pub units : report.units.items ≡ []
   pub last : IsSomeAnd report.last (λ u. (u.calls.items ≡ []) × (u.touched.items ≡ []) × (u.reply ≡ Broken Closed))
+
+-- the calls that units tell, in order
+abbrev pub calls_of : List AUnit → List Called
+calls_of [] = []
+calls_of (u ∷ us) = u.calls.items ++ calls_of us
+
+abbrev pub last_calls : Option AUnit → List Called
+last_calls None = []
+last_calls (Some u) = u.calls.items
+
+-- the calls that a report tells, of its units and of the one that was broken off
+abbrev pub calls_told : Report → List Called
+calls_told report = calls_of report.units.items ++ last_calls report.last
+
+-- these are the calls by which the host's own list has grown, in order and count
+abbrev pub TellsCalls : State → State → Report → Type 0
+TellsCalls old new report = TellsAll old new [] (calls_told report)

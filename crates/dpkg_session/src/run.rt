@@ -1,13 +1,14 @@
 // The units of a command, one after another.
-ghost use Rattle.std.specs.Prelude.{◌≡◌, ◌≤◌, ◌<◌, ◌⊎◌, IsTrue, IfOk, IfErr, OnOk, OnErr, IfSome, IsNone, MatchBool};
+ghost use Rattle.std.specs.Prelude.{◌≡◌, [], ◌≤◌, ◌<◌, ◌⊎◌, IsTrue, IfOk, IfErr, OnOk, OnErr, IfSome, IsNone, MatchBool};
 ghost use Rattle.host_core.specs.Host.{Since};
+ghost use Rattle.unwind_stack.specs.Transcript.{TellsAll};
 ghost use Rattle.status_db.specs.Status.{HasRecords};
 ghost use Rattle.unpack_engine.specs.Unpack.{IsInOrder};
 ghost use Rattle.dpkg_session.specs.declared.report.Breakage.TheVariants.{Device, NoMemory, Closed};
 ghost use Rattle.dpkg_session.specs.declared.refusal.Rule.TheVariants.{Tree};
 ghost use Rattle.dpkg_session.specs.Refusals.{word_of};
 ghost use Rattle.dpkg_session.specs.Run.{AddsUnit, IsAmidByWord, IsAmidRun, IsAmidUnitOf, IsRun, HasRun};
-ghost use Rattle.dpkg_session.specs.Units.{IsBroken, IsBrokenBy, IsRefusedUnit, IsUnit, IsUnitByWord};
+ghost use Rattle.dpkg_session.specs.Units.{IsBroken, IsBrokenBy, IsRefusedUnit, IsUnit, IsUnitByWord, TellsCalls, calls_of};
 
 use crate::refusal::{Refusal, Rule, word_of};
 use crate::report::{Breakage, Candidate, Reply, Report, Unit};
@@ -20,7 +21,8 @@ use texts::Text;
 
 // The unit that is refused by a rule, or broken off for want of memory.
 fn refused(alloc: Global, rule: Rule, name: &Text) -> Unit
-    ensures { IsBrokenBy NoMemory result.reply ⊎ IsRefusedUnit rule name.now result }
+    ensures unit { IsBrokenBy NoMemory result.reply ⊎ IsRefusedUnit rule name.now result }
+    ensures told { result.calls.items ≡ [] }
 {
     match name.copy() {
         Ok(package) => Unit {
@@ -47,7 +49,8 @@ fn copy_of(fault: &TreeFault) -> Result<TreeFault, AllocError>
 }
 
 fn refused_tree(alloc: Global, fault: &TreeFault, label: &Text) -> Unit
-    ensures { IsBrokenBy NoMemory result.reply ⊎ IsRefusedUnit (Tree fault.now) label.now result }
+    ensures unit { IsBrokenBy NoMemory result.reply ⊎ IsRefusedUnit (Tree fault.now) label.now result }
+    ensures told { result.calls.items ≡ [] }
 {
     match copy_of(fault) {
         Ok(copy) => refused(alloc, Rule::Tree(copy), label),
@@ -66,6 +69,7 @@ fn unit_of_package<H: Host>(
     requires order { IsTrue (H.state host.old).honest → IsInOrder (H.state host.old).world }
     requires records { IsTrue (H.state host.old).honest → HasRecords (H.state host.old).world database.old }
     ensures unit { IsBroken result.reply ⊎ IsUnitByWord incoming.now (word_of incoming.now database.old) keep.now database.old database.new result (H.state host.old) (H.state host.new) }
+    ensures told { TellsAll (H.state host.old) (H.state host.new) [] result.calls.items }
     ensures any_moment { IsTrue (H.state host.old).honest → Since (IsAmidByWord incoming.now (word_of incoming.now database.old) keep.now database.old (H.state host.old).world) (H.state host.old) (H.state host.new) }
     ensures honest { (H.state host.new).honest ≡ (H.state host.old).honest }
     ensures faults { (H.state host.old).faults ≤ (H.state host.new).faults }
@@ -93,6 +97,7 @@ fn unit_of<H: Host>(
     requires order { IsTrue (H.state host.old).honest → IsInOrder (H.state host.old).world }
     requires records { IsTrue (H.state host.old).honest → HasRecords (H.state host.old).world database.old }
     ensures unit { IsBroken result.reply ⊎ IsUnit candidate.now keep.now database.old database.new result (H.state host.old) (H.state host.new) }
+    ensures told { TellsAll (H.state host.old) (H.state host.new) [] result.calls.items }
     ensures any_moment { IsTrue (H.state host.old).honest → Since (IsAmidUnitOf candidate.now.tree keep.now database.old (H.state host.old).world) (H.state host.old) (H.state host.new) }
     ensures honest { (H.state host.new).honest ≡ (H.state host.old).honest }
     ensures faults { (H.state host.old).faults ≤ (H.state host.new).faults }
@@ -134,6 +139,8 @@ fn run_one<H: Host>(
     ensures ok { OnOk result (AddsUnit candidate.now keep.now database.old database.new (H.state host.old) (H.state host.new) units.old.items units.new.items) }
     ensures err { OnErr result (units.new.items ≡ units.old.items) }
     ensures last { IfErr result (λ unit. IsBroken unit.reply) }
+    ensures told { OnOk result (TellsAll (H.state host.old) (H.state host.new) (calls_of units.old.items) (calls_of units.new.items)) }
+    ensures told_last { IfErr result (λ unit. TellsAll (H.state host.old) (H.state host.new) [] unit.calls.items) }
     ensures any_moment { IsTrue (H.state host.old).honest → Since (IsAmidUnitOf candidate.now.tree keep.now database.old (H.state host.old).world) (H.state host.old) (H.state host.new) }
     ensures honest { (H.state host.new).honest ≡ (H.state host.old).honest }
     ensures faults { (H.state host.old).faults ≤ (H.state host.new).faults }
@@ -163,6 +170,7 @@ pub(crate) fn run_units<H: Host>(
     requires records { IsTrue (H.state host.old).honest → HasRecords (H.state host.old).world database.old }
     ensures whole { IsNone result.last → IsRun candidates.now result.units.items keep.now database.old database.new (H.state host.old) (H.state host.new) }
     ensures part { HasRun candidates.now result.units.items keep.now database.old (H.state host.old) }
+    ensures told { TellsCalls (H.state host.old) (H.state host.new) result }
     ensures any_moment { IsTrue (H.state host.old).honest → Since (IsAmidRun candidates.now keep.now database.old (H.state host.old)) (H.state host.old) (H.state host.new) }
     ensures last { IfSome result.last (λ unit. IsBroken unit.reply) }
     ensures cause { IfSome result.last (λ unit. IsBrokenBy Device unit.reply → (H.state host.old).faults < (H.state host.new).faults) }

@@ -7,7 +7,7 @@ ghost use Rattle.administration.specs.declared.fault.AdministrationFault.TheVari
 ghost use Rattle.dpkg_session.specs.declared.report.Breakage.TheVariants.{Device, Closed};
 ghost use Rattle.dpkg_session.specs.Run.{IsAmidRun, IsRun, HasRun};
 ghost use Rattle.dpkg_session.specs.Standing.{IsStanding};
-ghost use Rattle.dpkg_session.specs.Units.{IsBroken, IsBrokenBy, IsClosedReport};
+ghost use Rattle.dpkg_session.specs.Units.{IsBroken, IsBrokenBy, IsClosedReport, TellsCalls};
 
 use crate::report::{Breakage, Candidate, Report};
 use crate::run::run_units;
@@ -86,6 +86,7 @@ impl<H: Host> Session<H> {
     pub fn run(&mut self, command: &Command) -> Report
         ensures whole { self.old.closed ≡ false → IsNone result.last → IsRun (candidates_of command.now) result.units.items self.old.keep self.old.database self.new.database (H.state self.old.host) (H.state self.new.host) }
         ensures part { self.old.closed ≡ false → HasRun (candidates_of command.now) result.units.items self.old.keep self.old.database (H.state self.old.host) }
+        ensures told { TellsCalls (H.state self.old.host) (H.state self.new.host) result }
         ensures any_moment { self.old.closed ≡ false → IsTrue (H.state self.old.host).honest → Since (IsAmidRun (candidates_of command.now) self.old.keep self.old.database (H.state self.old.host)) (H.state self.old.host) (H.state self.new.host) }
         ensures last { IfSome result.last (λ unit. IsBroken unit.reply) }
         ensures closes { self.new.closed ≡ is_some result.last }

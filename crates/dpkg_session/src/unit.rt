@@ -4,6 +4,7 @@ ghost use Rattle.host_core.specs.declared.call.Script.TheVariants.{Preinst};
 ghost use Rattle.status_db.specs.Records.{record_in};
 ghost use Rattle.unpack_engine.specs.ForwardRows.{call_of};
 ghost use Rattle.host_core.specs.Host.{HasCause, Since};
+ghost use Rattle.unwind_stack.specs.Transcript.{TellsAll};
 ghost use Rattle.status_db.specs.Status.{HasRecords};
 ghost use Rattle.unpack_engine.specs.Unpack.{IsAmid, IsInOrder};
 ghost use Rattle.unpack_engine.specs.Units.{HasUnpacked};
@@ -94,7 +95,8 @@ fn answered(
     turn: Turn,
     calls: Vec<Called>,
 ) -> Unit
-    ensures { IsBrokenBy NoMemory result.reply ⊎ IsAnswered incoming.now database.now turn calls.items result }
+    ensures answer { IsBrokenBy NoMemory result.reply ⊎ IsAnswered incoming.now database.now turn calls.items result }
+    ensures told { result.calls.items ≡ calls.items }
 {
     match answer_of(alloc, incoming, database, turn) {
         Ok((touched, reply)) => Unit {
@@ -126,6 +128,7 @@ pub(crate) fn unpack_unit<H: Host>(
     requires order { IsTrue (H.state host.old).honest → IsInOrder (H.state host.old).world }
     requires records { IsTrue (H.state host.old).honest → HasRecords (H.state host.old).world database.old }
     ensures unit { IsBroken result.reply ⊎ IsUnpacked incoming.now keep.now database.old database.new result (H.state host.old) (H.state host.new) }
+    ensures told { TellsAll (H.state host.old) (H.state host.new) [] result.calls.items }
     ensures any_moment { IsTrue (H.state host.old).honest → Since (IsAmid incoming.now keep.now database.old (H.state host.old).world) (H.state host.old) (H.state host.new) }
     ensures honest { (H.state host.new).honest ≡ (H.state host.old).honest }
     ensures faults { (H.state host.old).faults ≤ (H.state host.new).faults }

@@ -6,7 +6,7 @@ use Rattle.host_core.specs.World.{SameOn}
 use Rattle.host_core.specs.Host.{Ran, State, Since}
 use Rattle.host_core.specs.Scripts.{calls_none, calls_then, since_kept}
 use Rattle.unwind_stack.specs.declared.rows.Called.{Called}
-use Rattle.unwind_stack.specs.Transcript.{told_of, Makes}
+use Rattle.unwind_stack.specs.Transcript.{told_of, Makes, TellsAll}
 
 pub makes_none : (kept : Path → Bool) (P : List Ran → Type 0) (a : State) (told : List Called) → P [] → Makes kept P a a told told
 makes_none kept P a told here = ([], calls_none kept a, (here, sym (append-nil told)))
@@ -19,6 +19,18 @@ makes_then kept P Q R a b c told more now both first second = (
   first.0 ++ second.0,
   calls_then kept first.0 second.0 a b c first.1 second.1,
   (both first.0 second.0 first.2.0 second.2.0, second.2.1 ∙ ap (λ (l : List Called). l ++ map told_of second.0) first.2.1 ∙ append_assoc told (map told_of first.0) (map told_of second.0) ∙ ap (λ (l : List Called). told ++ l) (sym (map-append told_of first.0 second.0))),
+)
+
+-- the told calls and the host's own list, in step
+
+pub tells_none : (a b : State) (told now : List Called) → b.calls ≡ a.calls → now ≡ told → TellsAll a b told now
+tells_none a b told now same kept = ([], same ∙ sym (append-nil a.calls), kept ∙ sym (append-nil told))
+
+pub tells_then : (a b c : State) (told more now : List Called) → TellsAll a b told more → TellsAll b c more now → TellsAll a c told now
+tells_then a b c told more now first second = (
+  first.0 ++ second.0,
+  second.1 ∙ ap (λ (l : List Ran). l ++ second.0) first.1 ∙ append_assoc a.calls first.0 second.0,
+  second.2 ∙ ap (λ (l : List Called). l ++ map told_of second.0) first.2 ∙ append_assoc told (map told_of first.0) (map told_of second.0) ∙ ap (λ (l : List Called). told ++ l) (sym (map-append told_of first.0 second.0)),
 )
 
 -- what is kept stays over two parts

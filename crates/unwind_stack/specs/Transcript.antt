@@ -20,6 +20,10 @@ told_of t = record { call = t.call; outcome = t.outcome }
 abbrev pub Tells : List Ran → List Called → List Called → Type 0
 Tells ts old new = new ≡ old ++ map told_of ts
 
+-- the told calls have grown by those by which the host's own list of calls has
+abbrev pub TellsAll : State → State → List Called → List Called → Type 0
+TellsAll old new told_old told_new = (ts : List Ran) × (new.calls ≡ old.calls ++ ts) × Tells ts told_old told_new
+
 -- one call that ended so
 abbrev pub IsOne : Call → Outcome → List Ran → Type 0
 IsOne call outcome ts = (t : Ran) × (ts ≡ t ∷ []) × (t.call ≡ call) × (t.outcome ≡ outcome)

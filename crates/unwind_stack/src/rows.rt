@@ -2,7 +2,7 @@
 ghost use Rattle.std.specs.Prelude.{◌≡◌, ◌≤◌, IfOk, OnOk, IsTrue, ◌↔◌, Contains};
 ghost use Rattle.host_core.specs.World.{SameOn, is_kept};
 ghost use Rattle.host_core.specs.Host.{HasCause, Since};
-ghost use Rattle.unwind_stack.specs.Transcript.{IsOne, Makes, Tries, UndoesRow};
+ghost use Rattle.unwind_stack.specs.Transcript.{IsOne, Makes, TellsAll, Tries, UndoesRow};
 
 use host_core::{Call, Host, HostFault, Keep, Outcome};
 use std::alloc::AllocError;
@@ -60,6 +60,7 @@ pub fn call_script<H: Host>(
     told: &mut Vec<Called>,
 ) -> Result<Outcome, HostFault>
     ensures calls { IfOk result (λ outcome. Makes (is_kept keep.now) (IsOne call.now outcome) (H.state host.old) (H.state host.new) told.old.items told.new.items) }
+    ensures told { TellsAll (H.state host.old) (H.state host.new) told.old.items told.new.items }
     ensures any_moment { IsTrue (H.state host.old).honest → Since (SameOn (is_kept keep.now) (H.state host.old).world) (H.state host.old) (H.state host.new) }
     ensures honest { (H.state host.new).honest ≡ (H.state host.old).honest }
     ensures faults { (H.state host.old).faults ≤ (H.state host.new).faults }
@@ -84,6 +85,7 @@ pub fn try_row<H: Host>(
     told: &mut Vec<Called>,
 ) -> Result<bool, HostFault>
     ensures calls { IfOk result (λ ok. Makes (is_kept keep.now) (λ ts. Tries row.now ts ok) (H.state host.old) (H.state host.new) told.old.items told.new.items) }
+    ensures told { TellsAll (H.state host.old) (H.state host.new) told.old.items told.new.items }
     ensures any_moment { IsTrue (H.state host.old).honest → Since (SameOn (is_kept keep.now) (H.state host.old).world) (H.state host.old) (H.state host.new) }
     ensures honest { (H.state host.new).honest ≡ (H.state host.old).honest }
     ensures faults { (H.state host.old).faults ≤ (H.state host.new).faults }
@@ -123,6 +125,7 @@ pub fn undo_row<H: Host>(
     told: &mut Vec<Called>,
 ) -> Result<(), HostFault>
     ensures calls { OnOk result (Makes (is_kept keep.now) (λ ts. UndoesRow row.now owners.old.items ts owners.new.items) (H.state host.old) (H.state host.new) told.old.items told.new.items) }
+    ensures told { TellsAll (H.state host.old) (H.state host.new) told.old.items told.new.items }
     ensures any_moment { IsTrue (H.state host.old).honest → Since (SameOn (is_kept keep.now) (H.state host.old).world) (H.state host.old) (H.state host.new) }
     ensures honest { (H.state host.new).honest ≡ (H.state host.old).honest }
     ensures faults { (H.state host.old).faults ≤ (H.state host.new).faults }

@@ -1,9 +1,14 @@
-use Rattle.std.proofs.Common.{◌≡◌, ◌+◌, [], ◌∷◌, ◌++◌, length, take, drop, refl, append_assoc, IsTrue, subst, sym, ap, ◌∙◌, arith, length-append}
+use Rattle.std.proofs.Common.{◌≡◌, ◌+◌, List, [], ◌∷◌, ◌++◌, length, take, drop, refl, append_assoc, IsTrue, subst, sym, ap, ◌∙◌, arith, length-append}
 use Rattle.std.proofs.lemmas.List.{take_more, take-append-drop}
 use Rattle.dpkg_session.specs.declared.report.Candidate.{Candidate}
+use Rattle.unwind_stack.specs.Transcript.{TellsAll}
+use Rattle.unwind_stack.proofs.Makes.{tells_none, tells_then}
+use Rattle.dpkg_session.specs.declared.report.Unit.{Unit as AUnit}
+use Rattle.dpkg_session.specs.Units.{calls_of}
 use Rattle.dpkg_session.specs.Run.{IsRun}
 use Rattle.dpkg_session.proofs.Amid.{since_next, since_run_start}
 use Rattle.dpkg_session.proofs.Runs.{run_more, ready_after}
+use Rattle.dpkg_session.proofs.Told.{tells_last, tells_whole}
 use Rattle.dpkg_session.proofs.run.run_units.Goals as goal
 
 pub loop-candidate-preserved : goal.loop-candidate-preserved
@@ -27,6 +32,7 @@ loop-candidate-preserved g c =
       so_far = subst (λ l. IsRun l c.run_one.new.units.items places before after old new) (sym fronts) (subst (λ us. IsRun (take i candidates ++ p ∷ []) us places before after old new) (sym adds.grown) more);
       honest = c.run_one.ensures.honest ∙ inv.honest;
       faults = omega (arith, inv.faults, c.run_one.ensures.faults);
+      told = tells_then old now new [] (calls_of c.loop-candidate.units.items) (calls_of c.run_one.new.units.items) inv.told c.in-Ok.ensures.told;
       ready = ready_after p places mid after adds.unit now new c.run_one.ensures.honest inv.ready adds.is;
       moments = λ h.
           let split = sym (take-append-drop (i + 1) candidates) ∙ ap (λ l. l ++ drop (i + 1) candidates) fronts ∙ append_assoc (take i candidates) (p ∷ []) (drop (i + 1) candidates) in
@@ -41,6 +47,7 @@ loop-candidate-init g c =
       so_far = subst (λ l. IsRun [] l c.args.keep.now c.args.database.now c.args.database.now old old) (sym c.new-units.ensures.items) (refl, refl);
       honest = refl;
       faults = omega arith;
+      told = tells_none old old [] (calls_of c.new-units.result.items) refl (ap calls_of c.new-units.ensures.items);
       ready = record { order = c.requires.order; records = c.requires.records };
       moments = λ h. since_run_start c.args.candidates.now c.args.keep.now c.args.database.now old (c.requires.records h);
     }
@@ -54,3 +61,14 @@ returns-in-Err-clause-any_moment g c = λ h.
     let fronts = take_more candidates i p c.loop-candidate-test.true ∙ ap (λ (q : Candidate). take i candidates ++ q ∷ []) (sym c.candidate-item.is) in
     let split = sym (take-append-drop (i + 1) candidates) ∙ ap (λ l. l ++ drop (i + 1) candidates) fronts ∙ append_assoc (take i candidates) (p ∷ []) (drop (i + 1) candidates) in
     since_next candidates (take i candidates) c.loop-candidate.units.items p (drop (i + 1) candidates) _ _ _ _ _ _ split inv.so_far (inv.moments h) (c.run_one.ensures.any_moment (subst IsTrue (sym inv.honest) h))
+
+pub returns-in-Err-clause-told : goal.returns-in-Err-clause-told
+returns-in-Err-clause-told g c =
+    let old = g.H.Host.state c.args.host.now in
+    let new = g.H.Host.state c.run_one.new.host in
+    let unit = c.in-Err.unit in
+    subst (λ us. TellsAll old new [] (calls_of us ++ unit.calls.items)) (sym {A = List AUnit} c.in-Err.ensures.err)
+    (tells_last old (g.H.Host.state c.loop-candidate.host) new c.loop-candidate.units.items unit c.loop-candidate.invariant.told c.in-Err.ensures.told_last)
+
+pub returns-clause-told : goal.returns-clause-told
+returns-clause-told g c = tells_whole (g.H.Host.state c.args.host.now) (g.H.Host.state c.loop-candidate.host) c.loop-candidate.units.items c.loop-candidate.invariant.told

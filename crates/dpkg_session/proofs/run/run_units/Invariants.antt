@@ -1,5 +1,7 @@
-use Rattle.std.proofs.Common.{◌≡◌, ◌≤◌, IsTrue, length, take}
+use Rattle.std.proofs.Common.{◌≡◌, ◌≤◌, [], IsTrue, length, take}
 use Rattle.host_core.specs.Host.{Since}
+use Rattle.unwind_stack.specs.Transcript.{TellsAll}
+use Rattle.dpkg_session.specs.Units.{calls_of}
 use Rattle.dpkg_session.specs.Run.{IsAmidRun, IsRun}
 use Rattle.dpkg_session.proofs.Runs.{Ready}
 use Rattle.dpkg_session.proofs.run.run_units.Given as goal
@@ -13,6 +15,7 @@ invariant-loop-candidate g l =
       so_far : IsRun (take l.candidate-index l.candidates) l.units.items l.keep l.fn.database l.database old now;
       honest : now.honest ≡ old.honest;
       faults : old.faults ≤ now.faults;
+      told : TellsAll old now [] (calls_of l.units.items);
       ready : Ready l.database now;
       moments : IsTrue old.honest → Since (IsAmidRun l.candidates l.keep l.fn.database old) old now;
     }
