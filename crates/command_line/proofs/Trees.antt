@@ -58,6 +58,7 @@ unpacked_within outer inner within left begun trees done u = record {
   places = u.places;
   table = u.table;
   state = u.state;
+  silent = u.silent;
   opens = u.opens;
   opened = u.opened;
   end = u.end;

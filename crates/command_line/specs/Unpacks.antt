@@ -1,7 +1,7 @@
 -- What the report on an unpack has to do with the words for the root and the trees.
 use Rattle.std.specs.Prelude.{◌≡◌, ◌⊎◌, ◌<◌, ℕ, List, map, IsTrue, IsNone, IfSome, Some, None, Result, Ok, Err}
 use Rattle.std.specs.List.{All}
-use Rattle.host_core.specs.Host.{Since, State}
+use Rattle.host_core.specs.Host.{Silent, Since, State}
 use Rattle.host_core.specs.Paths.{Path}
 use Rattle.host_core.specs.World.{World}
 use Rattle.administration.specs.declared.fault.AdministrationFault.{AdministrationFault}
@@ -87,6 +87,7 @@ pub record IsUnpackedOn (a : Around) (begun : State) (trees : List (List ℕ)) (
   pub places : List Path
   pub table : List Record
   pub state : State
+  pub silent : Silent begun state
   pub opens : IsTrue begun.honest → Opens parts None begun state
   pub opened : IsTrue begun.honest → IsOpened table places state.world
   pub end : State
@@ -97,10 +98,11 @@ pub record IsUnpackedOn (a : Around) (begun : State) (trees : List (List ℕ)) (
 abbrev pub HasUnpacked : Around → Unpacking → Report → Type 0
 HasUnpacked a u done = (begun : State) × a.root u.root begun × IsUnpackedOn a begun u.trees done
 
--- the administration of a host couldn't be opened, for this fault, and the host was given back
+-- the administration of a host couldn't be opened, for this fault; no script was called, and the host was given back
 pub record IsRefusedOn (left : Given) (begun : State) (fault : AdministrationFault) : Type 0 where
   pub end : State
   pub given : left end
+  pub silent : Silent begun end
   pub opens : IsTrue begun.honest → Opens parts (Some fault) begun end
   pub cause : fault ≡ opening_faults.Device → begun.faults < end.faults
 
@@ -108,6 +110,7 @@ pub record IsRefusedOn (left : Given) (begun : State) (fault : AdministrationFau
 pub record IsStoppedOn (left : Given) (begun : State) : Type 0 where
   pub end : State
   pub given : left end
+  pub silent : Silent begun end
   pub opens : IsTrue begun.honest → Opens parts None begun end
 
 -- so it went on a host behind the root's word, unless none could be opened: the device failed, or memory was wanting

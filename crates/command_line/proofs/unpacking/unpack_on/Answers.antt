@@ -16,6 +16,7 @@ returns-in_ok-done-in-Ok-clause-done g c =
       places = session.keep;
       table = session.database;
       state = begun;
+      silent = c.in-Ok.ensures.silent;
       opens = c.in-Ok.ensures.opens;
       opened = c.in-Ok.ensures.opened;
       end = g.S.Opened.Host.state c.into_host.result;
