@@ -11,44 +11,28 @@ ghost use Rattle.control_fields.specs.declared.fault.ControlFault.{ControlFault}
 ghost use Rattle.control_fields.specs.declared.fault.ControlFault.TheVariants.{NoMemory};
 ghost use Rattle.control_fields.specs.Spelling.{spell, spell_all, IsField, IsParagraph};
 
-/// A written paragraph reads back as that paragraph alone.
+/// Written paragraphs read back as those paragraphs, and what is read can be written.
 pub fn read_again()
-    ensures { (p : List AField) → IsParagraph p → Reads (lines_of (spell p)) (p ∷ []) }
+    ensures one { (p : List AField) → IsParagraph p → Reads (lines_of (spell p)) (p ∷ []) }
+    ensures all { (ps : List (List AField)) → AllByRecursion IsParagraph ps → Reads (lines_of (spell_all ps)) ps }
+    ensures writable { (bytes : List ℕ) (ps : List (List AField)) → Reads (lines_of bytes) ps → AllByRecursion IsParagraph ps }
 {}
 
-/// Written paragraphs read back as those paragraphs.
-pub fn read_all_again()
-    ensures { (ps : List (List AField)) → AllByRecursion IsParagraph ps → Reads (lines_of (spell_all ps)) ps }
-{}
-
-/// A text has one reading.
+/// A text has one reading, and is one paragraph in one way.
 pub fn reads_once()
-    ensures { (ls : List (List ℕ)) (ps qs : List (List AField)) → Reads ls ps → Reads ls qs → ps ≡ qs }
+    ensures all { (ls : List (List ℕ)) (ps qs : List (List AField)) → Reads ls ps → Reads ls qs → ps ≡ qs }
+    ensures one { (ls : List (List ℕ)) (p q : List AField) → ReadsOne ls p → ReadsOne ls q → p ≡ q }
 {}
 
-/// A text that has a reading has no fault but want of memory.
+/// A text that has a reading, or is one paragraph, or has none, has no fault but want of memory.
 pub fn no_fault()
-    ensures { (ls : List (List ℕ)) (ps : List (List AField)) (fault : ControlFault) → Reads ls ps → IsFaultOf ls fault → fault ≡ NoMemory }
-{}
-
-/// A text is one paragraph in one way.
-pub fn reads_one_once()
-    ensures { (ls : List (List ℕ)) (p q : List AField) → ReadsOne ls p → ReadsOne ls q → p ≡ q }
-{}
-
-/// A text that is one paragraph, or has none, has no fault but want of memory.
-pub fn no_fault_of_one()
-    ensures { (ls : List (List ℕ)) (p : List AField) (fault : ControlFault) → ReadsOne ls p → IsFaultOfOne ls fault → fault ≡ NoMemory }
+    ensures all { (ls : List (List ℕ)) (ps : List (List AField)) (fault : ControlFault) → Reads ls ps → IsFaultOf ls fault → fault ≡ NoMemory }
+    ensures one { (ls : List (List ℕ)) (p : List AField) (fault : ControlFault) → ReadsOne ls p → IsFaultOfOne ls fault → fault ≡ NoMemory }
 {}
 
 /// Each field that was read stands on the line that its paragraph's line and the fields before it tell.
 pub fn fields_stand_on_lines()
     ensures { (ls : List (List ℕ)) (paragraphs : List Located) (begun : Located) (fault : Option ControlFault) → IsReadTo ls paragraphs begun fault → AllByRecursion (IsPlaced ls) paragraphs × IsPlaced ls begun }
-{}
-
-/// What is read can be written.
-pub fn readable_is_writable()
-    ensures { (bytes : List ℕ) (ps : List (List AField)) → Reads (lines_of bytes) ps → AllByRecursion IsParagraph ps }
 {}
 
 /// A name and a trimmed value of one line make a field that has a written form.

@@ -13,10 +13,7 @@ mod writing;
 
 pub use fault::ControlFault;
 pub use field::Field;
-pub use laws::{
-    fields_stand_on_lines, no_fault, no_fault_of_one, one_line_is_field, read_again,
-    read_all_again, readable_is_writable, reads_once, reads_one_once,
-};
+pub use laws::{fields_stand_on_lines, no_fault, one_line_is_field, read_again, reads_once};
 pub use line_list::Lines;
 pub use located::{ControlText, Located};
 pub use paragraph::Paragraph;

@@ -19,10 +19,7 @@ pub use alternative::Alternative;
 pub use clause::Clause;
 pub use fault::RelationFault;
 pub use form::Form;
-pub use laws::{
-    first_stray_byte, no_fault, one_fault, read_again, read_as_put_together, readable_is_printable,
-    reads_once,
-};
+pub use laws::{first_stray_byte, read_again, reads_once};
 pub use offer::Offer;
 pub use provides::{Provided, Provides};
 pub use relations::Relations;

@@ -2,6 +2,7 @@ use Rattle.std.proofs.Common.{sym, subst, IsTrue, Some, option_copied}
 use Rattle.administration.specs.Directories.{IsPassed, IsFirstDirectory}
 use Rattle.administration.proofs.Emptying.{first_in, flat_by}
 use Rattle.administration.proofs.directories.inspect_flat.Goals as goal
+use Rattle.std.proofs.Common.{rules}
 
 pub returns-in-None-clause-found : goal.returns-in-None-clause-found
 returns-in-None-clause-found g c = λ h.
@@ -22,3 +23,6 @@ returns-in-Some-clause-found g c = λ h.
     let named = subst (λ names. IsFirstDirectory w1 d names (Some name)) c.as_slice.ensures first in
     let here = subst (λ w. IsFirstDirectory w d c.in_ok-listing.listing.names (Some name)) (c.list.ensures.same h).world named in
     (name, c.in_ok-child-in-Some.ensures, first_in _ d _ _ name c.if-listing.false (c.in_ok-listing.ensures.listed h) here)
+
+pub returns-then-listing-clause-found : goal.returns-then-listing-clause-found
+returns-then-listing-clause-found g c = search rules

@@ -1,0 +1,5 @@
+use Rattle.std.proofs.Common.{rules}
+use Rattle.control_fields.proofs.line_list.Lines.as_slice.Goals as goal
+
+pub returns : goal.returns
+returns c = search rules
