@@ -262,44 +262,44 @@ impl Host for FilesHost {
 
     fn node(&mut self, path: &RootPath) -> Result<Option<Node>, HostFault> {
         self.guard()?;
-        let found = node_at(&self.rt, &self.root, path);
-        self.settle(found)
+        let node = node_at(&self.rt, &self.root, path);
+        self.settle(node)
     }
 
     fn list(&mut self, path: &RootPath) -> Result<Listing, HostFault> {
         self.guard()?;
-        let found = listing_at(&self.rt, &self.root, path);
-        self.settle(found)
+        let listing = listing_at(&self.rt, &self.root, path);
+        self.settle(listing)
     }
 
     fn write_new(&mut self, path: &RootPath, node: &Node) -> Result<(), HostFault> {
         self.guard()?;
-        let done = self.write_file(path, node);
-        self.settle(done)
+        let written = self.write_file(path, node);
+        self.settle(written)
     }
 
     fn make_dir(&mut self, path: &RootPath, mode: u16) -> Result<(), HostFault> {
         self.guard()?;
-        let done = self.make_directory(path, mode);
-        self.settle(done)
+        let made = self.make_directory(path, mode);
+        self.settle(made)
     }
 
     fn rename(&mut self, from: &RootPath, to: &RootPath) -> Result<(), HostFault> {
         self.guard()?;
-        let done = self.move_over(from, to);
-        self.settle(done)
+        let renamed = self.move_over(from, to);
+        self.settle(renamed)
     }
 
     fn remove(&mut self, path: &RootPath) -> Result<(), HostFault> {
         self.guard()?;
-        let done = self.unlink(path);
-        self.settle(done)
+        let removed = self.unlink(path);
+        self.settle(removed)
     }
 
     fn remove_dir(&mut self, path: &RootPath) -> Result<(), HostFault> {
         self.guard()?;
-        let done = self.unlink_directory(path);
-        self.settle(done)
+        let removed_directory = self.unlink_directory(path);
+        self.settle(removed_directory)
     }
 
     // Room for the entry is made before the start, so that want of memory starts nothing.

@@ -1,4 +1,5 @@
 use Rattle.package_tree.proofs.control_file.read_fields.Goals as goal
+use Rattle.std.proofs.Common.{rules}
 
 pub returns-in_default-2-clause-fault : goal.returns-in_default-2-clause-fault
 returns-in_default-2-clause-fault c = (
@@ -13,3 +14,6 @@ returns-then-not-has_no_bad_essential-clause-fault c =
       (c.in-Some-2.version, record { field = c.in-Some-get.version.now; called = c.in-Some-get.ensures.some; is = version.0; good = version.1 }),
       c.if-not-has_no_bad_essential.ensures,
     )
+
+pub returns-in_default-clause-fault : goal.returns-in_default-clause-fault
+returns-in_default-clause-fault c = search rules

@@ -6,6 +6,7 @@ use Rattle.unpack_engine.specs.Units.IsFinishing.{storing, unpacked, forgetting}
 use Rattle.unpack_engine.proofs.Noting.{noted_earlier}
 use Rattle.unpack_engine.proofs.Finishing.{committed_by}
 use Rattle.unpack_engine.proofs.unpack.finish.Goals as goal
+use Rattle.std.proofs.Common.{rules}
 
 pub returns-in_err-store_own-in-Committed-clause-any_moment : goal.returns-in_err-store_own-in-Committed-clause-any_moment
 returns-in_err-store_own-in-Committed-clause-any_moment g c = λ h. since_weaker _ _ _ _ (λ w is. storing c.in-Committed.is is) (c.store_own.ensures.any_moment h)
@@ -33,3 +34,9 @@ returns-in-Committed-clause-finished g c =
 
 pub returns-in-Undone-clause-any_moment : goal.returns-in-Undone-clause-any_moment
 returns-in-Undone-clause-any_moment g c = λ h. since_weaker _ _ _ _ (λ w is. forgetting c.in-Undone.is is) (c.forget.ensures.any_moment h)
+
+pub returns-in-UndoFailed-clause-finished : goal.returns-in-UndoFailed-clause-finished
+returns-in-UndoFailed-clause-finished g c = search rules
+
+pub returns-in-UndoFailed-clause-any_moment : goal.returns-in-UndoFailed-clause-any_moment
+returns-in-UndoFailed-clause-any_moment g c = search rules

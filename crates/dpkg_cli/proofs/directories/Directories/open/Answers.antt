@@ -1,0 +1,5 @@
+use Rattle.std.proofs.Common.{rules}
+use Rattle.dpkg_cli.proofs.directories.Directories.open.Goals as goal
+
+pub returns-in-Err-Device-clause-cause : goal.returns-in-Err-Device-clause-cause
+returns-in-Err-Device-clause-cause c = search rules
