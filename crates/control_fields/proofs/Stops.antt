@@ -6,7 +6,7 @@ use Rattle.control_fields.specs.Grammar.{Reading, start, closed, Takes, Run}
 use Rattle.control_fields.specs.Faults.{IsFaultAt, IsFaultHere, IsFaultOf, IsFaultOfOne, StopsAt}
 use Rattle.control_fields.specs.Told.{told}
 use Rattle.control_fields.specs.declared.fault.ControlFault.{ControlFault}
-use Rattle.control_fields.specs.declared.fault.ControlFault.TheVariants.{Second}
+use Rattle.control_fields.specs.declared.fault.ControlFault.TheVariants.{NoMemory, Second}
 
 pub stops_at : (single : Bool) (ls front : List (List ℕ)) (bytes : List ℕ) (rest : List (List ℕ)) (n : ℕ) (s t : Reading) (e : ControlFault) → ls ≡ front ++ bytes ∷ rest → n ≡ length front + 1 → Run 1 front start s
     → (IsTrue single → length (closed s) ≤ 1) → IsFaultHere single e n bytes s t → StopsAt single ls e t
@@ -35,3 +35,6 @@ one_of ls s e stops = elim stops [
   | inr (inl f) ↦ inr (inl (s, f.0, f.1 refl))
   | inr (inr f) ↦ inr (inr f.1)
 ]
+
+pub short_of_memory : (single : Bool) (ls : List (List ℕ)) (e : ControlFault) → e ≡ NoMemory → (s : Reading) × StopsAt single ls e s
+short_of_memory single ls e is = (start, inl is)

@@ -150,15 +150,31 @@ pub fn read_located(alloc: Global, bytes: &[u8]) -> Result<ControlText, AllocErr
     }
 }
 
+// Reads the whole text; `done` holds its paragraphs then.
+fn read_all(
+    alloc: Global,
+    bytes: &[u8],
+    single: bool,
+    done: &mut Vec<Located>,
+) -> Result<(), ControlFault>
+    requires { done.old.items ≡ [] }
+    ensures reads { OnOk result (Reads (lines_of bytes.now) (paragraphs_of done.new.items)) }
+    ensures one { OnOk result (IsTrue single → length done.new.items ≤ 1) }
+    ensures fault { IfErr result (λ fault. (state : Reading) × StopsAt single (lines_of bytes.now) fault state) }
+{
+    let mut begun = Located::new(alloc);
+    read_lines(alloc, bytes, single, done, &mut begun)?;
+    close(alloc, done, &mut begun)?;
+    Ok(())
+}
+
 /// The paragraphs of a control text.
 pub fn read_paragraphs(alloc: Global, bytes: &[u8]) -> Result<Vec<Paragraph>, ControlFault>
     ensures reads { IfOk result (λ paragraphs. Reads (lines_of bytes.now) paragraphs.items) }
     ensures fault { IfErr result (IsFaultOf (lines_of bytes.now)) }
 {
     let mut done = Vec::new(alloc);
-    let mut begun = Located::new(alloc);
-    read_lines(alloc, bytes, false, &mut done, &mut begun)?;
-    close(alloc, &mut done, &mut begun)?;
+    read_all(alloc, bytes, false, &mut done)?;
     Ok(without_lines(alloc, done)?)
 }
 
@@ -178,9 +194,7 @@ pub fn read_one(alloc: Global, bytes: &[u8]) -> Result<Paragraph, ControlFault>
     ensures fault { IfErr result (IsFaultOfOne (lines_of bytes.now)) }
 {
     let mut done = Vec::new(alloc);
-    let mut begun = Located::new(alloc);
-    read_lines(alloc, bytes, true, &mut done, &mut begun)?;
-    close(alloc, &mut done, &mut begun)?;
+    read_all(alloc, bytes, true, &mut done)?;
     match done.pop() {
         Some(one) => Ok(one.paragraph),
         None => Ok(Paragraph::new(alloc)),

@@ -178,6 +178,23 @@ pub fn scripts_of(contents: Contents) -> Scripts
     }
 }
 
+// Puts what stands at a path of the tree into its place.
+fn look_at<H: Host>(
+    alloc: Global,
+    host: &mut H,
+    path: &str,
+    node: &mut Option<Node>,
+) -> Result<(), TreeFault>
+    ensures found { IsTrue (H.state host.old).honest → OnOk result (node.new ≡ (H.state host.old).world path.now) }
+    ensures same { IsTrue (H.state host.old).honest → Same (H.state host.old) (H.state host.new) }
+    ensures silent { Silent (H.state host.old) (H.state host.new) }
+    ensures fault { IfErr result IsHostFault }
+    ensures cause { HasTreeCause (H.state host.old) (H.state host.new) result }
+{
+    *node = node_at(alloc, host, path)?;
+    Ok(())
+}
+
 /// Looks at all of them.
 pub fn look<H: Host>(alloc: Global, host: &mut H, contents: &mut Contents) -> Result<(), TreeFault>
     ensures found { IsTrue (H.state host.old).honest → OnOk result (AreContents (H.state host.old).world contents.new) }
@@ -186,11 +203,11 @@ pub fn look<H: Host>(alloc: Global, host: &mut H, contents: &mut Contents) -> Re
     ensures fault { IfErr result IsHostFault }
     ensures cause { HasTreeCause (H.state host.old) (H.state host.new) result }
 {
-    contents.conffiles = node_at(alloc, host, "/DEBIAN/conffiles")?;
-    contents.postinst = node_at(alloc, host, "/DEBIAN/postinst")?;
-    contents.postrm = node_at(alloc, host, "/DEBIAN/postrm")?;
-    contents.preinst = node_at(alloc, host, "/DEBIAN/preinst")?;
-    contents.prerm = node_at(alloc, host, "/DEBIAN/prerm")?;
+    look_at(alloc, host, "/DEBIAN/conffiles", &mut contents.conffiles)?;
+    look_at(alloc, host, "/DEBIAN/postinst", &mut contents.postinst)?;
+    look_at(alloc, host, "/DEBIAN/postrm", &mut contents.postrm)?;
+    look_at(alloc, host, "/DEBIAN/preinst", &mut contents.preinst)?;
+    look_at(alloc, host, "/DEBIAN/prerm", &mut contents.prerm)?;
     contents.ships = ships(alloc, host)?;
     Ok(())
 }
