@@ -2,12 +2,6 @@
 //! a unit left behind that was broken off is removed.
 #![tactic(auto)]
 
-mod diversions;
-mod leftovers;
-mod lists;
 mod open;
-mod status_file;
-mod updates;
-mod ways;
 
 pub use open::open_administration;

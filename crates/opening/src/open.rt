@@ -1,24 +1,249 @@
-// The administration as a whole.
-ghost use Rattle.std.specs.Prelude.{◌≡◌, ◌∷◌, [], IsTrue, IfOk};
+// The administration as a whole, part by part in the order in which they are opened.
+ghost use Rattle.std.specs.Prelude.{◌≡◌, ◌∷◌, [], true, IsTrue, Some, option_copied, IfOk, MatchOption};
 ghost use Rattle.host_core.specs.Host.{Silent};
-ghost use Rattle.host_core.specs.World.{IsDirectory};
+ghost use Rattle.host_core.specs.World.{HasParent, World, IsDirectory};
 ghost use Rattle.administration.specs.Fault.{HasAdministrationCause};
-ghost use Rattle.administration.specs.Places.{home_path, info_path, updates_path};
+ghost use Rattle.administration.specs.Places.{home_path, updates_path, info_path, tmp_path};
+ghost use Rattle.administration.specs.declared.fault.AdministrationFault.TheVariants.{Damaged, Device};
+ghost use Rattle.opening.specs.Leaving.{is_way, root_path, var_path, lib_path};
+ghost use Rattle.opening.specs.Parts.{Way, Opens, fault_in, Spare, Updates, Finds, Info, names_of, Diversions, IsDiversionsFault, IsWithoutDiversions, Leftovers, Status, parts};
+ghost use Rattle.host_core.specs.Tree.{IsListing};
+ghost use Rattle.administration.specs.Least.{IsLeast};
 ghost use Rattle.file_lists.specs.Lists.{HasPlaces};
 ghost use Rattle.status_db.specs.Status.{HasRecords};
 ghost use Rattle.opening.specs.Opened.{IsOpened};
-ghost use Rattle.opening.specs.Parts.{Way, Status, Spare, Updates, Info, Diversions, Leftovers, Opens, fault_in, names_of, parts};
 
-use crate::diversions::check_diversions;
-use crate::leftovers::clear_leftovers;
-use crate::lists::open_info;
-use crate::status_file::check_spare;
-use crate::updates::open_updates;
-use crate::ways::open_ways;
-use administration::AdministrationFault;
-use host_core::{Host, Keep};
-use status_db::Database;
-use std::alloc::Global;
+use administration::{
+    AdministrationFault, Flatness, Standing, diversions_path, inspect_flat, lesser, look,
+    make_directory, remove_flat, status_path, tmp_path, updates_path,
+};
+use file_lists::read_places;
+use host_core::{Host, Keep, Listing, Node, RootPath};
+use status_db::{Database, Record};
+use std::alloc::{AllocError, Global};
+use texts::{Text, Texts};
+
+fn damaged(file: RootPath, line: u64) -> AdministrationFault
+    ensures { result ≡ Damaged file line }
+{
+    AdministrationFault::Damaged { file, line }
+}
+
+// Makes a directory where nothing stands; what else stands there must be one.
+fn make_way<H: Host>(alloc: Global, host: &mut H, place: &str) -> Result<(), AdministrationFault>
+    requires parent { IsTrue (H.state host.old).honest → HasParent (H.state host.old).world place.now }
+    requires way { is_way place.now ≡ true }
+    ensures opens { IsTrue (H.state host.old).honest → Opens (Way place.now ∷ []) (fault_in result) (H.state host.old) (H.state host.new) }
+    ensures silent { Silent (H.state host.old) (H.state host.new) }
+    ensures cause { HasAdministrationCause (H.state host.old) (H.state host.new) result }
+{
+    let path = RootPath::from_str(alloc, place)?;
+    if make_directory(host, &path)? {
+        return Ok(());
+    }
+    Err(damaged(path, 0))
+}
+
+// The root has to be a directory.
+fn check_root<H: Host>(alloc: Global, host: &mut H) -> Result<(), AdministrationFault>
+    ensures opens { IsTrue (H.state host.old).honest → Opens (Way root_path ∷ []) (fault_in result) (H.state host.old) (H.state host.new) }
+    ensures silent { Silent (H.state host.old) (H.state host.new) }
+    ensures cause { HasAdministrationCause (H.state host.old) (H.state host.new) result }
+{
+    let path = RootPath::from_str(alloc, "")?;
+    match look(host, &path)? {
+        Standing::Directory => {
+            return Ok(());
+        }
+        Standing::Nothing => {
+            return Err(damaged(path, 0));
+        }
+        Standing::Loose => {
+            return Err(damaged(path, 0));
+        }
+    }
+}
+
+// The root, and the directories from it to the administration.
+fn open_ways<H: Host>(alloc: Global, host: &mut H) -> Result<(), AdministrationFault>
+    ensures opens { IsTrue (H.state host.old).honest → Opens (Way root_path ∷ Way var_path ∷ Way lib_path ∷ Way home_path ∷ []) (fault_in result) (H.state host.old) (H.state host.new) }
+    ensures silent { Silent (H.state host.old) (H.state host.new) }
+    ensures cause { HasAdministrationCause (H.state host.old) (H.state host.new) result }
+{
+    check_root(alloc, host)?;
+    make_way(alloc, host, "/var")?;
+    make_way(alloc, host, "/var/lib")?;
+    make_way(alloc, host, "/var/lib/dpkg")
+}
+
+fn check_spare<H: Host>(alloc: Global, host: &mut H) -> Result<(), AdministrationFault>
+    ensures opens { IsTrue (H.state host.old).honest → Opens (Spare ∷ []) (fault_in result) (H.state host.old) (H.state host.new) }
+    ensures silent { Silent (H.state host.old) (H.state host.new) }
+    ensures cause { HasAdministrationCause (H.state host.old) (H.state host.new) result }
+{
+    let spare = status_path(alloc)?.with_suffix(".dpkg-inst")?;
+    match look(host, &spare)? {
+        Standing::Directory => {
+            return Err(damaged(spare, 0));
+        }
+        Standing::Nothing => {
+            return Ok(());
+        }
+        Standing::Loose => {
+            return Ok(());
+        }
+    }
+}
+
+// The least of these names.
+fn least(names: &[Text]) -> Option<&Text>
+    ensures { IsLeast (λ _. Unit {0}) names.now (option_copied result) }
+{
+    let mut least = None;
+    for name in names {
+        least = Some(lesser(least, name));
+    }
+    least
+}
+
+// What a directory that has to be empty holds.
+fn check_listing(directory: RootPath, listing: &Listing) -> Result<(), AdministrationFault>
+    requires { directory ≡ updates_path }
+    ensures finds { (w : World) → IsListing w updates_path listing.now.names listing.now.bad → Finds (Updates ∷ []) w (fault_in result) }
+    ensures device { fault_in result ≡ Some Device → ⊥ }
+{
+    if listing.bad {
+        return Err(damaged(directory, 0));
+    }
+    match least(listing.names.as_slice()) {
+        None => Ok(()),
+        Some(name) => Err(damaged(directory.child(name)?, 0)),
+    }
+}
+
+fn check_updates<H: Host>(alloc: Global, host: &mut H) -> Result<(), AdministrationFault>
+    ensures opens { IsTrue (H.state host.old).honest → Opens (Updates ∷ []) (fault_in result) (H.state host.old) (H.state host.new) }
+    ensures silent { Silent (H.state host.old) (H.state host.new) }
+    ensures cause { HasAdministrationCause (H.state host.old) (H.state host.new) result }
+{
+    let directory = updates_path(alloc)?;
+    let listing = host.list(&directory)?;
+    check_listing(directory, &listing)
+}
+
+// The directory of noted records, which has to be empty.
+fn open_updates<H: Host>(alloc: Global, host: &mut H) -> Result<(), AdministrationFault>
+    requires { IsTrue (H.state host.old).honest → IsDirectory ((H.state host.old).world home_path) }
+    ensures opens { IsTrue (H.state host.old).honest → Opens (Way updates_path ∷ Updates ∷ []) (fault_in result) (H.state host.old) (H.state host.new) }
+    ensures silent { Silent (H.state host.old) (H.state host.new) }
+    ensures cause { HasAdministrationCause (H.state host.old) (H.state host.new) result }
+{
+    make_way(alloc, host, "/var/lib/dpkg/updates")?;
+    check_updates(alloc, host)
+}
+
+// The names of the packages that have a record.
+fn names_of(alloc: Global, records: &[Record]) -> Result<Texts, AllocError>
+    ensures { IfOk result (λ names. names ≡ names_of records.now) }
+{
+    let mut names = Texts::new(alloc);
+    for entry in records {
+        names.push(entry.name.copy()?)?;
+    }
+    Ok(names)
+}
+
+// Makes the directory where it is missing, and reads the places that recorded packages list.
+fn open_info<H: Host>(
+    alloc: Global,
+    host: &mut H,
+    database: &Database,
+) -> Result<Keep, AdministrationFault>
+    requires home { IsTrue (H.state host.old).honest → IsDirectory ((H.state host.old).world home_path) }
+    requires records { IsTrue (H.state host.old).honest → HasRecords (H.state host.old).world database.now }
+    ensures opens { IsTrue (H.state host.old).honest → Opens (Way info_path ∷ Info ∷ []) (fault_in result) (H.state host.old) (H.state host.new) }
+    ensures places { IsTrue (H.state host.old).honest → IfOk result (HasPlaces (H.state host.new).world (names_of database.now)) }
+    ensures silent { Silent (H.state host.old) (H.state host.new) }
+    ensures cause { HasAdministrationCause (H.state host.old) (H.state host.new) result }
+{
+    let names = names_of(alloc, database.records())?;
+    make_way(alloc, host, "/var/lib/dpkg/info")?;
+    read_places(alloc, host, names.as_slice())
+}
+
+// The faulty line of what stands in the place of the diversions.
+fn faulty_line(node: Option<Node>) -> Option<u64>
+    ensures { MatchOption result (IsWithoutDiversions node) (IsDiversionsFault node) }
+{
+    match node {
+        None => None,
+        Some(Node::File { bytes, .. }) => {
+            if bytes.as_slice().is_empty() {
+                return None;
+            }
+            return Some(1);
+        }
+        Some(Node::Dir { .. }) => Some(0),
+        Some(Node::Link { .. }) => Some(0),
+    }
+}
+
+fn check_diversions<H: Host>(alloc: Global, host: &mut H) -> Result<(), AdministrationFault>
+    ensures opens { IsTrue (H.state host.old).honest → Opens (Diversions ∷ []) (fault_in result) (H.state host.old) (H.state host.new) }
+    ensures silent { Silent (H.state host.old) (H.state host.new) }
+    ensures cause { HasAdministrationCause (H.state host.old) (H.state host.new) result }
+{
+    let path = diversions_path(alloc)?;
+    match faulty_line(host.node(&path)?) {
+        Some(line) => {
+            return Err(damaged(path, line));
+        }
+        None => {
+            return Ok(());
+        }
+    }
+}
+
+// Removes the directory with the files in it.
+fn clear_directory<H: Host>(host: &mut H, path: RootPath) -> Result<(), AdministrationFault>
+    requires place { path ≡ tmp_path }
+    requires there { IsTrue (H.state host.old).honest → IsDirectory ((H.state host.old).world tmp_path) }
+    ensures opens { IsTrue (H.state host.old).honest → Opens (Leftovers ∷ []) (fault_in result) (H.state host.old) (H.state host.new) }
+    ensures silent { Silent (H.state host.old) (H.state host.new) }
+    ensures cause { HasAdministrationCause (H.state host.old) (H.state host.new) result }
+{
+    match inspect_flat(host, &path)? {
+        Flatness::Flat(names) => {
+            remove_flat(host, &path, names.as_slice())?;
+            return Ok(());
+        }
+        Flatness::BadName => {
+            return Err(damaged(path, 0));
+        }
+        Flatness::Holds(directory) => {
+            return Err(damaged(directory, 0));
+        }
+    }
+}
+
+fn clear_leftovers<H: Host>(alloc: Global, host: &mut H) -> Result<(), AdministrationFault>
+    ensures opens { IsTrue (H.state host.old).honest → Opens (Leftovers ∷ []) (fault_in result) (H.state host.old) (H.state host.new) }
+    ensures silent { Silent (H.state host.old) (H.state host.new) }
+    ensures cause { HasAdministrationCause (H.state host.old) (H.state host.new) result }
+{
+    let path = tmp_path(alloc)?;
+    match look(host, &path)? {
+        Standing::Directory => {
+            return clear_directory(host, path);
+        }
+        Standing::Nothing => {
+            return Ok(());
+        }
+        Standing::Loose => {
+            return Err(damaged(path, 0));
+        }
+    }
+}
 
 fn settle<H: Host>(alloc: Global, host: &mut H) -> Result<(), AdministrationFault>
     ensures opens { IsTrue (H.state host.old).honest → Opens (Diversions ∷ Leftovers ∷ []) (fault_in result) (H.state host.old) (H.state host.new) }

@@ -12,7 +12,7 @@ use Rattle.host_core.specs.declared.node.Node.{Node}
 use Rattle.host_core.specs.declared.node.Node.TheVariants.{File, Dir, Link}
 use Rattle.std.specs.Str.{bytes_eq}
 use Rattle.administration.specs.Nodes.{is_file}
-use Rattle.package_tree.specs.declared.contents.Contents.{Contents}
+use Rattle.package_tree.specs.declared.reading.Contents.{Contents}
 use Rattle.package_tree.specs.declared.fault.TreeFault.{TreeFault}
 use Rattle.package_tree.specs.declared.fault.TreeFault.TheVariants as tree
 

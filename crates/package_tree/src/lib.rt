@@ -1,7 +1,6 @@
 //! Package trees given as directories: their control file and scripts.
 #![tactic(auto)]
 
-mod contents;
 mod control_file;
 mod fault;
 mod laws;

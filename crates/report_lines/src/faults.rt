@@ -1,7 +1,9 @@
 // Faults and refusals in the program's own words.
 ghost use Rattle.std.specs.Prelude.{◌≡◌, IfOk, string_bytes};
 ghost use Rattle.report_lines.specs.Faults.{control_text, field_word, path_text, rule_text, tree_text, word_text};
+ghost use Rattle.report_lines.specs.Openings.{opening_line};
 
+use administration::AdministrationFault;
 use control_fields::ControlFault;
 use dpkg_session::{Rule, Word};
 use host_core::RootPath;
@@ -32,7 +34,7 @@ fn field_word(name: FieldName) -> &'static str
     }
 }
 
-pub(crate) fn path_text(path: &RootPath) -> &str
+fn path_text(path: &RootPath) -> &str
     ensures { result.now ≡ path_text path.now }
 {
     match path.as_str() {
@@ -88,5 +90,20 @@ pub(crate) fn rule_text(alloc: Global, rule: &Rule) -> Result<String, AllocError
             let word = word_text(*word);
             format!(in alloc; "NotYet {word}")
         }
+    }
+}
+
+/// The line of a fault on opening, for standard error.
+pub fn opening_line(alloc: Global, fault: &AdministrationFault) -> Result<String, AllocError>
+    ensures { IfOk result (λ line. string_bytes line ≡ opening_line fault.now) }
+{
+    match fault {
+        AdministrationFault::Damaged { file, line } => {
+            let file = path_text(file);
+            let line = *line;
+            format!(in alloc; "damaged {file} {line}\n")
+        }
+        AdministrationFault::Device => String::from_str(alloc, "broken device\n"),
+        AdministrationFault::NoMemory => String::from_str(alloc, "broken memory\n"),
     }
 }

@@ -1,16 +1,161 @@
 // The lines of a report, and its status.
 ghost use Rattle.std.specs.Prelude.{◌≡◌, ◌≤◌, ◌++◌, IfOk, OnOk, string_bytes};
 ghost use Rattle.std.specs.List.{flat_map};
-ghost use Rattle.report_lines.specs.Calls.{call_line};
+ghost use Rattle.report_lines.specs.Calls.{arg_text, call_line, call_text, outcome_text, shown, side_word};
+ghost use Rattle.report_lines.specs.Replies.{breakage_word, reply_line, reply_status, tells_states};
 ghost use Rattle.report_lines.specs.Reports.{report_lines, report_status, states_lines, unit_lines, units_status};
-ghost use Rattle.report_lines.specs.States.{state_line};
+ghost use Rattle.report_lines.specs.States.{state_line, state_text};
 
-use crate::calls::call_line;
-use crate::replies::{reply_line, reply_status, tells_states};
-use crate::states::state_line;
-use dpkg_session::{Report, Touched, Unit};
+use crate::faults::rule_text;
+use dpkg_session::{Breakage, Failure, Refusal, Reply, Report, Touched, Unit};
+use host_core::{Call, Outcome, Side};
+use status_db::Record;
 use std::alloc::{AllocError, Global};
+use texts::Text;
 use unwind_stack::Called;
+
+fn side_word(side: Side) -> &'static str
+    ensures { result.now ≡ side_word side }
+{
+    match side {
+        Side::Old => "old",
+        Side::New => "new",
+    }
+}
+
+fn shown(arg: &str) -> &str
+    ensures { result.now ≡ shown arg.now }
+{
+    match arg {
+        "" => "\"\"",
+        arg => arg,
+    }
+}
+
+fn add_args(text: &mut String, args: &[Text]) -> Result<(), AllocError>
+    ensures { OnOk result (string_bytes text.new ≡ string_bytes text.old ++ flat_map arg_text args.now) }
+{
+    for arg in args {
+        text.push_str(" ")?;
+        text.push_str(shown(arg.as_str()))?;
+    }
+    Ok(())
+}
+
+// A package, its script and the arguments.
+fn call_text(alloc: Global, package: &Text, call: &Call) -> Result<String, AllocError>
+    ensures { IfOk result (λ text. string_bytes text ≡ call_text «package».now call.now) }
+{
+    let package = package.as_str();
+    let script = call.script.name();
+    let mut text = format!(in alloc; "{package} {script}")?;
+    add_args(&mut text, call.args.as_slice())?;
+    Ok(text)
+}
+
+fn outcome_text(alloc: Global, outcome: Outcome) -> Result<String, AllocError>
+    ensures { IfOk result (λ text. string_bytes text ≡ outcome_text outcome) }
+{
+    match outcome {
+        Outcome::Exit(code) => format!(in alloc; "exit {code}"),
+        Outcome::Killed => String::from_str(alloc, "killed"),
+        Outcome::NotStarted => String::from_str(alloc, "not started"),
+    }
+}
+
+fn call_line(alloc: Global, called: &Called) -> Result<String, AllocError>
+    ensures { IfOk result (λ line. string_bytes line ≡ call_line called.now) }
+{
+    let side = side_word(called.call.side);
+    let call = call_text(alloc, &called.call.package, &called.call)?;
+    let outcome = outcome_text(alloc, called.outcome)?;
+    format!(in alloc; "call {side} {call}: {outcome}\n")
+}
+
+fn state_text(alloc: Global, entry: &Option<Record>) -> Result<String, AllocError>
+    ensures { IfOk result (λ text. string_bytes text ≡ state_text entry.now) }
+{
+    match entry {
+        Some(entry) => {
+            let version = entry.version.text();
+            let want = entry.want.name();
+            let flag = entry.flag.name();
+            let state = entry.state.name();
+            format!(in alloc; "{version} {want} {flag} {state}")
+        }
+        None => String::from_str(alloc, "none"),
+    }
+}
+
+fn state_line(alloc: Global, touched: &Touched) -> Result<String, AllocError>
+    ensures { IfOk result (λ line. string_bytes line ≡ state_line touched.now) }
+{
+    let package = touched.package.as_str();
+    let state = state_text(alloc, &touched.entry)?;
+    format!(in alloc; "state {package} {state}\n")
+}
+
+fn breakage_word(breakage: Breakage) -> &'static str
+    ensures { result.now ≡ breakage_word breakage }
+{
+    match breakage {
+        Breakage::Device => "device",
+        Breakage::NoMemory => "memory",
+        Breakage::Closed => "closed",
+    }
+}
+
+fn refused_line(alloc: Global, refusal: &Refusal) -> Result<String, AllocError>
+    ensures { IfOk result (λ line. string_bytes line ≡ reply_line (Reply.Refused refusal.now)) }
+{
+    let package = refusal.package.as_str();
+    let rule = rule_text(alloc, &refusal.rule)?;
+    format!(in alloc; "refused {package} {rule}\n")
+}
+
+fn failed_line(alloc: Global, failure: &Failure) -> Result<String, AllocError>
+    ensures { IfOk result (λ line. string_bytes line ≡ reply_line (Reply.Failed failure.now)) }
+{
+    let call = call_text(alloc, &failure.package, &failure.call)?;
+    format!(in alloc; "failed {call}\n")
+}
+
+fn reply_line(alloc: Global, reply: &Reply) -> Result<String, AllocError>
+    ensures { IfOk result (λ line. string_bytes line ≡ reply_line reply.now) }
+{
+    match reply {
+        Reply::Done => String::from_str(alloc, "done\n"),
+        Reply::Refused(refusal) => refused_line(alloc, refusal),
+        Reply::Failed(failure) => failed_line(alloc, failure),
+        Reply::Broken(breakage) => {
+            let breakage = breakage_word(*breakage);
+            format!(in alloc; "broken {breakage}\n")
+        }
+    }
+}
+
+// Whether the touched packages are told.
+fn tells_states(reply: &Reply) -> bool
+    ensures { result ≡ tells_states reply.now }
+{
+    match reply {
+        Reply::Done => true,
+        Reply::Refused(_) => false,
+        Reply::Failed(_) => true,
+        Reply::Broken(_) => false,
+    }
+}
+
+fn reply_status(reply: &Reply) -> u8
+    ensures { result ≡ reply_status reply.now }
+{
+    match reply {
+        Reply::Done => 0,
+        Reply::Refused(_) => 1,
+        Reply::Failed(_) => 1,
+        Reply::Broken(_) => 2,
+    }
+}
 
 fn add_calls(alloc: Global, lines: &mut String, calls: &[Called]) -> Result<(), AllocError>
     ensures { OnOk result (string_bytes lines.new ≡ string_bytes lines.old ++ flat_map call_line calls.now) }

@@ -1,0 +1,18 @@
+use Rattle.std.proofs.Common.{refl, sym, ap, subst, codes, ◌∙◌, IfErr, IsTrue}
+use Rattle.administration.specs.Places.{home_path}
+use Rattle.file_lists.specs.Info.{IsInfoDamage}
+use Rattle.opening.specs.Parts.{names_of}
+use Rattle.opening.proofs.Openings.{child_parent, info_read, records_kept}
+use Rattle.opening.proofs.open.open_info.Goals as goal
+
+pub make_way-requires-clause-parent : goal.make_way-requires-clause-parent
+make_way-requires-clause-parent g c = λ h. child_parent (g.H.Host.state c.args.host.now).world home_path (codes "info") refl (c.requires.home h)
+
+pub returns-clause-opens : goal.returns-clause-opens
+returns-clause-opens g c = λ h.
+    let h1 = subst IsTrue (sym c.make_way.ensures.silent.honest) h in
+    let made = c.in_ok-make_way.ensures.opens h in
+    let named = c.as_slice.ensures ∙ c.in_ok-names.ensures ∙ ap names_of c.records.ensures in
+    let world = (g.H.Host.state c.make_way.new.host).world in
+    info_read c.read_places.result c.args.database.now _ _ _ made (records_kept c.args.database.now _ _ made (c.requires.records h)) (c.read_places.ensures.same h1) (c.read_places.ensures.entries h1)
+    (subst (λ names. IfErr c.read_places.result (IsInfoDamage world names)) named (c.read_places.ensures.damage h1))
