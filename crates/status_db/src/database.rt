@@ -1,22 +1,26 @@
 // The table of records, and the status file that holds it.
-ghost use Rattle.std.specs.Prelude.{◌≡◌, List, [], IfOk, IfErr, OnOk, IsTrue, IsErrOf};
+ghost use Rattle.std.specs.Prelude.{◌≡◌, ◌≤◌, List, [], length, not, IfOk, IfErr, OnOk, OnErr, IsTrue, IsErrOf};
+ghost use Rattle.std.specs.Cmp.Lexicographic.{slice_cmp};
+ghost use Rattle.std.specs.List.{insert};
 ghost use Rattle.std.specs.Option.{option_copied};
+ghost use Rattle.std.specs.Ordering.{nat_cmp, is_lt};
+ghost use Rattle.std.specs.Str.{bytes_eq};
 ghost use Rattle.host_core.specs.Host.{HasCause, Same, Silent, Since};
 ghost use Rattle.administration.specs.Fault.{HasAdministrationCause};
 ghost use Rattle.administration.specs.Files.{NoDirectory};
 ghost use Rattle.administration.specs.Places.{status_path};
 ghost use Rattle.administration.specs.declared.fault.AdministrationFault.TheVariants.{Device};
 ghost use Rattle.status_db.specs.declared.record.Record.{Record as ARecord};
-ghost use Rattle.status_db.specs.Records.{AreApart, record_in, put_record, drop_record, standing};
+ghost use Rattle.status_db.specs.Records.{AreApart, record_in, place_record, put_record, drop_record, standing};
 ghost use Rattle.status_db.specs.Status.{IsStatus, StandsFor, HasRecords, IsFileOrNothing, IsFileDamage, IsNodeDamage, IsStatusDamage, IsStatusReady, IsNoted, IsNoting};
 
 use crate::reading::{StatusFault, read_text};
 use crate::record::Record;
-use crate::saving::save;
-use crate::table::{drop_record, put_record};
+use crate::writing::save;
 use administration::{AdministrationFault, status_path};
 use host_core::{Host, HostFault, Node, RootPath};
-use std::alloc::Global;
+use std::alloc::{AllocFailed, Global};
+use std::cmp::Ordering;
 use std::marker::Model;
 use texts::Text;
 
@@ -32,6 +36,58 @@ impl Model for Database {
     ghost view = { λ d. d.records.items };
 
     ghost invariant = { λ d. AreApart d.records.items };
+}
+
+// Whether a record's name stands before another.
+fn is_before(entry: &Record, name: &Text) -> bool
+    ensures { result ≡ is_lt (slice_cmp nat_cmp entry.now.name name.now) }
+{
+    entry.name.as_str().as_bytes().cmp(name.as_str().as_bytes()) == Ordering::Less
+}
+
+// The index of the first record of a greater name.
+fn place_of(records: &[Record], name: &Text) -> usize
+    ensures within { result ≤ length records.now }
+    ensures place { (r : ARecord) → r.name ≡ name.now → place_record r records.now ≡ insert records.now result r }
+{
+    for (i, record) in records.iter().enumerate() {
+        if !is_before(record, name) {
+            return i;
+        }
+    }
+    records.len()
+}
+
+fn is_of_other(entry: &Record, name: &Text) -> bool
+    ensures { result ≡ not (bytes_eq entry.now.name name.now) }
+{
+    entry.name.as_str() != name.as_str()
+}
+
+// Takes the record of a name away.
+fn drop_record(records: &mut Vec<Record>, name: &Text)
+    ensures dropped { records.new.items ≡ drop_record name.now records.old.items }
+    ensures apart { AreApart records.old.items → AreApart records.new.items }
+{
+    records.retain(|entry| is_of_other(entry, name));
+}
+
+fn place_record(records: &mut Vec<Record>, entry: Record) -> Result<(), AllocFailed<Record>>
+    ensures ok { OnOk result (records.new.items ≡ place_record entry records.old.items) }
+    ensures err { OnErr result (records.new.items ≡ records.old.items) }
+{
+    let place = place_of(records.as_slice(), &entry.name);
+    records.insert(place, entry)
+}
+
+// Sets the record of its name. Without memory for it the name has none.
+fn put_record(records: &mut Vec<Record>, entry: Record) -> Result<(), AllocFailed<Record>>
+    ensures ok { OnOk result (records.new.items ≡ put_record entry records.old.items) }
+    ensures err { OnErr result (records.new.items ≡ drop_record entry.name records.old.items) }
+    ensures apart { AreApart records.old.items → AreApart records.new.items }
+{
+    drop_record(records, &entry.name);
+    place_record(records, entry)
 }
 
 // The table of the node at the status file's place.

@@ -2,14 +2,9 @@
 #![tactic(auto)]
 
 mod database;
-mod entry;
-mod fields;
 mod laws;
 mod reading;
 mod record;
-mod saving;
-mod status_line;
-mod table;
 mod words;
 mod writing;
 

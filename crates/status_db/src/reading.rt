@@ -1,28 +1,33 @@
 // Reading the status file's text.
-ghost use Rattle.std.specs.Prelude.{◌≡◌, ◌++◌, ◌∷◌, [], true, None, Some, IfOk, IfErr, IfSome, IfNone, OnOk, IsTrue, ◌↔◌, MatchOption};
+ghost use Rattle.std.specs.Prelude.{◌≡◌, ◌≢◌, ◌↔◌, ◌++◌, ◌∷◌, [], ℕ, List, true, None, Some, IfOk, IfErr, IfSome, IfNone, OnOk, IsTrue, MatchOption, codes, option_copied, slice_get};
+ghost use Rattle.std.specs.List.{list_any, AllByRecursion};
 ghost use Rattle.std.specs.Option.{option_to_list};
-ghost use Rattle.std.specs.List.{AllByRecursion};
+ghost use Rattle.std.specs.Str.{bytes_eq};
 ghost use Rattle.control_fields.specs.Spelling.{AreFields};
 ghost use Rattle.control_fields.specs.Grammar.{paragraphs_of};
+ghost use Rattle.control_fields.specs.declared.field.Field.{Field as AField};
 ghost use Rattle.administration.specs.Names.{is_package_name};
 ghost use Rattle.version_order.specs.Versions.{IsVersion};
+ghost use Rattle.status_db.specs.declared.words.Want.{Want as AWant};
+ghost use Rattle.status_db.specs.declared.words.Flag.{Flag as AFlag};
+ghost use Rattle.status_db.specs.declared.words.State.{State as AState};
 ghost use Rattle.status_db.specs.declared.reading.StatusFault.TheVariants.{NoMemory};
+ghost use Rattle.status_db.specs.Words.{want_word, flag_word, state_word};
 ghost use Rattle.status_db.specs.Fields.{other_fields};
 ghost use Rattle.status_db.specs.Records.{AreApart, standing};
-ghost use Rattle.status_db.specs.Paragraphs.{SaysEntry, IsReadable, IsEntry, Enters};
-ghost use Rattle.status_db.specs.Damage.{IsMissing, HasLines, line_in};
+ghost use Rattle.status_db.specs.Paragraphs.{field_in, status_text, Says, IsNamed, IsStatusText, IsReadable, IsGone, IsEntry, SaysEntry, Enters};
+ghost use Rattle.status_db.specs.Damage.{IsMissing, IsTaken, IsFaultyWhole, IsBadField, HasLines, line_in};
 ghost use Rattle.status_db.specs.Faults.{IsEntryFault, IsTableFault, IsTextFault, IsEndFault, IsSound};
 ghost use Rattle.status_db.specs.Status.{IsStatus};
 
-use crate::entry::{first_bad, is_faulty_whole, name_in, stands_in, status_in, version_in};
-use crate::fields::other_fields;
-use crate::record::Record;
-use crate::status_line::Status;
-use control_fields::{ControlFault, Located, Paragraph, read_located};
+use crate::record::{Record, is_first};
+use crate::words::{Flag, State, Want};
+use administration::is_package_name;
+use control_fields::{ControlFault, Field, Located, Paragraph, read_located};
 use std::alloc::{AllocError, AllocFailed, Global};
 use std::str;
 use texts::{Text, Texts};
-use version_order::Version;
+use version_order::{Version, VersionFault};
 
 /// Why the text has no records: its first faulty line.
 #[derive(Clone, Copy)]
@@ -47,6 +52,288 @@ impl<T: Drop> From<AllocFailed<T>> for StatusFault {
     }
 }
 
+// The three words of a Status.
+#[derive(Clone, Copy)]
+struct Status {
+    want: Want,
+    flag: Flag,
+    state: State,
+}
+
+fn after_blank(bytes: &[u8]) -> Option<&[u8]>
+    ensures some { IfSome result (λ rest. bytes.now ≡ 32 ∷ rest.now) }
+    ensures none { IfNone result ((rest : List ℕ) → bytes.now ≢ 32 ∷ rest) }
+{
+    match bytes {
+        [b' ', rest @ ..] => Some(rest),
+        _ => None,
+    }
+}
+
+fn after_text<'a>(bytes: &'a [u8], text: &str) -> Option<&'a [u8]>
+    ensures some { IfSome result (λ rest. bytes.now ≡ text.now ++ rest.now) }
+    ensures none { IfNone result ((rest : List ℕ) → bytes.now ≢ text.now ++ rest) }
+{
+    bytes.strip_prefix(text.as_bytes())
+}
+
+// What stands behind a word and a blank.
+fn after_word<'a>(bytes: &'a [u8], word: &str) -> Option<&'a [u8]>
+    ensures some { IfSome result (λ rest. bytes.now ≡ word.now ++ 32 ∷ rest.now) }
+    ensures none { IfNone result ((rest : List ℕ) → bytes.now ≢ word.now ++ 32 ∷ rest) }
+{
+    match after_text(bytes, word) {
+        Some(rest) => after_blank(rest),
+        None => None,
+    }
+}
+
+fn read_want(bytes: &[u8]) -> Option<(Want, &[u8])>
+    ensures some { IfSome result (λ r. bytes.now ≡ want_word r.0 ++ 32 ∷ r.1.now) }
+    ensures none { IfNone result ((want : AWant) (rest : List ℕ) → bytes.now ≢ want_word want ++ 32 ∷ rest) }
+{
+    if let Some(rest) = after_word(bytes, Want::Unknown.name()) {
+        return Some((Want::Unknown, rest));
+    }
+    if let Some(rest) = after_word(bytes, Want::Install.name()) {
+        return Some((Want::Install, rest));
+    }
+    if let Some(rest) = after_word(bytes, Want::Hold.name()) {
+        return Some((Want::Hold, rest));
+    }
+    if let Some(rest) = after_word(bytes, Want::Deinstall.name()) {
+        return Some((Want::Deinstall, rest));
+    }
+    if let Some(rest) = after_word(bytes, Want::Purge.name()) {
+        return Some((Want::Purge, rest));
+    }
+    None
+}
+
+fn read_flag(bytes: &[u8]) -> Option<(Flag, &[u8])>
+    ensures some { IfSome result (λ r. bytes.now ≡ flag_word r.0 ++ 32 ∷ r.1.now) }
+    ensures none { IfNone result ((flag : AFlag) (rest : List ℕ) → bytes.now ≢ flag_word flag ++ 32 ∷ rest) }
+{
+    if let Some(rest) = after_word(bytes, Flag::Ok.name()) {
+        return Some((Flag::Ok, rest));
+    }
+    if let Some(rest) = after_word(bytes, Flag::Reinstreq.name()) {
+        return Some((Flag::Reinstreq, rest));
+    }
+    None
+}
+
+fn is_state(bytes: &[u8], state: State) -> bool
+    ensures { IsTrue result ↔ (bytes.now ≡ state_word state) }
+{
+    bytes == state.name().as_bytes()
+}
+
+fn read_state(bytes: &[u8]) -> Option<State>
+    ensures some { IfSome result (λ state. bytes.now ≡ state_word state) }
+    ensures none { IfNone result ((state : AState) → bytes.now ≢ state_word state) }
+{
+    if is_state(bytes, State::NotInstalled) {
+        return Some(State::NotInstalled);
+    }
+    if is_state(bytes, State::ConfigFiles) {
+        return Some(State::ConfigFiles);
+    }
+    if is_state(bytes, State::HalfInstalled) {
+        return Some(State::HalfInstalled);
+    }
+    if is_state(bytes, State::Unpacked) {
+        return Some(State::Unpacked);
+    }
+    if is_state(bytes, State::HalfConfigured) {
+        return Some(State::HalfConfigured);
+    }
+    if is_state(bytes, State::Installed) {
+        return Some(State::Installed);
+    }
+    None
+}
+
+// The words of a Status, with one blank between two.
+fn read_status(bytes: &[u8]) -> Option<Status>
+    ensures some { IfSome result (λ s. bytes.now ≡ status_text s.want s.flag s.state) }
+    ensures none { IfNone result (IsStatusText bytes.now → ⊥) }
+{
+    let Some((want, behind_want)) = read_want(bytes) else {
+        return None;
+    };
+    let Some((flag, behind_flag)) = read_flag(behind_want) else {
+        return None;
+    };
+    match read_state(behind_flag) {
+        Some(state) => Some(Status { want, flag, state }),
+        None => None,
+    }
+}
+
+fn field_in<'a>(fields: &'a Paragraph, lower: &[u8]) -> Option<&'a Field>
+    ensures { option_copied result ≡ field_in lower.now fields.now }
+{
+    fields.get(lower)
+}
+
+// The value of a field that stands on one line.
+fn value_in<'a>(fields: &'a Paragraph, lower: &[u8]) -> Option<&'a [u8]>
+    ensures some { IfSome result (λ value. Says lower.now fields.now value.now) }
+    ensures none { IfNone result ((value : List ℕ) → Says lower.now fields.now value → ⊥) }
+{
+    let Some(field) = field_in(fields, lower) else {
+        return None;
+    };
+    if !field.more.as_slice().is_empty() {
+        return None;
+    }
+    Some(field.first.as_slice())
+}
+
+fn name_in(fields: &Paragraph) -> Option<&[u8]>
+    ensures some { IfSome result (λ name. IsNamed fields.now name.now) }
+    ensures none { IfNone result ((name : List ℕ) → IsNamed fields.now name → ⊥) }
+{
+    let Some(name) = value_in(fields, b"package") else {
+        return None;
+    };
+    if !is_package_name(name) {
+        return None;
+    }
+    Some(name)
+}
+
+fn status_in(fields: &Paragraph) -> Option<Status>
+    ensures some { IfSome result (λ s. Says (codes "status") fields.now (status_text s.want s.flag s.state)) }
+    ensures none { IfNone result ((want : AWant) (flag : AFlag) (state : AState) → Says (codes "status") fields.now (status_text want flag state) → ⊥) }
+{
+    match value_in(fields, b"status") {
+        Some(value) => read_status(value),
+        None => None,
+    }
+}
+
+fn is_gone(fields: &Paragraph) -> bool
+    ensures { IsTrue result ↔ IsGone fields.now }
+{
+    match status_in(fields) {
+        Some(status) => status.state.is_not_installed(),
+        None => false,
+    }
+}
+
+fn read_version(alloc: Global, value: &[u8]) -> Result<Option<Version>, AllocError>
+    ensures { IfOk result (λ o. MatchOption o (IsVersion value.now → ⊥) (λ v. (v ≡ value.now) × IsVersion value.now)) }
+{
+    match Version::parse(alloc, value) {
+        Ok(version) => Ok(Some(version)),
+        Err(VersionFault::NoMemory) => Err(AllocError),
+        Err(_) => Ok(None),
+    }
+}
+
+fn is_version(alloc: Global, value: &[u8]) -> Result<bool, AllocError>
+    ensures { IfOk result (λ good. IsTrue good ↔ IsVersion value.now) }
+{
+    match read_version(alloc, value)? {
+        Some(_) => Ok(true),
+        None => Ok(false),
+    }
+}
+
+fn version_in(alloc: Global, fields: &Paragraph) -> Result<Option<Version>, AllocError>
+    ensures some { IfOk result (λ o. IfSome o (λ v. Says (codes "version") fields.now v × IsVersion v)) }
+    ensures none { IfOk result (λ o. IfNone o ((v : List ℕ) → Says (codes "version") fields.now v × IsVersion v → ⊥)) }
+{
+    match value_in(fields, b"version") {
+        Some(value) => read_version(alloc, value),
+        None => Ok(None),
+    }
+}
+
+fn is_missing(fields: &Paragraph) -> bool
+    ensures { IsTrue result ↔ IsMissing fields.now }
+{
+    if field_in(fields, b"package").is_none() || field_in(fields, b"status").is_none() {
+        return true;
+    }
+    field_in(fields, b"version").is_none() && !is_gone(fields)
+}
+
+fn stands_in(names: &Texts, name: &[u8]) -> bool
+    ensures { result ≡ list_any (bytes_eq name.now) names.now }
+{
+    names
+        .as_slice()
+        .iter()
+        .any(|other| name == other.as_str().as_bytes())
+}
+
+fn is_taken(names: &Texts, fields: &Paragraph) -> bool
+    ensures { IsTrue result ↔ IsTaken names.now fields.now }
+{
+    match name_in(fields) {
+        Some(name) => stands_in(names, name),
+        None => false,
+    }
+}
+
+fn is_faulty_whole(names: &Texts, fields: &Paragraph) -> bool
+    ensures { IsTrue result ↔ IsFaultyWhole names.now fields.now }
+{
+    is_missing(fields) || is_taken(names, fields)
+}
+
+fn is_readable_status(field: &Field) -> bool
+    ensures { IsTrue result ↔ IsStatusText field.now.first }
+{
+    read_status(field.first.as_slice()).is_some()
+}
+
+// Whether the value of a field can be read.
+fn is_readable(alloc: Global, field: &Field) -> Result<bool, AllocError>
+    ensures { IfOk result (λ good. IsTrue good ↔ IsReadable field.now) }
+{
+    let name = field.name.as_slice();
+    if !is_first(name) {
+        return Ok(true);
+    }
+    if !field.more.as_slice().is_empty() {
+        return Ok(false);
+    }
+    if name.eq_ignore_ascii_case(b"package") {
+        return Ok(is_package_name(field.first.as_slice()));
+    }
+    if name.eq_ignore_ascii_case(b"status") {
+        return Ok(is_readable_status(field));
+    }
+    is_version(alloc, field.first.as_slice())
+}
+
+fn is_readable_at(alloc: Global, fields: &Paragraph, index: usize) -> Result<bool, AllocError>
+    ensures { IfOk result (λ good. (f : AField) → slice_get fields.now index ≡ Some f → IsTrue good ↔ IsReadable f) }
+{
+    match fields.get_index(index) {
+        Some(field) => is_readable(alloc, field),
+        None => Ok(true),
+    }
+}
+
+// The line of the first field whose value can't be read.
+fn first_bad(alloc: Global, located: &Located) -> Result<Option<u64>, AllocError>
+    requires { HasLines located.now }
+    ensures { IfOk result (λ o. MatchOption o (AllByRecursion IsReadable located.now.paragraph) (IsBadField located.now)) }
+{
+    for index in 0..located.paragraph.len() {
+        let good = is_readable_at(alloc, &located.paragraph, index)?;
+        if !good {
+            return Ok(Some(located.line_of(index)));
+        }
+    }
+    Ok(None)
+}
+
 // A paragraph's package, and its record unless it is gone.
 #[derive(Drop)]
 struct Entry {
@@ -59,6 +346,20 @@ fn text_of(name: &[u8]) -> &str
     ensures { result.now ≡ name.now }
 {
     str::from_utf8(name).unwrap()
+}
+
+// The fields of a status paragraph but Package, Status and Version.
+fn other_fields(alloc: Global, paragraph: &Paragraph) -> Result<Paragraph, AllocError>
+    requires { ∥ AreFields [] paragraph.now ∥₁ }
+    ensures { IfOk result (λ p. p ≡ other_fields paragraph.now) }
+{
+    let mut kept = Paragraph::new(alloc);
+    for field in paragraph.fields() {
+        if !is_first(field.name.as_slice()) {
+            kept.push(field.copy()?)?;
+        }
+    }
+    Ok(kept)
 }
 
 fn record_of(

@@ -1,11 +1,13 @@
-// The record of a package.
-ghost use Rattle.std.specs.Prelude.{◌≡◌, IfOk, true, [], ℕ};
+// The record of a package, and which fields of a control file it keeps.
+ghost use Rattle.std.specs.Prelude.{◌≡◌, IfOk, true, []};
+ghost use Rattle.std.specs.List.{list_any};
+ghost use Rattle.std.specs.Str.{bytes_eq};
+ghost use Rattle.control_fields.specs.Names.{lower};
 ghost use Rattle.control_fields.specs.Spelling.{AreFields};
 ghost use Rattle.administration.specs.Names.{is_package_name};
-ghost use Rattle.status_db.specs.Fields.{recorded_fields};
+ghost use Rattle.status_db.specs.Fields.{own_names, first_names, recorded_fields};
 ghost use Rattle.status_db.specs.Writable.{IsWritable};
 
-use crate::fields::recorded_fields;
 use crate::words::{Flag, State, Want};
 use control_fields::Paragraph;
 use std::alloc::{AllocError, Global};
@@ -23,6 +25,38 @@ pub struct Record {
     pub version: Version,
     pub fields: Paragraph,
     pub ghost writable: { ∥ IsWritable name fields ∥₁ },
+}
+
+pub(crate) fn is_first(name: &[u8]) -> bool
+    ensures { result ≡ list_any (bytes_eq (lower name.now)) first_names }
+{
+    name.eq_ignore_ascii_case(b"package")
+        || name.eq_ignore_ascii_case(b"status")
+        || name.eq_ignore_ascii_case(b"version")
+}
+
+fn is_own(name: &[u8]) -> bool
+    ensures { result ≡ list_any (bytes_eq (lower name.now)) own_names }
+{
+    is_first(name)
+        || name.eq_ignore_ascii_case(b"config-version")
+        || name.eq_ignore_ascii_case(b"removed-since")
+        || name.eq_ignore_ascii_case(b"conffiles")
+        || name.eq_ignore_ascii_case(b"new-conffiles")
+}
+
+// The fields of a control file that a record keeps.
+fn recorded_fields(alloc: Global, control: &Paragraph) -> Result<Paragraph, AllocError>
+    requires { ∥ AreFields [] control.now ∥₁ }
+    ensures { IfOk result (λ p. p ≡ recorded_fields control.now) }
+{
+    let mut kept = Paragraph::new(alloc);
+    for field in control.fields() {
+        if !is_own(field.name.as_slice()) {
+            kept.push(field.copy()?)?;
+        }
+    }
+    Ok(kept)
 }
 
 impl Record {

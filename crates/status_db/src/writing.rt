@@ -1,17 +1,19 @@
-// The status file's text.
-ghost use Rattle.std.specs.Prelude.{◌≡◌, ◌++◌, ◌∷◌, [], IfOk, OnOk, ℕ, List, false, map};
+// Writing the status file.
+ghost use Rattle.std.specs.Prelude.{◌≡◌, ◌++◌, ◌∷◌, [], IfOk, OnOk, ℕ, List, IsTrue, false, map};
 ghost use Rattle.std.specs.List.{AllByRecursion};
 ghost use Rattle.control_fields.specs.Names.{stands};
+ghost use Rattle.host_core.specs.Host.{HasCause, Silent, Since};
 ghost use Rattle.host_core.specs.declared.node.Node.TheVariants.{File};
 ghost use Rattle.version_order.specs.Versions.{IsVersion};
 ghost use Rattle.status_db.specs.Records.{AreApart, standing};
 ghost use Rattle.status_db.specs.Writable.{first_fields, line_field};
 ghost use Rattle.status_db.specs.Paragraphs.{status_text, paragraph_of};
-ghost use Rattle.status_db.specs.Status.{IsStatus};
+ghost use Rattle.status_db.specs.Status.{IsStatus, IsStatusReady, IsNoted, IsNoting};
 
 use crate::record::Record;
+use administration::{replace, status_path};
 use control_fields::{Field, Paragraph, write_paragraphs};
-use host_core::Node;
+use host_core::{Host, HostFault, Node};
 use std::alloc::{AllocError, Global};
 use texts::Bytes;
 
@@ -89,8 +91,8 @@ fn status_bytes(alloc: Global, records: &[Record]) -> Result<Bytes, AllocError>
     }
 }
 
-/// The status file of a table.
-pub(crate) fn status_node(alloc: Global, records: &[Record]) -> Result<Node, AllocError>
+// The status file of a table.
+fn status_node(alloc: Global, records: &[Record]) -> Result<Node, AllocError>
     requires { AreApart records.now }
     ensures { IfOk result (λ node. (bytes : List ℕ) × (node ≡ File bytes 0o644) × ∥ IsStatus bytes records.now ∥₁) }
 {
@@ -98,4 +100,22 @@ pub(crate) fn status_node(alloc: Global, records: &[Record]) -> Result<Node, All
         bytes: status_bytes(alloc, records)?,
         mode: 0o644,
     })
+}
+
+/// Writes the status file of a table: at each moment the old file stands there or the whole new one.
+pub(crate) fn save<H: Host>(
+    alloc: Global,
+    host: &mut H,
+    records: &[Record],
+) -> Result<(), HostFault>
+    requires apart { AreApart records.now }
+    requires ready { IsTrue (H.state host.old).honest → IsStatusReady (H.state host.old).world }
+    ensures noted { IsTrue (H.state host.old).honest → OnOk result (IsNoted records.now (H.state host.old).world (H.state host.new).world) }
+    ensures any_moment { IsTrue (H.state host.old).honest → Since (IsNoting records.now (H.state host.old).world) (H.state host.old) (H.state host.new) }
+    ensures silent { Silent (H.state host.old) (H.state host.new) }
+    ensures cause { HasCause (H.state host.old) (H.state host.new) result }
+{
+    let path = status_path(alloc)?;
+    let node = status_node(alloc, records)?;
+    replace(host, &path, &node)
 }
