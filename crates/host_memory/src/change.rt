@@ -1,11 +1,13 @@
 // What a script is told to change, and what of it is done.
 ghost use Rattle.std.specs.Prelude.{◌≡◌, ◌++◌, ◌∷◌, [], IfOk, OnOk, OnErr, MatchBool};
+ghost use Rattle.std.specs.List.{list_any};
+ghost use Rattle.std.specs.Str.{bytes_eq};
 ghost use Rattle.std.specs.BTreeMap.{get_by_text};
-ghost use Rattle.host_core.specs.World.{put, changed, is_kept};
+ghost use Rattle.host_core.specs.Paths.{is_administration, reserved_suffixes};
+ghost use Rattle.host_core.specs.World.{put, changed, is_kept, is_named_by};
 ghost use Rattle.host_memory.specs.Changes.{change_of, pair_of, Carries, IsCarried, IsLeftOut};
 
 use crate::files::Files;
-use crate::keeping::is_kept;
 use crate::placing::fits;
 use host_core::{Keep, Node, Outcome, RootPath};
 use std::alloc::{AllocError, Global};
@@ -62,6 +64,44 @@ impl Planned {
     }
 }
 
+fn is_administration(path: &[u8]) -> bool
+    ensures { result ≡ is_administration path.now }
+{
+    path == b"/var/lib/dpkg".as_slice() || path.starts_with(b"/var/lib/dpkg/")
+}
+
+fn is_reserved(suffix: &[u8]) -> bool
+    ensures { result ≡ list_any (bytes_eq suffix.now) reserved_suffixes }
+{
+    suffix == b".dpkg-new".as_slice()
+        || suffix == b".dpkg-old".as_slice()
+        || suffix == b".dpkg-dist".as_slice()
+        || suffix == b".dpkg-tmp".as_slice()
+        || suffix == b".dpkg-inst".as_slice()
+}
+
+// Whether the path is the place, or the place with a reserved suffix.
+fn is_named_by(path: &RootPath, place: &RootPath) -> bool
+    ensures { result ≡ is_named_by path.now place.now }
+{
+    match path
+        .as_str()
+        .as_bytes()
+        .strip_prefix(place.as_str().as_bytes())
+    {
+        Some(suffix) => suffix.is_empty() || is_reserved(suffix),
+        None => false,
+    }
+}
+
+// Whether a running script leaves a path alone.
+fn is_kept(keep: &Keep, path: &RootPath) -> bool
+    ensures { result ≡ is_kept keep.now path.now }
+{
+    is_administration(path.as_str().as_bytes())
+        || keep.places().iter().any(|place| is_named_by(path, place))
+}
+
 // Does one entry, where the path isn't kept and a tree is left.
 fn carry(alloc: Global, files: &mut Files, keep: &Keep, entry: &Entry) -> Result<bool, AllocError>
     ensures ok { IfOk result (λ done. MatchBool done (IsCarried (is_kept keep.now) (get_by_text files.old.nodes) (pair_of entry.now) × (get_by_text files.new.nodes ≡ put (get_by_text files.old.nodes) entry.now.path entry.now.node)) (IsLeftOut (is_kept keep.now) (get_by_text files.old.nodes) (pair_of entry.now) × (get_by_text files.new.nodes ≡ get_by_text files.old.nodes))) }
@@ -95,7 +135,7 @@ fn carry_each(
     Ok(done)
 }
 
-pub(crate) fn copy_entries(alloc: Global, entries: &[Entry]) -> Result<Vec<Entry>, AllocError>
+fn copy_entries(alloc: Global, entries: &[Entry]) -> Result<Vec<Entry>, AllocError>
     ensures { IfOk result (λ copies. copies.items ≡ entries.now) }
 {
     let mut copies = Vec::new(alloc);

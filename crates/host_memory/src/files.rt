@@ -1,17 +1,81 @@
 // The nodes of a root, in which nothing stands below what isn't a directory.
-ghost use Rattle.std.specs.Prelude.{◌≡◌, ◌++◌, ◌∷◌, [], ℕ, List, Some, None, false, IfOk, OnOk, OnErr, IsSome, IsTrue, ◌↔◌};
+ghost use Rattle.std.specs.Prelude.{◌≡◌, ◌++◌, ◌∷◌, [], ℕ, List, Some, None, false, IfOk, OnOk, OnErr, IfSome, IfNone, IsSome, IsTrue};
 ghost use Rattle.std.specs.Option.{option_copied};
 ghost use Rattle.std.specs.BTreeMap.{get_by_text};
-ghost use Rattle.host_core.specs.World.{put, moved, IsBare, IsDirectory, IsLoose, HasParent};
-ghost use Rattle.host_core.specs.Tree.{IsListing};
-ghost use Rattle.host_memory.specs.Trees.{IsTreeByTest, Fits, new_directory, is_directory, nothing};
+ghost use Rattle.host_core.specs.World.{put, IsBare};
+ghost use Rattle.host_core.specs.Tree.{has_slash, IsBelow, IsListing};
+ghost use Rattle.host_core.specs.declared.node.Node.{Node};
+ghost use Rattle.host_memory.specs.Trees.{IsTreeByTest, Fits, new_directory, nothing};
 
-use crate::names::{name_in, rest_below};
-use crate::stored::Stored;
 use host_core::{Node, RootPath};
 use std::alloc::{AllocError, Global};
 use std::collections::BTreeMap;
+use std::marker::Model;
 use texts::{Text, Texts};
+
+// What stands of a path below another.
+fn rest_below<'a>(top: &str, path: &'a str) -> Option<&'a str>
+    ensures some { IfSome result (λ rest. path.now ≡ top.now ++ 47 ∷ rest.now) }
+    ensures none { IfNone result (IsBelow top.now path.now → ⊥) }
+{
+    let Some(rest) = path.strip_prefix(top) else {
+        return None;
+    };
+    let Some(name) = rest.strip_prefix('/') else {
+        return None;
+    };
+    Some(name)
+}
+
+// The name that a key has in a directory.
+fn name_in<'a>(top: &str, path: &'a str) -> Option<&'a str>
+    ensures some { IfSome result (λ name. (path.now ≡ top.now ++ 47 ∷ name.now) × (has_slash name.now ≡ false)) }
+    ensures none { IfNone result ((name : List ℕ) → has_slash name ≡ false → path.now ≡ top.now ++ 47 ∷ name → ⊥) }
+{
+    let Some(name) = rest_below(top, path) else {
+        return None;
+    };
+    if name.as_bytes().contains(&b'/') {
+        return None;
+    }
+    Some(name)
+}
+
+// A node in the map, which std can copy with the map.
+#[derive(Drop)]
+struct Stored {
+    node: Node,
+}
+
+impl Model for Stored {
+    ghost Value = { Node };
+
+    ghost view = { λ s. s.node };
+}
+
+impl Stored {
+    fn new(node: Node) -> Self
+        ensures { result ≡ node }
+    {
+        Stored { node }
+    }
+
+    fn node(&self) -> &Node
+        ensures { result.now ≡ self.now }
+    {
+        &self.node
+    }
+}
+
+impl Clone for Stored {
+    ghost is_clone = { λ s t. t ≡ s };
+
+    fn clone(&self) -> Result<Stored, AllocError> {
+        Ok(Stored {
+            node: self.node.copy()?,
+        })
+    }
+}
 
 #[derive(Drop)]
 pub(crate) struct Files {
@@ -44,15 +108,6 @@ impl Files {
         match self.get(path.as_str()) {
             Some(node) => Ok(Some(node.copy()?)),
             None => Ok(None),
-        }
-    }
-
-    pub(crate) fn has_directory(&self, path: &str) -> bool
-        ensures { result ≡ is_directory (get_by_text self.now.nodes path.now) }
-    {
-        match self.get(path) {
-            Some(node) => node.is_dir(),
-            None => false,
         }
     }
 

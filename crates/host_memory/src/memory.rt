@@ -1,6 +1,8 @@
 // The host in memory.
+ghost use Rattle.std.specs.Prelude.{◌≡◌};
+ghost use Rattle.host_memory.specs.Endings.{next_outcome, next_change};
+
 use crate::change::{Entry, Planned, carry_out};
-use crate::ending::ending_of;
 use crate::files::Files;
 use crate::moving::move_node;
 use crate::placing::place;
@@ -25,6 +27,30 @@ pub enum Done {
     MadeDir(RootPath, u16),
     RemovedDir(RootPath),
     Scripted(Vec<Entry>),
+}
+
+// What the first plan says, lent.
+#[derive(Clone, Copy)]
+struct Ending<'a> {
+    outcome: Outcome,
+    change: &'a [Entry],
+}
+
+// How the next call ends.
+fn ending_of(pending: &VecDeque<Planned>) -> Ending<'_>
+    ensures outcome { result.outcome ≡ next_outcome pending.now.items }
+    ensures change { result.change.now ≡ next_change pending.now.items }
+{
+    match pending.front() {
+        Some(planned) => Ending {
+            outcome: planned.outcome,
+            change: planned.change.as_slice(),
+        },
+        None => Ending {
+            outcome: Outcome::Exit(0),
+            change: &[],
+        },
+    }
 }
 
 /// A root in memory. Its calls end as planned, in order, and when none is left with exit status 0.
@@ -146,17 +172,17 @@ impl Host for MemoryHost {
     }
 
     fn write_new(&mut self, path: &RootPath, node: &Node) -> Result<(), HostFault> {
+        self.steps.reserve(1)?;
         let at = path.copy()?;
         let written = node.copy()?;
-        self.steps.reserve(1)?;
         self.files.put(self.alloc, path.as_str(), node.copy()?)?;
         self.steps.push_reserved(Done::Wrote(at, written));
         Ok(())
     }
 
     fn make_dir(&mut self, path: &RootPath, mode: u16) -> Result<(), HostFault> {
-        let at = path.copy()?;
         self.steps.reserve(1)?;
+        let at = path.copy()?;
         self.files
             .put(self.alloc, path.as_str(), Node::Dir { mode })?;
         self.steps.push_reserved(Done::MadeDir(at, mode));
@@ -164,25 +190,25 @@ impl Host for MemoryHost {
     }
 
     fn rename(&mut self, from: &RootPath, to: &RootPath) -> Result<(), HostFault> {
+        self.steps.reserve(1)?;
         let left = from.copy()?;
         let reached = to.copy()?;
-        self.steps.reserve(1)?;
         move_node(self.alloc, &mut self.files, from, to)?;
         self.steps.push_reserved(Done::Moved(left, reached));
         Ok(())
     }
 
     fn remove(&mut self, path: &RootPath) -> Result<(), HostFault> {
-        let at = path.copy()?;
         self.steps.reserve(1)?;
+        let at = path.copy()?;
         self.files.take(path.as_str());
         self.steps.push_reserved(Done::Took(at));
         Ok(())
     }
 
     fn remove_dir(&mut self, path: &RootPath) -> Result<(), HostFault> {
-        let at = path.copy()?;
         self.steps.reserve(1)?;
+        let at = path.copy()?;
         self.files.take(path.as_str());
         self.steps.push_reserved(Done::RemovedDir(at));
         Ok(())

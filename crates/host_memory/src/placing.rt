@@ -1,20 +1,39 @@
 // Whether a node may come to stand at a path, and the way to it.
-ghost use Rattle.std.specs.Prelude.{◌≡◌, ◌↔◌, List, ℕ, Some, false, IfOk, OnOk, OnErr, IsTrue, MatchBool};
+ghost use Rattle.std.specs.Prelude.{◌≡◌, ◌↔◌, List, ℕ, Some, false, IfOk, IfSome, IfNone, OnOk, OnErr, IsTrue, MatchBool};
 ghost use Rattle.std.specs.BTreeMap.{get_by_text};
 ghost use Rattle.host_core.specs.World.{IsBare, IsDirectory, IsLoose};
 ghost use Rattle.host_core.specs.Tree.{IsBelow};
-ghost use Rattle.host_memory.specs.Trees.{CanPlace, Fits, HasPartWay, HasWay, IsOpenTo, IsPlaced};
+ghost use Rattle.host_memory.specs.Trees.{is_directory, CanPlace, Fits, HasPartWay, HasWay, IsIn, IsOpenTo, IsPlaced};
 
 use crate::files::Files;
-use crate::parents::parent_of;
 use host_core::Node;
 use std::alloc::{AllocError, Global};
+
+// The directory that a path lies in: what stands before the last slash.
+fn parent_of(path: &str) -> Option<&str>
+    ensures some { IfSome result (λ front. IsIn front.now path.now) }
+    ensures none { IfNone result ((top : List ℕ) → IsBelow top path.now → ⊥) }
+{
+    match path.rsplit_once('/') {
+        Some((front, _)) => Some(front),
+        None => None,
+    }
+}
+
+fn has_directory(files: &Files, path: &str) -> bool
+    ensures { result ≡ is_directory (get_by_text files.now.nodes path.now) }
+{
+    match files.get(path) {
+        Some(node) => node.is_dir(),
+        None => false,
+    }
+}
 
 // Whether nothing stands below a path.
 fn is_bare(files: &Files, path: &str) -> bool
     ensures { IsTrue result ↔ IsBare (get_by_text files.now.nodes) path.now }
 {
-    !files.has_directory(path) || !files.has_below(path)
+    !has_directory(files, path) || !files.has_below(path)
 }
 
 // Whether all above a path is directories.
@@ -22,7 +41,7 @@ fn is_within(files: &Files, path: &str) -> bool
     ensures { IsTrue result ↔ ((top : List ℕ) → IsBelow top path.now → IsDirectory (get_by_text files.now.nodes top)) }
 {
     match parent_of(path) {
-        Some(front) => files.has_directory(front),
+        Some(front) => has_directory(files, front),
         None => true,
     }
 }
