@@ -8,7 +8,7 @@ use Rattle.control_fields.specs.Grammar.{Reading, nothing, with_last, IsCut, fie
 use Rattle.control_fields.specs.Faults.{BeginsBlank, IsFaultAt}
 use Rattle.control_fields.specs.declared.field.Field.{Field}
 use Rattle.control_fields.specs.declared.located.Located.{Located}
-use Rattle.control_fields.specs.declared.fault.Kind.TheVariants.{NotUtf8, OrphanContinuation, NoColon, BadName, Twice}
+use Rattle.control_fields.specs.declared.reading.Kind.TheVariants.{NotUtf8, OrphanContinuation, NoColon, BadName, Twice}
 use Rattle.control_fields.proofs.Parts.{stands_there, one_cut}
 
 abbrev pub at : List Located → ℕ → List Field → Reading
@@ -55,7 +55,7 @@ not_utf8 bytes s bad = record { stuck = λ number t takes. bad takes.0; has = ba
 pub begins : (text : List ℕ) (b : ℕ) (bs : List ℕ) → text ≡ b ∷ bs → is_blank b ≡ true → BeginsBlank text
 begins text b bs e blank = subst BeginsBlank (sym e) blank
 
-pub orphan : (bytes : List ℕ) (s : Reading) (b : ℕ) (bs : List ℕ) → IsUtf8 bytes → trim_end bytes ≡ b ∷ bs → is_blank b ≡ true → s.begun.paragraph ≡ [] → IsFaultAt OrphanContinuation bytes s
+orphan : (bytes : List ℕ) (s : Reading) (b : ℕ) (bs : List ℕ) → IsUtf8 bytes → trim_end bytes ≡ b ∷ bs → is_blank b ≡ true → s.begun.paragraph ≡ [] → IsFaultAt OrphanContinuation bytes s
 orphan bytes s b bs utf8 is blank none = record {
   stuck = λ number t takes. elim takes.1 [
     | inl k ↦ (let h : [] ≡ b ∷ bs = sym k.blank ∙ is in cc)
@@ -116,12 +116,12 @@ first_of_text : (text : List ℕ) → 1 ≤ length text → (bs : List ℕ) × (
 first_of_text [] some = absurd (omega arith)
 first_of_text (b ∷ bs) some = (bs, refl)
 
-pub continues : (number : ℕ) (bytes text pushed : List ℕ) (d : List Located) (i j : ℕ) (n m : List Field) → IsUtf8 bytes → text ≡ trim_end bytes → 1 ≤ length text → is_blank (get_or text 0 0) ≡ true → eqb (length n) 0 ≡ false → pushed ≡ text → j ≡ i
-    → ((front : List Field) (last : Field) → n ≡ front ++ last ∷ [] → m ≡ front ++ with_line last pushed ∷ []) → Takes number bytes (at d i n) (at d j m)
-continues number bytes text pushed d i j n m utf8 is some blank full same line push =
+pub continues : (number : ℕ) (bytes text : List ℕ) (d : List Located) (i j : ℕ) (n m : List Field) → IsUtf8 bytes → text ≡ trim_end bytes → 1 ≤ length text → is_blank (get_or text 0 0) ≡ true → eqb (length n) 0 ≡ false → j ≡ i
+    → ((front : List Field) (last : Field) → n ≡ front ++ last ∷ [] → m ≡ front ++ with_line last text ∷ []) → Takes number bytes (at d i n) (at d j m)
+continues number bytes text d i j n m utf8 is some blank full line push =
     let f = first_of_text text some in
     takes_continuation number bytes d d i j n m (get_or text 0 0) f.0 utf8 (sym is ∙ f.1) blank full refl line
-    (subst (λ (x : List ℕ). (front : List Field) (last : Field) → n ≡ front ++ last ∷ [] → m ≡ front ++ with_line last x ∷ []) (same ∙ is) push)
+    (subst (λ (x : List ℕ). (front : List Field) (last : Field) → n ≡ front ++ last ∷ [] → m ≡ front ++ with_line last x ∷ []) is push)
 
 unblank_text : (text : List ℕ) → is_blank (get_or text 0 0) ≡ false → BeginsBlank text → ⊥
 unblank_text [] e h = h
@@ -132,3 +132,12 @@ unblank bytes text is e h = unblank_text text e (subst BeginsBlank (sym is) h)
 
 pub has_bytes : (bytes text : List ℕ) → text ≡ trim_end bytes → 1 ≤ length text → trim_end bytes ≢ []
 has_bytes bytes text is some e = let h : length text ≡ 0 = ap length (is ∙ e) in omega arith
+
+no_fields : (fields : List Field) → eqb (length fields) 0 ≡ true → fields ≡ []
+no_fields [] e = refl
+no_fields (f ∷ fs) e = let q = eqb-true (length (f ∷ fs)) 0 e in absurd (omega arith)
+
+pub orphaned : (bytes text : List ℕ) (s : Reading) → IsUtf8 bytes → text ≡ trim_end bytes → 1 ≤ length text → is_blank (get_or text 0 0) ≡ true → eqb (length s.begun.paragraph) 0 ≡ true → IsFaultAt OrphanContinuation bytes s
+orphaned bytes text s utf8 is some blank none =
+    let f = first_of_text text some in
+    orphan bytes s (get_or text 0 0) f.0 utf8 (sym is ∙ f.1) blank (no_fields s.begun.paragraph none)

@@ -1,7 +1,7 @@
--- Paragraphs written one after another.
-use Rattle.std.proofs.Common.{◌≡◌, ◌<◌, ◌+◌, ℕ, zero, suc, List, [], ◌∷◌, ◌++◌, length, get_or, take, sym, ap, ◌∙◌, append_assoc, arith}
-use Rattle.std.proofs.lemmas.List.{take_more}
-use Rattle.control_fields.specs.Spelling.{spell, spell_all}
+-- Lines of a field and paragraphs, written one after another.
+use Rattle.std.proofs.Common.{◌≡◌, ◌<◌, ◌≤◌, ◌+◌, ℕ, zero, suc, List, [], ◌∷◌, ◌++◌, length, get_or, take, sym, ap, ◌∙◌, append_assoc, arith}
+use Rattle.std.proofs.lemmas.List.{take_more, take_all, flat_map_more}
+use Rattle.control_fields.specs.Spelling.{first_line, spell_more, spell_field, spell, spell_all}
 use Rattle.control_fields.specs.declared.field.Field.{Field}
 
 after_some : (p : List Field) (ps : List (List Field)) (q : List Field) → spell_all ((p ∷ ps) ++ q ∷ []) ≡ (spell_all (p ∷ ps) ++ 10 ∷ []) ++ spell q
@@ -25,3 +25,15 @@ pub spelled_later : (ps : List (List Field)) (i : ℕ) (q : List Field) (out : L
 spelled_later ps i q out some lt is so =
     ap (λ (t : List ℕ). (t ++ 10 ∷ []) ++ spell q) so ∙ sym (at_later ps i q some lt)
     ∙ ap (λ (r : List Field). spell_all (take i ps ++ r ∷ [])) is ∙ ap spell_all (sym (take_more ps i q lt))
+
+-- a line more of a field
+pub spelled_more : (ls : List (List ℕ)) (i : ℕ) (l before out : List ℕ) → i < length ls → l ≡ get_or ls i l → out ≡ before ++ spell_more (take i ls) → (out ++ l) ++ 10 ∷ [] ≡ before ++ spell_more (take (i + 1) ls)
+spelled_more ls i l before out lt is so =
+    append_assoc out l (10 ∷ []) ∙ ap (λ (t : List ℕ). t ++ (l ++ 10 ∷ [])) so ∙ flat_map_more (λ (x : List ℕ). x ++ 10 ∷ []) before (take i ls) l
+    ∙ ap (λ (x : List ℕ). before ++ spell_more (take i ls ++ x ∷ [])) is ∙ ap (λ (t : List (List ℕ)). before ++ spell_more t) (sym (take_more ls i l lt))
+
+-- all lines of a field
+pub spelled_field : (f : Field) (i : ℕ) (before : List ℕ) → length f.more ≤ i → (before ++ (first_line f ++ 10 ∷ [])) ++ spell_more (take i f.more) ≡ before ++ spell_field f
+spelled_field f i before all =
+    ap (λ (t : List (List ℕ)). (before ++ (first_line f ++ 10 ∷ [])) ++ spell_more t) (take_all i f.more all)
+    ∙ append_assoc before (first_line f ++ 10 ∷ []) (spell_more f.more) ∙ ap (λ (t : List ℕ). before ++ t) (append_assoc (first_line f) (10 ∷ []) (spell_more f.more))

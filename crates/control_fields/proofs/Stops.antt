@@ -1,7 +1,7 @@
 -- Where reading stops.
 use Rattle.std.proofs.lemmas.Bool.{false≢true}
 use Rattle.std.proofs.Common.{◌≡◌, ◌+◌, ◌≤◌, ℕ, true, false, Bool, List, ◌∷◌, ◌++◌, length, refl, sym, ap, subst, ◌∙◌, inl, inr}
-use Rattle.std.specs.Prelude.{IsTrue}
+use Rattle.std.specs.Prelude.{IsTrue, Result, Ok, Err, IfErr}
 use Rattle.control_fields.specs.Grammar.{Reading, start, closed, Takes, Run}
 use Rattle.control_fields.specs.Faults.{IsFaultAt, IsFaultHere, IsFaultOf, IsFaultOfOne, StopsAt}
 use Rattle.control_fields.specs.Told.{told}
@@ -36,5 +36,7 @@ one_of ls s e stops = elim stops [
   | inr (inr f) ↦ inr (inr f.1)
 ]
 
-pub short_of_memory : (single : Bool) (ls : List (List ℕ)) (e : ControlFault) → e ≡ NoMemory → (s : Reading) × StopsAt single ls e s
-short_of_memory single ls e is = (start, inl is)
+-- the state that reading stopped at is one
+pub stops_somewhere : {T : Type 0} (single : Bool) (ls : List (List ℕ)) (s : Reading) (r : Result T ControlFault) → IfErr r (λ e. StopsAt single ls e s) → IfErr r (λ e. (x : Reading) × StopsAt single ls e x)
+stops_somewhere single ls s (Ok v) h = tt
+stops_somewhere single ls s (Err e) h = (s, h)

@@ -5,12 +5,12 @@ use Rattle.control_fields.specs.Names.{Lacks, is_blank, trim_end, IsName, stands
 use Rattle.control_fields.specs.Grammar.{Reading, start, nothing, closed, IsCut, Takes, Run}
 use Rattle.control_fields.specs.Told.{told}
 use Rattle.control_fields.specs.declared.located.Located.{Located}
-use Rattle.control_fields.specs.declared.fault.Kind.{Kind}
-use Rattle.control_fields.specs.declared.fault.Kind.TheVariants.{NotUtf8, OrphanContinuation, NoColon, BadName, Twice}
+use Rattle.control_fields.specs.declared.reading.Kind.{Kind}
+use Rattle.control_fields.specs.declared.reading.Kind.TheVariants.{NotUtf8, OrphanContinuation, NoColon, BadName, Twice}
 use Rattle.control_fields.specs.declared.fault.ControlFault.{ControlFault}
 use Rattle.control_fields.specs.declared.fault.ControlFault.TheVariants.{Second, NoMemory}
-use Rattle.control_fields.specs.declared.fault.LineFault.{LineFault}
-use Rattle.control_fields.specs.declared.fault.LineFault.TheVariants as line
+use Rattle.control_fields.specs.declared.reading.LineFault.{LineFault}
+use Rattle.control_fields.specs.declared.reading.LineFault.TheVariants as line
 
 -- the text begins with a space or tab
 abbrev pub BeginsBlank : List ℕ → Type 0

@@ -1,7 +1,7 @@
 -- The faults of lines, with the line's number.
 use Rattle.std.specs.Prelude.{ℕ}
-use Rattle.control_fields.specs.declared.fault.Kind.{Kind}
-use Rattle.control_fields.specs.declared.fault.Kind.TheVariants.{NotUtf8, OrphanContinuation, NoColon, BadName, Twice}
+use Rattle.control_fields.specs.declared.reading.Kind.{Kind}
+use Rattle.control_fields.specs.declared.reading.Kind.TheVariants.{NotUtf8, OrphanContinuation, NoColon, BadName, Twice}
 use Rattle.control_fields.specs.declared.fault.ControlFault.{ControlFault}
 use Rattle.control_fields.specs.declared.fault.ControlFault.TheVariants as fault
 

@@ -1,8 +1,6 @@
 // Why control text can't be read.
 ghost use Rattle.std.specs.Prelude.{◌≡◌};
 ghost use Rattle.control_fields.specs.declared.fault.ControlFault.TheVariants.{NoMemory};
-ghost use Rattle.control_fields.specs.declared.fault.LineFault.TheVariants as line;
-ghost use Rattle.control_fields.specs.Told.{told};
 
 use std::alloc::{AllocError, AllocFailed};
 
@@ -23,38 +21,6 @@ pub enum ControlFault {
     Second(u64),
 }
 
-/// What is wrong with a line.
-#[derive(Clone, Copy, Debug, PartialEq, Eq)]
-pub enum Kind {
-    NotUtf8,
-    OrphanContinuation,
-    NoColon,
-    BadName,
-    Twice,
-}
-
-impl Kind {
-    /// The fault of a line, by its number.
-    pub fn at(self, number: u64) -> ControlFault
-        ensures { result ≡ told self number }
-    {
-        match self {
-            Kind::NotUtf8 => ControlFault::NotUtf8(number),
-            Kind::OrphanContinuation => ControlFault::OrphanContinuation(number),
-            Kind::NoColon => ControlFault::NoColon(number),
-            Kind::BadName => ControlFault::BadName(number),
-            Kind::Twice => ControlFault::Twice(number),
-        }
-    }
-}
-
-/// Why a line wasn't taken.
-#[derive(Clone, Copy, Debug, PartialEq, Eq)]
-pub enum LineFault {
-    Faulty(Kind),
-    NoMemory,
-}
-
 impl From<AllocError> for ControlFault {
     ghost from_gives = { λ _ e. e ≡ NoMemory };
 
@@ -68,21 +34,5 @@ impl<T: Drop> From<AllocFailed<T>> for ControlFault {
 
     fn from(_: AllocFailed<T>) -> Self {
         ControlFault::NoMemory
-    }
-}
-
-impl From<AllocError> for LineFault {
-    ghost from_gives = { λ _ e. e ≡ line.NoMemory };
-
-    fn from(_: AllocError) -> Self {
-        LineFault::NoMemory
-    }
-}
-
-impl<T: Drop> From<AllocFailed<T>> for LineFault {
-    ghost from_gives = { λ _ e. e ≡ line.NoMemory };
-
-    fn from(_: AllocFailed<T>) -> Self {
-        LineFault::NoMemory
     }
 }

@@ -4,7 +4,6 @@
 mod fault;
 mod field;
 mod laws;
-mod line;
 mod line_list;
 mod located;
 mod paragraph;

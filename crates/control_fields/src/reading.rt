@@ -1,27 +1,149 @@
 // Reading control text line by line.
-ghost use Rattle.std.specs.Prelude.{◌≡◌, ◌≤◌, ◌<◌, ◌↔◌, IsTrue, IfOk, OnOk, IfErr, length, [], ◌⊎◌};
-ghost use Rattle.control_fields.specs.Grammar.{lines_of, Reading, start, nothing, with_last, closed, Takes, Run, Reads, ReadsOne, paragraphs_of};
+ghost use Rattle.std.specs.Prelude.{◌≡◌, ◌≤◌, ◌<◌, ◌↔◌, IsTrue, IfSome, IfNone, IfOk, OnOk, IfErr, List, length, None, false, [], ◌++◌, ◌∷◌, ◌⊎◌};
+ghost use Rattle.control_fields.specs.Names.{Lacks, is_blank, trim_end, trim_start, IsName, stands, with_line, begin_line};
+ghost use Rattle.control_fields.specs.Told.{told};
+ghost use Rattle.control_fields.specs.declared.field.Field.{Field as AField};
+ghost use Rattle.control_fields.specs.declared.reading.LineFault.TheVariants as line;
+ghost use Rattle.control_fields.specs.Grammar.{lines_of, field_of, Reading, start, nothing, with_last, closed, Takes, Run, Reads, ReadsOne, paragraphs_of};
 ghost use Rattle.control_fields.specs.Faults.{IsFaultOf, IsFaultOfOne, IsReadTo, StopsAt, IsLineFault, IsFaultHere};
 
-use crate::fault::{ControlFault, Kind, LineFault};
+use crate::fault::ControlFault;
 use crate::field::Field;
-use crate::line::{cut, is_blank, is_name, trim_end, trim_start};
-use crate::line_list::Lines;
 use crate::located::{ControlText, Located};
 use crate::paragraph::Paragraph;
-use std::alloc::{AllocError, Global};
+use std::alloc::{AllocError, AllocFailed, Global};
 use texts::Bytes;
+
+// What is wrong with a line.
+enum Kind {
+    NotUtf8,
+    OrphanContinuation,
+    NoColon,
+    BadName,
+    Twice,
+}
+
+impl Kind {
+    // The fault of a line, by its number.
+    fn at(self, number: u64) -> ControlFault
+        ensures { result ≡ told self number }
+    {
+        match self {
+            Kind::NotUtf8 => ControlFault::NotUtf8(number),
+            Kind::OrphanContinuation => ControlFault::OrphanContinuation(number),
+            Kind::NoColon => ControlFault::NoColon(number),
+            Kind::BadName => ControlFault::BadName(number),
+            Kind::Twice => ControlFault::Twice(number),
+        }
+    }
+}
+
+// Why a line wasn't taken.
+enum LineFault {
+    Faulty(Kind),
+    NoMemory,
+}
+
+impl From<AllocError> for LineFault {
+    ghost from_gives = { λ _ e. e ≡ line.NoMemory };
+
+    fn from(_: AllocError) -> Self {
+        LineFault::NoMemory
+    }
+}
+
+impl<T: Drop> From<AllocFailed<T>> for LineFault {
+    ghost from_gives = { λ _ e. e ≡ line.NoMemory };
+
+    fn from(_: AllocFailed<T>) -> Self {
+        LineFault::NoMemory
+    }
+}
+
+// What stands before and after the first such byte.
+fn cut(bytes: &[u8], mark: u8) -> Option<(&[u8], &[u8])>
+    ensures some { IfSome result (λ parts. (bytes.now ≡ parts.0.now ++ mark ∷ parts.1.now) × Lacks parts.0.now mark) }
+    ensures none { IfNone result (Lacks bytes.now mark) }
+{
+    for (i, b) in bytes.iter().enumerate() {
+        if *b == mark {
+            let (front, rest) = bytes.split_at(i);
+            return Some((front, &rest[1..]));
+        }
+    }
+    None
+}
+
+fn is_blank(b: u8) -> bool
+    ensures { result ≡ is_blank b }
+{
+    b == b' ' || b == b'\t'
+}
+
+// Without the spaces and tabs at the end.
+fn trim_end(line: &[u8]) -> &[u8]
+    ensures { result.now ≡ trim_end line.now }
+{
+    match line {
+        [front @ .., last] if is_blank(*last) => trim_end(front),
+        _ => line,
+    }
+}
+
+// Without the spaces and tabs at the start.
+fn trim_start(line: &[u8]) -> &[u8]
+    ensures { result.now ≡ trim_start line.now }
+{
+    match line {
+        [first, rest @ ..] if is_blank(*first) => trim_start(rest),
+        _ => line,
+    }
+}
+
+// Whether a field may have this name.
+fn is_name(name: &[u8]) -> bool
+    ensures { IsTrue result ↔ IsName name.now }
+{
+    if name.is_empty() || name[0] == b'#' || name[0] == b'-' {
+        return false;
+    }
+    name.iter().all(|b| *b > 32 && *b < 127)
+}
 
 // The paragraph ends, if it has fields.
 fn close(alloc: Global, done: &mut Vec<Located>, begun: &mut Located) -> Result<(), AllocError>
     ensures done { OnOk result (done.new.items ≡ with_last done.old.items begun.old) }
     ensures begun { OnOk result (begun.new ≡ nothing) }
 {
-    let last = std::mem::replace(begun, Located::new(alloc));
-    if !last.paragraph.is_empty() {
-        done.push(last)?;
+    if begun.paragraph.is_empty() {
+        begun.line = 0;
+        return Ok(());
     }
+    done.push(std::mem::replace(begun, Located::new(alloc)))?;
     Ok(())
+}
+
+// The last field goes on.
+fn add_line(alloc: Global, text: &[u8], begun: &mut Located) -> Result<(), AllocError>
+    ensures line { OnOk result (begun.new.line ≡ begun.old.line) }
+    ensures paragraph { OnOk result ((front : List AField) (last : AField) → begun.old.paragraph ≡ front ++ last ∷ [] → begun.new.paragraph ≡ front ++ with_line last text.now ∷ []) }
+{
+    begun.paragraph.push_line(Bytes::from_slice(alloc, text)?)
+}
+
+// A field begins on the line of this number.
+fn add_field(
+    alloc: Global,
+    number: u64,
+    name: &[u8],
+    value: &[u8],
+    begun: &mut Located,
+) -> Result<(), AllocError>
+    requires { stands name.now begun.old.paragraph ≡ false }
+    ensures line { OnOk result (begun.new.line ≡ begin_line begun.old.paragraph begun.old.line number) }
+    ensures paragraph { OnOk result (begun.new.paragraph ≡ begun.old.paragraph ++ field_of name.now value.now ∷ []) }
+{
+    begun.push(number, Field::one_line(alloc, name, trim_start(value))?)
 }
 
 fn take_line(
@@ -47,7 +169,7 @@ fn take_line(
             if begun.paragraph.is_empty() {
                 return Err(LineFault::Faulty(Kind::OrphanContinuation));
             }
-            begun.paragraph.push_line(Bytes::from_slice(alloc, text)?)?;
+            add_line(alloc, text, begun)?;
             return Ok(());
         }
         _ => {
@@ -60,8 +182,7 @@ fn take_line(
             if begun.paragraph.has(name) {
                 return Err(LineFault::Faulty(Kind::Twice));
             }
-            let field = Field::one_line(alloc, name, trim_start(value))?;
-            begun.push(number, field)?;
+            add_field(alloc, number, name, value, begun)?;
             return Ok(());
         }
     }
@@ -126,21 +247,37 @@ fn read_lines(
     Ok(())
 }
 
+// Reads the whole text, or its lines before the first that is faulty.
+fn read_text(
+    alloc: Global,
+    bytes: &[u8],
+    single: bool,
+    done: &mut Vec<Located>,
+    begun: &mut Located,
+) -> Result<(), ControlFault>
+    requires done { done.old.items ≡ [] }
+    requires begun { begun.old ≡ nothing }
+    ensures read { OnOk result (IsReadTo (lines_of bytes.now) done.new.items begun.new None) }
+    ensures one { OnOk result (IsTrue single → length done.new.items ≤ 1) }
+    ensures fault { IfErr result (λ fault. StopsAt single (lines_of bytes.now) fault (record { done = done.new.items; begun = begun.new })) }
+{
+    read_lines(alloc, bytes, single, done, begun)?;
+    close(alloc, done, begun)?;
+    Ok(())
+}
+
 /// The paragraphs of a control text, as far as it can be read.
 pub fn read_located(alloc: Global, bytes: &[u8]) -> Result<ControlText, AllocError>
     ensures { IfOk result (λ text. IsReadTo (lines_of bytes.now) text.paragraphs.items text.begun text.fault) }
 {
     let mut paragraphs = Vec::new(alloc);
     let mut begun = Located::new(alloc);
-    match read_lines(alloc, bytes, false, &mut paragraphs, &mut begun) {
-        Ok(()) => {
-            close(alloc, &mut paragraphs, &mut begun)?;
-            Ok(ControlText {
-                paragraphs,
-                begun,
-                fault: None,
-            })
-        }
+    match read_text(alloc, bytes, false, &mut paragraphs, &mut begun) {
+        Ok(()) => Ok(ControlText {
+            paragraphs,
+            begun,
+            fault: None,
+        }),
         Err(ControlFault::NoMemory) => Err(AllocError),
         Err(fault) => Ok(ControlText {
             paragraphs,
@@ -150,7 +287,7 @@ pub fn read_located(alloc: Global, bytes: &[u8]) -> Result<ControlText, AllocErr
     }
 }
 
-// Reads the whole text; `done` holds its paragraphs then.
+// The whole paragraphs, without what was begun.
 fn read_all(
     alloc: Global,
     bytes: &[u8],
@@ -163,9 +300,7 @@ fn read_all(
     ensures fault { IfErr result (λ fault. (state : Reading) × StopsAt single (lines_of bytes.now) fault state) }
 {
     let mut begun = Located::new(alloc);
-    read_lines(alloc, bytes, single, done, &mut begun)?;
-    close(alloc, done, &mut begun)?;
-    Ok(())
+    read_text(alloc, bytes, single, done, &mut begun)
 }
 
 /// The paragraphs of a control text.

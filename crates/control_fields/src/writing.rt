@@ -1,6 +1,6 @@
 // The written form of paragraphs.
 ghost use Rattle.std.specs.Prelude.{◌≡◌, OnOk, IfOk, IfErr, ◌++◌, ◌∷◌, []};
-ghost use Rattle.control_fields.specs.Spelling.{spell_field, spell, spell_all};
+ghost use Rattle.control_fields.specs.Spelling.{first_line, spell_field, spell, spell_all};
 ghost use Rattle.control_fields.specs.declared.fault.ControlFault.TheVariants.{NoMemory};
 
 use crate::fault::ControlFault;
@@ -8,8 +8,9 @@ use crate::field::Field;
 use crate::paragraph::Paragraph;
 use std::alloc::{AllocError, Global};
 
-fn write_field(out: &mut Vec<u8>, field: &Field) -> Result<(), AllocError>
-    ensures { OnOk result (out.new.items ≡ out.old.items ++ spell_field field.now) }
+// The line of the field's name.
+fn write_first_line(out: &mut Vec<u8>, field: &Field) -> Result<(), AllocError>
+    ensures { OnOk result (out.new.items ≡ out.old.items ++ first_line field.now ++ 10 ∷ []) }
 {
     out.extend_from_slice(field.name.as_slice())?;
     out.push(b':')?;
@@ -18,6 +19,13 @@ fn write_field(out: &mut Vec<u8>, field: &Field) -> Result<(), AllocError>
         out.extend_from_slice(field.first.as_slice())?;
     }
     out.push(b'\n')?;
+    Ok(())
+}
+
+fn write_field(out: &mut Vec<u8>, field: &Field) -> Result<(), AllocError>
+    ensures { OnOk result (out.new.items ≡ out.old.items ++ spell_field field.now) }
+{
+    write_first_line(out, field)?;
     for line in field.more.as_slice() {
         out.extend_from_slice(line.as_slice())?;
         out.push(b'\n')?;

@@ -1,14 +1,27 @@
 use Rattle.std.proofs.Common.{◌∙◌, refl, sym, rules}
 use Rattle.std.specs.Str.{IsUtf8}
 use Rattle.control_fields.specs.Names.{IsName}
-use Rattle.control_fields.proofs.Cases.{at, continues, unblank, has_bytes, no_colon, bad_name, twice}
+use Rattle.control_fields.proofs.Cases.{at, takes_field, not_utf8, orphaned, continues, unblank, has_bytes, no_colon, bad_name, twice}
 use Rattle.control_fields.proofs.reading.take_line.Goals as goal
+
+pub returns-then-is_err-clause-fault : goal.returns-then-is_err-clause-fault
+returns-then-is_err-clause-fault c =
+    let bad : IsUtf8 c.args.line.now → ⊥ = search rules in
+    (not_utf8 c.args.line.now (at c.args.done.now.items c.args.begun.now.line c.args.begun.now.paragraph) bad, refl)
+
+pub returns-then-is_empty-clause-fault : goal.returns-then-is_empty-clause-fault
+returns-then-is_empty-clause-fault c =
+    let utf8 : IsUtf8 c.args.line.now = search rules in (
+      orphaned c.args.line.now c.trim_end-text.result.now (at c.args.done.now.items c.args.begun.now.line c.args.begun.now.paragraph) utf8 c.trim_end-text.ensures c.in-len1-up.len_at_least (sym c.is_blank.ensures ∙ c.if-is_blank.true)
+          (sym c.is_empty.ensures ∙ c.if-is_empty.true),
+      refl,
+    )
 
 pub returns-in-len1-up-clause-takes : goal.returns-in-len1-up-clause-takes
 returns-in-len1-up-clause-takes c =
     let utf8 : IsUtf8 c.args.line.now = search rules in
-    continues c.args.number c.args.line.now c.trim_end-text.result.now c.in_ok-from_slice-in-len1-up.field-0 c.args.done.now.items c.args.begun.now.line c.args.begun.now.line c.args.begun.now.paragraph c.push_line.new.self utf8 c.trim_end-text.ensures c.in-len1-up.len_at_least
-    (sym c.is_blank.ensures ∙ c.if-is_blank.true) (sym c.is_empty.ensures ∙ c.if-is_empty.false) c.in_ok-from_slice-in-len1-up.ensures refl c.in_ok-push_line-in-len1-up.ensures
+    continues c.args.number c.args.line.now c.trim_end-text.result.now c.args.done.now.items c.args.begun.now.line c.add_line.new.begun.line c.args.begun.now.paragraph c.add_line.new.begun.paragraph utf8 c.trim_end-text.ensures c.in-len1-up.len_at_least
+    (sym c.is_blank.ensures ∙ c.if-is_blank.true) (sym c.is_empty.ensures ∙ c.if-is_empty.false) c.in_ok-add_line-in-len1-up.ensures.line c.in_ok-add_line-in-len1-up.ensures.paragraph
 
 pub returns-in_default-cut-clause-fault : goal.returns-in_default-cut-clause-fault
 returns-in_default-cut-clause-fault c =
@@ -37,3 +50,10 @@ returns-then-has-clause-fault c =
           (unblank c.args.line.now c.trim_end-text.result.now c.trim_end-text.ensures (sym c.is_blank.ensures ∙ c.if-is_blank.false)) good (sym c.has.ensures ∙ c.if-has.true),
       refl,
     )
+
+pub returns-in_default-clause-takes : goal.returns-in_default-clause-takes
+returns-in_default-clause-takes c =
+    let utf8 : IsUtf8 c.args.line.now = search rules in
+    let good : IsName c.in-Some.name.now = search rules in
+    takes_field c.args.number c.args.line.now c.args.done.now.items c.args.done.now.items c.args.begun.now.line c.add_field.new.begun.line c.args.begun.now.paragraph c.add_field.new.begun.paragraph c.in-Some.name.now c.in-Some.value.now utf8
+    (sym c.trim_end-text.ensures ∙ c.in-Some.ensures.some.0) c.in-Some.ensures.some.1 good (sym c.has.ensures ∙ c.if-has.false) refl c.in_ok-add_field-in_default.ensures.line c.in_ok-add_field-in_default.ensures.paragraph

@@ -1,4 +1,4 @@
-use Rattle.std.proofs.Common.{[], subst}
+use Rattle.std.proofs.Common.{[], subst, rules}
 use Rattle.control_fields.specs.Names.{AreNew}
 use Rattle.control_fields.proofs.Keyed.{copied_new}
 use Rattle.control_fields.proofs.paragraph.Paragraph.copy.Goals as goal
@@ -12,3 +12,6 @@ push-requires c =
 
 pub loop-field-preserved : goal.loop-field-preserved
 loop-field-preserved c = grind (arith, common_steps)
+
+pub returns : goal.returns
+returns c = search rules

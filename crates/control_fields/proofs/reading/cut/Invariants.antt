@@ -1,5 +1,5 @@
 use Rattle.std.proofs.Common.{◌≡◌, ℕ, ◌<◌, get_or}
-use Rattle.control_fields.proofs.line.cut.Given as goal
+use Rattle.control_fields.proofs.reading.cut.Given as goal
 
 abbrev pub invariant-loop-i : goal.invariant-loop-i
 invariant-loop-i l = (k : ℕ) → k < l.i → get_or l.bytes k 0 ≡ l.mark → ⊥
