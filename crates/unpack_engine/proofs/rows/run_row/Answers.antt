@@ -1,5 +1,5 @@
 use Rattle.unwind_stack.specs.Transcript.{Tries, UndoesRow}
-use Rattle.unwind_stack.proofs.Makes.{makes_then, moments_then}
+use Rattle.unwind_stack.proofs.Makes.{makes_then, moments_then, tells_then}
 use Rattle.unpack_engine.specs.Turns.{IsTurn}
 use Rattle.unpack_engine.specs.declared.rows.Turn.TheVariants.{Undone, UndoFailed}
 use Rattle.unpack_engine.proofs.Falling.{falls_undone, falls_failed}
@@ -29,3 +29,12 @@ returns-clause-calls g c =
     makes_then _ (λ ts. Tries row ts c.in_ok-try_row.field-0) (λ ts. UndoesRow row c.new-owners.result.items ts owners.items) (IsTurn row UndoFailed) _ _ _ _ _ _
     (λ x y p q. falls_failed row owners.items c.new-owners.result.items _ c.is_empty.result c.in_ok-try_row.field-0 x y owners.ok.0 c.is_empty.ensures c.if-is_empty.false c.if-branch.false c.new-owners.ensures.items p q)
     c.in_ok-try_row.ensures.calls c.in_ok-undo_row.ensures.calls
+
+pub returns-in_err-undo_row-clause-told : goal.returns-in_err-undo_row-clause-told
+returns-in_err-undo_row-clause-told g c = tells_then (g.H.Host.state c.args.host.now) (g.H.Host.state c.try_row.new.host) (g.H.Host.state c.undo_row.new.host) _ _ _ c.try_row.ensures.told c.undo_row.ensures.told
+
+pub returns-then-is_empty-clause-told : goal.returns-then-is_empty-clause-told
+returns-then-is_empty-clause-told g c = tells_then (g.H.Host.state c.args.host.now) (g.H.Host.state c.try_row.new.host) (g.H.Host.state c.undo_row.new.host) _ _ _ c.try_row.ensures.told c.undo_row.ensures.told
+
+pub returns-clause-told : goal.returns-clause-told
+returns-clause-told g c = tells_then (g.H.Host.state c.args.host.now) (g.H.Host.state c.try_row.new.host) (g.H.Host.state c.undo_row.new.host) _ _ _ c.try_row.ensures.told c.undo_row.ensures.told
