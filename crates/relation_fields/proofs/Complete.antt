@@ -11,7 +11,7 @@ use Rattle.relation_fields.specs.Words.{run, behind, after, is_blank, past_blank
 use Rattle.relation_fields.specs.Grammar.{Start, Wanted, Behind, Opened, reading, alone, restricted, restriction_by, Reaches, clauses_at_end, start, Reads}
 use Rattle.relation_fields.specs.Faults.{EndsClause}
 use Rattle.relation_fields.specs.Fields.{AreBlanks, IsRestrictionText, Follows, IsAlternativeText, IsClauseText, AreParts, IsFieldText}
-use Rattle.relation_fields.specs.declared.form.Rules.{Rules}
+use Rattle.relation_fields.specs.declared.reading.Rules.{Rules}
 use Rattle.relation_fields.specs.declared.restriction.Comparison.{Comparison}
 use Rattle.relation_fields.specs.declared.restriction.Restriction.{Restriction}
 use Rattle.relation_fields.specs.declared.alternative.Alternative.{Alternative}

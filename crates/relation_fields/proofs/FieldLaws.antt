@@ -3,7 +3,7 @@ use Rattle.std.proofs.Common.{◌≡◌, ◌≢◌, ◌-◌, length, ℕ, zero, 
 use Rattle.relation_fields.specs.Words.{past_blanks}
 use Rattle.relation_fields.specs.Grammar.{Part, Start, Wanted, Behind, Opened, Compared, Versioned, Reading, taken, step, Steps, finished, clauses_at_end, start, Reads}
 use Rattle.relation_fields.specs.Faults.{IsFaultOf, fault_before}
-use Rattle.relation_fields.specs.declared.form.Rules.{Rules}
+use Rattle.relation_fields.specs.declared.reading.Rules.{Rules}
 use Rattle.relation_fields.specs.declared.alternative.Alternative.{Alternative}
 use Rattle.relation_fields.specs.declared.fault.RelationFault.{RelationFault}
 use Rattle.relation_fields.specs.declared.fault.RelationFault.TheVariants.{NoMemory}

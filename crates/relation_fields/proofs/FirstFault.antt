@@ -13,8 +13,8 @@ use Rattle.relation_fields.specs.Grammar.{Part, Start, Wanted, Behind, Opened, C
 use Rattle.relation_fields.specs.Faults.{Stops, IsFaultOf, fault_before}
 use Rattle.relation_fields.specs.Fields.{IsFieldText}
 use Rattle.relation_fields.specs.declared.fault.RelationFault.TheVariants as fault
-use Rattle.relation_fields.specs.declared.form.Rules.{Rules}
-use Rattle.relation_fields.specs.declared.form.Rules.TheVariants.{Alternatives, Plain, Provides}
+use Rattle.relation_fields.specs.declared.reading.Rules.{Rules}
+use Rattle.relation_fields.specs.declared.reading.Rules.TheVariants.{Alternatives, Plain, Provides}
 use Rattle.relation_fields.specs.declared.restriction.Comparison.{Comparison}
 use Rattle.relation_fields.specs.declared.restriction.Comparison.TheVariants.{ExactlyEqual}
 use Rattle.relation_fields.specs.declared.restriction.Restriction.{Restriction}

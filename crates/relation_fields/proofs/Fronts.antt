@@ -8,8 +8,8 @@ use Rattle.std.proofs.lemmas.Bool.Decides.{nat_tests}
 use Rattle.std.proofs.lemmas.Slice.Eq.{bytes_eq-Decides}
 use Rattle.relation_fields.specs.Names.{is_name_sign, is_package_name}
 use Rattle.relation_fields.specs.Words.{run, behind, is_blank, is_version_sign, is_word_sign, is_before_suffix, is_operator_sign, is_ignored, comparison_of, allowed_comparison}
-use Rattle.relation_fields.specs.declared.form.Rules.{Rules}
-use Rattle.relation_fields.specs.declared.form.Rules.TheVariants.{Alternatives, Plain, Provides}
+use Rattle.relation_fields.specs.declared.reading.Rules.{Rules}
+use Rattle.relation_fields.specs.declared.reading.Rules.TheVariants.{Alternatives, Plain, Provides}
 use Rattle.relation_fields.specs.declared.restriction.Comparison.{Comparison}
 
 -- whether a text's first byte passes

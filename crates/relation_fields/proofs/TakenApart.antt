@@ -11,7 +11,7 @@ use Rattle.relation_fields.specs.Words.{run, behind, after, is_blank, past_blank
 use Rattle.relation_fields.specs.Grammar.{Part, Start, Wanted, Behind, Opened, Compared, Versioned, Reading, reading, alone, restricted, restriction_by, closed, begins, goes_on, Steps, finished, clauses_at_end, Reads}
 use Rattle.relation_fields.specs.Fields.{AreBlanks, IsRestrictionText, Follows, IsAlternativeText, IsClauseText, AreParts, IsFieldText}
 use Rattle.relation_fields.specs.Printing.{IsRestricted, IsAlternative, IsClause}
-use Rattle.relation_fields.specs.declared.form.Rules.{Rules}
+use Rattle.relation_fields.specs.declared.reading.Rules.{Rules}
 use Rattle.relation_fields.specs.declared.restriction.Comparison.{Comparison}
 use Rattle.relation_fields.specs.declared.restriction.Restriction.{Restriction}
 use Rattle.relation_fields.specs.declared.alternative.Alternative.{Alternative}

@@ -4,7 +4,7 @@ use Rattle.std.specs.List.{list_all, join_with_byte}
 use Rattle.version_order.specs.Versions.{IsVersion}
 use Rattle.relation_fields.specs.Names.{is_package_name}
 use Rattle.relation_fields.specs.Words.{is_blank, is_ignored, allowed_comparison, has_bars}
-use Rattle.relation_fields.specs.declared.form.Rules.{Rules}
+use Rattle.relation_fields.specs.declared.reading.Rules.{Rules}
 use Rattle.relation_fields.specs.declared.restriction.Restriction.{Restriction}
 use Rattle.relation_fields.specs.declared.alternative.Alternative.{Alternative}
 

@@ -3,10 +3,10 @@ use Rattle.std.specs.Prelude.{ℕ, Bool, true, false, not, cond, List, [], ◌�
 use Rattle.std.specs.Str.{bytes_eq}
 use Rattle.version_order.specs.Versions.{fault_of}
 use Rattle.relation_fields.specs.Names.{is_package_name}
-use Rattle.relation_fields.specs.declared.form.Form.{Form}
-use Rattle.relation_fields.specs.declared.form.Form.TheVariants as form
-use Rattle.relation_fields.specs.declared.form.Rules.{Rules}
-use Rattle.relation_fields.specs.declared.form.Rules.TheVariants.{Alternatives, Plain, Provides}
+use Rattle.relation_fields.specs.declared.relations.Form.{Form}
+use Rattle.relation_fields.specs.declared.relations.Form.TheVariants as form
+use Rattle.relation_fields.specs.declared.reading.Rules.{Rules}
+use Rattle.relation_fields.specs.declared.reading.Rules.TheVariants.{Alternatives, Plain, Provides}
 use Rattle.relation_fields.specs.declared.restriction.Comparison.{Comparison}
 use Rattle.relation_fields.specs.declared.restriction.Comparison.TheVariants.{StrictlyEarlier, EarlierOrEqual, ExactlyEqual, LaterOrEqual, StrictlyLater}
 

@@ -5,7 +5,6 @@
 mod alternative;
 mod clause;
 mod fault;
-mod form;
 mod laws;
 mod names;
 mod offer;
@@ -13,14 +12,12 @@ mod provides;
 mod reading;
 mod relations;
 mod restriction;
-mod words;
 
 pub use alternative::Alternative;
 pub use clause::Clause;
 pub use fault::RelationFault;
-pub use form::Form;
 pub use laws::{first_stray_byte, read_again, reads_once};
 pub use offer::Offer;
 pub use provides::{Provided, Provides};
-pub use relations::Relations;
+pub use relations::{Form, Relations};
 pub use restriction::{Comparison, Restriction};

@@ -1,9 +1,7 @@
-// Names of packages.
-ghost use Rattle.std.specs.Prelude.{◌≡◌, true};
+// Names of packages (Policy 5.6.1).
+ghost use Rattle.std.specs.Prelude.{◌≡◌};
 ghost use Rattle.std.specs.List.{list_all};
 ghost use Rattle.relation_fields.specs.Names.{is_lower_or_digit, is_name_sign, is_package_name};
-
-use std::str;
 
 fn is_lower_or_digit(byte: u8) -> bool
     ensures { result ≡ is_lower_or_digit byte }
@@ -23,7 +21,7 @@ fn are_name_signs(name: &[u8]) -> bool
     name.iter().all(|byte| is_name_sign(*byte))
 }
 
-/// Whether a package may have this name (Policy 5.6.1).
+/// Whether a package may have this name.
 pub fn is_package_name(name: &[u8]) -> bool
     ensures { result ≡ is_package_name name.now }
 {
@@ -31,12 +29,4 @@ pub fn is_package_name(name: &[u8]) -> bool
         return false;
     }
     is_lower_or_digit(name[0]) && are_name_signs(name)
-}
-
-/// The text of a name.
-pub fn text_of(name: &[u8]) -> &str
-    requires { is_package_name name.now ≡ true }
-    ensures { result.now ≡ name.now }
-{
-    str::from_utf8(name).unwrap()
 }

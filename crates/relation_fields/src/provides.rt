@@ -1,14 +1,13 @@
 // The field Provides.
 ghost use Rattle.std.specs.Prelude.{◌≡◌, List, IfOk, OnOk, IfErr, ◌++◌, ◌∷◌, [], map, option_map};
-ghost use Rattle.relation_fields.specs.declared.form.Rules.TheVariants as rules;
+ghost use Rattle.relation_fields.specs.declared.reading.Rules.TheVariants as rules;
 ghost use Rattle.relation_fields.specs.Entries.{provided, ReadsProvides};
 ghost use Rattle.relation_fields.specs.Faults.{IsFaultOf};
 
 use crate::alternative::Alternative;
 use crate::clause::Clause;
 use crate::fault::RelationFault;
-use crate::form::Rules;
-use crate::reading::read_clauses;
+use crate::reading::{Rules, read_clauses};
 use crate::restriction::Restriction;
 use std::alloc::{AllocError, Global};
 use std::marker::Model;

@@ -7,10 +7,29 @@ ghost use Rattle.relation_fields.specs.Words.{rules_of};
 
 use crate::clause::Clause;
 use crate::fault::RelationFault;
-use crate::form::Form;
-use crate::reading::read_clauses;
+use crate::reading::{Rules, read_clauses};
 use std::alloc::{AllocError, Global};
 use std::marker::Model;
+
+/// Whether the clauses of a field may have alternatives.
+#[derive(Clone, Copy, Debug, PartialEq, Eq)]
+pub enum Form {
+    /// As in Depends and Pre-Depends.
+    Alternatives,
+    /// As in Breaks, Conflicts and Replaces.
+    Plain,
+}
+
+impl Form {
+    fn rules(self) -> Rules
+        ensures { result ≡ rules_of self }
+    {
+        match self {
+            Form::Alternatives => Rules::Alternatives,
+            Form::Plain => Rules::Plain,
+        }
+    }
+}
 
 /// The clauses of a relation field (Policy 7.1).
 #[derive(Drop)]

@@ -19,7 +19,7 @@ pub enum Comparison {
 
 impl Comparison {
     // Whether a version that stands in this order to the relation's is as the operator says.
-    pub(crate) fn holds(self, order: Ordering) -> bool
+    fn holds(self, order: Ordering) -> bool
         ensures { result ≡ holds self order }
     {
         match self {

@@ -3,7 +3,7 @@ use Rattle.relation_fields.specs.Names.{is_package_name}
 use Rattle.relation_fields.specs.Words.{run, is_before_suffix}
 use Rattle.relation_fields.proofs.Runs.{behind_shorter}
 use Rattle.relation_fields.proofs.NamesRead.{name_some}
-use Rattle.relation_fields.proofs.words.take_name.Goals as goal
+use Rattle.relation_fields.proofs.reading.take_name.Goals as goal
 
 pub returns-then-is_ignored-clause-shorter : goal.returns-then-is_ignored-clause-shorter
 returns-then-is_ignored-clause-shorter c =
