@@ -1,48 +1,34 @@
-// The command of a call, and what the system tells of its start and end.
-ghost use Rattle.std.specs.Prelude.{◌≡◌, ◌++◌, ℕ, List, Some, None, false, IfOk, OnOk, string_bytes};
-ghost use Rattle.std.specs.Process.{exit_code, command_program, command_args, command_dir, command_var, clears_env, SameProgramAndArgs, SameEnv, SameDir};
-ghost use Rattle.std.specs.IoError.{raw_os_error};
-ghost use Rattle.host_files.specs.Commands.{set_to, variable_of, outcome_of, is_start_error};
+// The command of a call.
+ghost use Rattle.std.specs.Prelude.{◌≡◌, ◌++◌, ℕ, List, Some, None, false, IfOk, OnOk, codes, string_bytes};
+ghost use Rattle.std.specs.Process.{command_program, command_args, command_dir, command_var, clears_env, SameProgramAndArgs, SameEnv, SameDir};
+ghost use Rattle.host_files.specs.Commands.{set_to, variable_of};
 ghost use Rattle.host_files.specs.Places.{place_in};
 
 use crate::root::Root;
-use host_core::{Call, Outcome};
+use host_core::{Call, RootPath};
 use std::alloc::{AllocError, Global};
-use std::io::Error;
-use std::process::{Command, ExitStatus};
+use std::process::Command;
 use texts::Text;
 
-// the system's numbers for a file that can't be started
-const ENOENT: i32 = 2;
-
-const ENOEXEC: i32 = 8;
-
-const EACCES: i32 = 13;
-
-const ENOTDIR: i32 = 20;
-
-const ETXTBSY: i32 = 26;
-
-const ELOOP: i32 = 40;
-
-/// Whether the script is one that can't be started, or is missing.
-pub(crate) fn is_start_error(error: &Error) -> bool
-    ensures { result ≡ is_start_error (raw_os_error error.now) }
+// The path of the same for a child whose working directory is the root.
+fn place_inside(root: &Root, path: &RootPath) -> Result<String, AllocError>
+    ensures { IfOk result (λ s. string_bytes s ≡ place_in (string_bytes root.now.directory) (string_bytes root.now.front) path.now) }
 {
-    matches!(
-        error.raw_os_error(),
-        Some(ENOENT | ENOEXEC | EACCES | ENOTDIR | ETXTBSY | ELOOP)
-    )
+    if root.directory.starts_with("/") {
+        return root.place(path);
+    }
+    let mut place = String::from_str(*root.front.allocator(), ".")?;
+    place.push_str(path.as_str())?;
+    Ok(place)
 }
 
-/// How a script ended that was started.
-pub(crate) fn outcome_of(status: &ExitStatus) -> Outcome
-    ensures { result ≡ outcome_of (exit_code status.now) }
+// The directory of the administration.
+fn administration(root: &Root) -> Result<String, AllocError>
+    ensures { IfOk result (λ s. string_bytes s ≡ string_bytes root.now.front ++ codes "/var/lib/dpkg") }
 {
-    match status.code() {
-        Some(code) => Outcome::Exit(code),
-        None => Outcome::Killed,
-    }
+    let mut place = root.front.clone()?;
+    place.push_str("/var/lib/dpkg")?;
+    Ok(place)
 }
 
 fn add_arguments(args: &[Text], command: &mut Command) -> Result<(), AllocError>
@@ -77,10 +63,24 @@ fn set_variables(root: &Root, call: &Call, command: &mut Command) -> Result<(), 
     set_variable(command, "PATH", "/usr/sbin:/usr/bin:/sbin:/bin")?;
     set_variable(command, "DPKG_MAINTSCRIPT_NAME", call.script.name())?;
     set_variable(command, "DPKG_MAINTSCRIPT_PACKAGE", call.package.as_str())?;
-    let administration = root.administration()?;
+    let administration = administration(root)?;
     set_variable(command, "DPKG_ADMINDIR", administration.as_str())?;
-    set_variable(command, "DPKG_ROOT", root.directory())?;
+    set_variable(command, "DPKG_ROOT", root.directory.as_str())?;
     Ok(())
+}
+
+// What the command of a call tells beside its program.
+fn fill(root: &Root, call: &Call, command: &mut Command) -> Result<(), AllocError>
+    requires { (k : List ℕ) → command_var command.old k ≡ None }
+    ensures program { OnOk result (command_program command.new ≡ command_program command.old) }
+    ensures args { OnOk result (command_args command.new ≡ command_args command.old ++ call.now.args) }
+    ensures dir { OnOk result (command_dir command.new ≡ Some (string_bytes root.now.directory)) }
+    ensures inherits { OnOk result (clears_env command.new ≡ clears_env command.old) }
+    ensures variables { OnOk result ((k : List ℕ) → command_var command.new k ≡ variable_of (string_bytes root.now.directory) (string_bytes root.now.front) call.now k) }
+{
+    add_arguments(call.args.as_slice(), command)?;
+    command.current_dir(root.directory.as_str())?;
+    set_variables(root, call, command)
 }
 
 /// The command of a call, with the root as its working directory. All memory of the start is taken here.
@@ -91,9 +91,7 @@ pub(crate) fn command_of(alloc: Global, root: &Root, call: &Call) -> Result<Comm
     ensures inherits { IfOk result (λ c. clears_env c ≡ false) }
     ensures variables { IfOk result (λ c. (k : List ℕ) → command_var c k ≡ variable_of (string_bytes root.now.directory) (string_bytes root.now.front) call.now k) }
 {
-    let mut command = Command::new(alloc, root.place_inside(&call.at)?)?;
-    add_arguments(call.args.as_slice(), &mut command)?;
-    command.current_dir(root.directory())?;
-    set_variables(root, call, &mut command)?;
+    let mut command = Command::new(alloc, place_inside(root, &call.at)?)?;
+    fill(root, call, &mut command)?;
     Ok(command)
 }

@@ -1,17 +1,20 @@
 // The host over a real directory.
-ghost use Rattle.std.specs.Prelude.{◌≡◌, OnOk};
-ghost use Rattle.host_files.specs.Entries.{permissions_of};
+ghost use Rattle.std.specs.Prelude.{◌≡◌, IfErr, OnOk};
+ghost use Rattle.std.specs.IoError.{raw_os_error};
+ghost use Rattle.std.specs.Process.{exit_code};
+ghost use Rattle.host_files.specs.Commands.{outcome_of, is_start_error};
+ghost use Rattle.host_files.specs.Entries.{permissions_of, IsAbsence};
+ghost use Rattle.host_files.specs.Faults.{IsFaultOf};
 
-use crate::command::{command_of, is_start_error, outcome_of};
-use crate::disk::{is_file, mode_of, stat};
-use crate::fault::fault_of;
+use crate::command::command_of;
+use crate::disk::{mode_of, stat};
 use crate::looking::{listing_at, node_at};
 use crate::root::Root;
 use host_core::{Call, Host, HostFault, Keep, Listing, Node, Outcome, RootPath};
 use std::fs::{DirBuilder, Metadata, OpenFile, OpenOptions, Permissions};
 use std::io::{Error, ErrorKind, Write};
 use std::os::unix::fs::{DirBuilderExt, OpenOptionsExt, PermissionsExt};
-use std::process::{Command, Stdio};
+use std::process::{Command, ExitStatus, Stdio};
 use std::{fs, io};
 
 /// A call that was made, and how it ended.
@@ -33,6 +36,31 @@ pub struct FilesHost {
 // the longest directory that leaves room for every path below it
 const MAX_DIRECTORY: usize = 3000;
 
+// the system's numbers for a file that can't be started
+const ENOENT: i32 = 2;
+
+const ENOEXEC: i32 = 8;
+
+const EACCES: i32 = 13;
+
+const ENOTDIR: i32 = 20;
+
+const ETXTBSY: i32 = 26;
+
+const ELOOP: i32 = 40;
+
+// Want of this process's own memory has no number of the system's; the system's own is a fault of
+// the device.
+fn fault_of(error: &Error) -> HostFault
+    ensures { IsFaultOf error.now result }
+{
+    if error.kind() == ErrorKind::OutOfMemory && error.raw_os_error().is_none() {
+        HostFault::NoMemory
+    } else {
+        HostFault::Device
+    }
+}
+
 // Links may lead to the directory.
 fn check_directory(rt: &HostRuntime, directory: &str) -> io::Result<()> {
     if fs::metadata(rt, directory)?.is_dir() {
@@ -53,6 +81,16 @@ fn check_mode(found: &Metadata, mode: u16) -> io::Result<()>
     }
 }
 
+// Whether a file stands at the place.
+fn is_file(rt: &HostRuntime, place: &str) -> io::Result<bool>
+    ensures { IfErr result (λ error. IsAbsence error → ⊥) }
+{
+    match stat(rt, place)? {
+        Some(found) => Ok(found.is_file()),
+        None => Ok(false),
+    }
+}
+
 // The mode is set last: the umask narrows it at first, and a write takes bits away.
 fn write_bytes(rt: &HostRuntime, place: &str, bytes: &[u8], mode: u16) -> io::Result<()> {
     let mut file = OpenOptions::new()
@@ -65,15 +103,23 @@ fn write_bytes(rt: &HostRuntime, place: &str, bytes: &[u8], mode: u16) -> io::Re
     check_mode(&file.metadata()?, mode)
 }
 
-// The empty input is opened here: that it is missing would read as a missing script.
-fn wait_for(rt: &HostRuntime, command: &mut Command) -> io::Result<Outcome> {
-    command.stdin(Stdio::from(fs::open(rt, "/dev/null")?));
-    command.stdout(Stdio::inherit());
-    command.stderr(Stdio::inherit());
-    match command.spawn(rt) {
-        Ok(mut child) => Ok(outcome_of(&child.wait()?)),
-        Err(error) if is_start_error(&error) => Ok(Outcome::NotStarted),
-        Err(error) => Err(error),
+// Whether the script is one that can't be started, or is missing.
+fn is_start_error(error: &Error) -> bool
+    ensures { result ≡ is_start_error (raw_os_error error.now) }
+{
+    matches!(
+        error.raw_os_error(),
+        Some(ENOENT | ENOEXEC | EACCES | ENOTDIR | ETXTBSY | ELOOP)
+    )
+}
+
+// How a script ended that was started.
+fn outcome_of(status: &ExitStatus) -> Outcome
+    ensures { result ≡ outcome_of (exit_code status.now) }
+{
+    match status.code() {
+        Some(code) => Outcome::Exit(code),
+        None => Outcome::Killed,
     }
 }
 
@@ -231,11 +277,17 @@ impl FilesHost {
         fs::remove_dir(&self.rt, place.as_str())
     }
 
-    // Whether a file stands at the path, and the directory can be worked in: a start that fails for want
-    // of the directory would read as one for want of the script.
-    fn can_start(&self, at: &RootPath) -> io::Result<bool> {
+    // The directory can be worked in: a start that fails for want of it would read as one for want of the
+    // script.
+    fn check_working_directory(&self) -> io::Result<()> {
         let directory = RootPath::from_str(self.rt.alloc(), "/.")?;
         fs::metadata(&self.rt, self.root.place(&directory)?)?;
+        Ok(())
+    }
+
+    // Whether a file stands at the path, and the directory can be worked in.
+    fn can_start(&self, at: &RootPath) -> io::Result<bool> {
+        self.check_working_directory()?;
         if !self.root.reaches(&self.rt, at)? {
             return Ok(false);
         }
@@ -243,13 +295,26 @@ impl FilesHost {
         is_file(&self.rt, place.as_str())
     }
 
+    // Starts the command of the script at the path and waits for its end. The empty input is opened here:
+    // that it is missing would read as a missing script.
+    fn wait_for(&self, at: &RootPath, command: &mut Command) -> io::Result<Outcome> {
+        if !self.can_start(at)? {
+            return Ok(Outcome::NotStarted);
+        }
+        command.stdin(Stdio::from(fs::open(&self.rt, "/dev/null")?));
+        command.stdout(Stdio::inherit());
+        command.stderr(Stdio::inherit());
+        match command.spawn(&self.rt) {
+            Ok(mut child) => Ok(outcome_of(&child.wait()?)),
+            Err(error) if is_start_error(&error) => Ok(Outcome::NotStarted),
+            Err(error) => Err(error),
+        }
+    }
+
     // Starts the script of a call and waits for its end.
     fn start(&self, call: &Call) -> io::Result<Outcome> {
         let mut command = command_of(self.rt.alloc(), &self.root, call)?;
-        if !self.can_start(&call.at)? {
-            return Ok(Outcome::NotStarted);
-        }
-        wait_for(&self.rt, &mut command)
+        self.wait_for(&call.at, &mut command)
     }
 }
 

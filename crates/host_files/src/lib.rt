@@ -3,7 +3,6 @@
 
 mod command;
 mod disk;
-mod fault;
 mod files_host;
 mod looking;
 mod root;

@@ -1,7 +1,7 @@
 // The root directory, and where the paths under it lie among the system's paths.
-ghost use Rattle.std.specs.Prelude.{◌≡◌, ◌++◌, [], IfErr, IfOk, Ok, string_bytes, codes, true};
+ghost use Rattle.std.specs.Prelude.{◌≡◌, [], IfErr, IfOk, Ok, string_bytes, true};
 ghost use Rattle.host_files.specs.Entries.{IsMissing};
-ghost use Rattle.host_files.specs.Places.{IsFront, place_of, place_in};
+ghost use Rattle.host_files.specs.Places.{IsFront, place_of};
 
 use crate::disk::is_directory;
 use host_core::RootPath;
@@ -10,10 +10,10 @@ use std::io;
 
 #[derive(Drop)]
 pub(crate) struct Root {
-    // as it was given
-    directory: String,
-    // the same without a slash at its end
-    front: String,
+    /// as it was given
+    pub(crate) directory: String,
+    /// the same without a slash at its end
+    pub(crate) front: String,
 }
 
 fn front_of(directory: &str) -> &str
@@ -23,6 +23,24 @@ fn front_of(directory: &str) -> &str
         Some(front) => front,
         None => directory,
     }
+}
+
+// Whether each of the names is that of a directory, the first in the parent and each other in the one
+// before it. They are added to the parent.
+fn are_directories(rt: &HostRuntime, names: &str, parent: &mut String) -> io::Result<bool>
+    ensures { IfErr result (λ error. IsMissing error → ⊥) }
+{
+    for name in names.split('/') {
+        if name.is_empty() {
+            continue;
+        }
+        parent.push('/')?;
+        parent.push_str(name)?;
+        if !is_directory(rt, parent.as_str())? {
+            return Ok(false);
+        }
+    }
+    Ok(true)
 }
 
 impl Root {
@@ -36,12 +54,6 @@ impl Root {
         })
     }
 
-    pub(crate) fn directory(&self) -> &str
-        ensures { result.now ≡ string_bytes self.now.directory }
-    {
-        self.directory.as_str()
-    }
-
     /// The system's path of a path under the root.
     pub(crate) fn place(&self, path: &RootPath) -> Result<String, AllocError>
         ensures { IfOk result (λ s. string_bytes s ≡ place_of (string_bytes self.now.front) path.now) }
@@ -49,27 +61,6 @@ impl Root {
         let mut place = self.front.clone()?;
         let path = path.as_str();
         place.push_str(if path.is_empty() { "/" } else { path })?;
-        Ok(place)
-    }
-
-    /// The path of the same for a child whose working directory is the root.
-    pub(crate) fn place_inside(&self, path: &RootPath) -> Result<String, AllocError>
-        ensures { IfOk result (λ s. string_bytes s ≡ place_in (string_bytes self.now.directory) (string_bytes self.now.front) path.now) }
-    {
-        if self.directory.starts_with("/") {
-            return self.place(path);
-        }
-        let mut place = String::from_str(*self.front.allocator(), ".")?;
-        place.push_str(path.as_str())?;
-        Ok(place)
-    }
-
-    /// The directory of the administration.
-    pub(crate) fn administration(&self) -> Result<String, AllocError>
-        ensures { IfOk result (λ s. string_bytes s ≡ string_bytes self.now.front ++ codes "/var/lib/dpkg") }
-    {
-        let mut place = self.front.clone()?;
-        place.push_str("/var/lib/dpkg")?;
         Ok(place)
     }
 
@@ -82,16 +73,6 @@ impl Root {
             return Ok(true);
         };
         let mut parent = self.front.clone()?;
-        for name in above.split('/') {
-            if name.is_empty() {
-                continue;
-            }
-            parent.push('/')?;
-            parent.push_str(name)?;
-            if !is_directory(rt, parent.as_str())? {
-                return Ok(false);
-            }
-        }
-        Ok(true)
+        are_directories(rt, above, &mut parent)
     }
 }
