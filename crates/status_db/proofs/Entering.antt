@@ -1,5 +1,6 @@
 -- Paragraphs read one after another.
 use Rattle.std.proofs.Common.{◌≡◌, inl, inr, ℕ, zero, suc, ◌+◌, ◌<◌, Bool, true, false, cond, not, ◌||◌, List, [], ◌∷◌, ◌++◌, take, get_or, length, refl, sym, ap, subst, ◌∙◌, arith, add-one, codes}
+use Rattle.std.specs.Prelude.{Result, Ok, Err, IfErr, IsErrAnd}
 use Rattle.std.specs.List.{list_any, AllByRecursion}
 use Rattle.std.specs.Str.{bytes_eq}
 use Rattle.std.proofs.lemmas.Bool.{true≢false, false_from_ne_true}
@@ -14,9 +15,25 @@ use Rattle.status_db.specs.declared.reading.StatusFault.{StatusFault}
 use Rattle.status_db.specs.declared.reading.StatusFault.TheVariants.{Line, NoMemory}
 use Rattle.status_db.specs.Words.{is_not_installed}
 use Rattle.status_db.specs.Records.{IsWithout, AreApart, standing}
-use Rattle.status_db.specs.Paragraphs.{IsEntry, Enters}
+use Rattle.status_db.specs.Paragraphs.{IsReadable, SaysEntry, IsEntry, Enters}
+use Rattle.status_db.specs.Damage.{IsFaultyWhole}
 use Rattle.status_db.specs.Faults.{IsEntryFault, IsTableFault}
 use Rattle.status_db.proofs.Sayings.{says_same}
+
+-- one paragraph
+
+pub none_told : {T : Type 0} (Q : StatusFault → Type 0) → Q NoMemory → (r : Result T StatusFault) → IsErrAnd r (λ e. e ≡ NoMemory) → IfErr r Q
+none_told Q told (Ok x) none = tt
+none_told Q told (Err e) none = subst Q (sym none) told
+
+pub entry_here : (names : List (List ℕ)) (fs : List Field) (name : List ℕ) (kept : List Record) → (IsFaultyWhole names fs → ⊥) → AllByRecursion IsReadable fs → SaysEntry fs name kept → IsEntry names fs name kept
+entry_here names fs name kept sound readable says = record {
+  says = says;
+  new = false_from_ne_true (list_any (bytes_eq name) names) (λ t. sound (inr (name, says.named, t)));
+  readable = readable;
+}
+
+-- one after another
 
 record IsSplit {X : Type 0} (xs : List X) (i : ℕ) (x : X) : Type 0 where
   rest : List X

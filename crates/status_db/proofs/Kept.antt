@@ -125,6 +125,10 @@ written_new name status version fields paragraph left next ys x f writable e wal
     let are = subst (AreFields (first_fields name status version)) (walked ∙ ap (λ (r : List Field). map (λ b. b.now) ys ++ r) l) (known.written status version) in
     ap (stands f.name) e ∙ ap (λ (g : Field). stands g.name (first_fields name status version ++ map (λ b. b.now) ys)) same ∙ new_among (first_fields name status version) (map (λ b. b.now) ys) x.now next are)
 
+pub written_more : (firsts paragraph next : List Field) (ys : List (Bor Field)) (x : Bor Field) (f : Field) → paragraph ≡ firsts ++ map (λ b. b.now) ys → next ≡ paragraph ++ f ∷ [] → f ≡ x.now → next ≡ firsts ++ map (λ b. b.now) (ys ++ x ∷ [])
+written_more firsts paragraph next ys x f e n same =
+    n ∙ ap (λ (l : List Field). l ++ f ∷ []) e ∙ ap (λ (g : Field). (firsts ++ map (λ b. b.now) ys) ++ g ∷ []) same ∙ append_assoc firsts (map (λ b. b.now) ys) (x.now ∷ []) ∙ ap (λ (l : List Field). firsts ++ l) (sym (map-append (λ (b : Bor Field). b.now) ys (x ∷ [])))
+
 pub writable_others : (name other : List ℕ) (fields paragraph : List Field) → name ≡ other → is_package_name other ≡ true → fields ≡ other_fields paragraph → ∥ AreFields [] paragraph ∥₁ → ∥ IsWritable name fields ∥₁
 writable_others name other fields paragraph is named left are = ∥∥₁_map are (λ known. record {
   named = ap is_package_name is ∙ named;

@@ -7,9 +7,11 @@ use Rattle.std.proofs.lemmas.Cmp.{nat_eq_equiv}
 use Rattle.std.proofs.lemmas.Map.Views.{list_any-from_Contains}
 use Rattle.host_core.specs.Paths.{Path}
 use Rattle.host_core.specs.World.{World, IsDirectory, IsFile, HasParent}
-use Rattle.host_core.specs.Host.{State, Since}
-use Rattle.host_core.specs.Moments.{since_weaker}
+use Rattle.std.specs.Prelude.{IsErrAnd}
+use Rattle.host_core.specs.Host.{State, HasCause, Silent, Since}
+use Rattle.host_core.specs.Moments.{since_start, since_weaker}
 use Rattle.host_core.specs.declared.fault.HostFault.{HostFault}
+use Rattle.host_core.specs.declared.fault.HostFault.TheVariants.{Device, NoMemory}
 use Rattle.host_core.specs.declared.node.Node.{Node}
 use Rattle.host_core.specs.declared.node.Node.TheVariants.{File}
 use Rattle.administration.specs.Places.{home_path, status_path, temporary}
@@ -91,3 +93,27 @@ noted_by rs node path old new (Err f) e holds ready is = tt
 pub noting_by : (rs : List Record) (node : Node) (path : Path) (a b : State) → path ≡ status_path → Holds node rs → IsStatusReady a.world → Since (IsReplacing path node a.world) a b → Since (IsNoting rs a.world) a b
 noting_by rs node path a b e holds ready since =
     since_weaker (IsReplacing path node a.world) (IsNoting rs a.world) a b (λ w is. noting_file rs node a.world w holds ready (subst (λ p. IsReplacing p node a.world w) e is)) since
+
+-- without memory for it nothing is done
+
+pub none_noted : {T : Type 0} (P : Type 0) (r : Result T HostFault) → IsErrAnd r (λ e. e ≡ NoMemory) → OnOk r P
+none_noted P (Ok x) none = absurd none
+none_noted P (Err e) none = tt
+
+abbrev IsMild : {T : Type 0} → Result T HostFault → Type 0
+IsMild (Ok x) = Unit {0}
+IsMild (Err Device) = ⊥
+IsMild (Err NoMemory) = Unit {0}
+
+mild : (T : Type 0) (r : Result T HostFault) → IsErrAnd r (λ e. e ≡ NoMemory) → IsMild r
+mild T (Ok x) none = tt
+mild T (Err e) none = subst (λ (f : HostFault). IsMild {T = T} (Err f)) (sym none) tt
+
+pub none_cause : {T : Type 0} (a : State) (r : Result T HostFault) → IsErrAnd r (λ e. e ≡ NoMemory) → HasCause a a r
+none_cause a r none told = absurd (subst IsMild told (mild _ r none))
+
+pub none_silent : (a : State) → Silent a a
+none_silent a = record { honest = refl; calls = refl; faults = omega arith }
+
+pub none_noting : (rs : List Record) (a : State) → IsStatusReady a.world → Since (IsNoting rs a.world) a a
+none_noting rs a ready = since_start (IsNoting rs a.world) a (noting_start rs a.world ready)

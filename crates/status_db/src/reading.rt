@@ -422,19 +422,16 @@ fn entry_of(alloc: Global, names: &Texts, located: &Located) -> Result<Entry, St
     ensures entry { IfOk result (λ e. IsEntry names.now located.now.paragraph e.name (option_to_list e.kept)) }
     ensures fault { IfErr result (IsEntryFault names.now located.now) }
 {
+    if is_faulty_whole(names, &located.paragraph) {
+        return Err(StatusFault::Line(located.line));
+    }
     if let Some(line) = first_bad(alloc, located)? {
-        if is_faulty_whole(names, &located.paragraph) {
-            return Err(StatusFault::Line(located.line));
-        }
         return Err(StatusFault::Line(line));
     }
-    let Some(entry) = read_entry(alloc, &located.paragraph)? else {
-        return Err(StatusFault::Line(located.line));
-    };
-    if stands_in(names, entry.name.as_str().as_bytes()) {
-        return Err(StatusFault::Line(located.line));
+    match read_entry(alloc, &located.paragraph)? {
+        Some(entry) => Ok(entry),
+        None => Err(StatusFault::Line(located.line)),
     }
-    Ok(entry)
 }
 
 // The names and records of the paragraphs so far.
@@ -448,11 +445,11 @@ fn enter(table: &mut Table, entry: Entry) -> Result<(), AllocError>
     ensures names { OnOk result (table.new.names ≡ table.old.names ++ entry.name ∷ []) }
     ensures records { OnOk result (table.new.records.items ≡ table.old.records.items ++ option_to_list entry.kept) }
 {
-    table.names.push(entry.name)?;
-    if let Some(kept) = entry.kept {
+    let Entry { name, kept } = entry;
+    if let Some(kept) = kept {
         table.records.push(kept)?;
     }
-    Ok(())
+    table.names.push(name)
 }
 
 fn read_entries(alloc: Global, paragraphs: &[Located]) -> Result<Table, StatusFault>
