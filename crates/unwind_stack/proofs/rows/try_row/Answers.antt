@@ -1,7 +1,7 @@
 use Rattle.std.proofs.Common.{IsTrue, true, false, sym, subst, ◌∙◌}
 use Rattle.host_core.specs.Scripts.{since_kept}
 use Rattle.unwind_stack.specs.Transcript.{Tries}
-use Rattle.unwind_stack.proofs.Makes.{makes_none, makes_weaker, makes_then}
+use Rattle.unwind_stack.proofs.Makes.{makes_none, makes_weaker, makes_then, tells_then}
 use Rattle.unwind_stack.proofs.OneRow.{tries_done, tries_failed, tries_fallback}
 use Rattle.unwind_stack.proofs.rows.try_row.Goals as goal
 
@@ -29,3 +29,9 @@ returns-clause-calls g c =
 
 pub returns-clause-any_moment : goal.returns-clause-any_moment
 returns-clause-any_moment g c = λ h. since_kept _ _ _ _ (c.call_script.ensures.any_moment h) (c.call_script-2.ensures.any_moment (subst IsTrue (sym c.call_script.ensures.honest) h))
+
+pub returns-in_err-outcome-2-clause-told : goal.returns-in_err-outcome-2-clause-told
+returns-in_err-outcome-2-clause-told g c = tells_then (g.H.Host.state c.args.host.now) (g.H.Host.state c.call_script.new.host) (g.H.Host.state c.call_script-2.new.host) _ _ _ c.call_script.ensures.told c.call_script-2.ensures.told
+
+pub returns-clause-told : goal.returns-clause-told
+returns-clause-told g c = tells_then (g.H.Host.state c.args.host.now) (g.H.Host.state c.call_script.new.host) (g.H.Host.state c.call_script-2.new.host) _ _ _ c.call_script.ensures.told c.call_script-2.ensures.told
