@@ -8,14 +8,16 @@ mod version_rows;
 
 use command_line::{Hosts, run_words};
 use control_fields::{Paragraph, read_one, read_paragraphs, write_paragraph};
-use relation_fields::{Form, Provided, Provides, Relations};
+use relation_fields::{Clause, Form, Provided, Provides, Relations};
 use std::alloc::{AllocError, Global};
 use std::process::Abort;
 use std::str;
+use std::test::Fail;
 
 // Stops the test where the answer isn't the row's.
-fn expect(rt: &impl Abort, answer: &str, row: &str) {
-    assert_eq!(rt; answer, row);
+fn expect(rt: &impl Abort, answer: Result<String, AllocError>, row: &str) -> Result<(), Fail> {
+    assert_eq!(rt; answer?.as_str(), row);
+    Ok(())
 }
 
 // What stands in bytes that are to be text.
@@ -44,15 +46,23 @@ fn answer<S: Hosts>(alloc: Global, hosts: &mut S, line: &str) -> Result<String, 
     format!(in alloc; "{out}|{err}|{status}\n")
 }
 
-// The paragraphs as they are written, each behind a line of its own.
+// Adds a paragraph as it is written, behind a line of its own.
+fn push_paragraph(
+    alloc: Global,
+    text: &mut String,
+    paragraph: &Paragraph,
+) -> Result<(), AllocError> {
+    text.push_str("paragraph\n")?;
+    match write_paragraph(alloc, paragraph) {
+        Ok(bytes) => text.push_str(text_of(bytes.as_slice())),
+        Err(fault) => text.push_str(format!(in alloc; "{fault:?}")?.as_str()),
+    }
+}
+
 fn written(alloc: Global, paragraphs: &[Paragraph]) -> Result<String, AllocError> {
     let mut text = String::new(alloc);
     for paragraph in paragraphs {
-        text.push_str("paragraph\n")?;
-        match write_paragraph(alloc, paragraph) {
-            Ok(bytes) => text.push_str(text_of(bytes.as_slice()))?,
-            Err(fault) => text.push_str(format!(in alloc; "{fault:?}")?.as_str())?,
-        }
+        push_paragraph(alloc, &mut text, paragraph)?;
     }
     Ok(text)
 }
@@ -65,28 +75,40 @@ fn read_control(alloc: Global, bytes: &[u8]) -> Result<String, AllocError> {
     }
 }
 
-fn package_in(paragraph: &Paragraph) -> &str {
-    match paragraph.get(b"package") {
-        Some(field) => text_of(field.first.as_slice()),
-        None => "no package",
+// The package in a copy.
+fn package_in(alloc: Global, paragraph: &Paragraph) -> Result<String, AllocError> {
+    match paragraph.copy()?.get(b"package") {
+        Some(field) => String::from_str(alloc, text_of(field.first.as_slice())),
+        None => String::from_str(alloc, "no package"),
     }
 }
 
 // What a text that is to be one paragraph says of its package.
 fn package_of(alloc: Global, bytes: &[u8]) -> Result<String, AllocError> {
     match read_one(alloc, bytes) {
-        Ok(paragraph) => String::from_str(alloc, package_in(&paragraph.copy()?)),
+        Ok(paragraph) => package_in(alloc, &paragraph),
         Err(fault) => format!(in alloc; "{fault:?}"),
     }
+}
+
+// Adds a copy of a clause as it is printed.
+fn push_clause(text: &mut String, clause: &Clause) -> Result<(), AllocError> {
+    let printed = clause.copy()?.printed()?;
+    text.push_str(printed.as_str())?;
+    text.push('\n')
+}
+
+fn push_clauses(text: &mut String, clauses: &[Clause]) -> Result<(), AllocError> {
+    for clause in clauses {
+        push_clause(text, clause)?;
+    }
+    Ok(())
 }
 
 // The clauses of a copy, a line for each.
 fn printed(alloc: Global, relations: &Relations) -> Result<String, AllocError> {
     let mut text = String::new(alloc);
-    for clause in relations.copy()?.clauses() {
-        text.push_str(clause.copy()?.printed()?.as_str())?;
-        text.push_str("\n")?;
-    }
+    push_clauses(&mut text, relations.copy()?.clauses())?;
     Ok(text)
 }
 
@@ -98,21 +120,28 @@ fn read_field(alloc: Global, field: &str, form: Form) -> Result<String, AllocErr
     }
 }
 
+// Adds a copy of an entry: its name, and behind a space its version.
 fn push_entry(text: &mut String, entry: &Provided) -> Result<(), AllocError> {
+    let entry = entry.copy()?;
     text.push_str(entry.name.as_str())?;
     if let Some(version) = &entry.version {
-        text.push_str(" ")?;
+        text.push(' ')?;
         text.push_str(version.text())?;
     }
-    text.push_str("\n")
+    text.push('\n')
+}
+
+fn push_entries(text: &mut String, entries: &[Provided]) -> Result<(), AllocError> {
+    for entry in entries {
+        push_entry(text, entry)?;
+    }
+    Ok(())
 }
 
 // The entries of a copy, a line for each.
 fn entries(alloc: Global, provides: &Provides) -> Result<String, AllocError> {
     let mut text = String::new(alloc);
-    for entry in provides.copy()?.entries() {
-        push_entry(&mut text, &entry.copy()?)?;
-    }
+    push_entries(&mut text, provides.copy()?.entries())?;
     Ok(text)
 }
 

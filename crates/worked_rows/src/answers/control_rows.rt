@@ -26,7 +26,7 @@ pub(crate) const ONE_PARAGRAPH_ROWS: &[(&[u8], &str)] = &[
 #[test]
 fn texts_are_read(rt: HostRuntime) -> Result<(), Fail> {
     for (bytes, row) in ROWS {
-        expect(&rt, read_control(rt.alloc(), bytes)?.as_str(), row);
+        expect(&rt, read_control(rt.alloc(), bytes), row)?;
     }
     Ok(())
 }
@@ -34,7 +34,7 @@ fn texts_are_read(rt: HostRuntime) -> Result<(), Fail> {
 #[test]
 fn one_paragraph_is_read(rt: HostRuntime) -> Result<(), Fail> {
     for (bytes, row) in ONE_PARAGRAPH_ROWS {
-        expect(&rt, package_of(rt.alloc(), bytes)?.as_str(), row);
+        expect(&rt, package_of(rt.alloc(), bytes), row)?;
     }
     Ok(())
 }

@@ -163,6 +163,14 @@ impl MemoryHosts {
             None => text.push_str(answer(self.alloc, self, line)?.as_str()),
         }
     }
+
+    // Adds the answers to lines of words, and what is left.
+    fn steps(&mut self, lines: &[&str], text: &mut String) -> Result<(), AllocError> {
+        for line in lines {
+            self.step(line, text)?;
+        }
+        text.push_str(self.left()?.as_str())
+    }
 }
 
 // The answers to lines of words, and what is left.
@@ -172,12 +180,8 @@ fn told(
     outcomes: &[Outcome],
     lines: &[&str],
 ) -> Result<String, AllocError> {
-    let mut hosts = hosts(alloc, trees, outcomes)?;
     let mut text = String::new(alloc);
-    for line in lines {
-        hosts.step(line, &mut text)?;
-    }
-    text.push_str(hosts.left()?.as_str())?;
+    hosts(alloc, trees, outcomes)?.steps(lines, &mut text)?;
     Ok(text)
 }
 
@@ -189,8 +193,7 @@ fn check(
     lines: &[&str],
     row: &str,
 ) -> Result<(), Fail> {
-    expect(rt, told(rt.alloc(), trees, outcomes, lines)?.as_str(), row);
-    Ok(())
+    expect(rt, told(rt.alloc(), trees, outcomes, lines), row)
 }
 
 // The answer over an empty root.
@@ -201,6 +204,13 @@ fn worded(alloc: Global, line: &str) -> Result<String, AllocError> {
 // Nothing on standard output, the usage on standard error, and status 2.
 fn is_usage(text: &str) -> bool {
     text.starts_with("|error: ") && text.contains("Usage: dpkg_cli") && text.ends_with("\n|2\n")
+}
+
+// Stops the test where a line of words isn't answered as a fault of usage.
+fn check_usage(rt: &(impl Abort + AllocGlobal), line: &str) -> Result<(), Fail> {
+    let answer = worded(rt.alloc(), line)?;
+    assert!(rt; is_usage(answer.as_str()), "{line}");
+    Ok(())
 }
 
 impl Hosts for MemoryHosts {

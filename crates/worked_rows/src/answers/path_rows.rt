@@ -38,7 +38,7 @@ fn ship_path_of(alloc: Global, text: &str) -> Result<String, AllocError> {
 #[test]
 fn root_paths_are_parsed(rt: HostRuntime) -> Result<(), Fail> {
     for (text, row) in ROOT_ROWS {
-        expect(&rt, root_path_of(rt.alloc(), text)?.as_str(), row);
+        expect(&rt, root_path_of(rt.alloc(), text), row)?;
     }
     Ok(())
 }
@@ -46,7 +46,7 @@ fn root_paths_are_parsed(rt: HostRuntime) -> Result<(), Fail> {
 #[test]
 fn ship_paths_are_parsed(rt: HostRuntime) -> Result<(), Fail> {
     for (text, row) in SHIP_ROWS {
-        expect(&rt, ship_path_of(rt.alloc(), text)?.as_str(), row);
+        expect(&rt, ship_path_of(rt.alloc(), text), row)?;
     }
     Ok(())
 }

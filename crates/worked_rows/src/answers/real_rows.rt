@@ -1,10 +1,11 @@
 // Unpacks on real files, with real scripts.
 ghost use Rattle.std.specs.Prelude.{⊤};
 
-use super::{answer, expect};
+use super::answer;
 use command_line::Hosts;
 use host_core::HostFault;
 use host_files::FilesHost;
+use std::alloc::AllocError;
 use std::process::Command;
 use std::test::Fail;
 use std::{env, fs, process};
@@ -81,39 +82,53 @@ fn new_directory(rt: &HostRuntime) -> Result<String, Fail> {
 // Runs lines of shell, which have the path of the directory as their first argument.
 fn prepare(rt: &HostRuntime, directory: &str, lines: &str) -> Result<(), Fail> {
     let mut command = Command::new(rt.alloc(), "/bin/sh")?;
-    for word in ["-euc", lines, "sh", directory] {
-        command.arg(word)?;
-    }
-    let status = command.status(rt)?;
-    if status.success() {
-        Ok(())
-    } else {
-        Err(Fail::new("the directory can't be prepared"))
+    command.args(["-euc", lines, "sh", directory])?;
+    match command.status(rt)?.success() {
+        true => Ok(()),
+        false => Err(Fail::new("the directory can't be prepared")),
     }
 }
 
 // Adds the answer to the unpack of a tree under the root, and how many calls and faults the host counts.
-fn unpack(rt: &HostRuntime, directory: &str, tree: &str, text: &mut String) -> Result<(), Fail> {
+fn unpack(
+    rt: &HostRuntime,
+    directory: &str,
+    tree: &str,
+    text: &mut String,
+) -> Result<(), AllocError> {
     let alloc = rt.alloc();
-    let line = format!(in alloc; "dpkg_cli unpack --root {directory}/root {directory}/{tree}")?;
     let mut hosts = RealHosts::new(*rt);
-    let told = answer(alloc, &mut hosts, line.as_str())?;
+    let line = format!(in alloc; "dpkg_cli unpack --root {directory}/root {directory}/{tree}")?;
+    text.push_str(answer(alloc, &mut hosts, line.as_str())?.as_str())?;
     let calls = hosts.calls;
     let broken = hosts.broken;
-    text.push_str(format!(in alloc; "{told}calls {calls} faults {broken}\n")?.as_str())?;
+    text.push_str(format!(in alloc; "calls {calls} faults {broken}\n")?.as_str())
+}
+
+// Runs lines and unpacks the first tree, then runs further lines and unpacks the second.
+fn run_in(
+    rt: &HostRuntime,
+    directory: &str,
+    steps: &[(&str, &str)],
+    text: &mut String,
+) -> Result<(), Fail> {
+    for (lines, tree) in steps {
+        prepare(rt, directory, lines)?;
+        unpack(rt, directory, tree, text)?;
+    }
     Ok(())
 }
 
-// Unpacks the first tree, runs further lines, and unpacks the second.
-fn told(rt: &HostRuntime, lines: &[&str], trees: &[&str]) -> Result<String, Fail> {
-    let directory = new_directory(rt)?;
+// What is answered, where it isn't the row, is how the test fails.
+fn check(rt: &HostRuntime, steps: &[(&str, &str)], row: &str) -> Result<(), Fail> {
     let mut text = String::new(rt.alloc());
-    for (lines, tree) in lines.iter().zip(trees) {
-        prepare(rt, directory.as_str(), lines)?;
-        unpack(rt, directory.as_str(), tree, &mut text)?;
-    }
+    let directory = new_directory(rt)?;
+    run_in(rt, directory.as_str(), steps, &mut text)?;
     fs::remove_dir_all(rt, directory.as_str())?;
-    Ok(text)
+    match text.as_str() == row {
+        true => Ok(()),
+        false => Err(Fail::new(text)),
+    }
 }
 
 const PREINST_WITHOUT_BITS: &str = "cd \"$1\"
@@ -130,12 +145,7 @@ failed alpha preinst install
 ||1
 calls 1 faults 0
 ";
-    expect(
-        &rt,
-        told(&rt, &[PREINST_WITHOUT_BITS], &["t"])?.as_str(),
-        row,
-    );
-    Ok(())
+    check(&rt, &[(PREINST_WITHOUT_BITS, "t")], row)
 }
 
 const PREINST_KILLS_ITSELF: &str = "cd \"$1\"
@@ -152,12 +162,7 @@ failed alpha preinst install
 ||1
 calls 1 faults 0
 ";
-    expect(
-        &rt,
-        told(&rt, &[PREINST_KILLS_ITSELF], &["t"])?.as_str(),
-        row,
-    );
-    Ok(())
+    check(&rt, &[(PREINST_KILLS_ITSELF, "t")], row)
 }
 
 // The script ends with another status where it sees something wrong.
@@ -187,8 +192,7 @@ done
 ||0
 calls 1 faults 0
 ";
-    expect(&rt, told(&rt, &[PREINST_LOOKS], &["t"])?.as_str(), row);
-    Ok(())
+    check(&rt, &[(PREINST_LOOKS, "t")], row)
 }
 
 // Nobody makes a directory in /proc, root neither.
@@ -210,9 +214,11 @@ done
 ||0
 calls 1 faults 0
 ";
-    let lines = [ROOT_IN_PROC, "rm \"$1/root\"\nmkdir \"$1/root\""];
-    expect(&rt, told(&rt, &lines, &["t", "t"])?.as_str(), row);
-    Ok(())
+    let steps = [
+        (ROOT_IN_PROC, "t"),
+        ("rm \"$1/root\"\nmkdir \"$1/root\"", "t"),
+    ];
+    check(&rt, &steps, row)
 }
 
 // The preinst takes the directory of stored scripts away, so that none can be stored.
@@ -234,10 +240,9 @@ done
 ||0
 calls 0 faults 0
 ";
-    let lines = [
-        INFO_GOES_AWAY,
-        "mv \"$1/root/away\" \"$1/root/var/lib/dpkg/info\"",
+    let steps = [
+        (INFO_GOES_AWAY, "t"),
+        ("mv \"$1/root/away\" \"$1/root/var/lib/dpkg/info\"", "b"),
     ];
-    expect(&rt, told(&rt, &lines, &["t", "b"])?.as_str(), row);
-    Ok(())
+    check(&rt, &steps, row)
 }

@@ -2,6 +2,7 @@
 use super::{expect, read_field, read_provides};
 use relation_fields::{Form, Offer, Provides, Relations};
 use std::alloc::{AllocError, Global};
+use std::process::Abort;
 use std::test::Fail;
 use version_order::Version;
 
@@ -44,11 +45,41 @@ fn admitted(alloc: Global, relations: &Relations, offer: &Offer) -> Result<Strin
     Ok(text)
 }
 
+// Whether each clause of the field admits alpha of this version, which provides these.
+fn admissions(
+    alloc: Global,
+    field: &str,
+    version: &Version,
+    provides: &Provides,
+) -> Result<String, Fail> {
+    let relations = Relations::read(alloc, field.as_bytes(), Form::Alternatives)?;
+    let offer = Offer {
+        name: "alpha",
+        version,
+        provides,
+    };
+    Ok(admitted(alloc, &relations, &offer)?)
+}
+
+fn check_admissions(
+    rt: &(impl Abort + AllocGlobal),
+    field: &str,
+    provides: &str,
+    row: &str,
+) -> Result<(), Fail> {
+    let alloc = rt.alloc();
+    let version = Version::parse(alloc, b"1.5")?;
+    let provides = Provides::read(alloc, provides.as_bytes())?;
+    let answer = admissions(alloc, field, &version, &provides)?;
+    assert_eq!(rt; answer.as_str(), row);
+    Ok(())
+}
+
 #[test]
 fn fields_with_alternatives_are_read(rt: HostRuntime) -> Result<(), Fail> {
     for (field, row) in FIELD_ROWS {
-        let answer = read_field(rt.alloc(), field, Form::Alternatives)?;
-        expect(&rt, answer.as_str(), row);
+        let answer = read_field(rt.alloc(), field, Form::Alternatives);
+        expect(&rt, answer, row)?;
     }
     Ok(())
 }
@@ -56,8 +87,8 @@ fn fields_with_alternatives_are_read(rt: HostRuntime) -> Result<(), Fail> {
 #[test]
 fn plain_fields_are_read(rt: HostRuntime) -> Result<(), Fail> {
     for (field, row) in PLAIN_ROWS {
-        let answer = read_field(rt.alloc(), field, Form::Plain)?;
-        expect(&rt, answer.as_str(), row);
+        let answer = read_field(rt.alloc(), field, Form::Plain);
+        expect(&rt, answer, row)?;
     }
     Ok(())
 }
@@ -65,23 +96,15 @@ fn plain_fields_are_read(rt: HostRuntime) -> Result<(), Fail> {
 #[test]
 fn provides_is_read(rt: HostRuntime) -> Result<(), Fail> {
     for (field, row) in PROVIDES_ROWS {
-        expect(&rt, read_provides(rt.alloc(), field)?.as_str(), row);
+        expect(&rt, read_provides(rt.alloc(), field), row)?;
     }
     Ok(())
 }
 
 #[test]
 fn clauses_admit_packages(rt: HostRuntime) -> Result<(), Fail> {
-    let version = Version::parse(rt.alloc(), b"1.5")?;
     for (field, provides, row) in ADMISSION_ROWS {
-        let relations = Relations::read(rt.alloc(), field.as_bytes(), Form::Alternatives)?;
-        let provides = Provides::read(rt.alloc(), provides.as_bytes())?;
-        let offer = Offer {
-            name: "alpha",
-            version: &version,
-            provides: &provides,
-        };
-        expect(&rt, admitted(rt.alloc(), &relations, &offer)?.as_str(), row);
+        check_admissions(&rt, field, provides, row)?;
     }
     Ok(())
 }

@@ -25,7 +25,7 @@ fn parsed(alloc: Global, text: &str) -> Result<String, AllocError> {
 #[test]
 fn texts_are_read(rt: HostRuntime) -> Result<(), Fail> {
     for (text, row) in ROWS {
-        expect(&rt, parsed(rt.alloc(), text)?.as_str(), row);
+        expect(&rt, parsed(rt.alloc(), text), row)?;
     }
     Ok(())
 }

@@ -2,7 +2,7 @@
 // the row only a want of memory may come. Where the test's own memory is refused, there is no answer.
 use super::unpack_rows::{DAMAGING, REFUSALS, TREES, WITH_POSTRM, WITH_PREINST};
 use super::word_rows::FAULTS;
-use super::{TreeFile, hosts, is_usage, worded};
+use super::{MemoryHosts, TreeFile, hosts, is_usage, worded};
 use crate::answers::control_rows::{ONE_PARAGRAPH_ROWS, ROWS};
 use crate::answers::relation_rows::{FIELD_ROWS, PROVIDES_ROWS};
 use crate::answers::{package_of, read_control, read_field, read_provides};
@@ -20,18 +20,30 @@ fn told_after(
     before: (&str, &str),
     line: &str,
 ) -> Result<String, AllocError> {
-    let mut hosts = hosts(alloc, trees, outcomes)?;
     let mut text = String::new(alloc);
-    hosts.step(before.0, &mut text)?;
-    if text.as_str() != before.1 {
-        return Err(AllocError);
-    }
-    text.clear();
-    hosts.step(line, &mut text)?;
-    if !hosts.has_root() {
-        text.push_str("the root wasn't given back")?;
-    }
+    let mut hosts = hosts(alloc, trees, outcomes)?;
+    hosts.step_after(before, line, &mut text)?;
     Ok(text)
+}
+
+impl MemoryHosts {
+    fn step_after(
+        &mut self,
+        before: (&str, &str),
+        line: &str,
+        text: &mut String,
+    ) -> Result<(), AllocError> {
+        self.step(before.0, text)?;
+        if text.as_str() != before.1 {
+            return Err(AllocError);
+        }
+        text.clear();
+        self.step(line, text)?;
+        match self.has_root() {
+            true => Ok(()),
+            false => text.push_str("the root wasn't given back"),
+        }
+    }
 }
 
 // A line that does nothing, and what comes of it.
@@ -70,13 +82,16 @@ fn is_want(text: &str, calls: &str) -> bool {
 }
 
 // The row is the lines of calls and what follows them.
+fn check_text(rt: &impl Abort, text: &str, calls: &str, rest: &str) {
+    assert!(rt;
+        text.strip_prefix(calls) == Some(rest) || is_want(text, calls),
+        "{text}"
+    );
+}
+
 fn check(rt: &impl Abort, told: &Result<String, AllocError>, calls: &str, rest: &str) {
     if let Ok(text) = told {
-        let text = text.as_str();
-        assert!(rt;
-            text.strip_prefix(calls) == Some(rest) || is_want(text, calls),
-            "{text}"
-        );
+        check_text(rt, text.as_str(), calls, rest);
     }
 }
 
@@ -155,13 +170,11 @@ fn behind_first(text: &str) -> Option<&str> {
 
 #[test]
 fn second_tree_is_unpacked(rt: HostRuntime) {
-    let done = "state alpha 1.0 install ok unpacked\ndone\n||1\n";
-    if let Ok(text) = told(rt.alloc(), TREES, &[], "dpkg_cli unpack empty a") {
-        let rest = behind_first(text.as_str()).unwrap_or(text.as_str());
-        assert!(rt;
-            rest.strip_prefix(UNPACKED.0) == Some(done) || is_want(rest, UNPACKED.0),
-            "{text}"
-        );
+    let told = told(rt.alloc(), TREES, &[], "dpkg_cli unpack empty a");
+    if let Ok(text) = &told {
+        let text = text.as_str();
+        let done = "state alpha 1.0 install ok unpacked\ndone\n||1\n";
+        check_text(&rt, behind_first(text).unwrap_or(text), UNPACKED.0, done);
     }
 }
 
@@ -189,15 +202,17 @@ fn bad_version_is_told(rt: HostRuntime) {
     check(&rt, &told, "", "|bad version 1-: EmptyPart\n|2\n");
 }
 
+fn check_usage(rt: &impl Abort, told: &Result<String, AllocError>) {
+    if let Ok(text) = told {
+        let text = text.as_str();
+        assert!(rt; is_usage(text) || is_want(text, ""), "{text}");
+    }
+}
+
 #[test]
 fn faults_of_usage_are_told(rt: HostRuntime) {
     for line in FAULTS {
-        if let Ok(text) = worded(rt.alloc(), line) {
-            assert!(rt;
-                is_usage(text.as_str()) || is_want(text.as_str(), ""),
-                "{text}"
-            );
-        }
+        check_usage(&rt, &worded(rt.alloc(), line));
     }
 }
 

@@ -1,5 +1,5 @@
 // What words ask for: the names of the subcommands, comparisons of versions, and faults of usage.
-use super::{check, is_usage, worded};
+use super::{check, check_usage};
 use std::test::Fail;
 
 const COMPARISONS: &[&str] = &[
@@ -40,7 +40,7 @@ fn versions_are_compared(rt: HostRuntime) -> Result<(), Fail> {
 #[test]
 fn faults_of_usage_are_told(rt: HostRuntime) -> Result<(), Fail> {
     for line in FAULTS {
-        assert!(rt; is_usage(worded(rt.alloc(), line)?.as_str()), "{line}");
+        check_usage(&rt, line)?;
     }
     Ok(())
 }
