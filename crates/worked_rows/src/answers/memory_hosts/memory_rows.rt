@@ -89,7 +89,7 @@ fn check_text(rt: &impl Abort, text: &str, calls: &str, rest: &str) {
     );
 }
 
-fn check(rt: &impl Abort, told: &Result<String, AllocError>, calls: &str, rest: &str) {
+fn check(rt: &impl Abort, told: Result<String, AllocError>, calls: &str, rest: &str) {
     if let Ok(text) = told {
         check_text(rt, text.as_str(), calls, rest);
     }
@@ -105,7 +105,7 @@ fn preinst_fails(rt: HostRuntime) {
     );
     let calls = "call new alpha preinst install: exit 1\n";
     let rest = "state alpha none\nfailed alpha preinst install\n||1\n";
-    check(&rt, &told, calls, rest);
+    check(&rt, told, calls, rest);
 }
 
 #[test]
@@ -119,7 +119,7 @@ fn preinst_fails_and_is_undone(rt: HostRuntime) {
     let calls =
         "call new alpha preinst install: exit 1\ncall new alpha postrm abort-install: exit 0\n";
     let rest = "state alpha none\nfailed alpha preinst install\n||1\n";
-    check(&rt, &told, calls, rest);
+    check(&rt, told, calls, rest);
 }
 
 #[test]
@@ -130,7 +130,7 @@ fn undo_fails(rt: HostRuntime) {
         "call new alpha preinst install: exit 1\ncall new alpha postrm abort-install: exit 1\n";
     let rest =
         "state alpha 1.0 install reinstreq half-installed\nfailed alpha preinst install\n||1\n";
-    check(&rt, &told, calls, rest);
+    check(&rt, told, calls, rest);
 }
 
 const UNPACKED: (&str, &str) = (
@@ -141,7 +141,7 @@ const UNPACKED: (&str, &str) = (
 #[test]
 fn preinst_succeeds(rt: HostRuntime) {
     let told = told(rt.alloc(), WITH_PREINST, &[], "dpkg_cli unpack t");
-    check(&rt, &told, UNPACKED.0, UNPACKED.1);
+    check(&rt, told, UNPACKED.0, UNPACKED.1);
 }
 
 #[test]
@@ -150,13 +150,13 @@ fn unpacked_package_is_refused(rt: HostRuntime) {
         "call new alpha preinst install: exit 0\nstate alpha 1.0 install ok unpacked\ndone\n||0\n";
     let line = "dpkg_cli unpack t";
     let told = told_after(rt.alloc(), WITH_PREINST, &[], (line, done), line);
-    check(&rt, &told, "", "refused alpha NotYet record\n||1\n");
+    check(&rt, told, "", "refused alpha NotYet record\n||1\n");
 }
 
 #[test]
 fn trees_are_refused(rt: HostRuntime) {
     for (line, row) in REFUSALS {
-        check(&rt, &told(rt.alloc(), TREES, &[], line), "", row);
+        check(&rt, told(rt.alloc(), TREES, &[], line), "", row);
     }
 }
 
@@ -171,7 +171,7 @@ fn behind_first(text: &str) -> Option<&str> {
 #[test]
 fn second_tree_is_unpacked(rt: HostRuntime) {
     let told = told(rt.alloc(), TREES, &[], "dpkg_cli unpack empty a");
-    if let Ok(text) = &told {
+    if let Ok(text) = told {
         let text = text.as_str();
         let done = "state alpha 1.0 install ok unpacked\ndone\n||1\n";
         check_text(&rt, behind_first(text).unwrap_or(text), UNPACKED.0, done);
@@ -181,28 +181,28 @@ fn second_tree_is_unpacked(rt: HostRuntime) {
 #[test]
 fn line_without_colon_is_damage(rt: HostRuntime) {
     let told = told_after(rt.alloc(), TREES, &[], (DAMAGING, ""), "dpkg_cli unpack a");
-    check(&rt, &told, "", "|damaged /var/lib/dpkg/status 2\n|2\n");
+    check(&rt, told, "", "|damaged /var/lib/dpkg/status 2\n|2\n");
 }
 
 #[test]
 fn no_words_name_the_subcommands(rt: HostRuntime) {
     let told = worded(rt.alloc(), "dpkg_cli");
-    check(&rt, &told, "", "compare-versions\nunpack\n||0\n");
+    check(&rt, told, "", "compare-versions\nunpack\n||0\n");
 }
 
 #[test]
 fn versions_are_compared(rt: HostRuntime) {
     let told = worded(rt.alloc(), "dpkg_cli compare-versions 1.0~rc1 lt 1.0");
-    check(&rt, &told, "", "||0\n");
+    check(&rt, told, "", "||0\n");
 }
 
 #[test]
 fn bad_version_is_told(rt: HostRuntime) {
     let told = worded(rt.alloc(), "dpkg_cli compare-versions 1- eq 1");
-    check(&rt, &told, "", "|bad version 1-: EmptyPart\n|2\n");
+    check(&rt, told, "", "|bad version 1-: EmptyPart\n|2\n");
 }
 
-fn check_usage(rt: &impl Abort, told: &Result<String, AllocError>) {
+fn check_usage(rt: &impl Abort, told: Result<String, AllocError>) {
     if let Ok(text) = told {
         let text = text.as_str();
         assert!(rt; is_usage(text) || is_want(text, ""), "{text}");
@@ -212,12 +212,12 @@ fn check_usage(rt: &impl Abort, told: &Result<String, AllocError>) {
 #[test]
 fn faults_of_usage_are_told(rt: HostRuntime) {
     for line in FAULTS {
-        check_usage(&rt, &worded(rt.alloc(), line));
+        check_usage(&rt, worded(rt.alloc(), line));
     }
 }
 
 // A reading, or what stands in its place.
-fn check_reading(rt: &impl Abort, told: &Result<String, AllocError>, row: &str) {
+fn check_reading(rt: &impl Abort, told: Result<String, AllocError>, row: &str) {
     if let Ok(text) = told {
         let text = text.as_str();
         assert!(rt;
@@ -230,14 +230,14 @@ fn check_reading(rt: &impl Abort, told: &Result<String, AllocError>, row: &str) 
 #[test]
 fn control_text_is_read_and_written(rt: HostRuntime) {
     for (bytes, row) in ROWS {
-        check_reading(&rt, &read_control(rt.alloc(), bytes), row);
+        check_reading(&rt, read_control(rt.alloc(), bytes), row);
     }
 }
 
 #[test]
 fn one_paragraph_is_read(rt: HostRuntime) {
     for (bytes, row) in ONE_PARAGRAPH_ROWS {
-        check_reading(&rt, &package_of(rt.alloc(), bytes), row);
+        check_reading(&rt, package_of(rt.alloc(), bytes), row);
     }
 }
 
@@ -245,13 +245,13 @@ fn one_paragraph_is_read(rt: HostRuntime) {
 fn relation_fields_are_read_and_printed(rt: HostRuntime) {
     for (field, row) in FIELD_ROWS {
         let told = read_field(rt.alloc(), field, Form::Alternatives);
-        check_reading(&rt, &told, row);
+        check_reading(&rt, told, row);
     }
 }
 
 #[test]
 fn provides_is_read(rt: HostRuntime) {
     for (field, row) in PROVIDES_ROWS {
-        check_reading(&rt, &read_provides(rt.alloc(), field), row);
+        check_reading(&rt, read_provides(rt.alloc(), field), row);
     }
 }
