@@ -6,7 +6,7 @@ use Rattle.control_fields.specs.Grammar.{Reading, start, closed, Takes, Run}
 use Rattle.control_fields.specs.Faults.{IsFaultAt, IsFaultHere, IsFaultOf, IsFaultOfOne, StopsAt}
 use Rattle.control_fields.specs.Told.{told}
 use Rattle.control_fields.specs.declared.fault.ControlFault.{ControlFault}
-use Rattle.control_fields.specs.declared.fault.ControlFault.TheVariants.{NoMemory, Second}
+use Rattle.control_fields.specs.declared.fault.ControlFault.TheVariants.{Second}
 
 pub stops_at : (single : Bool) (ls front : List (List ℕ)) (bytes : List ℕ) (rest : List (List ℕ)) (n : ℕ) (s t : Reading) (e : ControlFault) → ls ≡ front ++ bytes ∷ rest → n ≡ length front + 1 → Run 1 front start s
     → (IsTrue single → length (closed s) ≤ 1) → IsFaultHere single e n bytes s t → StopsAt single ls e t

@@ -1,5 +1,5 @@
 // Lists of lines.
-ghost use Rattle.std.specs.Prelude.{◌≡◌, ℕ, List, IfOk, OnOk, ◌++◌, ◌∷◌, [], length};
+ghost use Rattle.std.specs.Prelude.{◌≡◌, ℕ, List, IfOk, OnOk, ◌++◌, ◌∷◌, []};
 
 use std::alloc::{AllocError, Global};
 use std::marker::Model;
@@ -33,12 +33,6 @@ impl Lines {
     {
         self.items.push(line)?;
         Ok(())
-    }
-
-    pub fn len(&self) -> usize
-        ensures { result ≡ length self.now }
-    {
-        self.items.len()
     }
 
     pub fn as_slice(&self) -> &[Bytes]

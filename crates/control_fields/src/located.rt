@@ -37,7 +37,7 @@ impl Located {
                 return line;
             }
             line += 1;
-            line += field.more.len() as u64;
+            line += field.more.as_slice().len() as u64;
             left -= 1;
         }
         line

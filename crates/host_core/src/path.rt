@@ -93,13 +93,6 @@ impl RootPath {
         self.text.as_str()
     }
 
-    pub fn into_text(self) -> String
-        ensures { string_bytes result ≡ self }
-    {
-        let RootPath { text } = self;
-        text
-    }
-
     pub fn is(&self, other: &RootPath) -> bool
         ensures { IsTrue result ↔ (self.now ≡ other.now) }
     {

@@ -47,7 +47,7 @@ fn text_of(name: &[u8]) -> &str
 fn name_of(field: &Field) -> Option<&str>
     ensures { MatchOption result (IsGoodField FieldName.Package field.now → ⊥) (λ name. (field.now.first ≡ name.now) × IsGoodField FieldName.Package field.now) }
 {
-    if field.more.len() != 0 || !is_package_name(field.first.as_slice()) {
+    if !field.more.as_slice().is_empty() || !is_package_name(field.first.as_slice()) {
         return None;
     }
     Some(text_of(field.first.as_slice()))
@@ -57,7 +57,7 @@ fn name_of(field: &Field) -> Option<&str>
 fn version_of(alloc: Global, field: &Field) -> Result<Option<Version>, AllocError>
     ensures { IfOk result (λ found. MatchOption found (IsGoodField FieldName.Version field.now → ⊥) (λ version. (field.now.first ≡ version) × IsGoodField FieldName.Version field.now)) }
 {
-    if field.more.len() != 0 {
+    if !field.more.as_slice().is_empty() {
         return Ok(None);
     }
     match Version::parse(alloc, field.first.as_slice()) {
@@ -76,7 +76,7 @@ fn is_yes_or_no(value: &[u8]) -> bool
 fn is_good_essential(field: &Field) -> bool
     ensures { IsTrue result ↔ IsGoodField FieldName.Essential field.now }
 {
-    if field.more.len() != 0 {
+    if !field.more.as_slice().is_empty() {
         return false;
     }
     is_yes_or_no(field.first.as_slice())

@@ -23,7 +23,7 @@ const SHIP_ROWS: &[(&str, &str)] = &[
 
 fn root_path_of(alloc: Global, text: &str) -> Result<String, AllocError> {
     match RootPath::parse(alloc, text)? {
-        Some(path) => Ok(path.copy()?.into_text()),
+        Some(path) => String::from_str(alloc, path.copy()?.as_str()),
         None => String::from_str(alloc, "none"),
     }
 }
