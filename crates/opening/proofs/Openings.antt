@@ -1,5 +1,5 @@
 -- How the opening of one part goes on to the next.
-use Rattle.std.proofs.Common.{◌≡◌, ◌⊎◌, inl, inr, ℕ, Bool, true, false, List, [], ◌∷◌, ◌++◌, Option, Some, None, IsSome, nat_eq, Result, Ok, Err, IfOk, IfErr, refl, sym, ap, subst, ◌∙◌, MatchBool}
+use Rattle.std.proofs.Common.{◌≡◌, ◌⊎◌, inl, inr, ℕ, Bool, true, false, List, [], ◌∷◌, ◌++◌, Option, Some, None, IsSome, nat_eq, Result, Ok, Err, IfOk, IfErr, IsErrAnd, refl, sym, ap, subst, ◌∙◌, MatchBool}
 use Rattle.std.specs.List.{AllByRecursion, list_any}
 use Rattle.std.specs.Str.{bytes_eq}
 use Rattle.std.proofs.lemmas.Slice.Eq.{bytes_eq-Decides}
@@ -16,9 +16,7 @@ use Rattle.host_core.specs.declared.fault.HostFault.TheVariants as host
 use Rattle.host_core.specs.declared.node.Node.{Node}
 use Rattle.host_core.specs.declared.node.Node.TheVariants.{File, Dir, Link}
 use Rattle.administration.specs.Places.{home_path, info_path, status_path, diversions_path, updates_path, tmp_path, list_path, temporary, is_within}
-use Rattle.administration.specs.Directories.{new_directory, IsMade, IsMaking, IsRemoved, IsStanding}
-use Rattle.administration.specs.declared.directories.Standing.{Standing}
-use Rattle.administration.specs.declared.directories.Standing.TheVariants.{Nothing, Loose}
+use Rattle.administration.specs.Directories.{new_directory, IsMade, IsMaking, IsRemoved}
 use Rattle.administration.specs.Fault.{fault_of}
 use Rattle.administration.specs.Files.{NoDirectory}
 use Rattle.administration.specs.Least.{IsLeast, IsLeastIn}
@@ -32,7 +30,7 @@ use Rattle.status_db.specs.declared.record.Record.{Record}
 use Rattle.status_db.specs.Status.{HasRecords, IsFileOrNothing, IsStatusDamage, StandsFor}
 use Rattle.opening.specs.Opened.{IsOpened}
 use Rattle.opening.specs.Leaving.{IsOpening, IsNewWay, is_way}
-use Rattle.opening.specs.Parts.{Part, Way, Status, Spare, Updates, Info, Diversions, Leftovers, IsFine, IsFirstFault, IsDamage, IsWithoutDiversions, IsLeftoversFault, HasBadName, Finds, Opens, fault_in, names_of, parts}
+use Rattle.opening.specs.Parts.{Part, Way, Status, Spare, Updates, Info, Diversions, Leftovers, IsFine, IsFirstFault, IsDamage, IsWithoutDiversions, IsDiversionsFault, IsLeftoversFault, HasBadName, Finds, Opens, fault_in, names_of, parts}
 
 pub opening_start : (w : World) → IsOpening w w
 opening_start w q out = inl refl
@@ -166,15 +164,22 @@ host_damage among w host.NoMemory fault is = subst (IsDamage among w) (sym is) t
 pub opens_host : (among : List Part) (h : HostFault) (fault : AdministrationFault) (s t : State) → fault ≡ fault_of h → Since (IsOpening s.world) s t → Opens among (Some fault) s t
 opens_host among h fault s t is moments = record { moments = moments; finds = host_damage among t.world h fault is }
 
--- the same of the answer in which the fault comes
-pub ends_host : {T : Type 0} (among : List Part) (h : HostFault) (result : Result T AdministrationFault) (fault : AdministrationFault) (s t : State) → result ≡ Err fault → fault ≡ fault_of h → Since (IsOpening s.world) s t → Opens among (fault_in result) s t
-ends_host among h result fault s t e is moments = subst (λ r. Opens among (fault_in r) s t) (sym e) (opens_host among h fault s t is moments)
+-- the answer after a `?`
 
-pub ends_memory : {T : Type 0} (among : List Part) (result : Result T AdministrationFault) (fault : AdministrationFault) (s t : State) → result ≡ Err fault → fault ≡ NoMemory → Since (IsOpening s.world) s t → Opens among (fault_in result) s t
-ends_memory among result fault s t e is moments = subst (λ r. Opens among (fault_in r) s t) (sym e) (opens_memory among fault s t is moments)
+pub stopped_host : {T : Type 0} (among : List Part) (h : HostFault) (result : Result T AdministrationFault) (s t : State) → IsErrAnd result (λ e. e ≡ fault_of h) → Since (IsOpening s.world) s t → Opens among (fault_in result) s t
+stopped_host among h (Ok x) s t told moments = absurd told
+stopped_host among h (Err fault) s t is moments = opens_host among h fault s t is moments
 
-pub ends_stop : {T : Type 0} (a b : List Part) (result : Result T AdministrationFault) (fault given : AdministrationFault) (s t : State) → result ≡ Err fault → fault ≡ given → Opens a (Some given) s t → Opens (a ++ b) (fault_in result) s t
-ends_stop a b result fault given s t e is first = subst (λ r. Opens (a ++ b) (fault_in r) s t) (sym e) (subst (λ f. Opens (a ++ b) (Some f) s t) (sym is) (opens_stop a b given s t first))
+pub stopped_same : {T : Type 0} (among : List Part) (h : HostFault) (result : Result T AdministrationFault) (s t : State) → IsErrAnd result (λ e. e ≡ fault_of h) → Same s t → Opens among (fault_in result) s t
+stopped_same among h result s t told same = stopped_host among h result s t told (moments_same s t same)
+
+pub stopped_memory : {T : Type 0} (among : List Part) (result : Result T AdministrationFault) (s : State) → IsErrAnd result (λ e. e ≡ NoMemory) → Opens among (fault_in result) s s
+stopped_memory among (Ok x) s told = absurd told
+stopped_memory among (Err fault) s is = opens_memory among fault s s is (moments_same s s (record { world = refl; steps = refl }))
+
+pub stopped_before : {T : Type 0} (a b : List Part) (given : AdministrationFault) (result : Result T AdministrationFault) (s t : State) → IsErrAnd result (λ e. e ≡ given) → Opens a (Some given) s t → Opens (a ++ b) (fault_in result) s t
+stopped_before a b given (Ok x) s t told first = absurd told
+stopped_before a b given (Err fault) s t is first = subst (λ f. Opens (a ++ b) (Some f) s t) (sym is) (opens_stop a b given s t first)
 
 -- a directory that was made, or can't be
 pub way_made : (p q : Path) (s t : State) → p ≡ q → is_way q ≡ true → Since (IsMaking p s.world) s t → IsMade p s.world t.world → Opens (Way q ∷ []) None s t
@@ -194,6 +199,20 @@ way_loose p q fault s t e way is since loose = subst (λ r. Opens (Way r ∷ [])
   finds = subst (IsDamage (Way p ∷ []) t.world) (sym is) (inl (refl, refl, loose_kept p s.world t.world (since_now (IsMaking p s.world) s t since) loose));
 })
 
+-- a path that was looked at
+
+pub way_found : (p q : Path) (s t : State) → p ≡ q → Same s t → IsDirectory (s.world p) → Opens (Way q ∷ []) None s t
+way_found p q s t e same there = record {
+  moments = moments_same s t same;
+  finds = (subst IsDirectory (ap s.world e ∙ ap (λ w. w q) (sym same.world)) there, tt);
+}
+
+pub way_lacking : (p q : Path) (fault : AdministrationFault) (s t : State) → p ≡ q → fault ≡ Damaged p 0 → Same s t → NoDirectory (s.world p) → Opens (Way q ∷ []) (Some fault) s t
+way_lacking p q fault s t e is same lacks = record {
+  moments = moments_same s t same;
+  finds = subst (IsDamage (Way q ∷ []) t.world) (sym is) (inl (e, refl, no_directory_at (t.world q) (s.world p) (ap (λ w. w q) same.world ∙ ap s.world (sym e)) lacks));
+}
+
 -- nothing stands at the temporary name, or a file
 pub spare_fine : (p : Path) (s t : State) → p ≡ temporary status_path → Same s t → NoDirectory (s.world p) → Opens (Spare ∷ []) None s t
 spare_fine p s t e same loose = record {
@@ -201,12 +220,11 @@ spare_fine p s t e same loose = record {
   finds = (no_directory_at (t.world (temporary status_path)) (s.world p) (ap (λ w. w (temporary status_path)) same.world ∙ ap s.world (sym e)) loose, tt);
 }
 
-standing_loose : (b : Standing) (node : Option Node) → (b ≡ Nothing) ⊎ (b ≡ Loose) → IsStanding b node → NoDirectory node
-standing_loose b node (inl e) is = no_directory_at node None (subst (λ x. IsStanding x node) e is) no_directory_none
-standing_loose b node (inr e) is = (subst (λ x. IsStanding x node) e is).1
-
-pub spare_standing : (b : Standing) (p : Path) (s t : State) → p ≡ temporary status_path → Same s t → (b ≡ Nothing) ⊎ (b ≡ Loose) → IsStanding b (s.world p) → Opens (Spare ∷ []) None s t
-spare_standing b p s t e same which is = spare_fine p s t e same (standing_loose b (s.world p) which is)
+pub spare_taken : (p : Path) (fault : AdministrationFault) (s t : State) → p ≡ temporary status_path → fault ≡ Damaged p 0 → Same s t → IsDirectory (s.world p) → Opens (Spare ∷ []) (Some fault) s t
+spare_taken p fault s t e is same there = record {
+  moments = moments_same s t same;
+  finds = subst (IsDamage (Spare ∷ []) t.world) (sym is) (inl (e, refl, subst IsDirectory (ap (λ w. w p) (sym same.world)) there));
+}
 
 -- `tmp.ci`
 
@@ -227,6 +245,41 @@ leftovers_removed p a b c e same since removed = record {
 
 pub moments_removing : (p : Path) (a b c : State) → p ≡ tmp_path → Same a b → Since (KeepsBut (is_within p) b.world) b c → Since (IsOpening a.world) a c
 moments_removing p a b c e same since = moments_then a b c (moments_same a b same) (moments_clearing b c (subst (λ q. Since (KeepsBut (is_within q) b.world) b c) e since))
+
+pub leftovers_loose : (p : Path) (fault : AdministrationFault) (s t : State) → p ≡ tmp_path → fault ≡ Damaged p 0 → Same s t → IsLoose (s.world p) → Opens (Leftovers ∷ []) (Some fault) s t
+leftovers_loose p fault s t e is same loose = leftovers_same fault tmp_path s t (is ∙ ap (λ q. Damaged q 0) e) same (inl (refl, inl (subst (λ q. IsLoose (s.world q)) e loose)))
+
+pub leftovers_none : (p : Path) (s t : State) → p ≡ tmp_path → Same s t → s.world p ≡ None → Opens (Leftovers ∷ []) None s t
+leftovers_none p s t e same none = record {
+  moments = moments_same s t same;
+  finds = (ap (λ w. w tmp_path) same.world ∙ ap s.world (sym e) ∙ none, tt);
+}
+
+pub leftovers_held : (p file name : Path) (fault : AdministrationFault) (s t : State) → p ≡ tmp_path → fault ≡ Damaged file 0 → Same s t → file ≡ p ++ 47 ∷ name → IsLeastIn IsDirectory s.world p name → Opens (Leftovers ∷ []) (Some fault) s t
+leftovers_held p file name fault s t e is same at least =
+    leftovers_same fault file s t is same (inr (name, at ∙ ap (λ q. q ++ 47 ∷ name) e, subst (λ q. IsLeastIn IsDirectory s.world q name) e least))
+
+-- the same parts, after looking alone
+pub opens_after : (among : List Part) (fault : Option AdministrationFault) (s t u : State) → Same s t → Opens among fault t u → Opens among fault s u
+opens_after among fault s t u same later = record { moments = moments_then s t u (moments_same s t same) later.moments; finds = later.finds }
+
+-- what reading alone found
+pub opens_read : (among : List Part) (fault : Option AdministrationFault) (s t : State) → Same s t → Finds among s.world fault → Opens among fault s t
+opens_read among fault s t same finds = record { moments = moments_same s t same; finds = subst (λ w. Finds among w fault) (sym same.world) finds }
+
+-- the diversions
+
+pub diversions_read : (p : Path) (n : Option Node) (s t : State) → p ≡ diversions_path → n ≡ s.world p → Same s t → IsWithoutDiversions n → Opens (Diversions ∷ []) None s t
+diversions_read p n s t e is same without = record {
+  moments = moments_same s t same;
+  finds = (subst IsWithoutDiversions (is ∙ ap s.world e ∙ ap (λ w. w diversions_path) (sym same.world)) without, tt);
+}
+
+pub diversions_faulty : (p : Path) (line : ℕ) (n : Option Node) (fault : AdministrationFault) (s t : State) → p ≡ diversions_path → fault ≡ Damaged p line → n ≡ s.world p → Same s t → IsDiversionsFault n line → Opens (Diversions ∷ []) (Some fault) s t
+diversions_faulty p line n fault s t e told is same faulty = record {
+  moments = moments_same s t same;
+  finds = subst (IsDamage (Diversions ∷ []) t.world) (sym told) (inl (e, subst (λ m. IsDiversionsFault m line) (is ∙ ap s.world e ∙ ap (λ w. w diversions_path) (sym same.world)) faulty));
+}
 
 pub on_true : {A : Type 0} (B : Type 0) (b : Bool) → b ≡ true → MatchBool b A B → A
 on_true B true e holds = holds

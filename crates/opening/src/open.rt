@@ -1,8 +1,9 @@
 // The administration as a whole, part by part in the order in which they are opened.
-ghost use Rattle.std.specs.Prelude.{◌≡◌, ◌∷◌, [], true, IsTrue, Some, option_copied, IfOk, MatchOption};
-ghost use Rattle.host_core.specs.Host.{Silent};
+ghost use Rattle.std.specs.Prelude.{◌≡◌, ◌∷◌, [], true, IsTrue, Some, option_copied, IfOk, MatchBool, MatchOption};
+ghost use Rattle.host_core.specs.Host.{HasCause, Same, Silent};
 ghost use Rattle.host_core.specs.World.{HasParent, World, IsDirectory};
 ghost use Rattle.administration.specs.Fault.{HasAdministrationCause};
+ghost use Rattle.administration.specs.Files.{NoDirectory};
 ghost use Rattle.administration.specs.Places.{home_path, updates_path, info_path, tmp_path};
 ghost use Rattle.administration.specs.declared.fault.AdministrationFault.TheVariants.{Damaged, Device};
 ghost use Rattle.opening.specs.Leaving.{is_way, root_path, var_path, lib_path};
@@ -18,7 +19,7 @@ use administration::{
     make_directory, remove_flat, status_path, tmp_path, updates_path,
 };
 use file_lists::read_places;
-use host_core::{Host, Keep, Listing, Node, RootPath};
+use host_core::{Host, HostFault, Keep, Listing, Node, RootPath};
 use status_db::{Database, Record};
 use std::alloc::{AllocError, Global};
 use texts::{Text, Texts};
@@ -44,6 +45,19 @@ fn make_way<H: Host>(alloc: Global, host: &mut H, place: &str) -> Result<(), Adm
     Err(damaged(path, 0))
 }
 
+// Whether a directory stands there.
+fn is_directory<H: Host>(host: &mut H, path: &RootPath) -> Result<bool, HostFault>
+    ensures found { IsTrue (H.state host.old).honest → IfOk result (λ there. MatchBool there (IsDirectory ((H.state host.old).world path.now)) (NoDirectory ((H.state host.old).world path.now))) }
+    ensures same { IsTrue (H.state host.old).honest → Same (H.state host.old) (H.state host.new) }
+    ensures silent { Silent (H.state host.old) (H.state host.new) }
+    ensures cause { HasCause (H.state host.old) (H.state host.new) result }
+{
+    match look(host, path)? {
+        Standing::Directory => Ok(true),
+        _ => Ok(false),
+    }
+}
+
 // The root has to be a directory.
 fn check_root<H: Host>(alloc: Global, host: &mut H) -> Result<(), AdministrationFault>
     ensures opens { IsTrue (H.state host.old).honest → Opens (Way root_path ∷ []) (fault_in result) (H.state host.old) (H.state host.new) }
@@ -51,17 +65,10 @@ fn check_root<H: Host>(alloc: Global, host: &mut H) -> Result<(), Administration
     ensures cause { HasAdministrationCause (H.state host.old) (H.state host.new) result }
 {
     let path = RootPath::from_str(alloc, "")?;
-    match look(host, &path)? {
-        Standing::Directory => {
-            return Ok(());
-        }
-        Standing::Nothing => {
-            return Err(damaged(path, 0));
-        }
-        Standing::Loose => {
-            return Err(damaged(path, 0));
-        }
+    if is_directory(host, &path)? {
+        return Ok(());
     }
+    Err(damaged(path, 0))
 }
 
 // The root, and the directories from it to the administration.
@@ -82,17 +89,10 @@ fn check_spare<H: Host>(alloc: Global, host: &mut H) -> Result<(), Administratio
     ensures cause { HasAdministrationCause (H.state host.old) (H.state host.new) result }
 {
     let spare = status_path(alloc)?.with_suffix(".dpkg-inst")?;
-    match look(host, &spare)? {
-        Standing::Directory => {
-            return Err(damaged(spare, 0));
-        }
-        Standing::Nothing => {
-            return Ok(());
-        }
-        Standing::Loose => {
-            return Ok(());
-        }
+    if is_directory(host, &spare)? {
+        return Err(damaged(spare, 0));
     }
+    Ok(())
 }
 
 // The least of these names.

@@ -1,14 +1,16 @@
-use Rattle.std.proofs.Common.{◌≡◌, true, sym, subst}
-use Rattle.std.proofs.lemmas.Result.{err_from_is_err_and}
+use Rattle.std.proofs.Common.{◌≡◌, ◌∷◌, [], true, sym, subst}
 use Rattle.opening.specs.Leaving.{is_way}
-use Rattle.opening.proofs.Openings.{ends_host, moments_making, way_made, way_loose, on_true, on_false}
+use Rattle.opening.specs.Parts.{Way}
+use Rattle.opening.proofs.Openings.{moments_making, on_true, on_false, stopped_host, stopped_memory, way_made, way_loose}
 use Rattle.opening.proofs.open.make_way.Goals as goal
+
+pub returns-in_err-path-clause-opens : goal.returns-in_err-path-clause-opens
+returns-in_err-path-clause-opens g c = λ h. stopped_memory (Way c.args.place.now ∷ []) c.from_residual.result _ c.from_residual.ensures.1
 
 pub returns-in_err-make_directory-clause-opens : goal.returns-in_err-make_directory-clause-opens
 returns-in_err-make_directory-clause-opens g c = λ h.
-    let p = err_from_is_err_and c.from_residual-in_err-make_directory.result c.from_residual-in_err-make_directory.ensures.1 in
     let way = subst (λ q. is_way q ≡ true) (sym c.in_ok-path.ensures) c.requires.way in
-    ends_host _ _ _ _ _ _ p.1 p.2 (moments_making _ _ _ way (c.make_directory.ensures.any_moment h))
+    stopped_host (Way c.args.place.now ∷ []) _ c.from_residual-in_err-make_directory.result _ _ c.from_residual-in_err-make_directory.ensures.1 (moments_making _ _ _ way (c.make_directory.ensures.any_moment h))
 
 pub returns-then-branch-clause-opens : goal.returns-then-branch-clause-opens
 returns-then-branch-clause-opens g c = λ h.

@@ -3,8 +3,19 @@ use Rattle.administration.specs.Places.{home_path, info_path, updates_path}
 use Rattle.opening.specs.Leaving.{root_path, var_path, lib_path}
 use Rattle.opening.specs.Parts.{Way, Status, Spare, Updates, Info, Diversions, Leftovers}
 use Rattle.status_db.specs.Status.{HasRecords}
-use Rattle.opening.proofs.Openings.{opens_then, opened_ok, records_kept, status_read}
+use Rattle.opening.proofs.Openings.{opens_then, opened_ok, records_kept, status_damaged, status_read, stopped_before}
 use Rattle.opening.proofs.open.open_administration.Goals as goal
+
+pub returns-in_err-open_ways-clause-opens : goal.returns-in_err-open_ways-clause-opens
+returns-in_err-open_ways-clause-opens g c = λ h.
+    stopped_before (Way root_path ∷ Way var_path ∷ Way lib_path ∷ Way home_path ∷ []) (Status ∷ Spare ∷ Way updates_path ∷ Updates ∷ Way info_path ∷ Info ∷ Diversions ∷ Leftovers ∷ []) _ c.from_residual.result _ _ c.from_residual.ensures.1 (c.in_err-open_ways.ensures.opens h)
+
+pub returns-in_err-database-clause-opens : goal.returns-in_err-database-clause-opens
+returns-in_err-database-clause-opens g c = λ h.
+    let h1 = subst IsTrue (sym c.open_ways.ensures.silent.honest) h in
+    stopped_before (Way root_path ∷ Way var_path ∷ Way lib_path ∷ Way home_path ∷ Status ∷ []) (Spare ∷ Way updates_path ∷ Updates ∷ Way info_path ∷ Info ∷ Diversions ∷ Leftovers ∷ []) _ c.from_residual-in_err-database.result _ _ c.from_residual-in_err-database.ensures.1
+    (opens_then (Way root_path ∷ Way var_path ∷ Way lib_path ∷ Way home_path ∷ []) (Status ∷ []) _ _ _ _ (refl, (refl, (refl, (refl, tt)))) (c.in_ok-open_ways.ensures.opens h)
+    (status_damaged _ _ _ (c.open.ensures.same h1) (c.in_err-database.ensures.damage h1)))
 
 pub returns-clause-opens : goal.returns-clause-opens
 returns-clause-opens g c = λ h.

@@ -1,12 +1,19 @@
-use Rattle.std.proofs.Common.{refl, sym, ap, subst, codes, ◌∙◌, IfErr, IsTrue}
-use Rattle.administration.specs.Places.{home_path}
+use Rattle.std.proofs.Common.{◌∷◌, [], refl, sym, ap, subst, codes, ◌∙◌, IfErr, IsTrue}
+use Rattle.administration.specs.Places.{home_path, info_path}
 use Rattle.file_lists.specs.Info.{IsInfoDamage}
-use Rattle.opening.specs.Parts.{names_of}
-use Rattle.opening.proofs.Openings.{child_parent, info_read, records_kept}
+use Rattle.opening.specs.Parts.{Way, Info, names_of}
+use Rattle.opening.proofs.Openings.{child_parent, info_read, records_kept, stopped_before, stopped_memory}
 use Rattle.opening.proofs.open.open_info.Goals as goal
 
 pub make_way-requires-clause-parent : goal.make_way-requires-clause-parent
 make_way-requires-clause-parent g c = λ h. child_parent (g.H.Host.state c.args.host.now).world home_path (codes "info") refl (c.requires.home h)
+
+pub returns-in_err-names-clause-opens : goal.returns-in_err-names-clause-opens
+returns-in_err-names-clause-opens g c = λ h. stopped_memory (Way info_path ∷ Info ∷ []) c.from_residual.result _ c.from_residual.ensures.1
+
+pub returns-in_err-make_way-clause-opens : goal.returns-in_err-make_way-clause-opens
+returns-in_err-make_way-clause-opens g c = λ h.
+    stopped_before (Way info_path ∷ []) (Info ∷ []) _ c.from_residual-in_err-make_way.result _ _ c.from_residual-in_err-make_way.ensures.1 (c.in_err-make_way.ensures.opens h)
 
 pub returns-clause-opens : goal.returns-clause-opens
 returns-clause-opens g c = λ h.

@@ -1,9 +1,12 @@
 use Rattle.std.proofs.Common.{◌∷◌, [], refl, sym, subst, IsTrue}
-use Rattle.std.proofs.lemmas.Result.{err_from_is_err_and}
 use Rattle.administration.specs.Places.{info_path, updates_path}
 use Rattle.opening.specs.Parts.{Way, Spare, Updates, Info, Diversions, Leftovers, names_of}
-use Rattle.opening.proofs.Openings.{ends_stop, opens_then, home_kept, records_kept, listed_through}
+use Rattle.opening.proofs.Openings.{opens_then, home_kept, records_kept, listed_through, stopped_before}
 use Rattle.opening.proofs.open.open_rest.Goals as goal
+
+pub returns-in_err-check_spare-clause-opens : goal.returns-in_err-check_spare-clause-opens
+returns-in_err-check_spare-clause-opens g c = λ h.
+    stopped_before (Spare ∷ []) (Way updates_path ∷ Updates ∷ Way info_path ∷ Info ∷ Diversions ∷ Leftovers ∷ []) _ c.from_residual.result _ _ c.from_residual.ensures.1 (c.in_err-check_spare.ensures.opens h)
 
 pub open_updates-requires : goal.open_updates-requires
 open_updates-requires g c = λ h1.
@@ -13,8 +16,7 @@ open_updates-requires g c = λ h1.
 pub returns-in_err-open_updates-clause-opens : goal.returns-in_err-open_updates-clause-opens
 returns-in_err-open_updates-clause-opens g c = λ h.
     let h1 = subst IsTrue (sym c.check_spare.ensures.silent.honest) h in
-    let p = err_from_is_err_and c.from_residual-in_err-open_updates.result c.from_residual-in_err-open_updates.ensures.1 in
-    ends_stop (Spare ∷ Way updates_path ∷ Updates ∷ []) (Way info_path ∷ Info ∷ Diversions ∷ Leftovers ∷ []) _ _ _ _ _ p.1 p.2
+    stopped_before (Spare ∷ Way updates_path ∷ Updates ∷ []) (Way info_path ∷ Info ∷ Diversions ∷ Leftovers ∷ []) _ c.from_residual-in_err-open_updates.result _ _ c.from_residual-in_err-open_updates.ensures.1
     (opens_then (Spare ∷ []) (Way updates_path ∷ Updates ∷ []) _ _ _ _ (tt, tt) (c.in_ok-check_spare.ensures.opens h) (c.in_err-open_updates.ensures.opens h1))
 
 pub open_info-requires-clause-home : goal.open_info-requires-clause-home
@@ -33,8 +35,7 @@ pub returns-in_err-keep-clause-opens : goal.returns-in_err-keep-clause-opens
 returns-in_err-keep-clause-opens g c = λ h.
     let h1 = subst IsTrue (sym c.check_spare.ensures.silent.honest) h in
     let h2 = subst IsTrue (sym c.open_updates.ensures.silent.honest) h1 in
-    let p = err_from_is_err_and c.from_residual-in_err-keep.result c.from_residual-in_err-keep.ensures.1 in
-    ends_stop (Spare ∷ Way updates_path ∷ Updates ∷ Way info_path ∷ Info ∷ []) (Diversions ∷ Leftovers ∷ []) _ _ _ _ _ p.1 p.2
+    stopped_before (Spare ∷ Way updates_path ∷ Updates ∷ Way info_path ∷ Info ∷ []) (Diversions ∷ Leftovers ∷ []) _ c.from_residual-in_err-keep.result _ _ c.from_residual-in_err-keep.ensures.1
     (opens_then (Spare ∷ []) (Way updates_path ∷ Updates ∷ Way info_path ∷ Info ∷ []) _ _ _ _ (tt, tt) (c.in_ok-check_spare.ensures.opens h)
     (opens_then (Way updates_path ∷ Updates ∷ []) (Way info_path ∷ Info ∷ []) _ _ _ _ (refl, (tt, tt)) (c.in_ok-open_updates.ensures.opens h1) (c.in_err-keep.ensures.opens h2)))
 
