@@ -1,12 +1,17 @@
 -- How lists of calls that were made go on.
-use Rattle.std.proofs.Common.{◌≡◌, Bool, IsTrue, List, [], ◌++◌, map, sym, ap, subst, ◌∙◌, append_assoc}
+use Rattle.std.proofs.Common.{◌≡◌, Bool, IsTrue, List, [], ◌∷◌, ◌++◌, map, Result, Ok, Err, is_ok, if◌then◌else◌, refl, sym, ap, subst, ◌∙◌, append_assoc}
 use Rattle.std.proofs.lemmas.List.{append-nil, map-append}
 use Rattle.host_core.specs.Paths.{Path}
 use Rattle.host_core.specs.World.{SameOn}
-use Rattle.host_core.specs.Host.{Ran, State, Since}
-use Rattle.host_core.specs.Scripts.{calls_none, calls_then, since_kept}
+use Rattle.host_core.specs.Host.{Ran, Runs, State, Since}
+use Rattle.host_core.specs.Moments.{since_start}
+use Rattle.host_core.specs.Scripts.{calls_none, calls_one, calls_then, since_kept}
+use Rattle.host_core.specs.declared.call.Call.{Call}
+use Rattle.host_core.specs.declared.call.Outcome.{Outcome}
+use Rattle.host_core.specs.declared.fault.HostFault.{HostFault}
+use Rattle.host_core.specs.declared.fault.HostFault.TheVariants.{Device, NoMemory}
 use Rattle.unwind_stack.specs.declared.rows.Called.{Called}
-use Rattle.unwind_stack.specs.Transcript.{told_of, Makes, TellsAll}
+use Rattle.unwind_stack.specs.Transcript.{told_of, IsOne, Makes, TellsAll}
 
 pub makes_none : (kept : Path → Bool) (P : List Ran → Type 0) (a : State) (told : List Called) → P [] → Makes kept P a a told told
 makes_none kept P a told here = ([], calls_none kept a, (here, sym (append-nil told)))
@@ -36,3 +41,27 @@ tells_then a b c told more now first second = (
 -- what is kept stays over two parts
 pub moments_then : (kept : Path → Bool) (a b c : State) → (IsTrue a.honest → Since (SameOn kept a.world) a b) → b.honest ≡ a.honest → (IsTrue b.honest → Since (SameOn kept b.world) b c) → IsTrue a.honest → Since (SameOn kept a.world) a c
 moments_then kept a b c first same second h = since_kept kept a b c (first h) (second (subst IsTrue (sym same) h))
+
+-- where nothing was called
+
+pub moments_none : (kept : Path → Bool) (a : State) → IsTrue a.honest → Since (SameOn kept a.world) a a
+moments_none kept a h = since_start (SameOn kept a.world) a (λ q is. refl)
+
+pub tells_failed : (kept : Path → Bool) (call : Call) (fault : HostFault) (a b : State) (told now : List Called) → Runs kept call a b (Err fault) → now ≡ told → TellsAll a b told now
+tells_failed kept call Device a b told now runs same = tells_none a b told now runs.0 same
+tells_failed kept call NoMemory a b told now runs same = tells_none a b told now runs.0 same
+
+-- one call
+
+module _ (kept : Path → Bool) (call : Call) (outcome : Outcome) (a b : State) (told now : List Called) where
+  pub tells_one : Runs kept call a b (Ok outcome) → now ≡ told ++ record { call = call; outcome = outcome } ∷ [] → TellsAll a b told now
+  tells_one runs grown = (record { call = call; outcome = outcome; change = runs.0 } ∷ [], runs.1, grown)
+
+  pub makes_one : b.honest ≡ a.honest → Runs kept call a b (Ok outcome) → now ≡ told ++ record { call = call; outcome = outcome } ∷ [] → Makes kept (IsOne call outcome) a b told now
+  makes_one same runs grown =
+      let one = calls_one kept call outcome a b same runs in
+      (one.0 ∷ [], one.3, ((one.0, refl, one.1, one.2), grown ∙ ap (λ c. told ++ record { call = c; outcome = outcome } ∷ []) (sym one.1) ∙ ap (λ o. told ++ record { call = one.0.call; outcome = o } ∷ []) (sym one.2)))
+
+-- a push that succeeded
+pub pushed : {T E A : Type 0} (r : Result T E) (y : T) (x : A) (old now : List A) → r ≡ Ok y → now ≡ (if is_ok r then old ++ x ∷ [] else old) → now ≡ old ++ x ∷ []
+pushed r y x old now ok is = is ∙ ap (λ q. if is_ok q then old ++ x ∷ [] else old) ok

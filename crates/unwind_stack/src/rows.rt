@@ -66,8 +66,8 @@ pub fn call_script<H: Host>(
     ensures faults { (H.state host.old).faults ≤ (H.state host.new).faults }
     ensures cause { HasCause (H.state host.old) (H.state host.new) result }
 {
-    let copy = call.copy()?;
     told.reserve(1)?;
+    let copy = call.copy()?;
     let outcome = host.run(call, keep)?;
     told.push(Called {
         call: copy,
@@ -137,8 +137,8 @@ pub fn undo_row<H: Host>(
     if contains(owners, &row.owner) {
         return Ok(());
     }
-    let owner = row.owner.copy()?;
     owners.reserve(1)?;
+    let owner = row.owner.copy()?;
     let outcome = call_script(host, keep, undo, told)?;
     if !outcome.is_success() {
         owners.push(owner).unwrap();

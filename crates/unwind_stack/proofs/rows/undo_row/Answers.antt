@@ -1,30 +1,79 @@
-use Rattle.std.proofs.Common.{◌≡◌, ◌∷◌, [], ◌++◌, true, false, Contains, rules}
-use Rattle.host_core.specs.Outcome.{is_success}
-use Rattle.unwind_stack.specs.Transcript.{UndoesRow}
-use Rattle.unwind_stack.proofs.Makes.{makes_none, makes_weaker}
+use Rattle.std.proofs.Common.{List, ◌∷◌, [], ◌++◌, Contains, arith, refl, sym, ap, subst, ◌∙◌}
+use Rattle.std.proofs.lemmas.Bool.{true≢false}
+use Rattle.host_core.specs.World.{is_kept}
+use Rattle.unwind_stack.specs.declared.rows.Owner.{Owner}
+use Rattle.unwind_stack.specs.Transcript.{Makes, UndoesRow}
+use Rattle.unwind_stack.proofs.Makes.{makes_none, makes_weaker, moments_none, pushed, tells_none}
 use Rattle.unwind_stack.proofs.OneRow.{undoes_done, undoes_failed}
 use Rattle.unwind_stack.proofs.rows.undo_row.Goals as goal
 
 pub returns-in_default-clause-calls : goal.returns-in_default-clause-calls
 returns-in_default-clause-calls g c = makes_none _ (λ ts. UndoesRow c.args.row.now c.args.owners.now.items ts c.args.owners.now.items) _ _ (UndoesRow.absent _ c.in_default.is)
 
+pub returns-in_default-clause-told : goal.returns-in_default-clause-told
+returns-in_default-clause-told g c = tells_none (g.H.Host.state c.args.host.now) (g.H.Host.state c.args.host.now) _ _ refl refl
+
+pub returns-in_default-clause-any_moment : goal.returns-in_default-clause-any_moment
+returns-in_default-clause-any_moment g c = moments_none _ _
+
+pub returns-then-contains-clause-told : goal.returns-then-contains-clause-told
+returns-then-contains-clause-told g c = tells_none (g.H.Host.state c.args.host.now) (g.H.Host.state c.args.host.now) _ _ refl refl
+
+pub returns-then-contains-clause-any_moment : goal.returns-then-contains-clause-any_moment
+returns-then-contains-clause-any_moment g c = moments_none _ _
+
 pub returns-then-contains-clause-calls : goal.returns-then-contains-clause-calls
 returns-then-contains-clause-calls g c =
-    let has : Contains c.args.owners.now.items c.args.row.now.owner = search rules in
+    let has = subst (λ l. Contains l c.args.row.now.owner) c.deref.ensures.value (c.contains.ensures.0 c.if-contains.true) in
     makes_none _ (λ ts. UndoesRow c.args.row.now c.args.owners.now.items ts c.args.owners.now.items) _ _ (UndoesRow.spared _ has)
+
+pub returns-in_err-owner-clause-told : goal.returns-in_err-owner-clause-told
+returns-in_err-owner-clause-told g c = tells_none (g.H.Host.state c.args.host.now) (g.H.Host.state c.args.host.now) _ _ refl refl
+
+pub returns-in_err-owner-clause-any_moment : goal.returns-in_err-owner-clause-any_moment
+returns-in_err-owner-clause-any_moment g c = moments_none _ _
+
+pub returns-in_err-reserve-clause-told : goal.returns-in_err-reserve-clause-told
+returns-in_err-reserve-clause-told g c = tells_none (g.H.Host.state c.args.host.now) (g.H.Host.state c.args.host.now) _ _ refl refl
+
+pub returns-in_err-reserve-clause-any_moment : goal.returns-in_err-reserve-clause-any_moment
+returns-in_err-reserve-clause-any_moment g c = moments_none _ _
+
+pub returns-in_err-outcome-clause-told : goal.returns-in_err-outcome-clause-told
+returns-in_err-outcome-clause-told g c = c.call_script.ensures.told
+
+pub returns-in_err-outcome-clause-any_moment : goal.returns-in_err-outcome-clause-any_moment
+returns-in_err-outcome-clause-any_moment g c = c.call_script.ensures.any_moment
+
+pub returns-then-not-is_success-clause-told : goal.returns-then-not-is_success-clause-told
+returns-then-not-is_success-clause-told g c = c.call_script.ensures.told
+
+pub returns-then-not-is_success-clause-any_moment : goal.returns-then-not-is_success-clause-any_moment
+returns-then-not-is_success-clause-any_moment g c = c.call_script.ensures.any_moment
+
+pub returns-else-not-is_success-clause-told : goal.returns-else-not-is_success-clause-told
+returns-else-not-is_success-clause-told g c = c.call_script.ensures.told
+
+pub returns-else-not-is_success-clause-any_moment : goal.returns-else-not-is_success-clause-any_moment
+returns-else-not-is_success-clause-any_moment g c = c.call_script.ensures.any_moment
+
+pub unwrap-requires : goal.unwrap-requires
+unwrap-requires g c = c.push.ensures.succeeds (omega (arith, c.in_ok-reserve.ensures.ok))
 
 pub returns-then-not-is_success-clause-calls : goal.returns-then-not-is_success-clause-calls
 returns-then-not-is_success-clause-calls g c =
-    let lacks : Contains c.args.owners.now.items c.args.row.now.owner → ⊥ = search rules in
-    let ends : is_success c.in_ok-outcome.outcome ≡ false = search rules in
-    let grown : c.push.new.self.items ≡ c.args.owners.now.items ++ c.args.row.now.owner ∷ [] = search rules in
-    let one = undoes_failed c.args.row.now c.in-Some.undo c.in_ok-outcome.outcome c.args.owners.now.items c.push.new.self.items c.in-Some.is lacks ends grown in
-    makes_weaker _ _ (λ ts. UndoesRow c.args.row.now c.args.owners.now.items ts c.push.new.self.items) _ _ _ _ one c.in_ok-outcome.ensures.calls
+    let row = c.args.row.now in
+    let owners = c.args.owners.now.items in
+    let lacks = λ (has : Contains owners row.owner). true≢false (sym (c.contains.ensures.1 (subst (λ l. Contains l row.owner) (sym c.deref.ensures.value) has)) ∙ c.if-contains.false) in
+    let grown = pushed c.push.result _ _ _ _ c.unwrap.ensures c.push.ensures.items ∙ ap (λ l. l ++ c.in_ok-owner.owner ∷ []) c.reserve.ensures.items ∙ ap (λ o. owners ++ o ∷ []) c.in_ok-owner.ensures in
+    makes_weaker _ _ (λ ts. UndoesRow row owners ts c.push.new.self.items) _ _ _ _
+    (undoes_failed row c.in-Some.undo c.in_ok-outcome.outcome owners c.push.new.self.items c.in-Some.is lacks (sym c.is_success.ensures ∙ c.if-not-is_success.true) grown) c.in_ok-outcome.ensures.calls
 
 pub returns-else-not-is_success-clause-calls : goal.returns-else-not-is_success-clause-calls
 returns-else-not-is_success-clause-calls g c =
-    let lacks : Contains c.args.owners.now.items c.args.row.now.owner → ⊥ = search rules in
-    let ends : is_success c.in_ok-outcome.outcome ≡ true = search rules in
-    let one = undoes_done c.args.row.now c.in-Some.undo c.in_ok-outcome.outcome c.args.owners.now.items c.in-Some.is lacks ends in
-    let made = makes_weaker _ _ (λ ts. UndoesRow c.args.row.now c.args.owners.now.items ts c.args.owners.now.items) _ _ _ _ one c.in_ok-outcome.ensures.calls in
-    rw c.reserve.ensures.items made
+    let row = c.args.row.now in
+    let owners = c.args.owners.now.items in
+    let lacks = λ (has : Contains owners row.owner). true≢false (sym (c.contains.ensures.1 (subst (λ l. Contains l row.owner) (sym c.deref.ensures.value) has)) ∙ c.if-contains.false) in
+    subst (λ now. Makes (is_kept c.args.keep.now) (λ ts. UndoesRow row owners ts now) (g.H.Host.state c.args.host.now) (g.H.Host.state c.call_script.new.host) c.args.told.now.items c.call_script.new.told.items) (sym {A = List Owner} c.reserve.ensures.items)
+    (makes_weaker _ _ (λ ts. UndoesRow row owners ts owners) _ _ _ _
+    (undoes_done row c.in-Some.undo c.in_ok-outcome.outcome owners c.in-Some.is lacks (sym c.is_success.ensures ∙ c.if-not-is_success.false)) c.in_ok-outcome.ensures.calls)
