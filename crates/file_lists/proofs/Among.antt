@@ -25,7 +25,7 @@ use Rattle.administration.specs.declared.fault.AdministrationFault.{Administrati
 use Rattle.administration.specs.declared.fault.AdministrationFault.TheVariants.{Damaged, Device, NoMemory}
 use Rattle.file_lists.specs.Lists.{Lists}
 use Rattle.file_lists.specs.Info.{entry_path, IsBefore, IsListOf, IsSound, HasBadName}
-use Rattle.file_lists.specs.Reading.{HasTaken, IsFaultAt, AreSoundAmong, HaveTaken, IsFaultAmong, AreEntries}
+use Rattle.file_lists.specs.Reading.{HasTaken, IsFaultAt, AreSoundAmong, HaveTaken, IsFaultAmong, IsNameFault, AreEntries}
 use Rattle.file_lists.proofs.Judged.{any_contains, contains_any}
 
 -- the string of a set that has these bytes
@@ -72,6 +72,10 @@ name_added names i name key q new mid lt is same new_is mid_is =
     new_is ∙ joined (bytes_eq key q) mid ∙ ap (λ b. b || bytes_eq key q) mid_is
     ∙ ap (λ b. list_any (bytes_eq q) (take i names) || b) (turned key q ∙ ap (bytes_eq q) (same ∙ is))
     ∙ sym (list_any_more (bytes_eq q) names i name lt)
+
+-- one of the names isn't text
+pub bad_name : (w : World) (names : List Path) (bad : Bool) (p : Path) → p ≡ info_path → bad ≡ true → IsListing w p names bad → IsNameFault w (Damaged p 0)
+bad_name w names bad p e is listing = ((subst (λ d. IsListing w d names bad) e listing).faulty is, e, refl)
 
 -- the names of a listing without bad ones are the entries
 pub entries_listed : (w : World) (names : List Path) (bad : Bool) (s : BTreeSet (String Global)) → bad ≡ false → IsListing w info_path names bad → ((q : Path) → contains_text s q ≡ list_any (bytes_eq q) names) → AreEntries w (contains_text s)

@@ -4,8 +4,25 @@ use Rattle.std.specs.Str.{bytes_eq}
 use Rattle.std.specs.BTreeSet.{contains_text}
 use Rattle.host_core.specs.Paths.{Path}
 use Rattle.host_core.specs.Tree.{IsListing}
-use Rattle.file_lists.proofs.Among.{entries_listed}
+use Rattle.administration.specs.declared.fault.AdministrationFault.TheVariants.{NoMemory}
+use Rattle.file_lists.specs.Reading.{IsNameFault}
+use Rattle.file_lists.proofs.Among.{bad_name, entries_listed}
+use Rattle.file_lists.proofs.Looked.{fault_told, host_told}
 use Rattle.file_lists.proofs.reading.entries_in.Goals as goal
+
+pub returns-then-listing-clause-fault : goal.returns-then-listing-clause-fault
+returns-then-listing-clause-fault g c = λ h.
+    let w = (g.H.Host.state c.args.host.now).world in
+    let listing = c.in_ok-listing.listing in
+    bad_name w listing.names listing.bad c.in_ok-info.info c.in_ok-info.ensures c.if-listing.true (c.in_ok-listing.ensures.listed h)
+
+pub returns-in_err-info-clause-fault : goal.returns-in_err-info-clause-fault
+returns-in_err-info-clause-fault g c = λ h.
+    fault_told (IsNameFault (g.H.Host.state c.args.host.now).world) NoMemory c.from_residual.result c.from_residual.ensures.1 tt
+
+pub returns-in_err-listing-clause-fault : goal.returns-in_err-listing-clause-fault
+returns-in_err-listing-clause-fault g c = λ h.
+    host_told (IsNameFault (g.H.Host.state c.args.host.now).world) _ c.from_residual-in_err-listing.result c.from_residual-in_err-listing.ensures.1 tt tt
 
 pub returns-clause-entries : goal.returns-clause-entries
 returns-clause-entries g c = λ h.
