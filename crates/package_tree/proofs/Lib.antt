@@ -2,3 +2,4 @@ pub mod Readable
 pub mod Shipped
 pub mod FieldsOnce
 pub mod OneTree
+pub mod Passing
