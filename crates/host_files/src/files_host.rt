@@ -7,7 +7,7 @@ ghost use Rattle.host_files.specs.Entries.{permissions_of, IsAbsence};
 ghost use Rattle.host_files.specs.Faults.{IsFaultOf};
 
 use crate::command::command_of;
-use crate::disk::{mode_of, stat};
+use crate::disk::{is_directory, mode_of, stat};
 use crate::looking::{listing_at, node_at};
 use crate::root::Root;
 use host_core::{Call, Host, HostFault, Keep, Listing, Node, Outcome, RootPath};
@@ -103,6 +103,22 @@ fn write_bytes(rt: &HostRuntime, place: &str, bytes: &[u8], mode: u16) -> io::Re
     check_mode(&file.metadata()?, mode)
 }
 
+// The mode is set last, as that of a file.
+fn create_directory(rt: &HostRuntime, place: &str, mode: u16) -> io::Result<()> {
+    DirBuilder::new().mode(0o700).create(rt, place)?;
+    fs::set_permissions(rt, place, Permissions::from_mode(u32::from(mode)))?;
+    check_mode(&fs::symlink_metadata(rt, place)?, mode)
+}
+
+// Renames what is no directory.
+fn rename_file(rt: &HostRuntime, from: &str, to: &str) -> io::Result<()> {
+    if is_directory(rt, from)? {
+        Err(Error::from(ErrorKind::IsADirectory))
+    } else {
+        fs::rename(rt, from, to)
+    }
+}
+
 // Whether the script is one that can't be started, or is missing.
 fn is_start_error(error: &Error) -> bool
     ensures { result ≡ is_start_error (raw_os_error error.now) }
@@ -120,6 +136,15 @@ fn outcome_of(status: &ExitStatus) -> Outcome
     match status.code() {
         Some(code) => Outcome::Exit(code),
         None => Outcome::Killed,
+    }
+}
+
+// Starts the script of a command and waits for its end.
+fn spawn(rt: &HostRuntime, command: &mut Command) -> io::Result<Outcome> {
+    match command.spawn(rt) {
+        Ok(mut child) => Ok(outcome_of(&child.wait()?)),
+        Err(error) if is_start_error(&error) => Ok(Outcome::NotStarted),
+        Err(error) => Err(error),
     }
 }
 
@@ -249,20 +274,14 @@ impl FilesHost {
     // Makes a directory where nothing stands.
     fn make_directory(&self, path: &RootPath, mode: u16) -> io::Result<()> {
         let place = self.place_of_step(path)?;
-        let place = place.as_str();
-        DirBuilder::new().mode(0o700).create(&self.rt, place)?;
-        fs::set_permissions(&self.rt, place, Permissions::from_mode(u32::from(mode)))?;
-        check_mode(&fs::symlink_metadata(&self.rt, place)?, mode)
+        create_directory(&self.rt, place.as_str(), mode)
     }
 
     // Moves a file or link over a file, a link or nothing.
     fn move_over(&self, from: &RootPath, to: &RootPath) -> io::Result<()> {
         let from = self.place_of_step(from)?;
         let to = self.place_of_step(to)?;
-        match stat(&self.rt, from.as_str())? {
-            Some(found) if found.is_dir() => Err(Error::from(ErrorKind::IsADirectory)),
-            _ => fs::rename(&self.rt, from.as_str(), to.as_str()),
-        }
+        rename_file(&self.rt, from.as_str(), to.as_str())
     }
 
     // Removes a file or link.
@@ -281,8 +300,8 @@ impl FilesHost {
     // script.
     fn check_working_directory(&self) -> io::Result<()> {
         let directory = RootPath::from_str(self.rt.alloc(), "/.")?;
-        fs::metadata(&self.rt, self.root.place(&directory)?)?;
-        Ok(())
+        let place = self.root.place(&directory)?;
+        check_directory(&self.rt, place.as_str())
     }
 
     // Whether a file stands at the path, and the directory can be worked in.
@@ -304,11 +323,7 @@ impl FilesHost {
         command.stdin(Stdio::from(fs::open(&self.rt, "/dev/null")?));
         command.stdout(Stdio::inherit());
         command.stderr(Stdio::inherit());
-        match command.spawn(&self.rt) {
-            Ok(mut child) => Ok(outcome_of(&child.wait()?)),
-            Err(error) if is_start_error(&error) => Ok(Outcome::NotStarted),
-            Err(error) => Err(error),
-        }
+        spawn(&self.rt, command)
     }
 
     // Starts the script of a call and waits for its end.

@@ -8,7 +8,7 @@ use crate::disk::{is_directory, mode_of, stat};
 use crate::root::Root;
 use host_core::{Listing, Node, RootPath};
 use std::alloc::Global;
-use std::fs::Metadata;
+use std::fs::{DirEntry, Metadata};
 use std::io::{Error, ErrorKind, Read};
 use std::{fs, io};
 use texts::{Bytes, Text, Texts};
@@ -76,17 +76,31 @@ pub(crate) fn listing_at(rt: &HostRuntime, root: &Root, path: &RootPath) -> io::
 {
     let alloc = rt.alloc();
     let mut names = Vec::new(alloc);
-    let mut bad = false;
-    if root.reaches(rt, path)? {
-        let place = root.place(path)?;
-        if is_directory(rt, place.as_str())? {
-            bad = read_names(rt, place.as_str(), &mut names)?;
-        }
-    }
+    let bad = add_names(rt, root, path, &mut names)?;
     Ok(Listing {
         names: sorted(alloc, names)?,
         bad,
     })
+}
+
+// Adds the names in the directory, if one stands there, and tells whether one was no text.
+fn add_names(
+    rt: &HostRuntime,
+    root: &Root,
+    path: &RootPath,
+    names: &mut Vec<String>,
+) -> io::Result<bool>
+    ensures { OnOk result (vec_len names.new ≤ vec_len names.old + 2 ^ 20) }
+{
+    if !root.reaches(rt, path)? {
+        return Ok(false);
+    }
+    let place = root.place(path)?;
+    if is_directory(rt, place.as_str())? {
+        read_names(rt, place.as_str(), names)
+    } else {
+        Ok(false)
+    }
 }
 
 // Adds the names that are text, and tells whether one wasn't.
@@ -100,13 +114,25 @@ fn read_names(rt: &HostRuntime, place: &str, names: &mut Vec<String>) -> io::Res
             return Err(Error::from(ErrorKind::FileTooLarge));
         }
         count += 1;
-        match entry {
-            Ok(entry) => names.push(String::from_str(rt.alloc(), entry.file_name())?)?,
-            Err(error) if is_no_text(&error) => bad = true,
-            Err(error) => return Err(error),
+        if !add_name(rt.alloc(), entry, names)? {
+            bad = true;
         }
     }
     Ok(bad)
+}
+
+// Adds the entry's name, and tells whether it was text.
+fn add_name(alloc: Global, entry: io::Result<DirEntry>, names: &mut Vec<String>) -> io::Result<bool>
+    ensures { OnOk result (vec_len names.new ≤ vec_len names.old + 1) }
+{
+    match entry {
+        Ok(entry) => {
+            names.push(String::from_str(alloc, entry.file_name())?)?;
+            Ok(true)
+        }
+        Err(error) if is_no_text(&error) => Ok(false),
+        Err(error) => Err(error),
+    }
 }
 
 // A name that isn't UTF-8. A path that is too long has the same kind, and a number of the system's.
