@@ -1,7 +1,8 @@
 // The scripts of the incoming tree, which lie in `tmp.ci` while its unit runs.
-ghost use Rattle.std.specs.Prelude.{◌≡◌, IsTrue, OnOk, IfOk, None};
+ghost use Rattle.std.specs.Prelude.{◌≡◌, ◌++◌, ◌∷◌, [], IsTrue, OnOk, IfOk, None};
 ghost use Rattle.host_core.specs.World.{IsDirectory, IsBare, KeepsBut};
 ghost use Rattle.host_core.specs.Host.{HasCause, Silent, Since};
+ghost use Rattle.host_core.specs.Outcome.{script_name};
 ghost use Rattle.administration.specs.Places.{home_path, tmp_path as tmp_place, tmp_script_path as script_place, is_within};
 ghost use Rattle.administration.specs.Files.{NoDirectory};
 ghost use Rattle.administration.specs.Directories.{IsMade, IsRemoved};
@@ -76,14 +77,20 @@ pub fn lay_out<H: Host>(alloc: Global, host: &mut H, scripts: &Scripts) -> Resul
     put_all(alloc, host, scripts)
 }
 
+fn push_name(alloc: Global, names: &mut Texts, script: Script) -> Result<(), AllocError>
+    ensures { OnOk result (names.new ≡ names.old ++ script_name script ∷ []) }
+{
+    names.push(Text::from_str(alloc, script.name())?)
+}
+
 fn names(alloc: Global) -> Result<Texts, AllocError>
     ensures { IfOk result (λ names. names ≡ script_names) }
 {
     let mut names = Texts::new(alloc);
-    names.push(Text::from_str(alloc, Script::Preinst.name())?)?;
-    names.push(Text::from_str(alloc, Script::Postinst.name())?)?;
-    names.push(Text::from_str(alloc, Script::Prerm.name())?)?;
-    names.push(Text::from_str(alloc, Script::Postrm.name())?)?;
+    push_name(alloc, &mut names, Script::Preinst)?;
+    push_name(alloc, &mut names, Script::Postinst)?;
+    push_name(alloc, &mut names, Script::Prerm)?;
+    push_name(alloc, &mut names, Script::Postrm)?;
     Ok(names)
 }
 
