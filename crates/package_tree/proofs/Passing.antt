@@ -1,11 +1,12 @@
 -- What is told of a host over two calls, and of a fault that a `?` passes on.
-use Rattle.std.proofs.Common.{◌≡◌, IsTrue, Result, Ok, Err, refl, sym, ◌∙◌, ap, subst, arith}
+use Rattle.std.proofs.Common.{◌≡◌, ℕ, List, IsTrue, Result, Ok, Err, refl, sym, ◌∙◌, ap, subst, arith}
 use Rattle.std.specs.Prelude.{IfErr, IsErrAnd, IsErrOf}
 use Rattle.host_core.specs.World.{World}
-use Rattle.host_core.specs.Host.{State, Same, Silent, HasCause}
-use Rattle.host_core.specs.declared.fault.HostFault.{HostFault}
-use Rattle.host_core.specs.declared.fault.HostFault.TheVariants as host
-use Rattle.package_tree.specs.Fault.{HasTreeCause, IsHostFault, fault_of}
+use Rattle.host_core.specs.Host.{State, Same, Silent}
+use Rattle.package_tree.specs.Fault.{HasTreeCause, IsHostFault}
+use Rattle.control_fields.specs.Grammar.{ReadsOne, lines_of}
+use Rattle.control_fields.specs.declared.field.Field.{Field}
+use Rattle.package_tree.specs.ControlFile.{IsFieldFault, IsTextFault}
 use Rattle.package_tree.specs.Debian.{IsContentsFault}
 use Rattle.package_tree.specs.Tree.{HasGoodControl, IsTreeFault}
 use Rattle.package_tree.specs.declared.fault.TreeFault.{TreeFault}
@@ -47,11 +48,7 @@ unfolding error_of
 passed_cause (Ok x) s fault first second passed told cause = absurd passed
 passed_cause (Err e) s fault first second passed told cause = λ device. omega (arith, first.0.faults, cause (told ∙ ap Err (sym passed ∙ ap error_of device)))
 
--- and a fault of the host passes on as that of a tree
-
-pub passed_host : {T : Type 0} (r : Result T TreeFault) (fault : HostFault) → IsErrAnd r (λ e. e ≡ fault_of fault) → IfErr r IsHostFault
-passed_host r host.Device passed = passed_fault IsHostFault r Device passed tt
-passed_host r host.NoMemory passed = passed_fault IsHostFault r NoMemory passed tt
+-- another fault than Device is not Device
 
 abbrev IsFailure : TreeFault → Type 0
 IsFailure NoControl = ⊥
@@ -66,10 +63,6 @@ pub no_device : {T : Type 0} (r : Result T TreeFault) (fault : TreeFault) → (I
 unfolding error_of
 no_device (Ok x) fault other passed = absurd passed
 no_device (Err e) fault other passed = λ device. other (subst IsFailure (sym (ap error_of device) ∙ passed) tt)
-
-pub host_cause : {T U : Type 0} {a b : State} (r : Result T TreeFault) (s : Result U HostFault) (fault : HostFault) → Silent a b → IsErrAnd r (λ e. e ≡ fault_of fault) → s ≡ Err fault → HasCause a b s → HasTreeCause a b r
-host_cause r s host.Device silent passed told cause = λ device. cause told
-host_cause r s host.NoMemory silent passed told cause = λ device. absurd (no_device r NoMemory (λ none. none) passed device)
 
 -- a fault of the host is one of any tree, and one of what stands beside the control file is one where that is good
 
@@ -90,3 +83,13 @@ told_contents w (FieldBad name) good is = absurd is
 told_contents w (PathBad path) good is = (good, is)
 told_contents w Device good is = tt
 told_contents w NoMemory good is = tt
+
+-- a fault of the fields is one of the text that has them
+pub told_fields : (text : List ℕ) (paragraph : List Field) (fault : TreeFault) → ReadsOne (lines_of text) paragraph → IsFieldFault paragraph fault → IsTextFault text fault
+told_fields text paragraph NoControl reads is = absurd is
+told_fields text paragraph (Control fault) reads is = absurd is
+told_fields text paragraph (FieldMissing name) reads is = (paragraph, reads, is)
+told_fields text paragraph (FieldBad name) reads is = (paragraph, reads, is)
+told_fields text paragraph (PathBad path) reads is = absurd is
+told_fields text paragraph Device reads is = absurd is
+told_fields text paragraph NoMemory reads is = tt

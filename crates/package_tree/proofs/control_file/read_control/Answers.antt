@@ -1,0 +1,11 @@
+use Rattle.package_tree.proofs.Passing.{passed_fault, told_fields}
+use Rattle.package_tree.proofs.control_file.read_control.Goals as goal
+
+pub returns-in_err-paragraph-clause-fault : goal.returns-in_err-paragraph-clause-fault
+returns-in_err-paragraph-clause-fault c = passed_fault _ c.from_residual.result c.in_err-paragraph.field-0.0 c.from_residual.ensures.1 c.in_err-paragraph.ensures.fault
+
+pub returns-in_err-name-clause-fault : goal.returns-in_err-name-clause-fault
+returns-in_err-name-clause-fault c =
+    let fault = c.in_err-name.field-0.0 in
+    passed_fault _ c.from_residual-in_err-name.result fault c.from_residual-in_err-name.ensures.1
+    (told_fields c.args.text.now c.in_ok-paragraph.paragraph fault c.in_ok-paragraph.ensures.reads c.in_err-name.ensures.fault)
