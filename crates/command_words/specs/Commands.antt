@@ -1,7 +1,7 @@
 -- The command line, as clap's rules, and what words ask for.
-use Rattle.std.specs.Prelude.{◌≡◌, ℕ, Bool, false, List, [], ◌∷◌, length, map, Option, Some, None, option_and_then, option_map, codes, true, if◌then◌else◌, nat_eq, nat_le}
+use Rattle.std.specs.Prelude.{ℕ, Bool, false, List, [], ◌∷◌, length, map, Option, Some, None, option_and_then, option_map, codes, true, if◌then◌else◌, nat_eq, nat_le}
 use Rattle.std.specs.Str.{bytes_eq}
-use Rattle.clap.specs.Words.{App, app_of, Kinds, Row, Rule, Text, all_of, fault_of, first_of, new_app, new_rule, subcommand_of, with_rule, with_subcommand}
+use Rattle.clap.specs.Words.{App, Kinds, Row, Rule, Text, all_of, fault_of, first_of, new_app, new_rule, subcommand_of, with_rule, with_subcommand}
 use Rattle.clap.specs.declared.builder.ArgAction.TheVariants.{Append, Set}
 use Rattle.command_words.specs.Comparisons.{operator_of}
 use Rattle.command_words.specs.declared.comparison.Comparison.{Comparison}
@@ -9,8 +9,6 @@ use Rattle.command_words.specs.declared.words.Asked.{Asked}
 use Rattle.command_words.specs.declared.words.Compared.{Compared}
 use Rattle.command_words.specs.declared.words.Rooted.{Rooted}
 use Rattle.command_words.specs.declared.words.Unpacking.{Unpacking}
-use Rattle.clap.specs.declared.builder.command.Command.{Command}
-use Rattle.clap.specs.declared.builder.command.Command.TheViews.{out-Command}
 use Rattle.command_words.specs.declared.words.Asked.TheVariants.{Names, CompareVersions, Unpack}
 
 -- a word that has to be given, at its place
@@ -94,8 +92,3 @@ unfoldable pub asked_of : List Text → Option Asked
 asked_of words =
     if nat_le (length words) 1 then Some Names
     else unless_faulty (fault_of whole_app words) (asked_in (entered words))
-
--- the command with one rule more, and still no global argument
-pub record AddsRule (old : Command) (rule : Rule) (new : Command) : Type 0 where
-  pub app : app_of new ≡ with_rule (app_of old) rule
-  pub local : (out-Command new).has_globals ≡ false

@@ -1,58 +1,56 @@
 // The command line, as clap's commands and arguments.
 ghost use Rattle.std.specs.Prelude.{◌≡◌, IfOk, codes, false};
-ghost use Rattle.clap.specs.Words.{app_of, new_app, with_subcommand};
+ghost use Rattle.clap.specs.Words.{app_of, new_app, rule_of, with_subcommand};
 ghost use Rattle.clap.specs.declared.builder.command.Command.TheViews.{out-Command as fields_of};
-ghost use Rattle.command_words.specs.Commands.{AddsRule, compare_versions_app, root_rule, trees_rule, unpack_app, whole_app, without_help, word_rule};
+ghost use Rattle.command_words.specs.Commands.{compare_versions_app, root_rule, trees_rule, unpack_app, whole_app, without_help, word_rule};
 
 use clap::{Arg, ArgAction, Command};
 use std::alloc::{AllocError, Global};
 
 // A word that has to be given.
-fn add_word<'a>(alloc: Global, command: Command<'a>, id: &'a str) -> Result<Command<'a>, AllocError>
-    requires { (fields_of command).has_globals ≡ false }
-    ensures { IfOk result (AddsRule command.entry (word_rule id.entry.now)) }
+fn word<'a>(alloc: Global, id: &'a str) -> Arg<'a>
+    ensures { rule_of result ≡ word_rule id.entry.now }
 {
-    let word = Arg::new(alloc, id).required(true).action(ArgAction::Set);
-    command.arg(word)
+    Arg::new(alloc, id).required(true).action(ArgAction::Set)
 }
 
 fn compare_versions_command<'a>(alloc: Global) -> Result<Command<'a>, AllocError>
     ensures app { IfOk result (λ c. app_of c ≡ compare_versions_app) }
     ensures local { IfOk result (λ c. (fields_of c).has_globals ≡ false) }
 {
-    let command = add_word(alloc, Command::new(alloc, "compare-versions"), "A")?;
-    let command = add_word(alloc, command, "OP")?;
-    add_word(alloc, command, "B")
+    let mut words = Vec::with_capacity(alloc, 3)?;
+    words.push_reserved(word(alloc, "A"));
+    words.push_reserved(word(alloc, "OP"));
+    words.push_reserved(word(alloc, "B"));
+    Command::new(alloc, "compare-versions").args(words)
 }
 
 // The root is the whole system's if it isn't given.
-fn add_root<'a>(alloc: Global, command: Command<'a>) -> Result<Command<'a>, AllocError>
-    requires { (fields_of command).has_globals ≡ false }
-    ensures { IfOk result (AddsRule command.entry root_rule) }
+fn root<'a>(alloc: Global) -> Arg<'a>
+    ensures { rule_of result ≡ root_rule }
 {
-    let root = Arg::new(alloc, "root")
+    Arg::new(alloc, "root")
         .long("root")
         .action(ArgAction::Set)
-        .default_value("/");
-    command.arg(root)
+        .default_value("/")
 }
 
-fn add_trees<'a>(alloc: Global, command: Command<'a>) -> Result<Command<'a>, AllocError>
-    requires { (fields_of command).has_globals ≡ false }
-    ensures { IfOk result (AddsRule command.entry trees_rule) }
+fn trees<'a>(alloc: Global) -> Arg<'a>
+    ensures { rule_of result ≡ trees_rule }
 {
-    let trees = Arg::new(alloc, "TREE")
+    Arg::new(alloc, "TREE")
         .required(true)
-        .action(ArgAction::Append);
-    command.arg(trees)
+        .action(ArgAction::Append)
 }
 
 fn unpack_command<'a>(alloc: Global) -> Result<Command<'a>, AllocError>
     ensures app { IfOk result (λ c. app_of c ≡ unpack_app) }
     ensures local { IfOk result (λ c. (fields_of c).has_globals ≡ false) }
 {
-    let command = add_root(alloc, Command::new(alloc, "unpack"))?;
-    add_trees(alloc, command)
+    let mut args = Vec::with_capacity(alloc, 2)?;
+    args.push_reserved(root(alloc));
+    args.push_reserved(trees(alloc));
+    Command::new(alloc, "unpack").args(args)
 }
 
 // Help is no subcommand and no flag, so a call for it is a usage fault.

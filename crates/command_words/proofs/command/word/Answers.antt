@@ -1,0 +1,10 @@
+use Rattle.std.proofs.Common.{ap, ◌∙◌, true, Some}
+use Rattle.clap.specs.Words.{Rule, rule_of}
+use Rattle.clap.specs.declared.builder.arg.Arg.{Arg}
+use Rattle.clap.specs.declared.builder.ArgAction.TheVariants.{Set}
+use Rattle.command_words.proofs.command.word.Goals as goal
+
+pub returns : goal.returns
+returns c =
+    ap rule_of (c.action.ensures ∙ ap (λ (a : Arg). record a { action = Some Set }) c.required.ensures)
+    ∙ ap (λ (r : Rule). record r { action = Some Set; required = true }) c.new.ensures.rule
