@@ -1,9 +1,9 @@
 -- How lists of calls that were made go on.
-use Rattle.std.proofs.Common.{◌≡◌, Bool, IsTrue, List, [], ◌∷◌, ◌++◌, map, Result, Ok, Err, is_ok, if◌then◌else◌, refl, sym, ap, subst, ◌∙◌, append_assoc}
+use Rattle.std.proofs.Common.{◌≡◌, Bool, IsTrue, List, [], ◌∷◌, ◌++◌, map, Result, Ok, Err, OnOk, IsErrAnd, is_ok, if◌then◌else◌, refl, sym, ap, subst, ◌∙◌, append_assoc}
 use Rattle.std.proofs.lemmas.List.{append-nil, map-append}
 use Rattle.host_core.specs.Paths.{Path}
 use Rattle.host_core.specs.World.{SameOn}
-use Rattle.host_core.specs.Host.{Ran, Runs, State, Since}
+use Rattle.host_core.specs.Host.{HasCause, Ran, Runs, State, Since}
 use Rattle.host_core.specs.Moments.{since_start}
 use Rattle.host_core.specs.Scripts.{calls_none, calls_one, calls_then, since_kept}
 use Rattle.host_core.specs.declared.call.Call.{Call}
@@ -65,3 +65,13 @@ module _ (kept : Path → Bool) (call : Call) (outcome : Outcome) (a b : State) 
 -- a push that succeeded
 pub pushed : {T E A : Type 0} (r : Result T E) (y : T) (x : A) (old now : List A) → r ≡ Ok y → now ≡ (if is_ok r then old ++ x ∷ [] else old) → now ≡ old ++ x ∷ []
 pushed r y x old now ok is = is ∙ ap (λ q. if is_ok q then old ++ x ∷ [] else old) ok
+
+-- the answer after a `?`
+
+pub no_value : {T : Type 0} (P : Type 0) (Q : HostFault → Type 0) (r : Result T HostFault) → IsErrAnd r Q → OnOk r P
+no_value P Q (Ok x) told = absurd told
+no_value P Q (Err fault) told = tt
+
+pub cause_told : {T : Type 0} (U : Type 0) (a b : State) (given : HostFault) (r : Result T HostFault) → IsErrAnd r (λ e. e ≡ given) → HasCause {T = U} a b (Err given) → HasCause a b r
+cause_told U a b given (Ok x) told cause = absurd told
+cause_told U a b given (Err fault) is cause = λ of. cause (cc)

@@ -1,9 +1,9 @@
-use Rattle.std.proofs.Common.{List, ◌∷◌, [], ◌++◌, Contains, arith, refl, sym, ap, subst, ◌∙◌}
+use Rattle.std.proofs.Common.{List, ◌∷◌, [], ◌++◌, Contains, arith, refl, sym, ap, subst, ◌∙◌, rules}
 use Rattle.std.proofs.lemmas.Bool.{true≢false}
 use Rattle.host_core.specs.World.{is_kept}
 use Rattle.unwind_stack.specs.declared.rows.Owner.{Owner}
 use Rattle.unwind_stack.specs.Transcript.{Makes, UndoesRow}
-use Rattle.unwind_stack.proofs.Makes.{makes_none, makes_weaker, moments_none, pushed, tells_none}
+use Rattle.unwind_stack.proofs.Makes.{cause_told, makes_none, makes_weaker, moments_none, no_value, pushed, tells_none}
 use Rattle.unwind_stack.proofs.OneRow.{undoes_done, undoes_failed}
 use Rattle.unwind_stack.proofs.rows.undo_row.Goals as goal
 
@@ -39,6 +39,13 @@ returns-in_err-reserve-clause-told g c = tells_none (g.H.Host.state c.args.host.
 pub returns-in_err-reserve-clause-any_moment : goal.returns-in_err-reserve-clause-any_moment
 returns-in_err-reserve-clause-any_moment g c = moments_none _ _
 
+pub returns-in_err-outcome-clause-calls : goal.returns-in_err-outcome-clause-calls
+returns-in_err-outcome-clause-calls g c = no_value _ _ c.from_residual-in_err-outcome.result c.from_residual-in_err-outcome.ensures.1
+
+pub returns-in_err-outcome-clause-cause : goal.returns-in_err-outcome-clause-cause
+returns-in_err-outcome-clause-cause g c =
+    cause_told _ (g.H.Host.state c.args.host.now) (g.H.Host.state c.call_script.new.host) _ c.from_residual-in_err-outcome.result c.from_residual-in_err-outcome.ensures.1 c.in_err-outcome.ensures.cause
+
 pub returns-in_err-outcome-clause-told : goal.returns-in_err-outcome-clause-told
 returns-in_err-outcome-clause-told g c = c.call_script.ensures.told
 
@@ -64,7 +71,7 @@ pub returns-then-not-is_success-clause-calls : goal.returns-then-not-is_success-
 returns-then-not-is_success-clause-calls g c =
     let row = c.args.row.now in
     let owners = c.args.owners.now.items in
-    let lacks = λ (has : Contains owners row.owner). true≢false (sym (c.contains.ensures.1 (subst (λ l. Contains l row.owner) (sym c.deref.ensures.value) has)) ∙ c.if-contains.false) in
+    let lacks : Contains owners row.owner → ⊥ = search rules in
     let grown = pushed c.push.result _ _ _ _ c.unwrap.ensures c.push.ensures.items ∙ ap (λ l. l ++ c.in_ok-owner.owner ∷ []) c.reserve.ensures.items ∙ ap (λ o. owners ++ o ∷ []) c.in_ok-owner.ensures in
     makes_weaker _ _ (λ ts. UndoesRow row owners ts c.push.new.self.items) _ _ _ _
     (undoes_failed row c.in-Some.undo c.in_ok-outcome.outcome owners c.push.new.self.items c.in-Some.is lacks (sym c.is_success.ensures ∙ c.if-not-is_success.true) grown) c.in_ok-outcome.ensures.calls
