@@ -1,5 +1,5 @@
 -- What looking alone leaves as it was, and what is told of a fault.
-use Rattle.std.proofs.Common.{◌≡◌, Result, Ok, Err, OnOk, IfErr, IsErrAnd, IsTrue, arith, refl, sym, subst, ◌∙◌}
+use Rattle.std.proofs.Common.{◌≡◌, Result, Ok, Err, OnOk, IfErr, IsErrAnd, IsTrue, arith, sym, subst, ◌∙◌}
 use Rattle.host_core.specs.Host.{State, Same, Silent}
 use Rattle.host_core.specs.declared.fault.HostFault.{HostFault}
 use Rattle.host_core.specs.declared.fault.HostFault.TheVariants as host
