@@ -1,5 +1,5 @@
 -- What looking alone leaves as it was, and what is told of a fault.
-use Rattle.std.proofs.Common.{◌≡◌, Result, Ok, Err, OnOk, IfErr, IsErrAnd, IsTrue, arith, sym, subst, ◌∙◌}
+use Rattle.std.proofs.Common.{◌≡◌, Result, Ok, Err, IfErr, IsErrAnd, IsTrue, arith, sym, subst, ◌∙◌}
 use Rattle.host_core.specs.Host.{State, Same, Silent}
 use Rattle.host_core.specs.declared.fault.HostFault.{HostFault}
 use Rattle.host_core.specs.declared.fault.HostFault.TheVariants as host
@@ -15,10 +15,6 @@ same_then a b c first silent second h =
 
 pub silent_then : (a b c : State) → Silent a b → Silent b c → Silent a c
 silent_then a b c first second = record { honest = second.honest ∙ first.honest; calls = second.calls ∙ first.calls; faults = omega arith }
-
-pub no_value : {T : Type 0} (P : Type 0) (Q : AdministrationFault → Type 0) (r : Result T AdministrationFault) → IsErrAnd r Q → OnOk r P
-no_value P Q (Ok x) told = absurd told
-no_value P Q (Err fault) told = tt
 
 pub fault_told : {T : Type 0} (P : AdministrationFault → Type 0) (given : AdministrationFault) (r : Result T AdministrationFault) → IsErrAnd r (λ e. e ≡ given) → P given → IfErr r P
 fault_told P given (Ok x) told here = absurd told

@@ -1,40 +1,12 @@
-use Rattle.std.proofs.Common.{IsTrue, true, false, refl, sym, subst, ◌∙◌}
+use Rattle.std.proofs.Common.{IsTrue, true, false, sym, subst, ◌∙◌}
 use Rattle.host_core.specs.Scripts.{since_kept}
 use Rattle.unwind_stack.specs.Transcript.{Tries}
-use Rattle.unwind_stack.proofs.Makes.{cause_told, makes_none, makes_weaker, makes_then, moments_none, tells_none, tells_then}
+use Rattle.unwind_stack.proofs.Makes.{makes_none, makes_weaker, makes_then, tells_then}
 use Rattle.unwind_stack.proofs.OneRow.{tries_done, tries_failed, tries_fallback}
 use Rattle.unwind_stack.proofs.rows.try_row.Goals as goal
 
 pub returns-in_default-clause-calls : goal.returns-in_default-clause-calls
 returns-in_default-clause-calls g c = makes_none _ (λ ts. Tries c.args.row.now ts true) _ _ (Tries.absent c.in_default.is)
-
-pub returns-in_default-clause-told : goal.returns-in_default-clause-told
-returns-in_default-clause-told g c = tells_none (g.H.Host.state c.args.host.now) (g.H.Host.state c.args.host.now) _ _ refl refl
-
-pub returns-in_default-clause-any_moment : goal.returns-in_default-clause-any_moment
-returns-in_default-clause-any_moment g c = moments_none _ _
-
-pub returns-in_err-outcome-clause-cause : goal.returns-in_err-outcome-clause-cause
-returns-in_err-outcome-clause-cause g c =
-    cause_told _ (g.H.Host.state c.args.host.now) (g.H.Host.state c.call_script.new.host) _ c.from_residual.result c.from_residual.ensures.1 c.in_err-outcome.ensures.cause
-
-pub returns-in_err-outcome-clause-told : goal.returns-in_err-outcome-clause-told
-returns-in_err-outcome-clause-told g c = c.call_script.ensures.told
-
-pub returns-in_err-outcome-clause-any_moment : goal.returns-in_err-outcome-clause-any_moment
-returns-in_err-outcome-clause-any_moment g c = c.call_script.ensures.any_moment
-
-pub returns-then-is_success-clause-told : goal.returns-then-is_success-clause-told
-returns-then-is_success-clause-told g c = c.call_script.ensures.told
-
-pub returns-then-is_success-clause-any_moment : goal.returns-then-is_success-clause-any_moment
-returns-then-is_success-clause-any_moment g c = c.call_script.ensures.any_moment
-
-pub returns-in_default-fallback-clause-told : goal.returns-in_default-fallback-clause-told
-returns-in_default-fallback-clause-told g c = c.call_script.ensures.told
-
-pub returns-in_default-fallback-clause-any_moment : goal.returns-in_default-fallback-clause-any_moment
-returns-in_default-fallback-clause-any_moment g c = c.call_script.ensures.any_moment
 
 pub returns-then-is_success-clause-calls : goal.returns-then-is_success-clause-calls
 returns-then-is_success-clause-calls g c =
