@@ -28,9 +28,9 @@ first ⨾ second = (
     faults = omega (arith, first.0.faults, second.0.faults);
   },
   λ h.
-    let earlier = first.1 h in
-    let later = second.1 (subst IsTrue (sym first.0.honest) h) in
-    record { world = later.world ∙ earlier.world; steps = later.steps ∙ earlier.steps },
+      let earlier = first.1 h in
+      let later = second.1 (subst IsTrue (sym first.0.honest) h) in
+      record { world = later.world ∙ earlier.world; steps = later.steps ∙ earlier.steps },
 )
 
 -- the fault that `?` passes on is that of the call
