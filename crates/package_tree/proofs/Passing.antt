@@ -3,6 +3,7 @@ use Rattle.std.proofs.Common.{◌≡◌, ℕ, List, IsTrue, Result, Ok, Err, ref
 use Rattle.std.specs.Prelude.{IfErr, IsErrAnd, IsErrOf}
 use Rattle.host_core.specs.World.{World}
 use Rattle.host_core.specs.Host.{State, Same, Silent}
+use Rattle.host_core.specs.Moments.{same_then, silent_then}
 use Rattle.package_tree.specs.Fault.{HasTreeCause, IsHostFault}
 use Rattle.control_fields.specs.Grammar.{ReadsOne, lines_of}
 use Rattle.control_fields.specs.declared.field.Field.{Field}
@@ -21,17 +22,7 @@ still a = (record { honest = refl; calls = refl; faults = omega arith }, λ h. r
 
 infixr 35 ◌⨾◌
 pub ◌⨾◌ : {a b c : State} → Rests a b → Rests b c → Rests a c
-first ⨾ second = (
-  record {
-    honest = second.0.honest ∙ first.0.honest;
-    calls = second.0.calls ∙ first.0.calls;
-    faults = omega (arith, first.0.faults, second.0.faults);
-  },
-  λ h.
-      let earlier = first.1 h in
-      let later = second.1 (subst IsTrue (sym first.0.honest) h) in
-      record { world = later.world ∙ earlier.world; steps = later.steps ∙ earlier.steps },
-)
+first ⨾ second = (silent_then _ _ _ first.0 second.0, same_then _ _ _ first.1 first.0 second.1)
 
 -- the fault that `?` passes on is that of the call
 

@@ -4,7 +4,8 @@ use Rattle.host_core.specs.Paths.{Path}
 use Rattle.host_core.specs.World.{World}
 use Rattle.file_lists.specs.Info.{IsInfoDamage}
 use Rattle.file_lists.specs.Reading.{IsFaultAmong, AreSoundAmong, HaveTaken}
-use Rattle.file_lists.proofs.Looked.{fault_told, same_then, silent_then}
+use Rattle.file_lists.proofs.Looked.{fault_told}
+use Rattle.host_core.specs.Moments.{same_then, silent_then}
 use Rattle.file_lists.proofs.Places.{are_loose, are_sound, entry_damage, has_places, name_damage}
 use Rattle.file_lists.proofs.reading.read_places.Goals as goal
 
