@@ -14,8 +14,7 @@ pub use fault::AdministrationFault;
 pub use least::lesser;
 pub use names::is_package_name;
 pub use places::{
-    diversions_path, home_path, info_path, list_path, script_path, status_path, tmp_path,
-    tmp_script_path, updates_path,
+    DIVERSIONS, INCOMING, INFO, STATUS, UPDATES, list_path, script_path, tmp_script_path,
 };
 pub use scripts::{ScriptFile, Scripts};
 pub use whole::{discard, replace};

@@ -6,41 +6,20 @@ use host_core::{RootPath, Script};
 use std::alloc::{AllocError, Global};
 use texts::Text;
 
-pub fn home_path(alloc: Global) -> Result<RootPath, AllocError>
-    ensures { IfOk result (λ p. p ≡ place.home_path) }
-{
-    RootPath::from_str(alloc, "/var/lib/dpkg")
-}
+/// The records of the packages.
+pub const STATUS: &str = "/var/lib/dpkg/status";
 
-pub fn status_path(alloc: Global) -> Result<RootPath, AllocError>
-    ensures { IfOk result (λ p. p ≡ place.status_path) }
-{
-    RootPath::from_str(alloc, "/var/lib/dpkg/status")
-}
+/// The directory of noted records that the status file doesn't have yet.
+pub const UPDATES: &str = "/var/lib/dpkg/updates";
 
-pub fn updates_path(alloc: Global) -> Result<RootPath, AllocError>
-    ensures { IfOk result (λ p. p ≡ place.updates_path) }
-{
-    RootPath::from_str(alloc, "/var/lib/dpkg/updates")
-}
+/// The directory of the file lists and stored scripts.
+pub const INFO: &str = "/var/lib/dpkg/info";
 
-pub fn info_path(alloc: Global) -> Result<RootPath, AllocError>
-    ensures { IfOk result (λ p. p ≡ place.info_path) }
-{
-    RootPath::from_str(alloc, "/var/lib/dpkg/info")
-}
+/// The diverted paths.
+pub const DIVERSIONS: &str = "/var/lib/dpkg/diversions";
 
-pub fn diversions_path(alloc: Global) -> Result<RootPath, AllocError>
-    ensures { IfOk result (λ p. p ≡ place.diversions_path) }
-{
-    RootPath::from_str(alloc, "/var/lib/dpkg/diversions")
-}
-
-pub fn tmp_path(alloc: Global) -> Result<RootPath, AllocError>
-    ensures { IfOk result (λ p. p ≡ place.tmp_path) }
-{
-    RootPath::from_str(alloc, "/var/lib/dpkg/tmp.ci")
-}
+/// The directory of the incoming tree's scripts while its unit runs.
+pub const INCOMING: &str = "/var/lib/dpkg/tmp.ci";
 
 /// The file list of a package.
 pub fn list_path(alloc: Global, name: &Text) -> Result<RootPath, AllocError>

@@ -35,8 +35,8 @@ impl Operator {
         }
     }
 
-    /// Whether it holds of two versions in this order.
-    pub(crate) fn holds(self, order: Ordering) -> bool
+    // Whether it holds of two versions in this order.
+    fn holds(self, order: Ordering) -> bool
         ensures { result ≡ holds self order }
     {
         match self {

@@ -12,7 +12,7 @@ mod writing;
 
 pub use fault::ControlFault;
 pub use field::Field;
-pub use laws::{fields_stand_on_lines, no_fault, one_line_is_field, read_again, reads_once};
+pub use laws::{reading_is_exact, what_is_written_is_read};
 pub use line_list::Lines;
 pub use located::{ControlText, Located};
 pub use paragraph::Paragraph;

@@ -19,7 +19,7 @@ impl Model for Lines {
 }
 
 impl Lines {
-    pub fn new(alloc: Global) -> Self
+    pub(crate) fn new(alloc: Global) -> Self
         ensures { result ≡ [] }
     {
         Lines {
@@ -28,7 +28,7 @@ impl Lines {
         }
     }
 
-    pub fn push(&mut self, line: Bytes) -> Result<(), AllocError>
+    pub(crate) fn push(&mut self, line: Bytes) -> Result<(), AllocError>
         ensures { OnOk result (self.new ≡ self.old ++ line ∷ []) }
     {
         self.items.push(line)?;
@@ -41,7 +41,7 @@ impl Lines {
         self.items.as_slice()
     }
 
-    pub fn copy(&self) -> Result<Lines, AllocError>
+    pub(crate) fn copy(&self) -> Result<Lines, AllocError>
         ensures { IfOk result (λ lines. lines ≡ self.now) }
     {
         let mut items = Vec::new(self.alloc);

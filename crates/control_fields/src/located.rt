@@ -15,7 +15,7 @@ pub struct Located {
 }
 
 impl Located {
-    pub fn new(alloc: Global) -> Self
+    pub(crate) fn new(alloc: Global) -> Self
         ensures line { result.line ≡ 0 }
         ensures paragraph { result.paragraph ≡ [] }
     {

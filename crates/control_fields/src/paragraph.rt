@@ -1,5 +1,5 @@
 // Paragraphs.
-ghost use Rattle.std.specs.Prelude.{◌≡◌, List, IfOk, OnOk, IfSome, IfNone, ◌++◌, ◌∷◌, [], ◌==◌, false, length, slice_get, option_copied, ◌<◌, ◌^◌};
+ghost use Rattle.std.specs.Prelude.{◌≡◌, List, IfOk, OnOk, IfSome, IfNone, ◌++◌, ◌∷◌, [], ◌==◌, false, length, ◌<◌, ◌^◌};
 ghost use Rattle.std.specs.Map.Iter.{ShowsInOrder, deref};
 ghost use Rattle.control_fields.specs.declared.field.Field.{Field as AField};
 ghost use Rattle.control_fields.specs.Names.{lower, is_called, stands, with_line, fields_of, IsKeyed, IsFieldCalled};
@@ -55,13 +55,7 @@ impl Paragraph {
         }
     }
 
-    pub fn len(&self) -> usize
-        ensures { result ≡ length self.now }
-    {
-        self.fields.len()
-    }
-
-    pub fn is_empty(&self) -> bool
+    pub(crate) fn is_empty(&self) -> bool
         ensures { result ≡ (length self.now == 0) }
     {
         self.fields.is_empty()
@@ -74,16 +68,6 @@ impl Paragraph {
         ensures fits { length self.now < 2 ^ 63 }
     {
         self.fields.values()
-    }
-
-    /// The field at this index.
-    pub fn get_index(&self, index: usize) -> Option<&Field>
-        ensures { option_copied result ≡ slice_get self.now index }
-    {
-        match self.fields.get_index(index) {
-            Some((_, field)) => Some(field),
-            None => None,
-        }
     }
 
     /// The field whose name in lower case is the given one. Takes no memory.
@@ -116,7 +100,7 @@ impl Paragraph {
     }
 
     /// Goes on with the last field.
-    pub fn push_line(&mut self, text: Bytes) -> Result<(), AllocError>
+    pub(crate) fn push_line(&mut self, text: Bytes) -> Result<(), AllocError>
         ensures { OnOk result ((front : List AField) (last : AField) → self.old ≡ front ++ last ∷ [] → self.new ≡ front ++ with_line last text ∷ []) }
     {
         if let Some((key, mut field)) = self.fields.pop() {

@@ -4,9 +4,8 @@
 mod laws;
 mod refusal;
 mod report;
-mod run;
 mod session;
-mod unit;
+mod units;
 
 pub use laws::history_stands;
 pub use refusal::{Refusal, RelationField, Rule, Word};

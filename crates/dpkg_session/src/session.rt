@@ -10,8 +10,7 @@ ghost use Rattle.dpkg_session.specs.Standing.{IsStanding};
 ghost use Rattle.dpkg_session.specs.Units.{IsBroken, IsBrokenBy, IsClosedReport, TellsCalls};
 
 use crate::report::{Breakage, Candidate, Report};
-use crate::run::run_units;
-use crate::unit::broken;
+use crate::units::{broken, run_units};
 use administration::AdministrationFault;
 use host_core::{Host, Keep};
 use opening::open_administration;

@@ -53,7 +53,7 @@ fn is_rooted(text: &[u8]) -> bool
 
 /// Whether a text from outside names a path under the root: `/`, or components that are none of
 /// empty, `.` and `..`, without newline or NUL, at most 1,000 bytes.
-pub fn is_path_text(text: &str) -> bool
+pub(crate) fn is_path_text(text: &str) -> bool
     ensures { result ≡ is_path_text text.now }
 {
     text.len() <= 1000 && (text == "/" || is_rooted(text.as_bytes()))

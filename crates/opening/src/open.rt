@@ -15,14 +15,17 @@ ghost use Rattle.status_db.specs.Status.{HasRecords};
 ghost use Rattle.opening.specs.Opened.{IsOpened};
 
 use administration::{
-    AdministrationFault, Flatness, Standing, diversions_path, inspect_flat, lesser, look,
-    make_directory, remove_flat, status_path, tmp_path, updates_path,
+    AdministrationFault, DIVERSIONS, Flatness, INCOMING, INFO, Standing, UPDATES, inspect_flat,
+    lesser, look, make_directory, remove_flat,
 };
 use file_lists::read_places;
 use host_core::{Host, HostFault, Keep, Listing, Node, RootPath};
 use status_db::{Database, Record};
 use std::alloc::{AllocError, Global};
 use texts::{Text, Texts};
+
+// Where the status file is written before it is renamed to its place.
+const STATUS_SPARE: &str = "/var/lib/dpkg/status.dpkg-inst";
 
 fn damaged(file: RootPath, line: u64) -> AdministrationFault
     ensures { result ≡ Damaged file line }
@@ -88,7 +91,7 @@ fn check_spare<H: Host>(alloc: Global, host: &mut H) -> Result<(), Administratio
     ensures silent { Silent (H.state host.old) (H.state host.new) }
     ensures cause { HasAdministrationCause (H.state host.old) (H.state host.new) result }
 {
-    let spare = status_path(alloc)?.with_suffix(".dpkg-inst")?;
+    let spare = RootPath::from_str(alloc, STATUS_SPARE)?;
     if is_directory(host, &spare)? {
         return Err(damaged(spare, 0));
     }
@@ -126,7 +129,7 @@ fn check_updates<H: Host>(alloc: Global, host: &mut H) -> Result<(), Administrat
     ensures silent { Silent (H.state host.old) (H.state host.new) }
     ensures cause { HasAdministrationCause (H.state host.old) (H.state host.new) result }
 {
-    let directory = updates_path(alloc)?;
+    let directory = RootPath::from_str(alloc, UPDATES)?;
     let listing = host.list(&directory)?;
     check_listing(directory, &listing)
 }
@@ -138,7 +141,7 @@ fn open_updates<H: Host>(alloc: Global, host: &mut H) -> Result<(), Administrati
     ensures silent { Silent (H.state host.old) (H.state host.new) }
     ensures cause { HasAdministrationCause (H.state host.old) (H.state host.new) result }
 {
-    make_way(alloc, host, "/var/lib/dpkg/updates")?;
+    make_way(alloc, host, UPDATES)?;
     check_updates(alloc, host)
 }
 
@@ -167,7 +170,7 @@ fn open_info<H: Host>(
     ensures cause { HasAdministrationCause (H.state host.old) (H.state host.new) result }
 {
     let names = names_of(alloc, database.records())?;
-    make_way(alloc, host, "/var/lib/dpkg/info")?;
+    make_way(alloc, host, INFO)?;
     read_places(alloc, host, names.as_slice())
 }
 
@@ -193,7 +196,7 @@ fn check_diversions<H: Host>(alloc: Global, host: &mut H) -> Result<(), Administ
     ensures silent { Silent (H.state host.old) (H.state host.new) }
     ensures cause { HasAdministrationCause (H.state host.old) (H.state host.new) result }
 {
-    let path = diversions_path(alloc)?;
+    let path = RootPath::from_str(alloc, DIVERSIONS)?;
     match faulty_line(host.node(&path)?) {
         Some(line) => {
             return Err(damaged(path, line));
@@ -231,7 +234,7 @@ fn clear_leftovers<H: Host>(alloc: Global, host: &mut H) -> Result<(), Administr
     ensures silent { Silent (H.state host.old) (H.state host.new) }
     ensures cause { HasAdministrationCause (H.state host.old) (H.state host.new) result }
 {
-    let path = tmp_path(alloc)?;
+    let path = RootPath::from_str(alloc, INCOMING)?;
     match look(host, &path)? {
         Standing::Directory => {
             return clear_directory(host, path);

@@ -1,9 +1,9 @@
 -- What laying out the scripts of the incoming tree leaves.
 use Rattle.std.proofs.Common.{◌≡◌, ◌⊎◌, inl, inr, Bool, true, false, cond, nat_eq, ◌∷◌, ◌++◌, Option, Some, None, refl, sym, ap, subst, ◌∙◌, codes, Contains, arith, is_some, drop, zero, suc}
-use Rattle.std.specs.Prelude.{IsSome}
+use Rattle.std.specs.Prelude.{IsSome, MatchBool}
 use Rattle.std.proofs.lemmas.Bool.{true≢false, eqb-true, eqb-false}
 use Rattle.host_core.specs.Paths.{Path}
-use Rattle.host_core.specs.World.{World, IsDirectory, IsBare, KeepsBut, HasParent}
+use Rattle.host_core.specs.World.{World, IsDirectory, IsLoose as IsLooseNode, IsBare, KeepsBut, HasParent}
 use Rattle.host_core.specs.Tree.{IsTree, has_slash}
 use Rattle.host_core.specs.Host.{State, Since}
 use Rattle.host_core.specs.Moments.{since_then, since_weaker, since_now}
@@ -32,6 +32,10 @@ since_keeps area s a b first second = since_then _ s a b first (since_weaker _ _
 
 pub making_within : (w now : World) → IsMaking tmp_path w now → KeepsBut (is_within tmp_path) w now
 making_within w now is q out = is.rest q (outside_differs tmp_path tmp_path q (directory_within tmp_path) out)
+
+pub made_absent : (p q : Path) (w now : World) (there : Bool) → p ≡ q → w q ≡ None → MatchBool there (IsMade p w now) (IsLooseNode (w p)) → IsMade q w now
+made_absent p q w now true e none is = subst (λ x. IsMade x w now) e is
+made_absent p q w now false e none is = absurd (true≢false (sym is.0 ∙ ap is_some (ap w e ∙ none)))
 
 script_within : (script : Script) → is_within tmp_path (tmp_script_path script) ≡ true
 script_within script = below_within tmp_path (script_name script)

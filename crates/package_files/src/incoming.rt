@@ -10,8 +10,8 @@ ghost use Rattle.administration.specs.Scripts.{script_of, file_of};
 ghost use Rattle.package_files.specs.OwnFiles.{IsPut};
 ghost use Rattle.package_files.specs.Incoming.{AreLaidOut, IsTmpFlat, script_names};
 
-use administration::{Scripts, make_directory, remove_flat, replace, tmp_path, tmp_script_path};
-use host_core::{Host, HostFault, Script};
+use administration::{INCOMING, Scripts, make_directory, remove_flat, replace, tmp_script_path};
+use host_core::{Host, HostFault, RootPath, Script};
 use std::alloc::{AllocError, Global};
 use texts::{Text, Texts};
 
@@ -24,7 +24,7 @@ fn make_tmp<H: Host>(alloc: Global, host: &mut H) -> Result<(), HostFault>
     ensures silent { Silent (H.state host.old) (H.state host.new) }
     ensures cause { HasCause (H.state host.old) (H.state host.new) result }
 {
-    let path = tmp_path(alloc)?;
+    let path = RootPath::from_str(alloc, INCOMING)?;
     let _made = make_directory(host, &path)?;
     Ok(())
 }
@@ -102,7 +102,7 @@ pub fn clear_away<H: Host>(alloc: Global, host: &mut H, scripts: &Scripts) -> Re
     ensures silent { Silent (H.state host.old) (H.state host.new) }
     ensures cause { HasCause (H.state host.old) (H.state host.new) result }
 {
-    let path = tmp_path(alloc)?;
+    let path = RootPath::from_str(alloc, INCOMING)?;
     let names = names(alloc)?;
     remove_flat(host, &path, names.as_slice())
 }

@@ -122,7 +122,7 @@ fn read_fields(alloc: Global, paragraph: &Paragraph) -> Result<(Text, Version), 
 }
 
 /// Reads the text of a control file.
-pub fn read_control(alloc: Global, text: &[u8]) -> Result<ControlFile, TreeFault>
+pub(crate) fn read_control(alloc: Global, text: &[u8]) -> Result<ControlFile, TreeFault>
     ensures control { IfOk result (λ file. IsControlText text.now file.paragraph file.name file.version) }
     ensures fault { IfErr result (IsTextFault text.now) }
 {

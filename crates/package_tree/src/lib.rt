@@ -8,6 +8,6 @@ mod package;
 mod reading;
 
 pub use fault::{FieldName, TreeFault};
-pub use laws::{no_fault_of_a_package, trees_are_of_one_package};
+pub use laws::trees_are_of_one_package;
 pub use package::Package;
 pub use reading::read_tree;

@@ -31,7 +31,7 @@ fn copy_version(version: &Option<Version>) -> Result<Option<Version>, AllocError
 }
 
 impl Provided {
-    pub fn copy(&self) -> Result<Provided, AllocError>
+    pub(crate) fn copy(&self) -> Result<Provided, AllocError>
         ensures { IfOk result (λ p. p ≡ self.now) }
     {
         Ok(Provided {

@@ -45,16 +45,6 @@ impl Model for Relations {
 }
 
 impl Relations {
-    /// The relations of a package without the field.
-    pub fn new(alloc: Global) -> Self
-        ensures { result ≡ [] }
-    {
-        Relations {
-            alloc,
-            clauses: Vec::new(alloc),
-        }
-    }
-
     /// Reads a field. Empty clauses are skipped, and so is the suffix `:any`.
     pub fn read(alloc: Global, bytes: &[u8], form: Form) -> Result<Relations, RelationFault>
         ensures reads { IfOk result (Reads (rules_of form) bytes.now) }

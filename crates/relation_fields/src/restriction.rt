@@ -32,7 +32,7 @@ impl Comparison {
     }
 
     /// The operator as it is printed.
-    pub fn operator(self) -> &'static str
+    pub(crate) fn operator(self) -> &'static str
         ensures { result.now ≡ operator self }
     {
         match self {
@@ -56,13 +56,13 @@ impl Restriction {
     ghost use Rattle.relation_fields.specs.Admission.{meets};
 
     /// Whether a version is one of them.
-    pub fn is_met(&self, version: &Version) -> bool
+    pub(crate) fn is_met(&self, version: &Version) -> bool
         ensures { result ≡ meets self.now version.now }
     {
         self.comparison.holds(version.compare(&self.version))
     }
 
-    pub fn copy(&self) -> Result<Restriction, AllocError>
+    pub(crate) fn copy(&self) -> Result<Restriction, AllocError>
         ensures { IfOk result (λ r. r ≡ self.now) }
     {
         Ok(Restriction {

@@ -1,9 +1,10 @@
 -- What the fields of a paragraph say.
-use Rattle.std.proofs.Common.{◌≡◌, ℕ, ◌+◌, ◌<◌, ◌^◌, Bool, true, false, cond, ◌||◌, Option, None, Some, Bor, List, [], ◌∷◌, ◌++◌, length, refl, sym, ap, subst, ◌∙◌, arith, codes, IsTrue, Result, Ok, Err, zero, suc, take, eqb, add-one}
+use Rattle.std.proofs.Common.{◌≡◌, ℕ, ◌+◌, ◌<◌, ◌^◌, Bool, true, false, cond, ◌||◌, Option, None, Some, Bor, List, [], ◌∷◌, ◌++◌, length, refl, sym, ap, subst, ◌∙◌, arith, codes, IsTrue, Result, Ok, Err, zero, suc, map, eqb}
 use Rattle.std.specs.Prelude.{IfSome, IfNone, ◌↔◌, option_copied, IfOk, slice_get, ◌==◌}
 use Rattle.std.specs.List.{list_any, AllByRecursion}
 use Rattle.std.specs.Str.{bytes_eq}
 use Rattle.std.proofs.lemmas.Bool.{true≢false, false≢true}
+use Rattle.std.proofs.lemmas.List.{map-append}
 use Rattle.std.proofs.lemmas.Slice.Eq.{bytes_eq-Decides}
 use Rattle.control_fields.specs.Names.{lower, is_called, IsFieldCalled}
 use Rattle.control_fields.specs.declared.field.Field.{Field}
@@ -104,47 +105,43 @@ end_readable f value (Err e) among more no_package no_status is version = tt
 
 -- the first field that can't be read
 
-pub readable_here : {E : Type 0} (fs : List Field) (i : ℕ) (f : Field) (r : Result Bool E) → Some f ≡ slice_get fs i → IfOk r (λ b. IsTrue b ↔ IsReadable f) → IfOk r (λ b. (g : Field) → slice_get fs i ≡ Some g → IsTrue b ↔ IsReadable g)
-readable_here fs i f (Ok b) here is = λ g there. (let both : Some f ≡ Some g = here ∙ there in let same : f ≡ g = cc both in subst (λ (h : Field). IsTrue b ↔ IsReadable h) same is)
-readable_here fs i f (Err e) here is = tt
+there_at : (front rest : List Field) (f : Field) → slice_get (front ++ f ∷ rest) (length front) ≡ Some f
+there_at [] rest f = refl
+there_at (g ∷ front) rest f = there_at front rest f
 
-record IsSplit (fs : List Field) (i : ℕ) : Type 0 where
-  field : Field
-  rest : List Field
-  there : slice_get fs i ≡ Some field
-  is : fs ≡ take i fs ++ field ∷ rest
-  counted : length (take i fs) ≡ i
-  next : take (suc i) fs ≡ take i fs ++ field ∷ []
-
-split_at : (fs : List Field) (i : ℕ) → i < length fs → IsSplit fs i
-split_at [] i lt = absurd (omega arith)
-split_at (f ∷ fs) zero lt = record { field = f; rest = fs; there = refl; is = refl; counted = refl; next = refl }
-split_at (f ∷ fs) (suc i) lt =
-    let s = split_at fs i (omega arith) in
-    record { field = s.field; rest = s.rest; there = s.there; is = ap (λ (l : List Field). f ∷ l) s.is; counted = omega (arith, s.counted); next = ap (λ (l : List Field). f ∷ l) s.next }
-
-pub counted : (l : Located) (i : ℕ) → i < length l.paragraph → HasLines l → line_of_field l.line l.paragraph i < 2 ^ 64
-counted l i lt lines = let s = split_at l.paragraph i lt in lines i s.field s.there
+pub line_fits : (l : Located) (front left next : List Field) (f : Field) (i : ℕ) → i ≡ length front → l.paragraph ≡ front ++ left → left ≡ f ∷ next → HasLines l → line_of_field l.line l.paragraph i < 2 ^ 64
+line_fits l front left next f i counted walked step lines =
+    lines i f (ap (λ fs. slice_get fs i) (walked ∙ ap (λ (r : List Field). front ++ r) step) ∙ ap (slice_get (front ++ f ∷ next)) counted ∙ there_at front next f)
 
 all_last : (P : Field → Type 0) (fs : List Field) (f : Field) → AllByRecursion P fs → P f → AllByRecursion P (fs ++ f ∷ [])
 all_last P [] f all here = (here, tt)
 all_last P (g ∷ fs) f all here = (all.0, all_last P fs f all.1 here)
 
-pub good_more : (fs : List Field) (i : ℕ) (b : Bool) → i < length fs → AllByRecursion IsReadable (take i fs) → ((f : Field) → slice_get fs i ≡ Some f → IsTrue b ↔ IsReadable f) → b ≡ true → AllByRecursion IsReadable (take (i + 1) fs)
-good_more fs i b lt all says t =
-    let s = split_at fs i lt in
-    subst (λ k. AllByRecursion IsReadable (take k fs)) (sym (add-one i)) (subst (AllByRecursion IsReadable) (sym s.next) (all_last IsReadable (take i fs) s.field all ((says s.field s.there).0 t)))
+pub good_more : (ys : List (Bor Field)) (x : Bor Field) (b : Bool) → AllByRecursion IsReadable (map (λ b. b.now) ys) → (IsTrue b ↔ IsReadable x.now) → b ≡ true → AllByRecursion IsReadable (map (λ b. b.now) (ys ++ x ∷ []))
+good_more ys x b all says t = subst (AllByRecursion IsReadable) (sym (map-append (λ (b : Bor Field). b.now) ys (x ∷ []))) (all_last IsReadable (map (λ b. b.now) ys) x.now all (says.0 t))
 
-pub bad_here : (l : Located) (i : ℕ) (b : Bool) (line : ℕ) → i < length l.paragraph → AllByRecursion IsReadable (take i l.paragraph) → ((f : Field) → slice_get l.paragraph i ≡ Some f → IsTrue b ↔ IsReadable f) → b ≡ false
+one_last : (ys : List (Bor Field)) (x : Bor Field) → length (map (λ (b : Bor Field). b.now) (ys ++ x ∷ [])) ≡ length (map (λ (b : Bor Field). b.now) ys) + 1
+one_last [] x = refl
+one_last (y ∷ ys) x = omega (arith, one_last ys x)
+
+pub one_more : (ys : List (Bor Field)) (x : Bor Field) (i : ℕ) → i ≡ length (map (λ (b : Bor Field). b.now) ys) → i + 1 ≡ length (map (λ (b : Bor Field). b.now) (ys ++ x ∷ []))
+one_more ys x i counted = omega (arith, counted, one_last ys x)
+
+before_end : (front next : List Field) (f : Field) → length front < length (front ++ f ∷ next)
+before_end [] next f = omega arith
+before_end (g ∷ front) next f = omega (arith, before_end front next f)
+
+pub before_last : (all front left next : List Field) (f : Field) (i : ℕ) → i ≡ length front → all ≡ front ++ left → left ≡ f ∷ next → length all < 2 ^ 63 → i + 1 < 2 ^ 64
+before_last all front left next f i counted walked step fits = omega (arith, counted, before_end front next f, ap length (walked ∙ ap (λ (r : List Field). front ++ r) step), fits)
+
+pub bad_here : (l : Located) (front left next : List Field) (f : Field) (i : ℕ) (b : Bool) (line : ℕ) → i ≡ length front → l.paragraph ≡ front ++ left → left ≡ f ∷ next → AllByRecursion IsReadable front → (IsTrue b ↔ IsReadable f) → b ≡ false
     → line ≡ line_of_field l.line l.paragraph i → IsBadField l line
-bad_here l i b line lt all says fails e =
-    let s = split_at l.paragraph i lt in
-    record {
-      front = take i l.paragraph;
-      field = s.field;
-      rest = s.rest;
-      is = s.is;
-      good = all;
-      bad = λ is. true≢false (sym ((says s.field s.there).1 is) ∙ fails);
-      line_is = e ∙ ap (line_of_field l.line l.paragraph) (sym s.counted);
-    }
+bad_here l front left next f i b line counted walked step all says fails e = record {
+  front = front;
+  field = f;
+  rest = next;
+  is = walked ∙ ap (λ (r : List Field). front ++ r) step;
+  good = all;
+  bad = λ is. true≢false (sym (says.1 is) ∙ fails);
+  line_is = e ∙ ap (line_of_field l.line l.paragraph) counted;
+}

@@ -17,7 +17,7 @@ ghost use Rattle.status_db.specs.Status.{IsStatus, StandsFor, HasRecords, IsFile
 use crate::reading::{StatusFault, read_text};
 use crate::record::Record;
 use crate::writing::save;
-use administration::{AdministrationFault, status_path};
+use administration::{AdministrationFault, STATUS};
 use host_core::{Host, HostFault, Node, RootPath};
 use std::alloc::{AllocFailed, Global};
 use std::cmp::Ordering;
@@ -159,7 +159,7 @@ impl Database {
         ensures silent { Silent (H.state host.old) (H.state host.new) }
         ensures cause { HasAdministrationCause (H.state host.old) (H.state host.new) result }
     {
-        let path = status_path(alloc)?;
+        let path = RootPath::from_str(alloc, STATUS)?;
         open_at(alloc, host, path)
     }
 

@@ -8,13 +8,10 @@ ghost use Rattle.status_db.specs.declared.record.Record.{Record as ARecord};
 ghost use Rattle.status_db.specs.Records.{record_in, put_record, drop_record};
 ghost use Rattle.status_db.specs.Status.{HasRecords};
 
-/// Setting and dropping a record changes the look-up of its name alone.
-pub fn changed_at_one_name()
+/// Setting and dropping a record changes the look-up of its name alone. The records are those of the status file,
+/// whatever else changes.
+pub fn records_are_a_table()
     ensures put { (r : ARecord) (rs : List ARecord) (q : List ℕ) → record_in (put_record r rs) q ≡ update bytes_eq (record_in rs) r.name (Some r) q }
     ensures drop { (name : List ℕ) (rs : List ARecord) (q : List ℕ) → record_in (drop_record name rs) q ≡ update bytes_eq (record_in rs) name None q }
-{}
-
-/// The records are those of the status file, whatever else changes.
-pub fn records_of_one_file()
-    ensures { (w v : World) (rs : List ARecord) → v status_path ≡ w status_path → HasRecords w rs → HasRecords v rs }
+    ensures one_file { (w v : World) (rs : List ARecord) → v status_path ≡ w status_path → HasRecords w rs → HasRecords v rs }
 {}

@@ -9,6 +9,6 @@ mod words;
 mod writing;
 
 pub use database::Database;
-pub use laws::{changed_at_one_name, records_of_one_file};
+pub use laws::records_are_a_table;
 pub use record::Record;
 pub use words::{Flag, State, Want};

@@ -1,11 +1,10 @@
 // Reading the status file's text.
-ghost use Rattle.std.specs.Prelude.{◌≡◌, ◌≢◌, ◌↔◌, ◌++◌, ◌∷◌, [], ℕ, List, true, None, Some, IfOk, IfErr, IfSome, IfNone, OnOk, IsTrue, MatchOption, codes, option_copied, slice_get};
+ghost use Rattle.std.specs.Prelude.{◌≡◌, ◌≢◌, ◌↔◌, ◌++◌, ◌∷◌, [], ℕ, List, true, None, Some, IfOk, IfErr, IfSome, IfNone, OnOk, IsTrue, MatchOption, codes, option_copied};
 ghost use Rattle.std.specs.List.{list_any, AllByRecursion};
 ghost use Rattle.std.specs.Option.{option_to_list};
 ghost use Rattle.std.specs.Str.{bytes_eq};
 ghost use Rattle.control_fields.specs.Spelling.{AreFields};
 ghost use Rattle.control_fields.specs.Grammar.{paragraphs_of};
-ghost use Rattle.control_fields.specs.declared.field.Field.{Field as AField};
 ghost use Rattle.administration.specs.Names.{is_package_name};
 ghost use Rattle.version_order.specs.Versions.{IsVersion};
 ghost use Rattle.status_db.specs.declared.words.Want.{Want as AWant};
@@ -311,25 +310,18 @@ fn is_readable(alloc: Global, field: &Field) -> Result<bool, AllocError>
     is_version(alloc, field.first.as_slice())
 }
 
-fn is_readable_at(alloc: Global, fields: &Paragraph, index: usize) -> Result<bool, AllocError>
-    ensures { IfOk result (λ good. (f : AField) → slice_get fields.now index ≡ Some f → IsTrue good ↔ IsReadable f) }
-{
-    match fields.get_index(index) {
-        Some(field) => is_readable(alloc, field),
-        None => Ok(true),
-    }
-}
-
 // The line of the first field whose value can't be read.
 fn first_bad(alloc: Global, located: &Located) -> Result<Option<u64>, AllocError>
     requires { HasLines located.now }
     ensures { IfOk result (λ o. MatchOption o (AllByRecursion IsReadable located.now.paragraph) (IsBadField located.now)) }
 {
-    for index in 0..located.paragraph.len() {
-        let good = is_readable_at(alloc, &located.paragraph, index)?;
+    let mut index: usize = 0;
+    for field in located.paragraph.fields() {
+        let good = is_readable(alloc, field)?;
         if !good {
             return Ok(Some(located.line_of(index)));
         }
+        index += 1;
     }
     Ok(None)
 }

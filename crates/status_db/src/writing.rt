@@ -11,9 +11,9 @@ ghost use Rattle.status_db.specs.Paragraphs.{status_text, paragraph_of};
 ghost use Rattle.status_db.specs.Status.{IsStatus, IsStatusReady, IsNoted, IsNoting};
 
 use crate::record::Record;
-use administration::{replace, status_path};
+use administration::{STATUS, replace};
 use control_fields::{Field, Paragraph, write_paragraphs};
-use host_core::{Host, HostFault, Node};
+use host_core::{Host, HostFault, Node, RootPath};
 use std::alloc::{AllocError, Global};
 use texts::Bytes;
 
@@ -115,7 +115,7 @@ pub(crate) fn save<H: Host>(
     ensures silent { Silent (H.state host.old) (H.state host.new) }
     ensures cause { HasCause (H.state host.old) (H.state host.new) result }
 {
-    let path = status_path(alloc)?;
+    let path = RootPath::from_str(alloc, STATUS)?;
     let node = status_node(alloc, records)?;
     replace(host, &path, &node)
 }

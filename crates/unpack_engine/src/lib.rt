@@ -5,6 +5,5 @@ mod notes;
 mod rows;
 mod unpack;
 
-pub use notes::note_as;
-pub use rows::{Turn, preinst_call, run_rows};
+pub use rows::{Turn, preinst_call};
 pub use unpack::unpack_package;

@@ -10,7 +10,7 @@ use status_db::{Database, Flag, Record, State};
 use std::alloc::Global;
 
 /// Notes the record of the incoming package with this flag and state.
-pub fn note_as<H: Host>(
+pub(crate) fn note_as<H: Host>(
     alloc: Global,
     host: &mut H,
     database: &mut Database,

@@ -115,7 +115,7 @@ fn run_row<H: Host>(
 }
 
 /// Runs the rows of a package that wasn't installed and ships no files: the file row has no work.
-pub fn run_rows<H: Host>(
+pub(crate) fn run_rows<H: Host>(
     alloc: Global,
     host: &mut H,
     keep: &Keep,

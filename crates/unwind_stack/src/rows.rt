@@ -16,7 +16,7 @@ pub enum Owner {
 }
 
 impl Owner {
-    pub fn is(&self, other: &Owner) -> bool
+    fn is(&self, other: &Owner) -> bool
         ensures { IsTrue result ↔ (self.now ≡ other.now) }
     {
         match (self, other) {
@@ -26,7 +26,7 @@ impl Owner {
         }
     }
 
-    pub fn copy(&self) -> Result<Owner, AllocError>
+    fn copy(&self) -> Result<Owner, AllocError>
         ensures { IfOk result (λ owner. owner ≡ self.now) }
     {
         match self {
@@ -53,7 +53,7 @@ pub struct Called {
 }
 
 /// Makes a call, and tells it.
-pub fn call_script<H: Host>(
+fn call_script<H: Host>(
     host: &mut H,
     keep: &Keep,
     call: &Call,

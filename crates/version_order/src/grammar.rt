@@ -98,7 +98,7 @@ fn first_wrong(parts: &Parts) -> Option<usize>
 }
 
 /// What is wrong with a text, if it isn't a version.
-pub fn fault(text: &[u8]) -> Option<VersionFault>
+pub(crate) fn fault(text: &[u8]) -> Option<VersionFault>
     ensures { result ≡ fault_of text.now }
 {
     if text.is_empty() {

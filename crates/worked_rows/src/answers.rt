@@ -120,9 +120,8 @@ fn read_field(alloc: Global, field: &str, form: Form) -> Result<String, AllocErr
     }
 }
 
-// Adds a copy of an entry: its name, and behind a space its version.
+// Adds an entry: its name, and behind a space its version.
 fn push_entry(text: &mut String, entry: &Provided) -> Result<(), AllocError> {
-    let entry = entry.copy()?;
     text.push_str(entry.name.as_str())?;
     if let Some(version) = &entry.version {
         text.push(' ')?;

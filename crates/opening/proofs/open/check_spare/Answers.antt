@@ -1,13 +1,10 @@
-use Rattle.std.proofs.Common.{◌∷◌, [], ◌++◌, ap, ◌∙◌, codes, rules}
+use Rattle.std.proofs.Common.{◌∷◌, [], rules}
 use Rattle.opening.specs.Parts.{Spare}
 use Rattle.opening.proofs.Openings.{on_true, on_false, spare_fine, spare_taken, stopped_memory, stopped_same}
 use Rattle.opening.proofs.open.check_spare.Goals as goal
 
-pub returns-in_err-status_path-clause-opens : goal.returns-in_err-status_path-clause-opens
-returns-in_err-status_path-clause-opens g c = λ h. stopped_memory (Spare ∷ []) c.from_residual.result _ c.from_residual.ensures.1
-
 pub returns-in_err-spare-clause-opens : goal.returns-in_err-spare-clause-opens
-returns-in_err-spare-clause-opens g c = λ h. stopped_memory (Spare ∷ []) c.from_residual-in_err-spare.result _ c.from_residual-in_err-spare.ensures.1
+returns-in_err-spare-clause-opens g c = λ h. stopped_memory (Spare ∷ []) c.from_residual.result _ c.from_residual.ensures.1
 
 pub returns-in_err-is_directory-clause-opens : goal.returns-in_err-is_directory-clause-opens
 returns-in_err-is_directory-clause-opens g c = λ h.
@@ -15,8 +12,8 @@ returns-in_err-is_directory-clause-opens g c = λ h.
 
 pub returns-then-branch-clause-opens : goal.returns-then-branch-clause-opens
 returns-then-branch-clause-opens g c = λ h.
-    spare_taken _ _ _ _ (c.in_ok-spare.ensures ∙ ap (λ q. q ++ codes ".dpkg-inst") c.in_ok-status_path.ensures) (search rules) (c.is_directory.ensures.same h) (on_true _ _ c.if-branch.true (c.in_ok-is_directory.ensures.found h))
+    spare_taken _ _ _ _ c.in_ok-spare.ensures (search rules) (c.is_directory.ensures.same h) (on_true _ _ c.if-branch.true (c.in_ok-is_directory.ensures.found h))
 
 pub returns-clause-opens : goal.returns-clause-opens
 returns-clause-opens g c = λ h.
-    spare_fine _ _ _ (c.in_ok-spare.ensures ∙ ap (λ q. q ++ codes ".dpkg-inst") c.in_ok-status_path.ensures) (c.is_directory.ensures.same h) (on_false _ _ c.if-branch.false (c.in_ok-is_directory.ensures.found h))
+    spare_fine _ _ _ c.in_ok-spare.ensures (c.is_directory.ensures.same h) (on_false _ _ c.if-branch.false (c.in_ok-is_directory.ensures.found h))

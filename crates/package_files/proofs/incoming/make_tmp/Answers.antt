@@ -3,7 +3,7 @@ use Rattle.host_core.specs.World.{HasParent}
 use Rattle.host_core.specs.Host.{Since}
 use Rattle.host_core.specs.Moments.{since_weaker}
 use Rattle.administration.specs.Directories.{IsMaking}
-use Rattle.package_files.proofs.LaidOut.{home_parent, making_within}
+use Rattle.package_files.proofs.LaidOut.{home_parent, making_within, made_absent}
 use Rattle.package_files.proofs.incoming.make_tmp.Goals as goal
 
 pub make_directory-requires : goal.make_directory-requires
@@ -13,6 +13,9 @@ pub returns-in_err-_made-clause-any_moment : goal.returns-in_err-_made-clause-an
 returns-in_err-_made-clause-any_moment g c = λ h.
     let old = g.H.Host.state c.args.host.now in
     since_weaker _ _ _ _ (λ w is. making_within old.world w is) (subst (λ q. Since (IsMaking q old.world) old (g.H.Host.state c.make_directory.new.host)) c.in_ok-path.ensures (c.make_directory.ensures.any_moment h))
+
+pub returns-clause-made : goal.returns-clause-made
+returns-clause-made g c = λ h. made_absent _ _ _ _ c.in_ok-_made._made c.in_ok-path.ensures (c.requires.absent h) (c.in_ok-_made.ensures.made h)
 
 pub returns-clause-any_moment : goal.returns-clause-any_moment
 returns-clause-any_moment g c = λ h.

@@ -1,4 +1,4 @@
-use Rattle.package_tree.proofs.OneTree.{control_once, name_once, version_once, scripts_once, ships_once, has_conffiles_once}
+use Rattle.package_tree.proofs.OneTree.{control_once, name_once, version_once, scripts_once, ships_once, has_conffiles_once, no_fault}
 use Rattle.package_tree.proofs.laws.trees_are_of_one_package.Goals as goal
 
 pub returns : goal.returns
@@ -9,4 +9,5 @@ returns c = record {
   scripts = scripts_once;
   ships = ships_once;
   has_conffiles = has_conffiles_once;
+  no_fault = no_fault;
 }

@@ -1,0 +1,20 @@
+use Rattle.std.proofs.Common.{◌≡◌, [], ◌∷◌, ◌++◌, rules}
+use Rattle.dpkg_session.proofs.Amid.{since_unit_start}
+use Rattle.dpkg_session.proofs.Runs.{not_broken}
+use Rattle.dpkg_session.proofs.Told.{tells_unit}
+use Rattle.dpkg_session.proofs.units.run_one.Goals as goal
+
+pub returns-clause-ok : goal.returns-clause-ok
+returns-clause-ok g c =
+    let unit = c.unit_of-unit.result in
+    let grown : c.push.new.self.items ≡ c.args.units.now.items ++ unit ∷ [] = search rules in
+    record { unit = unit; grown = grown; is = not_broken unit.reply c.is_broken.result c.if-is_broken.false c.is_broken.ensures c.unit_of-unit.ensures.unit }
+
+pub returns-clause-told : goal.returns-clause-told
+returns-clause-told g c =
+    let unit = c.unit_of-unit.result in
+    let grown : c.push.new.self.items ≡ c.args.units.now.items ++ unit ∷ [] = search rules in
+    tells_unit (g.H.Host.state c.args.host.now) (g.H.Host.state c.unit_of-unit.new.host) c.args.units.now.items c.push.new.self.items unit grown c.unit_of-unit.ensures.told
+
+pub returns-then-is_err-clause-any_moment : goal.returns-then-is_err-clause-any_moment
+returns-then-is_err-clause-any_moment g c = λ h. since_unit_start _ _ _ _ (c.requires.records h)

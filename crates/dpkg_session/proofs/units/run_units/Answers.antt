@@ -1,0 +1,74 @@
+use Rattle.std.proofs.Common.{◌≡◌, ◌+◌, List, [], ◌∷◌, ◌++◌, length, take, drop, refl, append_assoc, IsTrue, subst, sym, ap, ◌∙◌, arith, length-append}
+use Rattle.std.proofs.lemmas.List.{take_more, take-append-drop}
+use Rattle.dpkg_session.specs.declared.report.Candidate.{Candidate}
+use Rattle.unwind_stack.specs.Transcript.{TellsAll}
+use Rattle.unwind_stack.proofs.Makes.{tells_none, tells_then}
+use Rattle.dpkg_session.specs.declared.report.Unit.{Unit as AUnit}
+use Rattle.dpkg_session.specs.Units.{calls_of}
+use Rattle.dpkg_session.specs.Run.{IsRun}
+use Rattle.dpkg_session.proofs.Amid.{since_next, since_run_start}
+use Rattle.dpkg_session.proofs.Runs.{run_more, ready_after}
+use Rattle.dpkg_session.proofs.Told.{tells_last, tells_whole}
+use Rattle.dpkg_session.proofs.units.run_units.Goals as goal
+
+pub loop-candidate-preserved : goal.loop-candidate-preserved
+loop-candidate-preserved g c =
+    let inv = c.loop-candidate.invariant in
+    let i = c.loop-candidate.candidate-index in
+    let candidates = c.args.candidates.now in
+    let p = c.candidate-item.result in
+    let adds = c.in-Ok.ensures.ok in
+    let places = c.args.keep.now in
+    let before = c.args.database.now in
+    let mid = c.loop-candidate.database in
+    let after = c.run_one.new.database in
+    let old = g.H.Host.state c.args.host.now in
+    let now = g.H.Host.state c.loop-candidate.host in
+    let new = g.H.Host.state c.run_one.new.host in
+    let fronts : take (i + 1) candidates ≡ take i candidates ++ p ∷ [] = take_more candidates i p c.loop-candidate-test.true ∙ ap (λ (q : Candidate). take i candidates ++ q ∷ []) (sym c.candidate-item.is) in
+    let more = run_more (take i candidates) c.loop-candidate.units.items p adds.unit places before mid after old now new inv.so_far inv.honest adds.is c.run_one.ensures.honest in
+    record {
+      count = ap length adds.grown ∙ length-append c.loop-candidate.units.items (adds.unit ∷ []) ∙ ap (λ n. n + 1) inv.count;
+      so_far = subst (λ l. IsRun l c.run_one.new.units.items places before after old new) (sym fronts) (subst (λ us. IsRun (take i candidates ++ p ∷ []) us places before after old new) (sym adds.grown) more);
+      honest = c.run_one.ensures.honest ∙ inv.honest;
+      faults = omega (arith, inv.faults, c.run_one.ensures.faults);
+      told = tells_then old now new [] (calls_of c.loop-candidate.units.items) (calls_of c.run_one.new.units.items) inv.told c.in-Ok.ensures.told;
+      ready = ready_after p places mid after adds.unit now new c.run_one.ensures.honest inv.ready adds.is;
+      moments = λ h.
+          let split = sym (take-append-drop (i + 1) candidates) ∙ ap (λ l. l ++ drop (i + 1) candidates) fronts ∙ append_assoc (take i candidates) (p ∷ []) (drop (i + 1) candidates) in
+          since_next candidates (take i candidates) c.loop-candidate.units.items p (drop (i + 1) candidates) places before mid old now new split inv.so_far (inv.moments h) (c.run_one.ensures.any_moment (subst IsTrue (sym inv.honest) h));
+    }
+
+pub loop-candidate-init : goal.loop-candidate-init
+loop-candidate-init g c =
+    let old = g.H.Host.state c.args.host.now in
+    record {
+      count = ap length c.new-units.ensures.items;
+      so_far = subst (λ l. IsRun [] l c.args.keep.now c.args.database.now c.args.database.now old old) (sym c.new-units.ensures.items) (refl, refl);
+      honest = refl;
+      faults = omega arith;
+      told = tells_none old old [] (calls_of c.new-units.result.items) refl (ap calls_of c.new-units.ensures.items);
+      ready = record { order = c.requires.order; records = c.requires.records };
+      moments = λ h. since_run_start c.args.candidates.now c.args.keep.now c.args.database.now old (c.requires.records h);
+    }
+
+pub returns-in-Err-clause-any_moment : goal.returns-in-Err-clause-any_moment
+returns-in-Err-clause-any_moment g c = λ h.
+    let inv = c.loop-candidate.invariant in
+    let i = c.loop-candidate.candidate-index in
+    let candidates = c.args.candidates.now in
+    let p = c.candidate-item.result in
+    let fronts = take_more candidates i p c.loop-candidate-test.true ∙ ap (λ (q : Candidate). take i candidates ++ q ∷ []) (sym c.candidate-item.is) in
+    let split = sym (take-append-drop (i + 1) candidates) ∙ ap (λ l. l ++ drop (i + 1) candidates) fronts ∙ append_assoc (take i candidates) (p ∷ []) (drop (i + 1) candidates) in
+    since_next candidates (take i candidates) c.loop-candidate.units.items p (drop (i + 1) candidates) _ _ _ _ _ _ split inv.so_far (inv.moments h) (c.run_one.ensures.any_moment (subst IsTrue (sym inv.honest) h))
+
+pub returns-in-Err-clause-told : goal.returns-in-Err-clause-told
+returns-in-Err-clause-told g c =
+    let old = g.H.Host.state c.args.host.now in
+    let new = g.H.Host.state c.run_one.new.host in
+    let unit = c.in-Err.unit in
+    subst (λ us. TellsAll old new [] (calls_of us ++ unit.calls.items)) (sym {A = List AUnit} c.in-Err.ensures.err)
+    (tells_last old (g.H.Host.state c.loop-candidate.host) new c.loop-candidate.units.items unit c.loop-candidate.invariant.told c.in-Err.ensures.told_last)
+
+pub returns-clause-told : goal.returns-clause-told
+returns-clause-told g c = tells_whole (g.H.Host.state c.args.host.now) (g.H.Host.state c.loop-candidate.host) c.loop-candidate.units.items c.loop-candidate.invariant.told
