@@ -1,5 +1,5 @@
 -- What the fields of a paragraph say.
-use Rattle.std.proofs.Common.{◌≡◌, ℕ, ◌+◌, ◌<◌, ◌^◌, Bool, true, false, cond, ◌||◌, Option, None, Some, Bor, List, [], ◌∷◌, ◌++◌, length, refl, sym, ap, subst, ◌∙◌, arith, codes, IsTrue, Result, Ok, Err, zero, suc, map, eqb}
+use Rattle.std.proofs.Common.{◌≡◌, ℕ, ◌+◌, ◌<◌, ◌^◌, Bool, true, false, cond, ◌||◌, Option, None, Some, Bor, List, [], ◌∷◌, ◌++◌, length, refl, sym, ap, subst, ◌∙◌, arith, codes, IsTrue, Result, Ok, Err, suc, map, eqb}
 use Rattle.std.specs.Prelude.{IfSome, IfNone, ◌↔◌, option_copied, IfOk, slice_get, ◌==◌}
 use Rattle.std.specs.List.{list_any, AllByRecursion}
 use Rattle.std.specs.Str.{bytes_eq}

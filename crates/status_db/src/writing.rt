@@ -55,15 +55,23 @@ fn add_first_fields(alloc: Global, entry: &Record, fields: &mut Paragraph) -> Re
     add_line(alloc, b"Version", version, fields)
 }
 
+fn add_other_fields(entry: &Record, fields: &mut Paragraph) -> Result<(), AllocError>
+    requires first { fields.old ≡ first_fields entry.now.name (status_text entry.now.want entry.now.flag entry.now.state) entry.now.version }
+    ensures { OnOk result (fields.new ≡ paragraph_of entry.now) }
+{
+    for field in entry.fields.fields() {
+        fields.push(field.copy()?)?;
+    }
+    Ok(())
+}
+
 fn paragraph_of(alloc: Global, entry: &Record) -> Result<Paragraph, AllocError>
     ensures paragraph { IfOk result (λ p. p ≡ paragraph_of entry.now) }
     ensures version { OnOk result (IsVersion entry.now.version) }
 {
     let mut paragraph = Paragraph::new(alloc);
     add_first_fields(alloc, entry, &mut paragraph)?;
-    for field in entry.fields.fields() {
-        paragraph.push(field.copy()?)?;
-    }
+    add_other_fields(entry, &mut paragraph)?;
     Ok(paragraph)
 }
 

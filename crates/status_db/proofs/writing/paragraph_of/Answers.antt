@@ -1,29 +1,8 @@
 use Rattle.std.proofs.lemmas.Result.{IfOk-from_err}
-use Rattle.control_fields.proofs.Keyed.{walk_more}
-use Rattle.status_db.specs.Paragraphs.{status_text}
-use Rattle.status_db.specs.Writable.{first_fields}
-use Rattle.status_db.proofs.Kept.{written_new, written_more}
 use Rattle.status_db.proofs.writing.paragraph_of.Goals as goal
-
-pub push-requires : goal.push-requires
-push-requires c =
-    let r = c.args.entry.now in
-    written_new r.name (status_text r.want r.flag r.state) r.version r.fields c.loop-field.paragraph c.loop-field.field-iterator c.next.new.self c.loop-field.yielded c.in-Some.field c.in_ok-copy.field-0 r.writable
-    c.loop-field.invariant.0 c.loop-field.invariant.1 c.in-Some.ensures.steps c.in_ok-copy.ensures
-
-pub loop-field-preserved : goal.loop-field-preserved
-loop-field-preserved c =
-    let r = c.args.entry.now in (
-      written_more (first_fields r.name (status_text r.want r.flag r.state) r.version) c.loop-field.paragraph c.push.new.self c.loop-field.yielded c.in-Some.field c.in_ok-copy.field-0 c.loop-field.invariant.0 c.in_ok-push.ensures c.in_ok-copy.ensures,
-      walk_more r.fields c.loop-field.field-iterator c.next.new.self c.loop-field.yielded c.in-Some.field c.loop-field.invariant.1 c.in-Some.ensures.steps,
-      c.loop-field.invariant.2,
-    )
 
 pub returns-in_err-add_first_fields-clause-paragraph : goal.returns-in_err-add_first_fields-clause-paragraph
 returns-in_err-add_first_fields-clause-paragraph c = IfOk-from_err c.from_residual.result _ c.from_residual.ensures.0
 
-pub returns-in_err-copy-clause-paragraph : goal.returns-in_err-copy-clause-paragraph
-returns-in_err-copy-clause-paragraph c = IfOk-from_err c.from_residual-in_err-copy.result _ c.from_residual-in_err-copy.ensures.0
-
-pub returns-in_err-push-clause-paragraph : goal.returns-in_err-push-clause-paragraph
-returns-in_err-push-clause-paragraph c = IfOk-from_err c.from_residual-in_err-push.result _ c.from_residual-in_err-push.ensures.0
+pub returns-in_err-add_other_fields-clause-paragraph : goal.returns-in_err-add_other_fields-clause-paragraph
+returns-in_err-add_other_fields-clause-paragraph c = IfOk-from_err c.from_residual-in_err-add_other_fields.result _ c.from_residual-in_err-add_other_fields.ensures.0
