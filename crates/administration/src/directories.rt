@@ -1,5 +1,5 @@
 // Directories of the administration: made where missing, and removed with the files in them.
-ghost use Rattle.std.specs.Prelude.{◌≡◌, ◌++◌, ◌∷◌, [], IsTrue, IfOk, OnOk, MatchBool, option_copied};
+ghost use Rattle.std.specs.Prelude.{◌++◌, ◌∷◌, [], IsTrue, IfOk, OnOk, MatchBool, option_copied};
 ghost use Rattle.host_core.specs.World.{HasParent, IsDirectory, IsLoose, KeepsBut};
 ghost use Rattle.host_core.specs.Host.{HasCause, Same, Silent, Since};
 ghost use Rattle.administration.specs.Places.{is_within};

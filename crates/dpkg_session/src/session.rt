@@ -1,5 +1,5 @@
 // A session over one host.
-ghost use Rattle.std.specs.Prelude.{◌≡◌, ◌≤◌, ◌<◌, true, false, IsTrue, IsNone, IfOk, IfErr, IfSome, is_some, Some, None, [], map};
+ghost use Rattle.std.specs.Prelude.{◌≡◌, ◌≤◌, ◌<◌, true, false, IsTrue, IsNone, IfOk, IfErr, IfSome, is_some, Some, None};
 ghost use Rattle.host_core.specs.Host.{Silent, Since};
 ghost use Rattle.opening.specs.Opened.{IsOpened};
 ghost use Rattle.opening.specs.Parts.{Opens, parts};

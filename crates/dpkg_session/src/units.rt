@@ -1,13 +1,12 @@
 // The units of a command, one after another.
-ghost use Rattle.std.specs.Prelude.{◌≡◌, ◌≤◌, ◌<◌, ◌⊎◌, IsTrue, IfOk, [], ◌↔◌, codes, IfErr, OnOk, OnErr, IfSome, IsNone, MatchBool};
+ghost use Rattle.std.specs.Prelude.{◌≡◌, ◌≤◌, ◌<◌, ◌⊎◌, IsTrue, IfOk, [], codes, IfErr, OnOk, OnErr, IfSome, IsNone, MatchBool};
 ghost use Rattle.host_core.specs.declared.call.Script.TheVariants.{Preinst};
 ghost use Rattle.status_db.specs.Records.{record_in};
 ghost use Rattle.unpack_engine.specs.ForwardRows.{call_of};
-ghost use Rattle.host_core.specs.Host.{HasCause, Since};
+ghost use Rattle.host_core.specs.Host.{Since};
 ghost use Rattle.unwind_stack.specs.Transcript.{TellsAll};
 ghost use Rattle.status_db.specs.Status.{HasRecords};
 ghost use Rattle.unpack_engine.specs.Unpack.{IsAmid, IsInOrder};
-ghost use Rattle.unpack_engine.specs.Units.{HasUnpacked};
 ghost use Rattle.dpkg_session.specs.declared.report.Breakage.TheVariants.{Device, NoMemory, Closed};
 ghost use Rattle.dpkg_session.specs.Units.{IsAnswered, IsBroken, IsBrokenBy, IsUnit, IsUnpacked, breakage_of, reply_to, touched_of, IsRefusedUnit, IsUnitByWord, TellsCalls, calls_of};
 ghost use Rattle.dpkg_session.specs.declared.refusal.Rule.TheVariants.{Tree};

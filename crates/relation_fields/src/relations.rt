@@ -1,5 +1,5 @@
 // The fields Depends, Pre-Depends, Breaks, Conflicts and Replaces.
-ghost use Rattle.std.specs.Prelude.{◌≡◌, List, [], IfOk, IfErr};
+ghost use Rattle.std.specs.Prelude.{◌≡◌, List, IfOk, IfErr};
 ghost use Rattle.relation_fields.specs.declared.alternative.Alternative.{Alternative};
 ghost use Rattle.relation_fields.specs.Faults.{IsFaultOf};
 ghost use Rattle.relation_fields.specs.Grammar.{Reads};
