@@ -12,7 +12,7 @@ use host_core::{Host, HostFault, Node, RootPath};
 use texts::{Text, Texts};
 
 /// What stands at a path: nothing, a file or link, or a directory.
-#[derive(Clone, Copy, Debug, PartialEq, Eq)]
+#[derive(Clone, Copy)]
 pub enum Standing {
     Nothing,
     Loose,

@@ -3,7 +3,6 @@
 
 mod answer;
 mod hosts;
-mod unpacking;
 
 pub use answer::{FAILED, run_words};
 pub use hosts::Hosts;

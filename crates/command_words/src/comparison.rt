@@ -9,7 +9,7 @@ use texts::Text;
 use version_order::{Version, VersionFault};
 
 /// An operator of `compare-versions`.
-#[derive(Clone, Copy, Debug, PartialEq, Eq)]
+#[derive(Clone, Copy)]
 pub enum Operator {
     Lt,
     Le,

@@ -38,7 +38,7 @@ pub enum Asked {
 }
 
 /// Why words ask for nothing: a text that says how they are used, or want of memory.
-#[derive(Debug, Drop)]
+#[derive(Drop)]
 pub enum WordsFault {
     Usage(String),
     NoMemory,

@@ -5,7 +5,7 @@ ghost use Rattle.control_fields.specs.declared.fault.ControlFault.TheVariants.{N
 use std::alloc::{AllocError, AllocFailed};
 
 /// What is wrong with control text. Lines are counted from 1.
-#[derive(Clone, Copy, Debug, PartialEq, Eq)]
+#[derive(Clone, Copy, Debug)]
 pub enum ControlFault {
     /// A line that is neither blank nor a continuation has no colon.
     NoColon(u64),

@@ -1,5 +1,5 @@
 // The directories of the real file system as hosts.
-ghost use Rattle.std.specs.Prelude.{◌≡◌, ◌≤◌, ◌<◌, ◌^◌, ◌-◌, ⊤, IfOk, IsErrOf};
+ghost use Rattle.std.specs.Prelude.{◌≤◌, ◌<◌, ◌^◌, ◌-◌, ⊤, IfOk, IsErrOf};
 ghost use Rattle.host_core.specs.declared.fault.HostFault.TheVariants.{Device};
 
 use command_line::Hosts;
@@ -9,17 +9,12 @@ use host_files::FilesHost;
 /// Opens directories; a tree's path begins at the working directory.
 #[derive(Drop)]
 pub(crate) struct Directories {
-    rt: HostRuntime,
-    faults: u64,
+    pub(crate) rt: HostRuntime,
+    /// How many openings failed for a fault of the device.
+    pub(crate) faults: u64,
 }
 
 impl Directories {
-    pub(crate) fn new(rt: HostRuntime) -> Directories
-        ensures { result.faults ≡ 0 }
-    {
-        Directories { rt, faults: 0 }
-    }
-
     // Opens a directory, and counts a fault of the device. With a full count nothing is opened any more.
     fn open(&mut self, directory: &str) -> Result<FilesHost, HostFault>
         ensures faults { self.old.faults ≤ self.new.faults }

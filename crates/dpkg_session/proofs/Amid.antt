@@ -4,7 +4,7 @@ use Rattle.host_core.specs.Paths.{Path}
 use Rattle.host_core.specs.World.{World}
 use Rattle.host_core.specs.Host.{State, Since}
 use Rattle.host_core.specs.Moments.{since_start, since_then, since_weaker}
-use Rattle.package_files.specs.OwnFiles.{same}
+use Rattle.unpack_engine.specs.OwnFiles.{same}
 use Rattle.package_tree.specs.declared.package.Package.{Package}
 use Rattle.package_tree.specs.declared.fault.TreeFault.{TreeFault}
 use Rattle.status_db.specs.declared.record.Record.{Record}

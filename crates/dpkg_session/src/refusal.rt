@@ -7,7 +7,7 @@ use status_db::{Database, Record};
 use texts::Text;
 
 /// The fields that tell relations between packages (Policy 7.1).
-#[derive(Clone, Copy, Debug, PartialEq, Eq)]
+#[derive(Clone, Copy)]
 pub enum RelationField {
     Depends,
     PreDepends,
@@ -34,7 +34,7 @@ impl RelationField {
 }
 
 /// What isn't carried out yet: a tree with files, a package that has a record, conffiles, relations.
-#[derive(Clone, Copy, Debug, PartialEq, Eq)]
+#[derive(Clone, Copy)]
 pub enum Word {
     Files,
     Record,

@@ -29,7 +29,7 @@ pub struct Failure {
 
 /// Why a unit was broken off: a device fault, want of memory, or a session that is closed since
 /// one of these.
-#[derive(Clone, Copy, Debug, PartialEq, Eq)]
+#[derive(Clone, Copy)]
 pub enum Breakage {
     Device,
     NoMemory,

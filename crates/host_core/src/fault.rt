@@ -5,7 +5,7 @@ ghost use Rattle.host_core.specs.declared.fault.HostFault.TheVariants.{NoMemory}
 use std::alloc::{AllocError, AllocFailed};
 
 /// The device failed, which the host counts, or memory was refused, and then nothing was done.
-#[derive(Clone, Copy, Debug, PartialEq, Eq)]
+#[derive(Clone, Copy)]
 pub enum HostFault {
     Device,
     NoMemory,

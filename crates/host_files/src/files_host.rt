@@ -216,7 +216,7 @@ impl FilesHost {
             Ok(value) => Ok(value),
             Err(error) => {
                 let fault = fault_of(&error);
-                if fault == HostFault::Device {
+                if let HostFault::Device = fault {
                     self.faults += 1;
                 }
                 Err(fault)

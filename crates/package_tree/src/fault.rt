@@ -8,7 +8,7 @@ use host_core::{HostFault, RootPath};
 use std::alloc::AllocError;
 
 /// The fields of a control file that a tree's reading looks at.
-#[derive(Clone, Copy, Debug, PartialEq, Eq)]
+#[derive(Clone, Copy)]
 pub enum FieldName {
     Package,
     Version,

@@ -5,7 +5,7 @@ ghost use Rattle.relation_fields.specs.declared.fault.RelationFault.TheVariants.
 use std::alloc::{AllocError, AllocFailed};
 
 /// What is wrong with a relation field, the first from the left.
-#[derive(Clone, Copy, Debug, PartialEq, Eq)]
+#[derive(Clone, Copy, Debug)]
 pub enum RelationFault {
     /// A token is missing or stray at this byte, counted from 0.
     Syntax(u64),

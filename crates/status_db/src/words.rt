@@ -3,7 +3,7 @@ ghost use Rattle.std.specs.Prelude.{◌≡◌};
 ghost use Rattle.status_db.specs.Words.{want_word, flag_word, state_word, is_not_installed};
 
 /// What is wanted of a package.
-#[derive(Clone, Copy, Debug, PartialEq, Eq)]
+#[derive(Clone, Copy)]
 pub enum Want {
     Unknown,
     Install,
@@ -28,7 +28,7 @@ impl Want {
 }
 
 /// Whether a package has to be installed again before anything else.
-#[derive(Clone, Copy, Debug, PartialEq, Eq)]
+#[derive(Clone, Copy)]
 pub enum Flag {
     Ok,
     Reinstreq,
@@ -47,7 +47,7 @@ impl Flag {
 }
 
 /// The states of a package (Policy 6.6).
-#[derive(Clone, Copy, Debug, PartialEq, Eq)]
+#[derive(Clone, Copy)]
 pub enum State {
     NotInstalled,
     ConfigFiles,

@@ -6,9 +6,9 @@ use Rattle.host_core.specs.Host.{State, Since}
 use Rattle.host_core.specs.Moments.{since_then, since_weaker, since_now}
 use Rattle.administration.specs.Places.{status_path, tmp_path, temporary, is_within}
 use Rattle.package_tree.specs.declared.package.Package.{Package}
-use Rattle.package_files.specs.OwnFiles.{own_path, own_node, IsOwnMoment, IsChanging}
-use Rattle.package_files.specs.OwnFiles.IsOwnMoment.{same}
-use Rattle.package_files.proofs.Changes.{moment_then}
+use Rattle.unpack_engine.specs.OwnFiles.{own_path, own_node, IsOwnMoment, IsChanging}
+use Rattle.unpack_engine.specs.OwnFiles.IsOwnMoment.{same}
+use Rattle.unpack_engine.proofs.Changes.{moment_then}
 use Rattle.status_db.specs.declared.record.Record.{Record}
 use Rattle.status_db.specs.Status.{HasRecords, IsNoting}
 use Rattle.unpack_engine.specs.Unpack.{IsStage, IsAmid}

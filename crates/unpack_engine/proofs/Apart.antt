@@ -2,8 +2,8 @@
 use Rattle.std.proofs.Common.{◌≡◌, ◌≢◌, ℕ, List, get_or, refl, ap, arith}
 use Rattle.host_core.specs.Paths.{Path}
 use Rattle.administration.specs.Places.{home_path, info_path, status_path, temporary}
-use Rattle.package_files.specs.OwnFiles.{OwnFile, own_path}
-use Rattle.package_files.proofs.Endings.{info_apart, info_lasting}
+use Rattle.unpack_engine.specs.OwnFiles.{OwnFile, own_path}
+use Rattle.unpack_engine.proofs.Endings.{info_apart, info_lasting}
 use Rattle.unpack_engine.specs.Unpack.{IsOutside}
 
 pub own_not_status : (name : List ℕ) (file : OwnFile) → own_path name file ≢ status_path

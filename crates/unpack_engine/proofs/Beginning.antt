@@ -14,8 +14,8 @@ use Rattle.administration.specs.Names.{is_name_sign, is_package_name}
 use Rattle.administration.specs.Places.{home_path, status_path, tmp_path, temporary, is_within}
 use Rattle.administration.proofs.WholeFiles.{no_directory_at}
 use Rattle.package_tree.specs.declared.package.Package.{Package}
-use Rattle.package_files.specs.OwnFiles.{OwnFile, ending, own_path, IsCleared, IsOwnReady}
-use Rattle.package_files.specs.Incoming.{AreLaidOut}
+use Rattle.unpack_engine.specs.OwnFiles.{OwnFile, ending, own_path, IsCleared, IsOwnReady}
+use Rattle.unpack_engine.specs.Incoming.{AreLaidOut}
 use Rattle.status_db.specs.declared.record.Record.{Record}
 use Rattle.status_db.specs.declared.words.Flag.TheVariants as flag
 use Rattle.status_db.specs.declared.words.State.TheVariants as state

@@ -5,7 +5,7 @@ use Rattle.host_core.specs.declared.fault.HostFault.{HostFault}
 use Rattle.administration.specs.Places.{home_path, status_path, temporary}
 use Rattle.administration.proofs.WholeFiles.{no_directory_at}
 use Rattle.package_tree.specs.declared.package.Package.{Package}
-use Rattle.package_files.specs.OwnFiles.{IsInstalled, IsOwnReady, IsChanging}
+use Rattle.unpack_engine.specs.OwnFiles.{IsInstalled, IsOwnReady, IsChanging}
 use Rattle.status_db.specs.declared.record.Record.{Record}
 use Rattle.status_db.specs.declared.words.Flag.TheVariants as flag
 use Rattle.status_db.specs.declared.words.State.TheVariants as state

@@ -1,3 +1,6 @@
+pub mod Endings
+pub mod Changes
+pub mod LaidOut
 pub mod Falling
 pub mod Noting
 pub mod Apart

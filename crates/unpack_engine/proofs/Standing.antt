@@ -10,7 +10,7 @@ use Rattle.administration.specs.Places.{home_path, info_path, status_path, tmp_p
 use Rattle.administration.specs.Files.{NoDirectory}
 use Rattle.administration.proofs.WholeFiles.{no_directory_at}
 use Rattle.package_tree.specs.declared.package.Package.{Package}
-use Rattle.package_files.specs.OwnFiles.{OwnFile, own_path, own_node, IsCleared, IsInstalled, IsOwnReady}
+use Rattle.unpack_engine.specs.OwnFiles.{OwnFile, own_path, own_node, IsCleared, IsInstalled, IsOwnReady}
 use Rattle.status_db.specs.declared.record.Record.{Record}
 use Rattle.status_db.specs.Status.{StandsFor, HasRecords, IsNoted, IsStatusReady}
 use Rattle.unpack_engine.specs.Unpack.{IsOutside}

@@ -20,9 +20,9 @@ use Rattle.unwind_stack.specs.declared.rows.Owner.{Owner}
 use Rattle.unwind_stack.specs.declared.rows.Owner.TheVariants.{Package as OfPackage, Files}
 use Rattle.unwind_stack.specs.declared.fall.Fall.{Fall}
 use Rattle.package_tree.specs.declared.package.Package.{Package}
-use Rattle.package_files.specs.OwnFiles.{OwnFile, own_path, own_node, KeepsBesideOwn}
-use Rattle.package_files.specs.Incoming.{AreLaidOut}
-use Rattle.package_files.proofs.Changes.{decide, own_nodes}
+use Rattle.unpack_engine.specs.OwnFiles.{OwnFile, own_path, own_node, KeepsBesideOwn}
+use Rattle.unpack_engine.specs.Incoming.{AreLaidOut}
+use Rattle.unpack_engine.proofs.Changes.{decide, own_nodes}
 use Rattle.status_db.specs.declared.words.Flag.{Flag}
 use Rattle.status_db.specs.declared.words.Flag.TheVariants as flag
 use Rattle.status_db.specs.declared.words.State.{State as State'}

@@ -4,7 +4,7 @@ use Rattle.host_core.specs.declared.node.Node.{Node}
 use Rattle.unwind_stack.specs.declared.rows.Owner.{Owner}
 use Rattle.unwind_stack.specs.Transcript.{Ended, Committed, Unwound}
 use Rattle.package_tree.specs.declared.package.Package.{Package}
-use Rattle.package_files.specs.OwnFiles.{OwnFile, own_node}
+use Rattle.unpack_engine.specs.OwnFiles.{OwnFile, own_node}
 use Rattle.status_db.specs.Fields.{recorded_fields}
 use Rattle.status_db.specs.declared.record.Record.{Record}
 use Rattle.status_db.specs.declared.words.Want.TheVariants.{Install}

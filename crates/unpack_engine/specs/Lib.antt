@@ -1,3 +1,5 @@
+pub mod OwnFiles
+pub mod Incoming
 pub mod ForwardRows
 pub mod Turns
 pub mod EndStates

@@ -7,7 +7,7 @@ use Rattle.host_core.specs.declared.node.Node.{Node}
 use Rattle.administration.specs.Places.{status_path, temporary}
 use Rattle.administration.specs.Files.{NoDirectory, KeepsBesideFile}
 use Rattle.package_tree.specs.declared.package.Package.{Package}
-use Rattle.package_files.specs.OwnFiles.{OwnFile, own_path}
+use Rattle.unpack_engine.specs.OwnFiles.{OwnFile, own_path}
 use Rattle.status_db.specs.declared.record.Record.{Record}
 use Rattle.status_db.specs.declared.words.Flag.{Flag}
 use Rattle.status_db.specs.declared.words.State.{State}

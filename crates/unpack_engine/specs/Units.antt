@@ -8,8 +8,8 @@ use Rattle.unwind_stack.specs.Transcript.{Ended, Committed as AllSucceeded, Unwo
 use Rattle.unwind_stack.specs.declared.rows.Called.{Called}
 use Rattle.unwind_stack.specs.declared.rows.Owner.{Owner}
 use Rattle.package_tree.specs.declared.package.Package.{Package}
-use Rattle.package_files.specs.OwnFiles.{IsCleared, IsInstalled, IsChanging, IsOwnReady}
-use Rattle.package_files.specs.Incoming.{AreLaidOut}
+use Rattle.unpack_engine.specs.OwnFiles.{IsCleared, IsInstalled, IsChanging, IsOwnReady}
+use Rattle.unpack_engine.specs.Incoming.{AreLaidOut}
 use Rattle.status_db.specs.declared.record.Record.{Record}
 use Rattle.status_db.specs.declared.words.Flag.TheVariants as flag
 use Rattle.status_db.specs.declared.words.State.TheVariants as state

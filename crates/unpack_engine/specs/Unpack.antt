@@ -12,7 +12,7 @@ use Rattle.administration.specs.Files.{NoDirectory}
 use Rattle.administration.specs.Scripts.{script_of, file_of}
 use Rattle.unwind_stack.specs.Transcript.{Ended, Legal}
 use Rattle.package_tree.specs.declared.package.Package.{Package}
-use Rattle.package_files.specs.OwnFiles.{OwnFile, own_path, own_node, IsOwnMoment}
+use Rattle.unpack_engine.specs.OwnFiles.{OwnFile, own_path, own_node, IsOwnMoment}
 use Rattle.status_db.specs.declared.record.Record.{Record}
 use Rattle.status_db.specs.Records.{record_in, put_record, drop_record}
 use Rattle.status_db.specs.Status.{HasRecords}

@@ -1,7 +1,9 @@
 //! Unpacking a package (Policy 6.6): its rows, its notes and the files of the administration.
 #![tactic(auto)]
 
+mod incoming;
 mod notes;
+mod own;
 mod rows;
 mod unpack;
 

@@ -16,7 +16,7 @@ use unwind_stack::{Called, Owner, Row, try_row, undo_row};
 
 /// How the rows ended: all succeeded; or the preinst failed and its undo succeeded or was absent;
 /// or its undo failed too.
-#[derive(Clone, Copy, Debug, PartialEq, Eq)]
+#[derive(Clone, Copy)]
 pub enum Turn {
     Committed,
     Undone,

@@ -4,15 +4,16 @@ ghost use Rattle.host_core.specs.World.{IsDirectory, KeepsBut, is_kept};
 ghost use Rattle.host_core.specs.Host.{HasCause, Silent, Since};
 ghost use Rattle.administration.specs.Places.{home_path, info_path, tmp_path, is_within};
 ghost use Rattle.status_db.specs.Status.{HasRecords, IsStatusReady};
-ghost use Rattle.package_files.specs.OwnFiles.{IsOwnReady};
+ghost use Rattle.unpack_engine.specs.OwnFiles.{IsOwnReady};
 ghost use Rattle.unwind_stack.specs.Transcript.{TellsAll};
 ghost use Rattle.unpack_engine.specs.Unpack.{IsAmid, IsInOrder};
 ghost use Rattle.unpack_engine.specs.Units.{HasBegun, IsBeginning, HasFinished, IsFinishing, HasUnpacked};
 
+use crate::incoming::{clear_away, lay_out};
 use crate::notes::note_as;
+use crate::own::{discard_own, store_own};
 use crate::rows::{Turn, run_rows};
 use host_core::{Host, HostFault, Keep};
-use package_files::{clear_away, discard_own, lay_out, store_own};
 use package_tree::Package;
 use status_db::{Database, Flag, State};
 use std::alloc::Global;

@@ -5,7 +5,7 @@ ghost use Rattle.version_order.specs.declared.fault.VersionFault.TheVariants.{No
 use std::alloc::AllocError;
 
 /// Why a text isn't a version. Faults are looked for in this order.
-#[derive(Clone, Copy, Debug, PartialEq, Eq)]
+#[derive(Clone, Copy, Debug)]
 pub enum VersionFault {
     /// No bytes.
     Empty,

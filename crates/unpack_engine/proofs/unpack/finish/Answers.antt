@@ -1,6 +1,6 @@
 use Rattle.std.proofs.Common.{sym, subst, IsTrue, OnOk}
 use Rattle.host_core.specs.Moments.{since_then, since_weaker, since_now}
-use Rattle.package_files.proofs.Changes.{changing_ready, own_nodes}
+use Rattle.unpack_engine.proofs.Changes.{changing_ready, own_nodes}
 use Rattle.unpack_engine.specs.Units.{IsFinishing, HasFinished}
 use Rattle.unpack_engine.specs.Units.IsFinishing.{storing, unpacked, forgetting}
 use Rattle.unpack_engine.proofs.Noting.{noted_earlier}

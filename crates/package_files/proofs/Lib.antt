@@ -1,3 +1,0 @@
-pub mod Endings
-pub mod Changes
-pub mod LaidOut

@@ -1,2 +1,0 @@
-pub mod OwnFiles
-pub mod Incoming

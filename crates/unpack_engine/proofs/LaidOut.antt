@@ -1,0 +1,195 @@
+-- What laying out the scripts of the incoming tree leaves.
+use Rattle.std.proofs.Common.{◌≡◌, ◌⊎◌, inl, inr, Bool, true, false, cond, nat_eq, ◌∷◌, ◌++◌, Option, Some, None, refl, sym, ap, subst, ◌∙◌, codes, Contains, arith, is_some, drop, zero, suc}
+use Rattle.std.specs.Prelude.{IsSome, MatchBool}
+use Rattle.std.proofs.lemmas.Bool.{true≢false, eqb-true, eqb-false}
+use Rattle.host_core.specs.Paths.{Path}
+use Rattle.host_core.specs.World.{World, IsDirectory, IsLoose as IsLooseNode, IsBare, KeepsBut, HasParent}
+use Rattle.host_core.specs.Tree.{IsTree, has_slash}
+use Rattle.host_core.specs.Host.{State, Since}
+use Rattle.host_core.specs.Moments.{since_then, since_weaker, since_now}
+use Rattle.host_core.specs.Outcome.{script_name}
+use Rattle.host_core.specs.declared.node.Node.{Node}
+use Rattle.host_core.specs.declared.call.Script.{Script}
+use Rattle.host_core.specs.declared.call.Script.TheVariants.{Preinst, Postinst, Prerm, Postrm}
+use Rattle.administration.specs.Places.{tmp_path, home_path, tmp_script_path, temporary, is_within}
+use Rattle.administration.specs.Files.{NoDirectory, IsReplacing}
+use Rattle.administration.specs.Directories.{IsMade, IsMaking, IsFlat}
+use Rattle.administration.specs.Scripts.{script_of, file_of}
+use Rattle.administration.specs.declared.scripts.Scripts.{Scripts}
+use Rattle.administration.proofs.WholeFiles.{no_directory_none, no_directory_at}
+use Rattle.administration.proofs.Within.{below_within, directory_within, outside_differs, directory_differs}
+use Rattle.unpack_engine.specs.OwnFiles.{IsPut}
+use Rattle.unpack_engine.specs.Incoming.{script_names, AreLaidOut, IsTmpFlat}
+use Rattle.unpack_engine.proofs.Endings.{mark, same_file, tmp_apart, tmp_lasting}
+use Rattle.unpack_engine.proofs.Changes.{decide, script_loose, no_slash}
+
+-- all happens within `tmp.ci`
+pub keeps_then : (area : Path → Bool) (u v w : World) → KeepsBut area u v → KeepsBut area v w → KeepsBut area u w
+keeps_then area u v w first second q out = second q out ∙ first q out
+
+pub since_keeps : (area : Path → Bool) (s a b : State) → Since (KeepsBut area s.world) s a → Since (KeepsBut area a.world) a b → Since (KeepsBut area s.world) s b
+since_keeps area s a b first second = since_then _ s a b first (since_weaker _ _ a b (λ w is. keeps_then area s.world a.world w (since_now _ s a first) is) second)
+
+pub making_within : (w now : World) → IsMaking tmp_path w now → KeepsBut (is_within tmp_path) w now
+making_within w now is q out = is.rest q (outside_differs tmp_path tmp_path q (directory_within tmp_path) out)
+
+pub made_absent : (p q : Path) (w now : World) (there : Bool) → p ≡ q → w q ≡ None → MatchBool there (IsMade p w now) (IsLooseNode (w p)) → IsMade q w now
+made_absent p q w now true e none is = subst (λ x. IsMade x w now) e is
+made_absent p q w now false e none is = absurd (true≢false (sym is.0 ∙ ap is_some (ap w e ∙ none)))
+
+script_within : (script : Script) → is_within tmp_path (tmp_script_path script) ≡ true
+script_within script = below_within tmp_path (script_name script)
+
+spare_within : (script : Script) → is_within tmp_path (temporary (tmp_script_path script)) ≡ true
+spare_within script = below_within tmp_path (script_name script ++ codes ".dpkg-inst")
+
+pub replacing_within : (script : Script) (node : Node) (w now : World) → IsReplacing (tmp_script_path script) node w now → KeepsBut (is_within tmp_path) w now
+replacing_within script node w now is q out =
+    is.rest q (outside_differs tmp_path (tmp_script_path script) q (script_within script) out) (outside_differs tmp_path (temporary (tmp_script_path script)) q (spare_within script) out)
+
+script_plain : (script : Script) → Contains (script_name script) 47 → ⊥
+script_plain Preinst has = no_slash (script_name Preinst) refl has
+script_plain Postinst has = no_slash (script_name Postinst) refl has
+script_plain Prerm has = no_slash (script_name Prerm) refl has
+script_plain Postrm has = no_slash (script_name Postrm) refl has
+
+pub tmp_parent : (w : World) (script : Script) → IsDirectory (w tmp_path) → HasParent w (tmp_script_path script)
+tmp_parent w script there = (tmp_path, script_name script, refl, script_plain script, there)
+
+pub home_parent : (w : World) → IsDirectory (w home_path) → HasParent w tmp_path
+home_parent w there = (home_path, codes "tmp.ci", refl, no_slash (codes "tmp.ci") refl, there)
+
+-- a table of what stands there, and one script more
+abbrev is_script : Script → Script → Bool
+is_script script other = nat_eq (mark (Some script)) (mark (Some other))
+
+abbrev pub Table : Type 0
+Table = Script → Option Node
+
+abbrev pub with_script : Scripts → Script → Table → Table
+with_script scripts script table other = cond (is_script script other) (file_of (script_of scripts script)) (table other)
+
+pub record Holds (table : Table) (w : World) : Type 0 where
+  pub there : IsDirectory (w tmp_path)
+  pub files : (script : Script) → w (tmp_script_path script) ≡ table script
+  pub spares : (script : Script) → w (temporary (tmp_script_path script)) ≡ None
+  pub whole : (name : Path) → has_slash name ≡ false → IsSome (w (tmp_path ++ 47 ∷ name)) → Contains script_names name
+
+some_of : (script other : Script) → mark (Some script) ≡ mark (Some other) → script ≡ other
+some_of script other e = let f : ◌≡◌ {A = Option Script} (Some script) (Some other) = same_file (Some script) (Some other) e in cc
+
+listed : (script : Script) → Contains script_names (script_name script)
+listed Preinst = (0, omega arith, refl)
+listed Postinst = (1, omega arith, refl)
+listed Prerm = (2, omega arith, refl)
+listed Postrm = (3, omega arith, refl)
+
+none_stands : (n : Option Node) → n ≡ None → IsSome n → ⊥
+none_stands n e is = true≢false (sym is ∙ ap is_some e)
+
+pub holds_more : (scripts : Scripts) (script : Script) (table : Table) (w v : World) → table script ≡ None → Holds table w → IsPut (tmp_script_path script) (file_of (script_of scripts script)) w v → Holds (with_script scripts script table) v
+holds_more scripts script table w v free holds put = record {
+  there = subst IsDirectory (sym (put.rest tmp_path (directory_differs tmp_path (script_name script)) (directory_differs tmp_path (script_name script ++ codes ".dpkg-inst")))) holds.there;
+  files = λ other. at other (is_script script other) refl;
+  spares = λ other. elim (decide (temporary (tmp_script_path other)) (temporary (tmp_script_path script))) [
+    | inl e ↦ ap v e ∙ put.spare (holds.spares script)
+    | inr ne ↦ put.rest (temporary (tmp_script_path other)) (λ e. tmp_lasting script (tmp_script_path other) (sym e)) ne ∙ holds.spares other
+  ];
+  whole = λ name plain there. elim (decide (tmp_path ++ 47 ∷ name) (tmp_script_path script)) [
+    | inl e ↦ subst (Contains script_names) (sym (ap (drop 21) e)) (listed script)
+    | inr ne ↦ elim (decide (tmp_path ++ 47 ∷ name) (temporary (tmp_script_path script))) [
+      | inl e ↦ absurd (none_stands (v (tmp_path ++ 47 ∷ name)) (ap v e ∙ put.spare (holds.spares script)) there)
+      | inr ne2 ↦ holds.whole name plain (subst IsSome (put.rest (tmp_path ++ 47 ∷ name) ne ne2) there)
+    ]
+  ];
+}
+  where
+    at : (other : Script) (b : Bool) → is_script script other ≡ b → v (tmp_script_path other) ≡ with_script scripts script table other
+    at other true is =
+        let e : script ≡ other = some_of script other (eqb-true (mark (Some script)) (mark (Some other)) is) in
+        ap (λ s. v (tmp_script_path s)) (sym e) ∙ put.target (holds.files script ∙ free) ∙ ap (λ b. cond b (file_of (script_of scripts script)) (table other)) (sym is)
+    at other false is =
+        put.rest (tmp_script_path other) (tmp_apart other script (λ e. eqb-false (mark (Some script)) (mark (Some other)) is (sym e))) (tmp_lasting other (tmp_script_path script)) ∙ holds.files other ∙ ap (λ b. cond b (file_of (script_of scripts script)) (table other)) (sym is)
+
+-- from an empty directory to the four scripts
+abbrev pub nothing : Table
+nothing script = None
+
+pub holds_start : (w : World) → IsDirectory (w tmp_path) → IsBare w tmp_path → Holds nothing w
+holds_start w there bare = record {
+  there = there;
+  files = λ script. bare (script_name script);
+  spares = λ script. bare (script_name script ++ codes ".dpkg-inst");
+  whole = λ name plain here. absurd (none_stands (w (tmp_path ++ 47 ∷ name)) (bare name) here);
+}
+
+abbrev pub IsLoose : Table → Type 0
+IsLoose table = (script : Script) → NoDirectory (table script)
+
+pub loose_start : IsLoose nothing
+loose_start script = no_directory_none
+
+chosen_loose : (b : Bool) (m n : Option Node) → NoDirectory m → NoDirectory n → NoDirectory (cond b m n)
+chosen_loose true m n first second = first
+chosen_loose false m n first second = second
+
+pub loose_more : (scripts : Scripts) (script : Script) (table : Table) → IsLoose table → IsLoose (with_script scripts script table)
+loose_more scripts script table loose other = chosen_loose (is_script script other) (file_of (script_of scripts script)) (table other) (script_loose (script_of scripts script)) (loose other)
+
+pub holds_flat : (table : Table) (w : World) → IsLoose table → Holds table w → IsTmpFlat w
+holds_flat table w loose holds script =
+    (no_directory_at (w (tmp_script_path script)) (table script) (holds.files script) (loose script), no_directory_at (w (temporary (tmp_script_path script))) None (holds.spares script) no_directory_none)
+
+module _ (scripts : Scripts) where
+  abbrev pub one_script : Table
+  one_script = with_script scripts Preinst nothing
+
+  abbrev pub two_scripts : Table
+  two_scripts = with_script scripts Postinst one_script
+
+  abbrev pub three_scripts : Table
+  three_scripts = with_script scripts Prerm two_scripts
+
+  abbrev pub all_scripts : Table
+  all_scripts = with_script scripts Postrm three_scripts
+
+  all_there : (script : Script) → all_scripts script ≡ file_of (script_of scripts script)
+  all_there Preinst = refl
+  all_there Postinst = refl
+  all_there Prerm = refl
+  all_there Postrm = refl
+
+  pub laid_out : (w : World) → Holds all_scripts w → AreLaidOut scripts w
+  laid_out w holds = record { there = holds.there; files = λ script. holds.files script ∙ all_there script; spares = holds.spares; whole = holds.whole }
+
+-- a directory that was made where nothing stood is empty
+some_or_none : (n : Option Node) → (n ≡ None) ⊎ IsSome n
+some_or_none None = inl refl
+some_or_none (Some n) = inr refl
+
+pub made_bare : (w v : World) → IsTree w → w tmp_path ≡ None → IsMade tmp_path w v → IsBare v tmp_path
+made_bare w v tree none made rest =
+    made.rest (tmp_path ++ 47 ∷ rest) (λ e. directory_differs tmp_path rest (sym e))
+    ∙ elim (some_or_none (w (tmp_path ++ 47 ∷ rest))) [ inl e ↦ e | inr some ↦ absurd (no_directory_none (subst IsDirectory none (tree tmp_path rest some))) ]
+
+-- the names of the scripts
+named : (name : Path) → Contains script_names name → (script : Script) × (name ≡ script_name script)
+named name (zero, lt, e) = (Preinst, sym e)
+named name (suc zero, lt, e) = (Postinst, sym e)
+named name (suc (suc zero), lt, e) = (Prerm, sym e)
+named name (suc (suc (suc zero)), lt, e) = (Postrm, sym e)
+named name (suc (suc (suc (suc k))), lt, e) = absurd (omega (arith, lt))
+
+name_plain : (script : Script) → has_slash (script_name script) ≡ false
+name_plain Preinst = refl
+name_plain Postinst = refl
+name_plain Prerm = refl
+name_plain Postrm = refl
+
+pub laid_flat : (scripts : Scripts) (w : World) → AreLaidOut scripts w → IsFlat w tmp_path script_names
+laid_flat scripts w laid = record {
+  plain = λ name has. let n = named name has in ap has_slash n.1 ∙ name_plain n.0;
+  loose = λ name has. let n = named name has in subst (λ r. NoDirectory (w (tmp_path ++ 47 ∷ r))) (sym n.1)
+      (no_directory_at (w (tmp_script_path n.0)) (file_of (script_of scripts n.0)) (laid.files n.0) (script_loose (script_of scripts n.0)));
+  whole = laid.whole;
+}

@@ -1,0 +1,40 @@
+use Rattle.std.proofs.Common.{sym, subst, None, OnOk, refl}
+use Rattle.host_core.specs.World.{HasParent}
+use Rattle.host_core.specs.Host.{Since}
+use Rattle.host_core.specs.Moments.{since_weaker, since_start}
+use Rattle.administration.specs.Places.{temporary}
+use Rattle.administration.specs.Files.{NoDirectory, IsReplacing, IsReplaced}
+use Rattle.unpack_engine.specs.OwnFiles.{own_path, root_list}
+use Rattle.unpack_engine.proofs.Changes.{changing_start, changing_replacing, own_parent, put_replaced, on_ok}
+use Rattle.unpack_engine.proofs.own.put_list.Goals as goal
+
+pub replace-requires-clause-parent : goal.replace-requires-clause-parent
+replace-requires-clause-parent g c = λ h. subst (HasParent (g.H.Host.state c.args.host.now).world) (sym c.in_ok-path.ensures) (own_parent (g.H.Host.state c.args.host.now).world c.args.name.now (None) c.requires.plain (c.requires.there h))
+
+pub replace-requires-clause-target : goal.replace-requires-clause-target
+replace-requires-clause-target g c = λ h. subst (λ q. NoDirectory ((g.H.Host.state c.args.host.now).world q)) (sym c.in_ok-path.ensures) ((c.requires.ready h).own (None))
+
+pub replace-requires-clause-spare : goal.replace-requires-clause-spare
+replace-requires-clause-spare g c = λ h. subst (λ q. NoDirectory ((g.H.Host.state c.args.host.now).world (temporary q))) (sym c.in_ok-path.ensures) ((c.requires.ready h).spares (None))
+
+pub returns-clause-put : goal.returns-clause-put
+returns-clause-put g c = λ h.
+    let old = (g.H.Host.state c.args.host.now).world in
+    let new = (g.H.Host.state c.replace.new.host).world in
+    let at_path = subst (λ q. OnOk c.replace.result (IsReplaced q c.in_ok-node.node old new)) c.in_ok-path.ensures (c.replace.ensures.replaced h) in
+    let replaced = subst (λ n. OnOk c.replace.result (IsReplaced (own_path c.args.name.now None) n old new)) c.in_ok-node.ensures at_path in
+    on_ok c.replace.result (put_replaced (own_path c.args.name.now None) root_list old new) replaced
+
+pub returns-clause-any_moment : goal.returns-clause-any_moment
+returns-clause-any_moment g c = λ h.
+    let old = g.H.Host.state c.args.host.now in
+    let new = g.H.Host.state c.replace.new.host in
+    let at_path = subst (λ q. Since (IsReplacing q c.in_ok-node.node old.world) old new) c.in_ok-path.ensures (c.replace.ensures.any_moment h) in
+    let replacing = subst (λ n. Since (IsReplacing (own_path c.args.name.now None) n old.world) old new) c.in_ok-node.ensures at_path in
+    since_weaker _ _ _ _ (λ w is. changing_replacing c.args.name.now c.args.scripts.now None root_list old.world w (c.requires.ready h) refl is) replacing
+
+pub returns-in_err-path-clause-any_moment : goal.returns-in_err-path-clause-any_moment
+returns-in_err-path-clause-any_moment g c = λ h. since_start _ _ (changing_start c.args.name.now c.args.scripts.now _ (c.requires.ready h))
+
+pub returns-in_err-node-clause-any_moment : goal.returns-in_err-node-clause-any_moment
+returns-in_err-node-clause-any_moment g c = λ h. since_start _ _ (changing_start c.args.name.now c.args.scripts.now _ (c.requires.ready h))
