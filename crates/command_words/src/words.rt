@@ -7,10 +7,11 @@ ghost use Rattle.command_words.specs.declared.words.WordsFault.TheVariants.{NoMe
 
 use crate::command::whole_command;
 use crate::comparison::{Comparison, Operator};
+use clap::ArgMatches;
 use clap::error::ErrorKind;
-use clap::{ArgMatches, Error};
 use std::alloc::{AllocError, Global};
 use texts::{Text, Texts};
+use thiserror::Error;
 
 // What follows the words that clap has no fault in, but that ask for nothing.
 const SUBCOMMAND_USAGE: &str = "error: a subcommand is wanted\n\nUsage: dpkg_cli <COMMAND>\n";
@@ -38,9 +39,11 @@ pub enum Asked {
 }
 
 /// Why words ask for nothing: a text that says how they are used, or want of memory.
-#[derive(Drop)]
+#[derive(Debug, Drop, Error)]
 pub enum WordsFault {
+    #[error("{0}")]
     Usage(String),
+    #[error("NoMemory")]
     NoMemory,
 }
 
@@ -59,7 +62,7 @@ fn usage(alloc: Global, text: &str) -> WordsFault {
     }
 }
 
-fn fault_of(alloc: Global, error: &Error) -> WordsFault
+fn fault_of(alloc: Global, error: &clap::Error) -> WordsFault
     ensures { kind_of error.now ≡ OutOfMemory → result ≡ NoMemory }
 {
     if error.kind() == ErrorKind::OutOfMemory {

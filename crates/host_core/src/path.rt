@@ -4,12 +4,13 @@ ghost use Rattle.std.specs.List.{list_all};
 ghost use Rattle.host_core.specs.Paths.{has_break, is_component, components, is_rooted, is_path_text, path_of};
 
 use std::alloc::{AllocError, Global};
+use std::fmt;
 use std::marker::Model;
 use texts::Text;
 
 /// An absolute path under the root. The root itself is kept as the empty text, so that each path
 /// below a directory is the directory's, a slash and the rest.
-#[derive(Drop)]
+#[derive(Debug, Drop)]
 pub struct RootPath {
     text: String,
 }
@@ -124,5 +125,13 @@ impl RootPath {
         Ok(RootPath {
             text: self.text.clone()?,
         })
+    }
+}
+
+impl fmt::Display for RootPath {
+    /// The root itself is told as `/`.
+    fn fmt<W: fmt::Write>(&self, f: &mut fmt::Formatter<W>) -> fmt::Result {
+        let text = self.as_str();
+        f.write_str(if text.is_empty() { "/" } else { text })
     }
 }

@@ -61,4 +61,12 @@ impl ShipPath {
     {
         self.text.as_str()
     }
+
+    pub fn copy(&self) -> Result<ShipPath, AllocError>
+        ensures { IfOk result (λ p. p ≡ self.now) }
+    {
+        Ok(ShipPath {
+            text: self.text.clone()?,
+        })
+    }
 }

@@ -6,9 +6,10 @@ ghost use Rattle.package_tree.specs.Fault.{fault_of};
 use control_fields::ControlFault;
 use host_core::{HostFault, RootPath};
 use std::alloc::AllocError;
+use thiserror::Error;
 
 /// The fields of a control file that a tree's reading looks at.
-#[derive(Clone, Copy)]
+#[derive(Clone, Copy, Debug)]
 pub enum FieldName {
     Package,
     Version,
@@ -17,17 +18,24 @@ pub enum FieldName {
 
 /// The faults of a tree, in the order in which they are looked for; Device and NoMemory stand where
 /// they happen.
-#[derive(Drop)]
+#[derive(Debug, Drop, Error)]
 pub enum TreeFault {
     /// No file stands at `DEBIAN/control`.
+    #[error("NoControl")]
     NoControl,
     /// The control file isn't one paragraph of control text.
+    #[error("Control {0}")]
     Control(ControlFault),
+    #[error("FieldMissing {0:?}")]
     FieldMissing(FieldName),
+    #[error("FieldBad {0:?}")]
     FieldBad(FieldName),
     /// A script or `DEBIAN/conffiles` isn't a file.
+    #[error("PathBad {0}")]
     PathBad(RootPath),
+    #[error("Device")]
     Device,
+    #[error("NoMemory")]
     NoMemory,
 }
 

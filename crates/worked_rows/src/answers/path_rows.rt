@@ -30,7 +30,7 @@ fn root_path_of(alloc: Global, text: &str) -> Result<String, AllocError> {
 
 fn ship_path_of(alloc: Global, text: &str) -> Result<String, AllocError> {
     match ShipPath::parse(alloc, text)? {
-        Some(path) => String::from_str(alloc, path.as_str()),
+        Some(path) => String::from_str(alloc, path.copy()?.as_str()),
         None => String::from_str(alloc, "none"),
     }
 }
