@@ -1,10 +1,10 @@
 // Reading control text line by line.
-ghost use Rattle.std.specs.Prelude.{◌≡◌, ◌≤◌, ◌<◌, ◌↔◌, IsTrue, IfSome, IfNone, IfOk, OnOk, IfErr, List, length, None, false, [], ◌++◌, ◌∷◌, ◌⊎◌};
+ghost use Rattle.std.specs.Prelude.{◌≡◌, ◌≤◌, ◌<◌, ◌↔◌, IsTrue, IfSome, IfNone, IfOk, OnOk, IfErr, List, length, None, false, [], ◌++◌, ◌∷◌};
 ghost use Rattle.control_fields.specs.Names.{Lacks, is_blank, trim_end, trim_start, IsName, stands, with_line, begin_line};
 ghost use Rattle.control_fields.specs.Told.{told};
 ghost use Rattle.control_fields.specs.declared.field.Field.{Field as AField};
 ghost use Rattle.control_fields.specs.declared.reading.LineFault.TheVariants as line;
-ghost use Rattle.control_fields.specs.Grammar.{lines_of, field_of, Reading, start, nothing, with_last, closed, Takes, Run, Reads, ReadsOne, paragraphs_of};
+ghost use Rattle.control_fields.specs.Grammar.{lines_of, field_of, Reading, start, nothing, with_last, Takes, Run, Reads, ReadsOne, paragraphs_of};
 ghost use Rattle.control_fields.specs.Faults.{IsFaultOf, IsFaultOfOne, IsReadTo, StopsAt, IsLineFault, IsFaultHere};
 
 use crate::fault::ControlFault;

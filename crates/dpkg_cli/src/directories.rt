@@ -1,5 +1,5 @@
 // The directories of the real file system as hosts.
-ghost use Rattle.std.specs.Prelude.{◌≤◌, ◌<◌, ◌^◌, ◌-◌, ⊤, IfOk, IsErrOf};
+ghost use Rattle.std.specs.Prelude.{◌≤◌, ◌<◌, ⊤, IsErrOf};
 ghost use Rattle.host_core.specs.declared.fault.HostFault.TheVariants.{Device};
 
 use command_line::Hosts;

@@ -46,7 +46,7 @@ fn take_line(alloc: Global, line: &[u8], keep: &mut Keep) -> Result<bool, AllocE
     let Some(place) = RootPath::parse(alloc, text)? else {
         return Ok(false);
     };
-    keep.push(place)?;
+    keep.places.push(place)?;
     Ok(true)
 }
 
@@ -257,7 +257,9 @@ pub fn read_places<H: Host>(
     ensures cause { HasAdministrationCause (H.state host.old) (H.state host.new) result }
 {
     let mut entries = entries_in(alloc, host)?;
-    let mut keep = Keep::new(alloc);
+    let mut keep = Keep {
+        places: Vec::new(alloc),
+    };
     look_at_all(alloc, host, names, &mut entries, &mut keep)?;
     Ok(keep)
 }

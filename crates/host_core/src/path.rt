@@ -1,5 +1,5 @@
 // Paths under the root.
-ghost use Rattle.std.specs.Prelude.{◌≡◌, ℕ, List, IfOk, MatchOption, ◌++◌, ◌∷◌, IsTrue, ◌↔◌, false, true, string_bytes, codes};
+ghost use Rattle.std.specs.Prelude.{◌≡◌, ℕ, List, IfOk, MatchOption, ◌++◌, ◌∷◌, IsTrue, ◌↔◌, false, true, string_bytes};
 ghost use Rattle.std.specs.List.{list_all};
 ghost use Rattle.host_core.specs.Paths.{has_break, is_component, components, is_rooted, is_path_text, path_of};
 

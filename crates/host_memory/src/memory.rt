@@ -1,10 +1,11 @@
 // The host in memory.
-ghost use Rattle.std.specs.Prelude.{◌≡◌};
+ghost use Rattle.std.specs.Prelude.{◌≡◌, OnOk, OnErr};
+ghost use Rattle.std.specs.BTreeMap.{get_by_text};
+ghost use Rattle.host_core.specs.World.{moved, HasParent, IsDirectory, IsLoose};
 ghost use Rattle.host_memory.specs.Endings.{next_outcome, next_change};
 
 use crate::change::{Entry, Planned, carry_out};
 use crate::files::Files;
-use crate::moving::move_node;
 use crate::placing::place;
 use host_core::{Call, Host, HostFault, Keep, Listing, Node, Outcome, RootPath};
 use std::alloc::{AllocError, Global};
@@ -53,6 +54,30 @@ fn ending_of(pending: &VecDeque<Planned>) -> Ending<'_>
     }
 }
 
+// The node is copied to its new name, and then the old one goes: so memory is refused before anything is changed.
+fn move_node(
+    alloc: Global,
+    files: &mut Files,
+    from: &RootPath,
+    to: &RootPath,
+) -> Result<(), AllocError>
+    requires there { IsLoose (get_by_text files.old.nodes from.now) }
+    requires over { IsDirectory (get_by_text files.old.nodes to.now) → ⊥ }
+    requires parent { HasParent (get_by_text files.old.nodes) to.now }
+    ensures ok { OnOk result (get_by_text files.new.nodes ≡ moved (get_by_text files.old.nodes) from.now to.now) }
+    ensures err { OnErr result (get_by_text files.new.nodes ≡ get_by_text files.old.nodes) }
+{
+    let node = match files.copy_at(from)? {
+        Some(node) => node,
+        None => unreachable!(),
+    };
+    files.put(alloc, to.as_str(), node)?;
+    if !from.is(to) {
+        files.take(from.as_str());
+    }
+    Ok(())
+}
+
 /// A root in memory. Its calls end as planned, in order, and when none is left with exit status 0.
 /// It answers NoMemory where an allocation is refused, and then nothing has changed.
 #[derive(Drop)]
@@ -68,9 +93,7 @@ pub struct MemoryHost {
 impl MemoryHost {
     ghost use Rattle.std.specs.Prelude.{◌≡◌, ◌++◌, ◌∷◌, [], Some, true, map, IfOk, OnOk, OnErr, MatchBool};
     ghost use Rattle.host_core.specs.World.{put, is_kept};
-    ghost use Rattle.host_core.specs.Host.{Stepped};
     ghost use Rattle.host_memory.specs.Trees.{CanPlace, HasPartWay, IsPlaced, new_directory, nothing};
-    ghost use Rattle.host_memory.specs.Changes.{change_of};
     ghost use Rattle.host_memory.specs.Memory.{memory_state, planned_of, ran_of, step_of, HasEnded, TouchesFilesAlone};
 
     /// A root directory and nothing else.

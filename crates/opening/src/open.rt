@@ -7,7 +7,7 @@ ghost use Rattle.administration.specs.Files.{NoDirectory};
 ghost use Rattle.administration.specs.Places.{home_path, updates_path, info_path, tmp_path};
 ghost use Rattle.administration.specs.declared.fault.AdministrationFault.TheVariants.{Damaged, Device};
 ghost use Rattle.opening.specs.Leaving.{is_way, root_path, var_path, lib_path};
-ghost use Rattle.opening.specs.Parts.{Way, Opens, fault_in, Spare, Updates, Finds, Info, names_of, Diversions, IsDiversionsFault, IsWithoutDiversions, Leftovers, Status, parts};
+ghost use Rattle.opening.specs.Parts.{Way, Opens, fault_in, Spare, Updates, Finds, Info, names_of, Diversions, IsDiversionsFault, IsWithoutDiversions, Leftovers, parts};
 ghost use Rattle.host_core.specs.Tree.{IsListing};
 ghost use Rattle.administration.specs.Least.{IsLeast};
 ghost use Rattle.file_lists.specs.Lists.{HasPlaces};

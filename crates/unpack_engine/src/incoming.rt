@@ -4,7 +4,6 @@ ghost use Rattle.host_core.specs.World.{IsDirectory, IsBare, KeepsBut};
 ghost use Rattle.host_core.specs.Host.{HasCause, Silent, Since};
 ghost use Rattle.host_core.specs.Outcome.{script_name};
 ghost use Rattle.administration.specs.Places.{home_path, tmp_path as tmp_place, tmp_script_path as script_place, is_within};
-ghost use Rattle.administration.specs.Files.{NoDirectory};
 ghost use Rattle.administration.specs.Directories.{IsMade, IsRemoved};
 ghost use Rattle.administration.specs.Scripts.{script_of, file_of};
 ghost use Rattle.unpack_engine.specs.OwnFiles.{IsPut};

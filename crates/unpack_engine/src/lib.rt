@@ -3,7 +3,7 @@
 
 mod incoming;
 mod notes;
-mod own;
+mod own_files;
 mod rows;
 mod unpack;
 

@@ -1,5 +1,5 @@
 // Noting how far a package is.
-ghost use Rattle.std.specs.Prelude.{◌≡◌, IsTrue, OnOk};
+ghost use Rattle.std.specs.Prelude.{IsTrue, OnOk};
 ghost use Rattle.host_core.specs.Host.{HasCause, Silent, Since};
 ghost use Rattle.status_db.specs.Status.{IsStatusReady};
 ghost use Rattle.unpack_engine.specs.Stages.{IsNotedAs, IsNotingAs};

@@ -1,8 +1,8 @@
 // The unit of an unpack: notes, rows, files, in Policy's order.
-ghost use Rattle.std.specs.Prelude.{◌≡◌, ◌≤◌, IsTrue, IfOk, OnOk, None};
-ghost use Rattle.host_core.specs.World.{IsDirectory, KeepsBut, is_kept};
+ghost use Rattle.std.specs.Prelude.{◌≡◌, ◌≤◌, IsTrue, IfOk, OnOk};
+ghost use Rattle.host_core.specs.World.{IsDirectory};
 ghost use Rattle.host_core.specs.Host.{HasCause, Silent, Since};
-ghost use Rattle.administration.specs.Places.{home_path, info_path, tmp_path, is_within};
+ghost use Rattle.administration.specs.Places.{home_path, info_path};
 ghost use Rattle.status_db.specs.Status.{HasRecords, IsStatusReady};
 ghost use Rattle.unpack_engine.specs.OwnFiles.{IsOwnReady};
 ghost use Rattle.unwind_stack.specs.Transcript.{TellsAll};
@@ -11,7 +11,7 @@ ghost use Rattle.unpack_engine.specs.Units.{HasBegun, IsBeginning, HasFinished, 
 
 use crate::incoming::{clear_away, lay_out};
 use crate::notes::note_as;
-use crate::own::{discard_own, store_own};
+use crate::own_files::{discard_own, store_own};
 use crate::rows::{Turn, run_rows};
 use host_core::{Host, HostFault, Keep};
 use package_tree::Package;

@@ -9,7 +9,7 @@ mod word_rows;
 use super::{answer, expect, text_of};
 use command_line::Hosts;
 use host_core::{Host, HostFault, Node, Outcome, RootPath};
-use host_memory::{MemoryHost, Planned};
+use host_memory::{Entry, MemoryHost, Planned};
 use std::alloc::{AllocError, Global};
 use std::process::Abort;
 use std::test::Fail;
@@ -52,12 +52,13 @@ fn tree_of(alloc: Global, files: &[TreeFile], tree: &str) -> Result<MemoryHost, 
 
 // A call that makes the directory /made and tries to remove the status file.
 fn planned(alloc: Global, outcome: Outcome) -> Result<Planned, AllocError> {
-    let mut planned = Planned::new(alloc, outcome);
-    let made = RootPath::from_str(alloc, "/made")?;
-    planned.add(made, Some(Node::Dir { mode: 0o755 }))?;
-    let status = RootPath::from_str(alloc, "/var/lib/dpkg/status")?;
-    planned.add(status, None)?;
-    Ok(planned)
+    let mut change = Vec::new(alloc);
+    let path = RootPath::from_str(alloc, "/made")?;
+    let node = Some(Node::Dir { mode: 0o755 });
+    change.push(Entry { path, node })?;
+    let path = RootPath::from_str(alloc, "/var/lib/dpkg/status")?;
+    change.push(Entry { path, node: None })?;
+    Ok(Planned { outcome, change })
 }
 
 // An empty root whose calls end as told, and then with status 0.

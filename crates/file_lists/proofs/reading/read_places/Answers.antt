@@ -43,7 +43,7 @@ returns-clause-places g c = λ h.
     let all = contains_text c.in_ok-entries.entries in
     let places = c.look_at_all.new.keep in
     let honest = subst IsTrue (sym c.entries_in.ensures.silent.honest) h in
-    let taken = subst (λ (old : List Path). HaveTaken (g.H.Host.state c.entries_in.new.host).world names all old places) c.new-keep.ensures (c.in_ok-look_at_all.ensures.taken honest) in
+    let taken = subst (λ (old : List Path). HaveTaken (g.H.Host.state c.entries_in.new.host).world names all old places) c.new.ensures.items (c.in_ok-look_at_all.ensures.taken honest) in
     has_places w names all places (g.H.Host.tree c.args.host.now h) (c.in_ok-entries.ensures.entries h)
     (subst (λ (v : World). AreSoundAmong v names all) (c.entries_in.ensures.same h).world (c.in_ok-look_at_all.ensures.sound honest))
     (subst (λ (v : World). HaveTaken v names all [] places) (c.entries_in.ensures.same h).world taken)

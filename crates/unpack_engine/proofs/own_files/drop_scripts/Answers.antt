@@ -1,6 +1,6 @@
 use Rattle.std.proofs.Common.{sym, subst, IsTrue}
 use Rattle.unpack_engine.proofs.Changes.{goes_one, goes_then, goes_ready, on_ok, dropped_four}
-use Rattle.unpack_engine.proofs.own.drop_scripts.Goals as goal
+use Rattle.unpack_engine.proofs.own_files.drop_scripts.Goals as goal
 
 pub drop_script-requires-2 : goal.drop_script-requires-2
 drop_script-requires-2 g c =

@@ -8,7 +8,7 @@ use Rattle.std.specs.Option.{option_copied}
 use Rattle.administration.specs.Scripts.{file_of}
 use Rattle.unpack_engine.specs.OwnFiles.{own_path, own_node, IsPut}
 use Rattle.unpack_engine.proofs.Changes.{changing_start, changing_replacing, own_parent, put_replaced, put_none, on_ok, file_is}
-use Rattle.unpack_engine.proofs.own.put_script.Goals as goal
+use Rattle.unpack_engine.proofs.own_files.put_script.Goals as goal
 
 pub replace-requires-clause-parent : goal.replace-requires-clause-parent
 replace-requires-clause-parent g c = λ h. subst (HasParent (g.H.Host.state c.args.host.now).world) (sym c.in_ok-path.ensures) (own_parent (g.H.Host.state c.args.host.now).world c.args.name.now (Some c.args.script) c.requires.plain (c.requires.there h))

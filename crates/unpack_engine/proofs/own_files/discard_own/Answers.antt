@@ -1,6 +1,6 @@
 use Rattle.std.proofs.Common.{sym, subst, IsTrue}
 use Rattle.unpack_engine.proofs.Changes.{goes_one, goes_then, goes_ready, on_ok, cleared_all}
-use Rattle.unpack_engine.proofs.own.discard_own.Goals as goal
+use Rattle.unpack_engine.proofs.own_files.discard_own.Goals as goal
 
 pub drop_scripts-requires : goal.drop_scripts-requires
 drop_scripts-requires g c =

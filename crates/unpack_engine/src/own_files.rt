@@ -1,11 +1,10 @@
 // The list and the stored scripts of a package.
 ghost use Rattle.std.specs.Prelude.{◌≡◌, IsTrue, OnOk, IfOk, Some, None, Contains};
-ghost use Rattle.host_core.specs.World.{HasParent, IsDirectory};
+ghost use Rattle.host_core.specs.World.{IsDirectory};
 ghost use Rattle.host_core.specs.Host.{HasCause, Silent, Since};
 ghost use Rattle.administration.specs.Places.{info_path};
-ghost use Rattle.administration.specs.Files.{IsDropped, IsDropping};
-ghost use Rattle.administration.specs.Scripts.{script_of, file_of};
-ghost use Rattle.unpack_engine.specs.OwnFiles.{OwnFile, own_path, own_node, root_list, HasDroppedScripts, HasPutScripts, IsPut, IsCleared, IsInstalled, IsChanging, IsOwnReady};
+ghost use Rattle.administration.specs.Files.{IsDropped};
+ghost use Rattle.unpack_engine.specs.OwnFiles.{own_path, own_node, root_list, HasDroppedScripts, HasPutScripts, IsPut, IsCleared, IsInstalled, IsChanging, IsOwnReady};
 
 use administration::{Scripts, discard, list_path, replace, script_path};
 use host_core::{Host, HostFault, Node, Script};

@@ -6,7 +6,7 @@ use Rattle.administration.specs.Places.{temporary}
 use Rattle.administration.specs.Files.{NoDirectory, IsReplacing, IsReplaced}
 use Rattle.unpack_engine.specs.OwnFiles.{own_path, root_list}
 use Rattle.unpack_engine.proofs.Changes.{changing_start, changing_replacing, own_parent, put_replaced, on_ok}
-use Rattle.unpack_engine.proofs.own.put_list.Goals as goal
+use Rattle.unpack_engine.proofs.own_files.put_list.Goals as goal
 
 pub replace-requires-clause-parent : goal.replace-requires-clause-parent
 replace-requires-clause-parent g c = λ h. subst (HasParent (g.H.Host.state c.args.host.now).world) (sym c.in_ok-path.ensures) (own_parent (g.H.Host.state c.args.host.now).world c.args.name.now (None) c.requires.plain (c.requires.there h))

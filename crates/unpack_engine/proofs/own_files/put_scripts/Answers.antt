@@ -1,6 +1,6 @@
 use Rattle.std.proofs.Common.{sym, subst, IsTrue}
 use Rattle.unpack_engine.proofs.Changes.{goes_one, goes_then, goes_ready, goes_there, on_ok, put_four}
-use Rattle.unpack_engine.proofs.own.put_scripts.Goals as goal
+use Rattle.unpack_engine.proofs.own_files.put_scripts.Goals as goal
 
 pub put_script-requires-2-clause-ready : goal.put_script-requires-2-clause-ready
 put_script-requires-2-clause-ready g c =

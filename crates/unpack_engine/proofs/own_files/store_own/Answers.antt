@@ -1,6 +1,6 @@
 use Rattle.std.proofs.Common.{sym, subst, IsTrue}
 use Rattle.unpack_engine.proofs.Changes.{goes_one, goes_then, goes_ready, goes_there, on_ok, installed_all}
-use Rattle.unpack_engine.proofs.own.store_own.Goals as goal
+use Rattle.unpack_engine.proofs.own_files.store_own.Goals as goal
 
 pub put_scripts-requires-clause-ready : goal.put_scripts-requires-clause-ready
 put_scripts-requires-clause-ready g c =
