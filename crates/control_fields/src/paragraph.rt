@@ -30,7 +30,7 @@ impl Model for Paragraph {
 fn key_of(alloc: Global, name: &[u8]) -> Result<Vec<u8>, AllocError>
     ensures { IfOk result (λ key. key.items ≡ lower name.now) }
 {
-    name.iter().map(|b| b.to_ascii_lowercase()).collect(alloc)
+    name.iter().map(u8::to_ascii_lowercase).collect(alloc)
 }
 
 // A new field goes last.

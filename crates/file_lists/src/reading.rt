@@ -72,7 +72,7 @@ fn read_lines(alloc: Global, text: &[u8], keep: &mut Keep) -> Result<(), EntryFa
 fn has_colon(entry: &[u8]) -> bool
     ensures { result ≡ has_colon entry.now }
 {
-    entry.iter().any(|b| *b == b':')
+    entry.contains(&b':')
 }
 
 // What stands before an ending.

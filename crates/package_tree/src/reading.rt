@@ -123,7 +123,7 @@ fn is_entry(line: &[u8]) -> bool
 fn has_entry(text: &[u8]) -> bool
     ensures { result ≡ list_any is_entry (lines_of text.now) }
 {
-    text.split(|b| *b == b'\n').any(|line| is_entry(line))
+    text.split(|b| *b == b'\n').any(is_entry)
 }
 
 // Whether a line of the file `conffiles` isn't blank.
