@@ -4,5 +4,4 @@ pub mod Nodes
 pub mod Files
 pub mod Directories
 pub mod Scripts
-pub mod Names
 pub mod Least

@@ -7,7 +7,7 @@ use Rattle.control_fields.specs.Faults.{IsFaultOfOne}
 use Rattle.control_fields.specs.declared.field.Field.{Field}
 use Rattle.control_fields.specs.declared.fault.ControlFault.TheVariants as control
 use Rattle.version_order.specs.Versions.{IsVersion}
-use Rattle.administration.specs.Names.{is_package_name}
+use Rattle.texts.specs.PackageNames.{is_package_name}
 use Rattle.package_tree.specs.declared.fault.FieldName.{FieldName}
 use Rattle.package_tree.specs.declared.fault.FieldName.TheVariants.{Package, Version, Essential}
 use Rattle.package_tree.specs.declared.fault.TreeFault.{TreeFault}

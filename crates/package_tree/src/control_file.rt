@@ -2,15 +2,14 @@
 ghost use Rattle.std.specs.Prelude.{◌≡◌, ◌↔◌, true, [], IsTrue, IfOk, IfErr, MatchOption, MatchBool};
 ghost use Rattle.control_fields.specs.Grammar.{ReadsOne, lines_of};
 ghost use Rattle.control_fields.specs.Spelling.{AreFields};
-ghost use Rattle.administration.specs.Names.{is_package_name};
+ghost use Rattle.texts.specs.PackageNames.{is_package_name};
 ghost use Rattle.package_tree.specs.ControlFile.{is_yes_or_no, IsGoodField, HasBadValue, HasNoBadEssential, HasGoodFields, IsFieldFault, IsControlText, IsTextFault};
 
 use crate::fault::{FieldName, TreeFault};
-use administration::is_package_name;
 use control_fields::{ControlFault, Field, Paragraph, read_one};
 use std::alloc::{AllocError, Global};
 use std::str;
-use texts::Text;
+use texts::{Text, is_package_name};
 use version_order::{Version, VersionFault};
 
 /// What a control file says of its package.

@@ -1,7 +1,7 @@
 // A package as its tree gives it.
 ghost use Rattle.std.specs.Prelude.{◌≡◌, true, []};
 ghost use Rattle.control_fields.specs.Spelling.{AreFields};
-ghost use Rattle.administration.specs.Names.{is_package_name};
+ghost use Rattle.texts.specs.PackageNames.{is_package_name};
 
 use administration::Scripts;
 use control_fields::Paragraph;

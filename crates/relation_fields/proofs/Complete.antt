@@ -6,7 +6,7 @@ use Rattle.std.proofs.lemmas.Bool.{and_parts}
 use Rattle.std.proofs.lemmas.Bool.Decides.{nat_tests}
 use Rattle.version_order.specs.Versions.{IsVersion, fault_of}
 use Rattle.version_order.proofs.Reading.{version_faultless}
-use Rattle.relation_fields.specs.Names.{is_name_sign, is_package_name}
+use Rattle.texts.specs.PackageNames.{is_name_sign, is_package_name}
 use Rattle.relation_fields.specs.Words.{run, behind, after, is_blank, past_blanks, is_version_sign, is_word_sign, is_before_suffix, is_operator_sign, is_ignored, named, name_in, behind_name, allowed_comparison, operator_in, behind_operator, version_in, behind_version}
 use Rattle.relation_fields.specs.Grammar.{Start, Wanted, Behind, Opened, reading, alone, restricted, restriction_by, Reaches, clauses_at_end, start, Reads}
 use Rattle.relation_fields.specs.Faults.{EndsClause}
@@ -16,8 +16,8 @@ use Rattle.relation_fields.specs.declared.restriction.Comparison.{Comparison}
 use Rattle.relation_fields.specs.declared.restriction.Restriction.{Restriction}
 use Rattle.relation_fields.specs.declared.alternative.Alternative.{Alternative}
 use Rattle.relation_fields.proofs.Runs.{behind_again}
-use Rattle.relation_fields.proofs.NamesRead.{name_some}
-use Rattle.relation_fields.proofs.Fronts.{fronts, behind_over, behind_all, run_all, all_weaker, fronts_over, fronts_in, blank_no_word, blank_no_version, blank_no_operator, operator_no_blank, name_no_blank, name_before_suffix, signs_of_name, suffix_is, allowed_word}
+use Rattle.texts.proofs.PackageNames.{name_some, signs_of_name}
+use Rattle.relation_fields.proofs.Fronts.{fronts, behind_over, behind_all, run_all, all_weaker, fronts_over, fronts_in, blank_no_word, blank_no_version, blank_no_operator, operator_no_blank, name_no_blank, name_before_suffix, suffix_is, allowed_word}
 use Rattle.relation_fields.proofs.VersionSigns.{is_plain, plain_version_sign, plain_no_blank, plain_no_operator, version_plain, version_some}
 use Rattle.relation_fields.proofs.Stepping.{here, reaches_then, name_read, opened, restriction_read, barred, ended, skipped, begun_here}
 

@@ -7,7 +7,7 @@ use Rattle.std.proofs.lemmas.Bool.{eqb-true}
 use Rattle.std.proofs.lemmas.List.{take-append-drop}
 use Rattle.version_order.specs.Versions.{fault_of}
 use Rattle.version_order.proofs.Written.{version_of}
-use Rattle.relation_fields.specs.Names.{is_name_sign, is_package_name}
+use Rattle.texts.specs.PackageNames.{is_name_sign, is_package_name}
 use Rattle.relation_fields.specs.Words.{run, behind, after, is_blank, past_blanks, is_version_sign, is_word_sign, is_before_suffix, is_operator_sign, is_ignored, name_in, behind_name, allowed_comparison, operator_in, behind_operator, version_in, behind_version, has_bars}
 use Rattle.relation_fields.specs.Grammar.{Part, Start, Wanted, Behind, Opened, Compared, Versioned, Reading, reading, alone, restricted, restriction_by, closed, begins, goes_on, taken, step, Steps, Reaches, finished, clauses_at_end, start}
 use Rattle.relation_fields.specs.Faults.{Stops, IsFaultOf, fault_before}
@@ -19,8 +19,8 @@ use Rattle.relation_fields.specs.declared.restriction.Comparison.{Comparison}
 use Rattle.relation_fields.specs.declared.restriction.Comparison.TheVariants.{ExactlyEqual}
 use Rattle.relation_fields.specs.declared.restriction.Restriction.{Restriction}
 use Rattle.relation_fields.specs.declared.alternative.Alternative.{Alternative}
-use Rattle.relation_fields.proofs.Fronts.{fronts, behind_all, run_all, all_weaker, fronts_in, name_no_blank, signs_of_name, operator_no_blank, allowed_word, IsOperatorWord}
-use Rattle.relation_fields.proofs.NamesRead.{name_some}
+use Rattle.relation_fields.proofs.Fronts.{fronts, behind_all, run_all, all_weaker, fronts_in, name_no_blank, operator_no_blank, allowed_word, IsOperatorWord}
+use Rattle.texts.proofs.PackageNames.{name_some, signs_of_name}
 use Rattle.relation_fields.proofs.VersionSigns.{is_plain, plain_version_sign, plain_no_blank, version_plain, version_some}
 use Rattle.relation_fields.proofs.Stepping.{here, one_step, reaches_then, after_is, clause_begins, name_read, compared, versioned, shut, restriction_read, ended}
 use Rattle.relation_fields.proofs.Complete.{name_at, field_reads}

@@ -6,7 +6,7 @@ use Rattle.std.specs.Str.{bytes_eq}
 use Rattle.std.proofs.lemmas.Bool.{and_parts, and_from}
 use Rattle.std.proofs.lemmas.Bool.Decides.{nat_tests}
 use Rattle.std.proofs.lemmas.Slice.Eq.{bytes_eq-Decides}
-use Rattle.relation_fields.specs.Names.{is_name_sign, is_package_name}
+use Rattle.texts.specs.PackageNames.{is_name_sign}
 use Rattle.relation_fields.specs.Words.{run, behind, is_blank, is_version_sign, is_word_sign, is_before_suffix, is_operator_sign, is_ignored, comparison_of, allowed_comparison}
 use Rattle.relation_fields.specs.declared.reading.Rules.{Rules}
 use Rattle.relation_fields.specs.declared.reading.Rules.TheVariants.{Alternatives, Plain, Provides}
@@ -67,9 +67,6 @@ name_no_blank b h = grind (arith, nat_tests)
 
 pub name_before_suffix : (b : ℕ) → is_name_sign b ≡ true → is_before_suffix b ≡ true
 name_before_suffix b h = grind (arith, nat_tests)
-
-pub signs_of_name : (name : List ℕ) → is_package_name name ≡ true → list_all is_name_sign name ≡ true
-signs_of_name name h = (and_parts _ _ (and_parts _ _ h).1).1
 
 pub suffix_is : (suffix : List ℕ) → is_ignored suffix ≡ true → (suffix ≡ []) ⊎ (suffix ≡ codes ":any")
 suffix_is suffix h = either (bytes_eq suffix []) (bytes_eq suffix (codes ":any")) h (λ e. inl ((bytes_eq-Decides suffix []).0 e)) (λ e. inr ((bytes_eq-Decides suffix (codes ":any")).0 e))

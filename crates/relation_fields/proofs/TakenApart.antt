@@ -6,7 +6,7 @@ use Rattle.std.proofs.lemmas.Bool.{and_from, eqb-true}
 use Rattle.version_order.specs.Versions.{IsVersion, fault_of}
 use Rattle.version_order.specs.declared.fault.VersionFault.{VersionFault}
 use Rattle.version_order.proofs.Written.{version_of}
-use Rattle.relation_fields.specs.Names.{is_package_name}
+use Rattle.texts.specs.PackageNames.{is_package_name}
 use Rattle.relation_fields.specs.Words.{run, behind, after, is_blank, past_blanks, is_version_sign, is_word_sign, is_before_suffix, is_operator_sign, is_ignored, named, name_in, behind_name, operator_in, behind_operator, version_in, behind_version, has_bars}
 use Rattle.relation_fields.specs.Grammar.{Part, Start, Wanted, Behind, Opened, Compared, Versioned, Reading, reading, alone, restricted, restriction_by, closed, begins, goes_on, Steps, finished, clauses_at_end, Reads}
 use Rattle.relation_fields.specs.Fields.{AreBlanks, IsRestrictionText, Follows, IsAlternativeText, IsClauseText, AreParts, IsFieldText}

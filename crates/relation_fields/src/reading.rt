@@ -1,7 +1,7 @@
 // Reading relation fields token by token.
 ghost use Rattle.std.specs.Prelude.{◌≡◌, ℕ, ◌≤◌, ◌<◌, ◌-◌, ◌≢◌, true, IfSome, IfNone, List, IfOk, IfErr, ◌++◌, ◌∷◌, [], length, Some, None};
-ghost use Rattle.std.specs.List.{list_all, prefix_len};
-ghost use Rattle.relation_fields.specs.Names.{is_lower_or_digit, is_name_sign, is_package_name};
+ghost use Rattle.std.specs.List.{prefix_len};
+ghost use Rattle.texts.specs.PackageNames.{is_package_name};
 ghost use Rattle.relation_fields.specs.declared.alternative.Alternative.{Alternative as AnAlternative};
 ghost use Rattle.relation_fields.specs.Faults.{name_fault, Fails, IsFaultOf, IsVersionFault, IsWhole, EndsClause};
 ghost use Rattle.relation_fields.specs.Grammar.{reading, restricted, Start, Wanted, Behind, Opened, Reaches, Reads};
@@ -15,36 +15,8 @@ use crate::fault::RelationFault;
 use crate::restriction::{Comparison, Restriction};
 use std::alloc::Global;
 use std::str;
-use texts::Text;
+use texts::{Text, is_package_name};
 use version_order::{Version, VersionFault};
-
-fn is_lower_or_digit(byte: u8) -> bool
-    ensures { result ≡ is_lower_or_digit byte }
-{
-    byte.is_ascii_lowercase() || byte.is_ascii_digit()
-}
-
-fn is_name_sign(byte: u8) -> bool
-    ensures { result ≡ is_name_sign byte }
-{
-    is_lower_or_digit(byte) || byte == b'+' || byte == b'-' || byte == b'.'
-}
-
-fn are_name_signs(name: &[u8]) -> bool
-    ensures { result ≡ list_all is_name_sign name.now }
-{
-    name.iter().all(|byte| is_name_sign(*byte))
-}
-
-// Whether a package may have this name (Policy 5.6.1).
-fn is_package_name(name: &[u8]) -> bool
-    ensures { result ≡ is_package_name name.now }
-{
-    if name.len() < 2 {
-        return false;
-    }
-    is_lower_or_digit(name[0]) && are_name_signs(name)
-}
 
 /// What a field may hold: the forms, and that of Provides, whose one operator is `=`.
 #[derive(Clone, Copy)]

@@ -1,6 +1,6 @@
 -- Values that can be written on one line.
 use Rattle.std.proofs.Common.{◌≡◌, ◌≢◌, ℕ, zero, suc, not, ◌<◌, Bool, true, false, cond, ◌&&◌, ltb, eqb, List, [], ◌∷◌, ◌++◌, length, get_or, refl, ap, ◌∙◌, arith, codes, Option, None, Some}
-use Rattle.std.specs.Prelude.{IfSome, nat_le}
+use Rattle.std.specs.Prelude.{IfSome}
 use Rattle.std.specs.Char.{is_ascii_digit}
 use Rattle.std.specs.Str.{IsUtf8}
 use Rattle.std.specs.List.{list_all, AllPass}
@@ -13,7 +13,8 @@ use Rattle.control_fields.specs.Names.{Lacks, is_blank, keep_before, trim_end, t
 use Rattle.control_fields.specs.Spelling.{IsField}
 use Rattle.control_fields.proofs.Trims.{trimmed_after}
 use Rattle.control_fields.proofs.Written.{one_line}
-use Rattle.administration.specs.Names.{is_lower_or_digit, is_name_sign, is_package_name}
+use Rattle.texts.specs.PackageNames.{is_name_sign, is_package_name}
+use Rattle.texts.proofs.PackageNames.{signs_of_name}
 use Rattle.version_order.specs.Versions.{IsVersion, epoch_front, revision_end, is_upstream_sign, is_revision_sign}
 use Rattle.status_db.specs.declared.words.Want.{Want}
 use Rattle.status_db.specs.declared.words.Want.TheVariants as want
@@ -80,9 +81,7 @@ sign_visible : (b : ℕ) → is_name_sign b ≡ true → is_visible b ≡ true
 sign_visible b e = grind (arith, nat_tests)
 
 pub name_visible : (name : List ℕ) → is_package_name name ≡ true → list_all is_visible name ≡ true
-name_visible name e =
-    let behind = and_parts (nat_le 2 (length name)) (is_lower_or_digit (get_or name 0 0) && list_all is_name_sign name) e in
-    weaker is_name_sign is_visible sign_visible name (and_parts (is_lower_or_digit (get_or name 0 0)) (list_all is_name_sign name) behind.1).1
+name_visible name e = weaker is_name_sign is_visible sign_visible name (signs_of_name name e)
 
 -- versions
 

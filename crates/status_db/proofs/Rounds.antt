@@ -11,7 +11,7 @@ use Rattle.control_fields.specs.Names.{lower, stands}
 use Rattle.control_fields.specs.Spelling.{AreFields, IsParagraph, spell_all}
 use Rattle.control_fields.specs.declared.field.Field.{Field}
 use Rattle.control_fields.proofs.Again.{all_again}
-use Rattle.administration.specs.Names.{is_package_name}
+use Rattle.texts.specs.PackageNames.{is_package_name}
 use Rattle.version_order.specs.Versions.{IsVersion}
 use Rattle.status_db.specs.declared.record.Record.{Record}
 use Rattle.status_db.specs.Words.{is_not_installed}

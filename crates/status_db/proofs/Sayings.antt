@@ -8,7 +8,7 @@ use Rattle.std.proofs.lemmas.List.{map-append}
 use Rattle.std.proofs.lemmas.Slice.Eq.{bytes_eq-Decides}
 use Rattle.control_fields.specs.Names.{lower, is_called, IsFieldCalled}
 use Rattle.control_fields.specs.declared.field.Field.{Field}
-use Rattle.administration.specs.Names.{is_package_name}
+use Rattle.texts.specs.PackageNames.{is_package_name}
 use Rattle.version_order.specs.Versions.{IsVersion}
 use Rattle.status_db.specs.declared.words.Want.{Want}
 use Rattle.status_db.specs.declared.words.Flag.{Flag}

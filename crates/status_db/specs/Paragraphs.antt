@@ -4,7 +4,7 @@ use Rattle.std.specs.List.{list_any, AllByRecursion}
 use Rattle.std.specs.Str.{bytes_eq}
 use Rattle.control_fields.specs.Names.{lower}
 use Rattle.control_fields.specs.declared.field.Field.{Field}
-use Rattle.administration.specs.Names.{is_package_name}
+use Rattle.texts.specs.PackageNames.{is_package_name}
 use Rattle.version_order.specs.Versions.{IsVersion}
 use Rattle.status_db.specs.declared.record.Record.{Record}
 use Rattle.status_db.specs.declared.words.Want.{Want}

@@ -2,7 +2,7 @@
 use Rattle.std.specs.Prelude.{◌≡◌, ℕ, true, List, [], ◌∷◌, codes}
 use Rattle.control_fields.specs.declared.field.Field.{Field}
 use Rattle.control_fields.specs.Spelling.{AreFields}
-use Rattle.administration.specs.Names.{is_package_name}
+use Rattle.texts.specs.PackageNames.{is_package_name}
 
 -- a field of one line
 abbrev pub line_field : List ℕ → List ℕ → Field

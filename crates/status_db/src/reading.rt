@@ -5,7 +5,7 @@ ghost use Rattle.std.specs.Option.{option_to_list};
 ghost use Rattle.std.specs.Str.{bytes_eq};
 ghost use Rattle.control_fields.specs.Spelling.{AreFields};
 ghost use Rattle.control_fields.specs.Grammar.{paragraphs_of};
-ghost use Rattle.administration.specs.Names.{is_package_name};
+ghost use Rattle.texts.specs.PackageNames.{is_package_name};
 ghost use Rattle.version_order.specs.Versions.{IsVersion};
 ghost use Rattle.status_db.specs.declared.words.Want.{Want as AWant};
 ghost use Rattle.status_db.specs.declared.words.Flag.{Flag as AFlag};
@@ -21,11 +21,10 @@ ghost use Rattle.status_db.specs.Status.{IsStatus};
 
 use crate::record::{Record, is_first};
 use crate::words::{Flag, State, Want};
-use administration::is_package_name;
 use control_fields::{ControlFault, Field, Located, Paragraph, read_located};
 use std::alloc::{AllocError, AllocFailed, Global};
 use std::str;
-use texts::{Text, Texts};
+use texts::{Text, Texts, is_package_name};
 use version_order::{Version, VersionFault};
 
 /// Why the text has no records: its first faulty line.

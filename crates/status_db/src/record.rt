@@ -4,7 +4,7 @@ ghost use Rattle.std.specs.List.{list_any};
 ghost use Rattle.std.specs.Str.{bytes_eq};
 ghost use Rattle.control_fields.specs.Names.{lower};
 ghost use Rattle.control_fields.specs.Spelling.{AreFields};
-ghost use Rattle.administration.specs.Names.{is_package_name};
+ghost use Rattle.texts.specs.PackageNames.{is_package_name};
 ghost use Rattle.status_db.specs.Fields.{own_names, first_names, recorded_fields};
 ghost use Rattle.status_db.specs.Writable.{IsWritable};
 

@@ -10,7 +10,8 @@ use Rattle.host_core.specs.World.{World, IsDirectory, KeepsBut}
 use Rattle.host_core.specs.Tree.{has_slash}
 use Rattle.host_core.specs.declared.call.Script.TheVariants.{Preinst, Postinst, Prerm, Postrm}
 use Rattle.host_core.specs.declared.fault.HostFault.{HostFault}
-use Rattle.administration.specs.Names.{is_name_sign, is_package_name}
+use Rattle.texts.specs.PackageNames.{is_name_sign, is_package_name}
+use Rattle.texts.proofs.PackageNames.{signs_of_name}
 use Rattle.administration.specs.Places.{home_path, status_path, tmp_path, temporary, is_within}
 use Rattle.administration.proofs.WholeFiles.{no_directory_at}
 use Rattle.package_tree.specs.declared.package.Package.{Package}
@@ -45,7 +46,7 @@ signs_plain (b ∷ bs) e =
     ap (λ t. t || has_slash bs) (no_sign b (nat_eq b 47) refl (both_left (is_name_sign b) (list_all is_name_sign bs) e)) ∙ signs_plain bs (both_right (is_name_sign b) (list_all is_name_sign bs) e)
 
 pub name_plain : (name : List ℕ) → is_package_name name ≡ true → has_slash name ≡ false
-name_plain name e = signs_plain name (both_right _ (list_all is_name_sign name) (both_right _ _ e))
+name_plain name e = signs_plain name (signs_of_name name e)
 
 flip_at : (b : ℕ) (s t : Bool) → nat_eq 47 b ≡ s → nat_eq b 47 ≡ t → s ≡ t
 flip_at b true true e f = refl

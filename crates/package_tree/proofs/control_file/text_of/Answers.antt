@@ -1,4 +1,5 @@
-use Rattle.package_tree.proofs.Readable.{name_utf8, ok_since}
+use Rattle.texts.proofs.PackageNames.{name_utf8}
+use Rattle.package_tree.proofs.Readable.{ok_since}
 use Rattle.package_tree.proofs.control_file.text_of.Goals as goal
 
 pub unwrap-requires : goal.unwrap-requires

@@ -1,8 +1,8 @@
 use Rattle.std.proofs.Common.{◌≡◌, ◌<◌, length, rules, arith, true}
-use Rattle.relation_fields.specs.Names.{is_package_name}
+use Rattle.texts.specs.PackageNames.{is_package_name}
 use Rattle.relation_fields.specs.Words.{run, is_before_suffix}
 use Rattle.relation_fields.proofs.Runs.{behind_shorter}
-use Rattle.relation_fields.proofs.NamesRead.{name_some}
+use Rattle.texts.proofs.PackageNames.{name_some}
 use Rattle.relation_fields.proofs.reading.take_name.Goals as goal
 
 pub returns-then-is_ignored-clause-shorter : goal.returns-then-is_ignored-clause-shorter

@@ -1,6 +1,6 @@
 use Rattle.std.proofs.Common.{Result, Ok, Err, MatchResult, rules}
 use Rattle.std.specs.Prelude.{IsOk}
-use Rattle.relation_fields.proofs.NamesRead.{name_utf8}
+use Rattle.texts.proofs.PackageNames.{name_utf8}
 use Rattle.relation_fields.proofs.reading.text_of.Goals as goal
 
 ok_since : {T E : Type 0} (U : Type 0) (P : T → Type 0) (Q : E → Type 0) (r : Result T E) → MatchResult r P (λ e. (U → ⊥) × Q e) → U → IsOk r

@@ -1,24 +1,24 @@
 // Names of packages.
 ghost use Rattle.std.specs.Prelude.{◌≡◌};
 ghost use Rattle.std.specs.List.{list_all};
-ghost use Rattle.administration.specs.Names.{is_lower_or_digit, is_name_sign, is_package_name};
+ghost use Rattle.texts.specs.PackageNames.{is_lower_or_digit, is_name_sign, is_package_name};
 
-fn is_lower_or_digit(b: u8) -> bool
-    ensures { result ≡ is_lower_or_digit b }
+fn is_lower_or_digit(byte: u8) -> bool
+    ensures { result ≡ is_lower_or_digit byte }
 {
-    b.is_ascii_lowercase() || b.is_ascii_digit()
+    byte.is_ascii_lowercase() || byte.is_ascii_digit()
 }
 
-fn is_name_sign(b: u8) -> bool
-    ensures { result ≡ is_name_sign b }
+fn is_name_sign(byte: u8) -> bool
+    ensures { result ≡ is_name_sign byte }
 {
-    is_lower_or_digit(b) || b == b'+' || b == b'-' || b == b'.'
+    is_lower_or_digit(byte) || byte == b'+' || byte == b'-' || byte == b'.'
 }
 
 fn are_name_signs(name: &[u8]) -> bool
     ensures { result ≡ list_all is_name_sign name.now }
 {
-    name.iter().all(|b| is_name_sign(*b))
+    name.iter().all(|byte| is_name_sign(*byte))
 }
 
 /// Whether a package may have this name (Policy 5.6.1): at least two of the letters a to z, digits,

@@ -1,4 +1,4 @@
--- Names of packages are ASCII.
+-- Names of packages: their signs, which are ASCII.
 use Rattle.std.proofs.Common.{◌≡◌, ℕ, ◌<◌, true, List, length, arith}
 use Rattle.std.specs.Prelude.{IsAscii}
 use Rattle.std.specs.List.{list_all}
@@ -8,16 +8,19 @@ use Rattle.std.proofs.lemmas.Bool.Decides.{nat_tests}
 use Rattle.std.proofs.lemmas.List.Sums.{AllPass-from_list_all}
 use Rattle.std.proofs.lemmas.Str.{IsUtf8-from_ascii}
 use Rattle.std.proofs.lemmas.Str.Ascii.{IsAscii-from_all}
-use Rattle.relation_fields.specs.Names.{is_name_sign, is_package_name}
+use Rattle.texts.specs.PackageNames.{is_name_sign, is_package_name}
 
-pub sign_ascii : (b : ℕ) → is_name_sign b ≡ true → b < 128
+pub signs_of_name : (name : List ℕ) → is_package_name name ≡ true → list_all is_name_sign name ≡ true
+signs_of_name name h = (and_parts _ _ (and_parts _ _ h).1).1
+
+sign_ascii : (b : ℕ) → is_name_sign b ≡ true → b < 128
 sign_ascii b h = grind (arith, nat_tests)
 
-pub signs_ascii : (name : List ℕ) → list_all is_name_sign name ≡ true → IsAscii name
+signs_ascii : (name : List ℕ) → list_all is_name_sign name ≡ true → IsAscii name
 signs_ascii name h = IsAscii-from_all name (λ i d l. sign_ascii _ (AllPass-from_list_all is_name_sign name h i d l))
 
 pub name_utf8 : (name : List ℕ) → is_package_name name ≡ true → IsUtf8 name
-name_utf8 name h = IsUtf8-from_ascii name (signs_ascii name (and_parts _ _ (and_parts _ _ h).1).1)
+name_utf8 name h = IsUtf8-from_ascii name (signs_ascii name (signs_of_name name h))
 
 -- a name has bytes
 pub name_some : (name word : List ℕ) → name ≡ word → is_package_name name ≡ true → 0 < length word
