@@ -9,7 +9,7 @@ use Rattle.std.specs.Cmp.{IsEquivalence}
 use Rattle.std.specs.List.{list_any}
 use Rattle.std.specs.Str.{bytes_eq}
 use Rattle.host_core.specs.Paths.{Path}
-use Rattle.host_core.specs.World.{World, IsDirectory, is_kept}
+use Rattle.host_core.specs.World.{World, IsDirectory, is_directory, is_kept}
 use Rattle.host_core.specs.declared.call.Script.{Script}
 use Rattle.host_core.specs.declared.call.Script.TheVariants.{Preinst, Postinst, Prerm, Postrm}
 use Rattle.host_core.specs.declared.node.Node.{Node}
@@ -34,7 +34,7 @@ use Rattle.dpkg_session.specs.declared.report.Candidate.{Candidate}
 use Rattle.dpkg_session.specs.declared.report.Unit.{Unit as AUnit}
 use Rattle.dpkg_session.specs.Refusals.{word_of}
 use Rattle.dpkg_session.specs.Run.{IsRun}
-use Rattle.dpkg_session.specs.Standing.{IsStanding, is_directory}
+use Rattle.dpkg_session.specs.Standing.{IsStanding}
 use Rattle.dpkg_session.specs.Units.{IsUnitByWord, IsUnitOf}
 use Rattle.unpack_engine.specs.EndStates.{IsEnd, end_file}
 use Rattle.unwind_stack.specs.Transcript.{Ended, Committed, Unwound}

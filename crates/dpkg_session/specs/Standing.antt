@@ -1,9 +1,7 @@
 -- What a session knows of its host's administration.
-use Rattle.std.specs.Prelude.{◌≡◌, Bool, true, false, List, Option, Some, None}
+use Rattle.std.specs.Prelude.{◌≡◌, true, List, None}
 use Rattle.host_core.specs.Paths.{Path}
-use Rattle.host_core.specs.World.{World}
-use Rattle.host_core.specs.declared.node.Node.{Node}
-use Rattle.host_core.specs.declared.node.Node.TheVariants.{File, Dir, Link}
+use Rattle.host_core.specs.World.{World, is_directory}
 use Rattle.administration.specs.Places.{home_path, info_path, status_path, tmp_path, temporary}
 use Rattle.administration.specs.Files.{NoDirectory}
 use Rattle.file_lists.specs.Info.{AreLoose}
@@ -11,12 +9,6 @@ use Rattle.file_lists.specs.Lists.{HasPlaces}
 use Rattle.opening.specs.Parts.{names_of}
 use Rattle.status_db.specs.declared.record.Record.{Record}
 use Rattle.status_db.specs.Status.{HasRecords}
-
-abbrev pub is_directory : Option Node → Bool
-is_directory None = false
-is_directory (Some (File bytes mode)) = false
-is_directory (Some (Dir mode)) = true
-is_directory (Some (Link target)) = false
 
 -- The administration is in order, as `IsOpened` says it, these are its records, and these the places that recorded
 -- packages list. Each part of it has one proof at most, so that a session can keep it.

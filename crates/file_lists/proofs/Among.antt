@@ -20,11 +20,12 @@ use Rattle.std.proofs.lemmas.List.Folds.{list_any_more, Any-from_list_any}
 use Rattle.host_core.specs.Paths.{Path}
 use Rattle.host_core.specs.World.{World}
 use Rattle.host_core.specs.Tree.{IsListing, has_slash}
+use Rattle.administration.specs.Directories.{HasBadName}
 use Rattle.administration.specs.Places.{info_path}
 use Rattle.administration.specs.declared.fault.AdministrationFault.{AdministrationFault}
 use Rattle.administration.specs.declared.fault.AdministrationFault.TheVariants.{Damaged, Device, NoMemory}
 use Rattle.file_lists.specs.Lists.{Lists}
-use Rattle.file_lists.specs.Info.{entry_path, IsBefore, IsListOf, IsSound, HasBadName}
+use Rattle.file_lists.specs.Info.{entry_path, IsBefore, IsListOf, IsSound}
 use Rattle.file_lists.specs.Reading.{HasTaken, IsFaultAt, AreSoundAmong, HaveTaken, IsFaultAmong, IsNameFault, AreEntries}
 use Rattle.file_lists.proofs.Judged.{any_contains, contains_any}
 
@@ -84,7 +85,7 @@ entries_listed w names bad s good listing is = record { there = λ q e. listing.
     whole : (q : Path) → has_slash q ≡ false → IsSome (w (entry_path q)) → contains_text s q ≡ true
     whole q plain here = elim (listing.whole q plain here) [ inl has ↦ is q ∙ contains_any names q has | inr b ↦ absurd (false≢true (sym good ∙ b.1)) ]
 
-    text : HasBadName w → ⊥
+    text : HasBadName w info_path → ⊥
     text b = let t = text_in b.0 s (whole b.0 b.1 b.3) in b.2 (subst IsUtf8 (sym t.2) (IsUtf8-string_bytes t.1))
 
 -- some entries were looked at: the others are still to be

@@ -4,13 +4,13 @@ use Rattle.std.specs.List.{list_any}
 use Rattle.std.specs.Cmp.Lexicographic.{slice_cmp}
 use Rattle.std.specs.Ordering.{nat_cmp}
 use Rattle.std.specs.declared.cmp.Ordering.TheVariants.{Less}
-use Rattle.std.specs.Str.{IsUtf8}
 use Rattle.host_core.specs.Paths.{Path}
 use Rattle.host_core.specs.World.{World, IsDirectory}
 use Rattle.host_core.specs.Tree.{has_slash}
 use Rattle.host_core.specs.declared.call.Script.{Script}
 use Rattle.host_core.specs.declared.node.Node.{Node}
 use Rattle.host_core.specs.declared.node.Node.TheVariants.{File, Dir, Link}
+use Rattle.administration.specs.Directories.{HasBadName}
 use Rattle.administration.specs.Files.{NoDirectory}
 use Rattle.administration.specs.Places.{info_path, list_name, stored_name}
 use Rattle.administration.specs.declared.fault.AdministrationFault.{AdministrationFault}
@@ -75,10 +75,6 @@ AreSound w names = (entry : Path) → has_slash entry ≡ false → IsSound name
 abbrev pub AreLoose : World → Type 0
 AreLoose w = (name : Path) → has_slash name ≡ false → NoDirectory (w (info_path ++ 47 ∷ name))
 
--- a name in the directory isn't text
-abbrev pub HasBadName : World → Type 0
-HasBadName w = (entry : Path) × (has_slash entry ≡ false) × (IsUtf8 entry → ⊥) × IsSome (w (entry_path entry))
-
 -- the first of the entries that has a fault
 pub record IsFirstFault (w : World) (names : List (List ℕ)) (file : Path) (line : ℕ) : Type 0 where
   pub entry : Path
@@ -89,6 +85,6 @@ pub record IsFirstFault (w : World) (names : List (List ℕ)) (file : Path) (lin
 
 -- why the directory can't be read: a name that isn't text is looked for before all entries
 abbrev pub IsInfoDamage : World → List (List ℕ) → AdministrationFault → Type 0
-IsInfoDamage w names (Damaged file line) = (HasBadName w × (file ≡ info_path) × (line ≡ 0)) ⊎ ((HasBadName w → ⊥) × IsFirstFault w names file line)
+IsInfoDamage w names (Damaged file line) = (HasBadName w info_path × (file ≡ info_path) × (line ≡ 0)) ⊎ ((HasBadName w info_path → ⊥) × IsFirstFault w names file line)
 IsInfoDamage w names Device = Unit {0}
 IsInfoDamage w names NoMemory = Unit {0}

@@ -3,10 +3,10 @@ use Rattle.std.proofs.Common.{◌≡◌, ◌<◌, ◌+◌, Bool, true, false, �
 use Rattle.std.specs.Prelude.{IsSome, IsTrue, not, ◌↔◌, Result, Ok, Err, OnErr, MatchBool}
 use Rattle.std.proofs.lemmas.Bool.{false≢true}
 use Rattle.host_core.specs.Paths.{Path}
-use Rattle.host_core.specs.World.{World, IsDirectory, IsBare, IsLoose}
+use Rattle.host_core.specs.World.{World, IsDirectory, is_directory, IsBare, IsLoose}
 use Rattle.host_core.specs.Tree.{IsBelow}
 use Rattle.host_core.specs.declared.node.Node.{Node}
-use Rattle.host_memory.specs.Trees.{is_directory, IsTreeByTest, IsIn, Fits, IsOpenTo, CanPlace}
+use Rattle.host_memory.specs.Trees.{IsTreeByTest, IsIn, Fits, IsOpenTo, CanPlace}
 use Rattle.host_memory.specs.TreeLaws.{IsTree-from_test, IsDirectory-from_test}
 use Rattle.host_memory.proofs.TreeLemmas.{test_from-IsDirectory, absent_not_there, within_directory, below_from_in, above_or_in}
 

@@ -5,12 +5,12 @@ use Rattle.std.specs.Str.{bytes_eq}
 use Rattle.std.proofs.lemmas.Bool.{false≢true, true≢false}
 use Rattle.std.proofs.lemmas.Slice.Eq.{bytes_eq-Decides}
 use Rattle.host_core.specs.Paths.{Path}
-use Rattle.host_core.specs.World.{World, put, moved, IsDirectory, IsLoose, IsBare, HasParent}
+use Rattle.host_core.specs.World.{World, put, moved, IsDirectory, is_directory, IsLoose, IsBare, HasParent}
 use Rattle.host_core.specs.Tree.{IsTree, IsBelow}
 use Rattle.host_core.specs.Laws.{put_same, put_other}
 use Rattle.host_core.specs.declared.node.Node.{Node}
 use Rattle.host_core.specs.declared.node.Node.TheVariants.{File, Dir, Link}
-use Rattle.host_memory.specs.Trees.{is_directory, IsTreeByTest, IsIn, Fits, IsOpenTo, CanPlace, new_directory, HasWay, HasPartWay}
+use Rattle.host_memory.specs.Trees.{IsTreeByTest, IsIn, Fits, IsOpenTo, CanPlace, new_directory, HasWay, HasPartWay}
 
 pub test_from-IsDirectory : (o : Option Node) → IsDirectory o → is_directory o ≡ true
 test_from-IsDirectory o d = ap is_directory d.1

@@ -16,7 +16,7 @@ use Rattle.host_core.specs.declared.fault.HostFault.TheVariants as host
 use Rattle.host_core.specs.declared.node.Node.{Node}
 use Rattle.host_core.specs.declared.node.Node.TheVariants.{File, Dir, Link}
 use Rattle.administration.specs.Places.{home_path, info_path, status_path, diversions_path, updates_path, tmp_path, list_path, temporary, is_within}
-use Rattle.administration.specs.Directories.{new_directory, IsMade, IsMaking, IsRemoved}
+use Rattle.administration.specs.Directories.{new_directory, HasBadName, IsMade, IsMaking, IsRemoved}
 use Rattle.administration.specs.Fault.{fault_of}
 use Rattle.administration.specs.Files.{NoDirectory}
 use Rattle.administration.specs.Least.{IsLeast, IsLeastIn}
@@ -30,7 +30,7 @@ use Rattle.status_db.specs.declared.record.Record.{Record}
 use Rattle.status_db.specs.Status.{HasRecords, IsFileOrNothing, IsStatusDamage, StandsFor}
 use Rattle.opening.specs.Opened.{IsOpened}
 use Rattle.opening.specs.Leaving.{IsOpening, IsNewWay, is_way}
-use Rattle.opening.specs.Parts.{Part, Way, Status, Spare, Updates, Info, Diversions, Leftovers, IsFine, IsFirstFault, IsDamage, IsWithoutDiversions, IsDiversionsFault, IsLeftoversFault, HasBadName, Finds, Opens, fault_in, names_of, parts}
+use Rattle.opening.specs.Parts.{Part, Way, Status, Spare, Updates, Info, Diversions, Leftovers, IsFine, IsFirstFault, IsDamage, IsWithoutDiversions, IsDiversionsFault, IsLeftoversFault, Finds, Opens, fault_in, names_of, parts}
 
 pub opening_start : (w : World) → IsOpening w w
 opening_start w q out = inl refl

@@ -1,7 +1,6 @@
 -- The parts of the administration in the order in which they are read, and what is wrong with one that can't be.
 use Rattle.std.specs.Prelude.{◌≡◌, ◌⊎◌, ℕ, false, List, [], ◌∷◌, ◌++◌, Option, Some, None, IsSome, map, Result, Ok, Err}
 use Rattle.std.specs.List.{AllByRecursion}
-use Rattle.std.specs.Str.{IsUtf8}
 use Rattle.host_core.specs.Paths.{Path}
 use Rattle.host_core.specs.Host.{State, Since}
 use Rattle.host_core.specs.Tree.{has_slash}
@@ -9,6 +8,7 @@ use Rattle.host_core.specs.World.{World, IsDirectory, IsLoose}
 use Rattle.host_core.specs.declared.node.Node.{Node}
 use Rattle.host_core.specs.declared.node.Node.TheVariants.{File, Dir, Link}
 use Rattle.administration.specs.Places.{home_path, info_path, status_path, diversions_path, updates_path, tmp_path, temporary}
+use Rattle.administration.specs.Directories.{HasBadName}
 use Rattle.administration.specs.Files.{NoDirectory}
 use Rattle.administration.specs.Least.{IsLeastIn}
 use Rattle.administration.specs.declared.fault.AdministrationFault.{AdministrationFault}
@@ -59,10 +59,6 @@ IsFine w Updates = IsEmptyIn w updates_path
 IsFine w Info = AreLoose w
 IsFine w Diversions = IsWithoutDiversions (w diversions_path)
 IsFine w Leftovers = w tmp_path ≡ None
-
--- a name in a directory isn't text
-abbrev pub HasBadName : World → Path → Type 0
-HasBadName w directory = (name : Path) × (has_slash name ≡ false) × (IsUtf8 name → ⊥) × IsSome (w (directory ++ 47 ∷ name))
 
 -- an entry of a directory that has to be empty: the first; the directory itself where a name isn't text
 abbrev pub IsEntryFault : World → Path → Path → Type 0

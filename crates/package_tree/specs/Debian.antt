@@ -5,13 +5,12 @@ use Rattle.control_fields.specs.Grammar.{lines_of}
 use Rattle.host_core.specs.Paths.{Path}
 use Rattle.host_core.specs.Outcome.{script_name}
 use Rattle.host_core.specs.Tree.{has_slash}
-use Rattle.host_core.specs.World.{World}
+use Rattle.host_core.specs.World.{World, is_file}
 use Rattle.host_core.specs.declared.call.Script.{Script}
 use Rattle.host_core.specs.declared.call.Script.TheVariants.{Preinst, Postinst, Prerm, Postrm}
 use Rattle.host_core.specs.declared.node.Node.{Node}
 use Rattle.host_core.specs.declared.node.Node.TheVariants.{File, Dir, Link}
 use Rattle.std.specs.Str.{bytes_eq}
-use Rattle.administration.specs.Nodes.{is_file}
 use Rattle.package_tree.specs.declared.reading.Contents.{Contents}
 use Rattle.package_tree.specs.declared.fault.TreeFault.{TreeFault}
 use Rattle.package_tree.specs.declared.fault.TreeFault.TheVariants as tree

@@ -1,10 +1,5 @@
 -- What writing the status file leaves, in the end and at each moment.
-use Rattle.std.proofs.Common.{◌≡◌, ◌≢◌, ◌⊎◌, inl, inr, ℕ, List, false, length, Option, Some, None, Result, Ok, Err, OnOk, refl, sym, ap, subst, ◌∙◌, arith, codes}
-use Rattle.std.specs.Prelude.{Contains, nat_eq}
-use Rattle.std.specs.List.{list_any}
-use Rattle.std.proofs.lemmas.Bool.{true≢false}
-use Rattle.std.proofs.lemmas.Cmp.{nat_eq_equiv}
-use Rattle.std.proofs.lemmas.Map.Views.{list_any-from_Contains}
+use Rattle.std.proofs.Common.{◌≡◌, ◌≢◌, ◌⊎◌, inl, inr, ℕ, List, length, Option, Some, None, Result, Ok, Err, OnOk, refl, sym, ap, subst, ◌∙◌, arith, codes}
 use Rattle.host_core.specs.Paths.{Path}
 use Rattle.host_core.specs.World.{World, IsDirectory, IsFile, HasParent}
 use Rattle.std.specs.Prelude.{IsErrAnd}
@@ -16,7 +11,7 @@ use Rattle.host_core.specs.declared.node.Node.{Node}
 use Rattle.host_core.specs.declared.node.Node.TheVariants.{File}
 use Rattle.administration.specs.Places.{home_path, status_path, temporary}
 use Rattle.administration.specs.Files.{NoDirectory, KeepsBesideFile, IsReplaced, IsReplacing}
-use Rattle.administration.proofs.WholeFiles.{no_directory_file, no_directory_none, no_directory_at}
+use Rattle.administration.proofs.WholeFiles.{no_directory_file, no_directory_none, no_directory_at, no_slash}
 use Rattle.status_db.specs.declared.record.Record.{Record}
 use Rattle.status_db.specs.Status.{IsStatus, StandsFor, HasRecords, IsFileOf, IsStatusReady, IsNoted, IsNoting}
 
@@ -32,9 +27,6 @@ stands_for found node rs holds e = subst (λ (o : Option Node). StandsFor o rs) 
 
 file_of : (found : Option Node) (node : Node) (rs : List Record) → Holds node rs → found ≡ Some node → IsFileOf found rs
 file_of found node rs holds e = (holds.0, e ∙ ap (λ (n : Node). Some n) holds.1, holds.2)
-
-no_slash : (u : Path) → list_any (nat_eq 47) u ≡ false → Contains u 47 → ⊥
-no_slash u free has = true≢false (sym (list_any-from_Contains nat_eq_equiv 47 u has) ∙ free)
 
 pub status_parent : (w : World) → IsStatusReady w → HasParent w status_path
 status_parent w ready = (codes "/var/lib/dpkg", codes "status", refl, no_slash (codes "status") refl, ready.home)

@@ -1,27 +1,23 @@
 -- What dropping and putting the files of a package leaves.
-use Rattle.std.proofs.Common.{◌≡◌, ◌≢◌, ◌⊎◌, inl, inr, ℕ, Bool, true, false, List, ◌++◌, Option, Some, None, IsTrue, Result, Ok, Err, OnOk, refl, sym, ap, subst, ◌∙◌, codes, nat_eq, Contains, arith}
+use Rattle.std.proofs.Common.{◌≡◌, ◌≢◌, ◌⊎◌, inl, inr, ℕ, Bool, true, false, List, ◌++◌, Option, Some, None, IsTrue, Result, Ok, Err, OnOk, refl, sym, ap, subst, ◌∙◌, codes, Contains, arith}
 use Rattle.std.specs.Str.{bytes_eq}
-use Rattle.std.specs.List.{list_any}
 use Rattle.std.proofs.lemmas.Bool.{true≢false}
-use Rattle.std.proofs.lemmas.Cmp.{nat_eq_equiv}
 use Rattle.std.proofs.lemmas.List.Elements.{Contains-append_cases}
-use Rattle.std.proofs.lemmas.Map.Views.{list_any-from_Contains}
 use Rattle.std.proofs.lemmas.Slice.Eq.{bytes_eq-Decides}
 use Rattle.host_core.specs.Paths.{Path}
-use Rattle.host_core.specs.World.{World, IsDirectory, IsFile, HasParent}
+use Rattle.host_core.specs.World.{World, IsDirectory, IsFile, HasParent, is_file}
 use Rattle.host_core.specs.Host.{State, Silent, Since}
 use Rattle.host_core.specs.Moments.{since_then, since_weaker, since_now}
 use Rattle.host_core.specs.declared.node.Node.{Node}
 use Rattle.host_core.specs.declared.node.Node.TheVariants.{File, Dir, Link}
 use Rattle.host_core.specs.declared.call.Script.{Script}
 use Rattle.host_core.specs.declared.call.Script.TheVariants.{Preinst, Postinst, Prerm, Postrm}
-use Rattle.administration.specs.Nodes.{is_file}
 use Rattle.administration.specs.Scripts.{script_of, file_of}
 use Rattle.administration.specs.declared.scripts.ScriptFile.{ScriptFile}
 use Rattle.administration.specs.Places.{temporary, info_path}
 use Rattle.administration.specs.Files.{NoDirectory, IsReplaced, IsReplacing, IsDropped, IsDropping}
 use Rattle.administration.specs.declared.scripts.Scripts.{Scripts}
-use Rattle.administration.proofs.WholeFiles.{no_directory_none, no_directory_at, no_directory_file}
+use Rattle.administration.proofs.WholeFiles.{no_directory_none, no_directory_at, no_directory_file, no_slash}
 use Rattle.administration.proofs.Emptying.{dropped_either, none_then}
 use Rattle.unpack_engine.specs.OwnFiles.{OwnFile, ending, own_path, own_node, root_list, HasDroppedScripts, HasPutScripts, IsPut, IsCleared, IsInstalled, IsOwnMoment, IsChanging, IsOwnReady}
 use Rattle.unpack_engine.specs.OwnFiles.IsOwnMoment.{same, gone, whole}
@@ -247,9 +243,6 @@ installed_all name scripts w0 w1 w2 list more = record {
     at free (Some s) = more.stands (λ t. beside name _ (Some t) None w0 w1 (script_mark t) list ∙ free (Some t)) s
 
 -- a package's files lie in the directory of lists and scripts
-pub no_slash : (u : Path) → list_any (nat_eq 47) u ≡ false → Contains u 47 → ⊥
-no_slash u free has = true≢false (sym (list_any-from_Contains nat_eq_equiv 47 u has) ∙ free)
-
 ending_plain : (file : OwnFile) → Contains (ending file) 47 → ⊥
 ending_plain None has = no_slash (ending None) refl has
 ending_plain (Some Preinst) has = no_slash (ending (Some Preinst)) refl has

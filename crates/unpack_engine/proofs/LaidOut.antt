@@ -16,12 +16,12 @@ use Rattle.administration.specs.Files.{NoDirectory, IsReplacing}
 use Rattle.administration.specs.Directories.{IsMade, IsMaking, IsFlat}
 use Rattle.administration.specs.Scripts.{script_of, file_of}
 use Rattle.administration.specs.declared.scripts.Scripts.{Scripts}
-use Rattle.administration.proofs.WholeFiles.{no_directory_none, no_directory_at}
+use Rattle.administration.proofs.WholeFiles.{no_directory_none, no_directory_at, no_slash}
 use Rattle.administration.proofs.Within.{below_within, directory_within, outside_differs, directory_differs}
 use Rattle.unpack_engine.specs.OwnFiles.{IsPut}
 use Rattle.unpack_engine.specs.Incoming.{script_names, AreLaidOut, IsTmpFlat}
 use Rattle.unpack_engine.proofs.Endings.{mark, same_file, tmp_apart, tmp_lasting}
-use Rattle.unpack_engine.proofs.Changes.{decide, script_loose, no_slash}
+use Rattle.unpack_engine.proofs.Changes.{decide, script_loose}
 
 -- all happens within `tmp.ci`
 pub keeps_then : (area : Path → Bool) (u v w : World) → KeepsBut area u v → KeepsBut area v w → KeepsBut area u w
