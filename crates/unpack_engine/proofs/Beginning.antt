@@ -1,8 +1,8 @@
 -- The beginning of a unit.
 use Rattle.std.proofs.Common.{◌≡◌, ◌≢◌, ℕ, Bool, true, false, nat_eq, List, [], ◌∷◌, ◌++◌, Some, None, Result, Ok, Err, OnOk, refl, sym, ap, subst, ◌∙◌, codes, Contains, get_or, arith}
-use Rattle.std.specs.Prelude.{◌||◌, ◌&&◌}
+use Rattle.std.specs.Prelude.{◌||◌}
 use Rattle.std.specs.List.{list_any, list_all}
-use Rattle.std.proofs.lemmas.Bool.{true≢false, eqb-true}
+use Rattle.std.proofs.lemmas.Bool.{true≢false, and_parts, eqb-true}
 use Rattle.std.proofs.lemmas.Cmp.{nat_eq_equiv}
 use Rattle.std.proofs.lemmas.Map.Views.{list_any-from_Contains}
 use Rattle.host_core.specs.Paths.{Path}
@@ -32,18 +32,11 @@ no_sign : (b : ℕ) (t : Bool) → nat_eq b 47 ≡ t → is_name_sign b ≡ true
 no_sign b true e sign = absurd (true≢false (sym sign ∙ ap is_name_sign (eqb-true b 47 e)))
 no_sign b false e sign = refl
 
-both_left : (a b : Bool) → (a && b) ≡ true → a ≡ true
-both_left true b e = refl
-both_left false b e = e
-
-both_right : (a b : Bool) → (a && b) ≡ true → b ≡ true
-both_right true b e = e
-both_right false b e = absurd (true≢false (sym e))
-
 signs_plain : (name : List ℕ) → list_all is_name_sign name ≡ true → has_slash name ≡ false
 signs_plain [] e = refl
 signs_plain (b ∷ bs) e =
-    ap (λ t. t || has_slash bs) (no_sign b (nat_eq b 47) refl (both_left (is_name_sign b) (list_all is_name_sign bs) e)) ∙ signs_plain bs (both_right (is_name_sign b) (list_all is_name_sign bs) e)
+    let parts = and_parts (is_name_sign b) (list_all is_name_sign bs) e in
+    ap (λ t. t || has_slash bs) (no_sign b (nat_eq b 47) refl parts.0) ∙ signs_plain bs parts.1
 
 pub name_plain : (name : List ℕ) → is_package_name name ≡ true → has_slash name ≡ false
 name_plain name e = signs_plain name (signs_of_name name e)

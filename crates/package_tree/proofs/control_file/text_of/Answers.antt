@@ -1,6 +1,5 @@
-use Rattle.texts.proofs.PackageNames.{name_utf8}
-use Rattle.package_tree.proofs.Readable.{ok_since}
+use Rattle.texts.proofs.PackageNames.{name_reads}
 use Rattle.package_tree.proofs.control_file.text_of.Goals as goal
 
 pub unwrap-requires : goal.unwrap-requires
-unwrap-requires c = ok_since _ _ _ c.from_utf8.result c.from_utf8.ensures.cases (name_utf8 c.args.name.now c.requires)
+unwrap-requires c = name_reads _ _ c.args.name.now c.from_utf8.result c.from_utf8.ensures.cases c.requires
