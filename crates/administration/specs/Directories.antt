@@ -52,11 +52,12 @@ pub record IsFlat (w : World) (directory : Path) (names : List Path) : Type 0 wh
 abbrev pub HasBadName : World → Path → Type 0
 HasBadName w directory = (name : Path) × (has_slash name ≡ false) × (IsUtf8 name → ⊥) × IsSome (w (directory ++ 47 ∷ name))
 
--- what was found in a directory: nothing against its flatness, a name that isn't text, or the first directory in it
+-- what was found in a directory: nothing against its flatness; a name that isn't text, which is looked for first; or the
+-- first directory in it
 abbrev pub HasFlatness : World → Path → Flatness → Type 0
 HasFlatness w directory (Flat names) = IsFlat w directory names
 HasFlatness w directory BadName = HasBadName w directory
-HasFlatness w directory (Holds path) = (name : Path) × (path ≡ directory ++ 47 ∷ name) × IsLeastIn IsDirectory w directory name
+HasFlatness w directory (Holds path) = (HasBadName w directory → ⊥) × ((name : Path) × (path ≡ directory ++ 47 ∷ name) × IsLeastIn IsDirectory w directory name)
 
 -- the first of these names at which a directory stands
 abbrev pub IsFirstDirectory : World → Path → List Path → Option Path → Type 0

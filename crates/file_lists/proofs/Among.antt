@@ -2,7 +2,7 @@
 use Rattle.std.proofs.Common.{◌≡◌, ◌⊎◌, ◌+◌, ◌<◌, inl, inr, ℕ, Bool, true, false, cond, List, [], ◌∷◌, take, length, get_or, String, refl, sym, ap, subst, ◌∙◌, arith, Contains}
 use Rattle.std.specs.Prelude.{◌||◌, All, IsSome}
 use Rattle.std.specs.List.{list_any}
-use Rattle.std.specs.Str.{bytes_eq, IsUtf8}
+use Rattle.std.specs.Str.{bytes_eq}
 use Rattle.std.specs.String.{string_cmp, string_bytes}
 use Rattle.std.specs.BTreeSet.{BTreeSet, contains_text}
 use Rattle.std.specs.BTreeMap.{is_at}
@@ -14,26 +14,19 @@ use Rattle.std.specs.declared.cmp.Ordering.TheVariants.{Less, Equal}
 use Rattle.std.proofs.lemmas.Bool.{false≢true}
 use Rattle.std.proofs.lemmas.Cmp.{tied_itself}
 use Rattle.std.proofs.lemmas.Map.Text.{is_eq-slice_cmp}
-use Rattle.std.proofs.lemmas.Str.{IsUtf8-string_bytes}
 use Rattle.std.proofs.lemmas.Slice.Eq.{bytes_eq-Decides}
 use Rattle.std.proofs.lemmas.List.Folds.{list_any_more, Any-from_list_any}
 use Rattle.host_core.specs.Paths.{Path}
 use Rattle.host_core.specs.World.{World}
 use Rattle.host_core.specs.Tree.{IsListing, has_slash}
-use Rattle.administration.specs.Directories.{HasBadName}
 use Rattle.administration.specs.Places.{info_path}
+use Rattle.administration.proofs.LeastNames.{all_text}
 use Rattle.administration.specs.declared.fault.AdministrationFault.{AdministrationFault}
 use Rattle.administration.specs.declared.fault.AdministrationFault.TheVariants.{Damaged, Device, NoMemory}
 use Rattle.file_lists.specs.Lists.{Lists}
 use Rattle.file_lists.specs.Info.{entry_path, IsBefore, IsListOf, IsSound}
 use Rattle.file_lists.specs.Reading.{HasTaken, IsFaultAt, AreSoundAmong, HaveTaken, IsFaultAmong, IsNameFault, AreEntries}
 use Rattle.file_lists.proofs.Judged.{any_contains, contains_any}
-
--- the string of a set that has these bytes
-text_in : (k : Path) (s : BTreeSet (String Global)) → contains_text s k ≡ true → (n : ℕ) × (x : String Global) × (k ≡ string_bytes x)
-text_in k s e =
-    let any = Any-from_list_any (is_at (λ (x : String Global). slice_cmp nat_cmp k (string_bytes x))) s.keys e in
-    (any.0, any.1, (bytes_eq-Decides k (string_bytes any.1)).0 (sym (is_eq-slice_cmp k (string_bytes any.1)) ∙ any.4))
 
 -- what is left of a set of texts is above the one that was the least
 pub above_text : (k : String Global) (s : BTreeSet (String Global)) → All (IsLtBy string_cmp k) s.keys → (b : Path) → contains_text s b ≡ true → IsBefore (string_bytes k) b
@@ -80,13 +73,10 @@ bad_name w names bad p e is listing = ((subst (λ d. IsListing w d names bad) e 
 
 -- the names of a listing without bad ones are the entries
 pub entries_listed : (w : World) (names : List Path) (bad : Bool) (s : BTreeSet (String Global)) → bad ≡ false → IsListing w info_path names bad → ((q : Path) → contains_text s q ≡ list_any (bytes_eq q) names) → AreEntries w (contains_text s)
-entries_listed w names bad s good listing is = record { there = λ q e. listing.there q (any_contains names q (sym (is q) ∙ e)); whole = whole; text = text }
+entries_listed w names bad s good listing is = record { there = λ q e. listing.there q (any_contains names q (sym (is q) ∙ e)); whole = whole; text = all_text w info_path names bad good listing }
   where
     whole : (q : Path) → has_slash q ≡ false → IsSome (w (entry_path q)) → contains_text s q ≡ true
     whole q plain here = elim (listing.whole q plain here) [ inl has ↦ is q ∙ contains_any names q has | inr b ↦ absurd (false≢true (sym good ∙ b.1)) ]
-
-    text : HasBadName w info_path → ⊥
-    text b = let t = text_in b.0 s (whole b.0 b.1 b.3) in b.2 (subst IsUtf8 (sym t.2) (IsUtf8-string_bytes t.1))
 
 -- some entries were looked at: the others are still to be
 pub record IsAmid (w : World) (names : List (List ℕ)) (all todo : Path → Bool) (old now : List Path) : Type 0 where

@@ -18,6 +18,7 @@ IsTree w = (top rest : Path) → IsSome (w (top ++ 47 ∷ rest)) → IsDirectory
 
 -- the names of what stands in a directory: each that is text, and whether one isn't
 pub record IsListing (w : World) (path : Path) (names : List Path) (bad : Bool) : Type 0 where
+  pub text : (name : Path) → Contains names name → IsUtf8 name
   pub there : (name : Path) → Contains names name → (has_slash name ≡ false) × IsSome (w (path ++ 47 ∷ name))
   pub whole : (name : Path) → has_slash name ≡ false → IsSome (w (path ++ 47 ∷ name)) → Contains names name ⊎ ((IsUtf8 name → ⊥) × IsTrue bad)
   pub faulty : IsTrue bad → (name : Path) × (has_slash name ≡ false) × (IsUtf8 name → ⊥) × IsSome (w (path ++ 47 ∷ name))

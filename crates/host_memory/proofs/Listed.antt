@@ -8,6 +8,7 @@ use Rattle.std.specs.declared.alloc.Global.{Global}
 use Rattle.std.specs.Cmp.Lexicographic.{slice_cmp}
 use Rattle.std.specs.Ordering.{nat_cmp, is_eq}
 use Rattle.std.specs.List.{AllZip}
+use Rattle.std.specs.Str.{IsUtf8}
 use Rattle.std.proofs.lemmas.Bool.{false≢true}
 use Rattle.std.proofs.lemmas.Map.Text.{is_eq-slice_cmp}
 use Rattle.std.proofs.lemmas.Slice.Eq.{bytes_eq-Decides}
@@ -34,11 +35,13 @@ test_true q k e = is_eq-slice_cmp q (string_bytes k) ∙ (bytes_eq-Decides q (st
 -- a loop over the entries, of which the last ones are left
 pub record IsAmidListing (all left : List Entry) (path : Path) (names : List Path) : Type 0 where
   pub sub : (q : Path) → Has left q → Has all q
+  pub text : (name : Path) → Contains names name → IsUtf8 name
   pub sound : (name : Path) → Contains names name → (has_slash name ≡ false) × Has all (path ++ 47 ∷ name)
   pub whole : (name : Path) → has_slash name ≡ false → Has all (path ++ 47 ∷ name) → Contains names name ⊎ Has left (path ++ 47 ∷ name)
 
 pub listing_end : (all left : List Entry) (path : Path) (names : List Path) (m : BTreeMap (String Global) Node) → m.entries ≡ all → left ≡ [] → IsAmidListing all left path names → IsListing (get_by_text m) path names false
 listing_end all left path names m is none amid = record {
+  text = amid.text;
   there = λ name c. (let s = amid.sound name c in (s.0, subst (λ (es : List Entry). Has es (path ++ 47 ∷ name)) (sym is) s.1));
   whole = λ name plain h. elim (amid.whole name plain (subst (λ (es : List Entry). Has es (path ++ 47 ∷ name)) is h)) [
     | inl c ↦ inl c
@@ -62,6 +65,7 @@ pub listing_none : (all left : List Entry) (e : Entry) (es : List Entry) (path :
     → ((name : Path) → has_slash name ≡ false → string_bytes e.0 ≡ path ++ 47 ∷ name → ⊥) → IsAmidListing all es path names
 listing_none all left e es path names is amid none = record {
   sub = λ q h. amid.sub q (subst (λ (l : List Entry). Has l q) (sym is) (in_tail_at (test q e.0) e.1 (lookup (test q) es) h));
+  text = amid.text;
   sound = amid.sound;
   whole = λ name plain h. elim (amid.whole name plain h) [
     | inl c ↦ inl c
@@ -88,9 +92,10 @@ before_or_last (y ∷ ys) n x zero lt e = inl (0, omega arith, e)
 before_or_last (y ∷ ys) n x (suc k) lt e = elim (before_or_last ys n x k (omega arith) e) [ inl m ↦ inl (suc m.0, omega (arith, m.1), m.2) | inr s ↦ inr s ]
 
 pub listing_some : (all left : List Entry) (e : Entry) (es : List Entry) (path name : Path) (names : List Path) → left ≡ e ∷ es → IsAmidListing all left path names
-    → string_bytes e.0 ≡ path ++ 47 ∷ name → has_slash name ≡ false → IsAmidListing all es path (names ++ name ∷ [])
-listing_some all left e es path name names is amid key plain = record {
+    → string_bytes e.0 ≡ path ++ 47 ∷ name → has_slash name ≡ false → IsUtf8 name → IsAmidListing all es path (names ++ name ∷ [])
+listing_some all left e es path name names is amid key plain utf8 = record {
   sub = λ q h. amid.sub q (subst (λ (l : List Entry). Has l q) (sym is) (in_tail_at (test q e.0) e.1 (lookup (test q) es) h));
+  text = λ x m. elim (before_or_last names name x m.0 m.1 m.2) [ inl c ↦ amid.text x c | inr s ↦ subst IsUtf8 (sym s) utf8 ];
   sound = λ x m. elim (before_or_last names name x m.0 m.1 m.2) [
     | inl c ↦ amid.sound x c
     | inr s ↦ (

@@ -255,9 +255,9 @@ leftovers_none p s t e same none = record {
   finds = (ap (λ w. w tmp_path) same.world ∙ ap s.world (sym e) ∙ none, tt);
 }
 
-pub leftovers_held : (p file name : Path) (fault : AdministrationFault) (s t : State) → p ≡ tmp_path → fault ≡ Damaged file 0 → Same s t → file ≡ p ++ 47 ∷ name → IsLeastIn IsDirectory s.world p name → Opens (Leftovers ∷ []) (Some fault) s t
-leftovers_held p file name fault s t e is same at least =
-    leftovers_same fault file s t is same (inr (name, at ∙ ap (λ q. q ++ 47 ∷ name) e, subst (λ q. IsLeastIn IsDirectory s.world q name) e least))
+pub leftovers_held : (p file name : Path) (fault : AdministrationFault) (s t : State) → p ≡ tmp_path → fault ≡ Damaged file 0 → Same s t → (HasBadName s.world p → ⊥) → file ≡ p ++ 47 ∷ name → IsLeastIn IsDirectory s.world p name → Opens (Leftovers ∷ []) (Some fault) s t
+leftovers_held p file name fault s t e is same good at least =
+    leftovers_same fault file s t is same (inr (subst (λ q. HasBadName s.world q → ⊥) e good, (name, at ∙ ap (λ q. q ++ 47 ∷ name) e, subst (λ q. IsLeastIn IsDirectory s.world q name) e least)))
 
 -- the same parts, after looking alone
 pub opens_after : (among : List Part) (fault : Option AdministrationFault) (s t u : State) → Same s t → Opens among fault t u → Opens among fault s u
@@ -305,8 +305,8 @@ no_entry w directory names bad e listing none name plain = none_of (w (directory
   | inr odd ↦ true≢false (sym odd.1 ∙ e)
 ])
 
-pub entry_damage : (w : World) (directory file : Path) (name : Path) (fault : AdministrationFault) → directory ≡ updates_path → file ≡ directory ++ 47 ∷ name → fault ≡ Damaged file 0 → IsLeastIn IsSome w updates_path name → IsDamage (Updates ∷ []) w fault
-entry_damage w directory file name fault place path is least = subst (IsDamage (Updates ∷ []) w) (sym is) (inl (refl, inr (name, path ∙ ap (λ d. d ++ 47 ∷ name) place, least)))
+pub entry_damage : (w : World) (directory file : Path) (name : Path) (fault : AdministrationFault) → directory ≡ updates_path → file ≡ directory ++ 47 ∷ name → fault ≡ Damaged file 0 → (HasBadName w updates_path → ⊥) → IsLeastIn IsSome w updates_path name → IsDamage (Updates ∷ []) w fault
+entry_damage w directory file name fault place path is good least = subst (IsDamage (Updates ∷ []) w) (sym is) (inl (refl, inr (good, (name, path ∙ ap (λ d. d ++ 47 ∷ name) place, least))))
 
 -- what is known before later parts are opened stays
 

@@ -60,9 +60,9 @@ IsFine w Info = AreLoose w
 IsFine w Diversions = IsWithoutDiversions (w diversions_path)
 IsFine w Leftovers = w tmp_path ≡ None
 
--- an entry of a directory that has to be empty: the first; the directory itself where a name isn't text
+-- an entry of a directory that has to be empty: the directory itself where a name isn't text, else the first
 abbrev pub IsEntryFault : World → Path → Path → Type 0
-IsEntryFault w directory file = ((file ≡ directory) × HasBadName w directory) ⊎ ((name : Path) × (file ≡ directory ++ 47 ∷ name) × IsLeastIn IsSome w directory name)
+IsEntryFault w directory file = ((file ≡ directory) × HasBadName w directory) ⊎ ((HasBadName w directory → ⊥) × ((name : Path) × (file ≡ directory ++ 47 ∷ name) × IsLeastIn IsSome w directory name))
 
 -- diversions aren't carried out yet: the first line of a file that isn't empty; line 0 where it is no file
 abbrev pub IsDiversionsFault : Option Node → ℕ → Type 0
@@ -71,10 +71,10 @@ IsDiversionsFault (Some (File bytes mode)) line = (bytes ≡ [] → ⊥) × (lin
 IsDiversionsFault (Some (Dir mode)) line = line ≡ 0
 IsDiversionsFault (Some (Link target)) line = line ≡ 0
 
--- `tmp.ci` is no directory, has a name in it that isn't text, or a directory, of which the first is told
+-- `tmp.ci` is no directory or has a name in it that isn't text; else the first directory in it
 abbrev pub IsLeftoversFault : World → Path → Type 0
 IsLeftoversFault w file =
-    ((file ≡ tmp_path) × (IsLoose (w tmp_path) ⊎ HasBadName w tmp_path)) ⊎ ((name : Path) × (file ≡ tmp_path ++ 47 ∷ name) × IsLeastIn IsDirectory w tmp_path name)
+    ((file ≡ tmp_path) × (IsLoose (w tmp_path) ⊎ HasBadName w tmp_path)) ⊎ ((HasBadName w tmp_path → ⊥) × ((name : Path) × (file ≡ tmp_path ++ 47 ∷ name) × IsLeastIn IsDirectory w tmp_path name))
 
 -- a part that can't be read, by the file and the line that are told
 abbrev pub IsFaulty : World → Part → Path → ℕ → Type 0

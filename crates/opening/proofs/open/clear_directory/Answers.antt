@@ -26,4 +26,4 @@ returns-in-BadName-clause-opens g c = λ h.
 pub returns-in-Holds-clause-opens : goal.returns-in-Holds-clause-opens
 returns-in-Holds-clause-opens g c = λ h.
     let held = subst (HasFlatness _ _) c.in-Holds.is (c.in_ok-names.ensures.found h) in
-    leftovers_held _ _ held.0 _ _ _ c.requires.place c.damaged-in-Holds.ensures (c.inspect_flat.ensures.same h) held.1 held.2
+    leftovers_held _ _ held.1.0 _ _ _ c.requires.place c.damaged-in-Holds.ensures (c.inspect_flat.ensures.same h) held.0 held.1.1 held.1.2

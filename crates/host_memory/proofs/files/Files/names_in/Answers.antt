@@ -13,4 +13,4 @@ loop-key-preserved-in_ok-push c =
     let same : name ≡ c.in_ok-from_str.field-0 = sym c.in_ok-from_str.ensures in
     let key = sym c.as_str-in-loop-key.ensures.value ∙ c.in-Some-name_in.ensures.some.0 ∙ ap (λ (p : Path). p ++ 47 ∷ name) c.as_str.ensures in
     subst (λ (ns : List Path). IsAmidListing c.args.self.now.nodes.entries c.next.new.self c.args.path.now ns) (ap (λ (n : Path). c.loop-key.names ++ n ∷ []) same ∙ sym c.in_ok-push.ensures.ok)
-    (listing_some c.args.self.now.nodes.entries c.loop-key.key-iterator (c.in-Some.key.now, c.in-Some.field-0-1.now) c.next.new.self c.args.path.now name c.loop-key.names c.in-Some.ensures.steps c.loop-key.invariant key c.in-Some-name_in.ensures.some.1)
+    (listing_some c.args.self.now.nodes.entries c.loop-key.key-iterator (c.in-Some.key.now, c.in-Some.field-0-1.now) c.next.new.self c.args.path.now name c.loop-key.names c.in-Some.ensures.steps c.loop-key.invariant key c.in-Some-name_in.ensures.some.1 c.in-Some-name_in.ensures.some.2)
