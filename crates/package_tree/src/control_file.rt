@@ -8,8 +8,7 @@ ghost use Rattle.package_tree.specs.ControlFile.{is_yes_or_no, IsGoodField, HasB
 use crate::fault::{FieldName, TreeFault};
 use control_fields::{ControlFault, Field, Paragraph, read_one};
 use std::alloc::{AllocError, Global};
-use std::str;
-use texts::{Text, is_package_name};
+use texts::{Text, package_name};
 use version_order::{Version, VersionFault};
 
 /// What a control file says of its package.
@@ -35,21 +34,14 @@ fn read_paragraph(alloc: Global, text: &[u8]) -> Result<Paragraph, TreeFault>
     }
 }
 
-fn text_of(name: &[u8]) -> &str
-    requires { is_package_name name.now ≡ true }
-    ensures { result.now ≡ name.now }
-{
-    str::from_utf8(name).unwrap()
-}
-
 // The name that a field gives, if its value is a package name.
 fn name_of(field: &Field) -> Option<&str>
     ensures { MatchOption result (IsGoodField FieldName.Package field.now → ⊥) (λ name. (field.now.first ≡ name.now) × IsGoodField FieldName.Package field.now) }
 {
-    if !field.more.as_slice().is_empty() || !is_package_name(field.first.as_slice()) {
+    if !field.more.as_slice().is_empty() {
         return None;
     }
-    Some(text_of(field.first.as_slice()))
+    package_name(field.first.as_slice())
 }
 
 // The version that a field gives, if its value is a version.

@@ -14,8 +14,7 @@ use crate::clause::Clause;
 use crate::fault::RelationFault;
 use crate::restriction::{Comparison, Restriction};
 use std::alloc::Global;
-use std::str;
-use texts::{Text, is_package_name};
+use texts::{Text, package_name};
 use version_order::{Version, VersionFault};
 
 /// What a field may hold: the forms, and that of Provides, whose one operator is `=`.
@@ -129,19 +128,18 @@ fn is_ignored(suffix: &[u8]) -> bool
 }
 
 // The name at the front of a text, and what is behind it and its suffix.
-fn take_name(text: &[u8]) -> Option<(&[u8], &[u8])>
+fn take_name(text: &[u8]) -> Option<(&str, &[u8])>
     ensures some { IfSome result (λ parts. name_in text.now ≡ Some parts.0.now) }
     ensures behind { IfSome result (λ parts. parts.1.now ≡ behind_name text.now) }
     ensures good { IfSome result (λ parts. is_package_name parts.0.now ≡ true) }
     ensures shorter { IfSome result (λ parts. length parts.1.now < length text.now) }
     ensures none { IfNone result (name_in text.now ≡ None) }
 {
-    let (name, from_suffix) = split_run(text, Sign::BeforeSuffix);
+    let (word, from_suffix) = split_run(text, Sign::BeforeSuffix);
     let (suffix, rest) = split_run(from_suffix, Sign::Word);
-    if is_package_name(name) && is_ignored(suffix) {
-        Some((name, rest))
-    } else {
-        None
+    match package_name(word) {
+        Some(name) if is_ignored(suffix) => Some((name, rest)),
+        _ => None,
     }
 }
 
@@ -158,14 +156,6 @@ fn comparison_of(word: &[u8], rules: Rules) -> Option<Comparison>
         (_, b">>") => Some(Comparison::StrictlyLater),
         _ => None,
     }
-}
-
-// The text of a name.
-fn text_of(name: &[u8]) -> &str
-    requires { is_package_name name.now ≡ true }
-    ensures { result.now ≡ name.now }
-{
-    str::from_utf8(name).unwrap()
 }
 
 // A stray token, or the end in place of one, in a field of this length.
@@ -247,7 +237,7 @@ fn take_alternative(
     let Some((name, behind)) = take_name(text) else {
         return Err(name_fault(len, text));
     };
-    let name = Text::from_str(alloc, text_of(name))?;
+    let name = Text::from_str(alloc, name)?;
     let Some(inside) = after(past_blanks(behind), b'(') else {
         return Ok((
             Alternative {

@@ -23,8 +23,7 @@ use crate::record::{Record, is_first};
 use crate::words::{Flag, State, Want};
 use control_fields::{ControlFault, Field, Located, Paragraph, read_located};
 use std::alloc::{AllocError, AllocFailed, Global};
-use std::str;
-use texts::{Text, Texts, is_package_name};
+use texts::{Text, Texts, package_name};
 use version_order::{Version, VersionFault};
 
 /// Why the text has no records: its first faulty line.
@@ -189,17 +188,14 @@ fn value_in<'a>(fields: &'a Paragraph, lower: &[u8]) -> Option<&'a [u8]>
     Some(field.first.as_slice())
 }
 
-fn name_in(fields: &Paragraph) -> Option<&[u8]>
+fn name_in(fields: &Paragraph) -> Option<&str>
     ensures some { IfSome result (λ name. IsNamed fields.now name.now) }
     ensures none { IfNone result ((name : List ℕ) → IsNamed fields.now name → ⊥) }
 {
-    let Some(name) = value_in(fields, b"package") else {
-        return None;
-    };
-    if !is_package_name(name) {
-        return None;
+    match value_in(fields, b"package") {
+        Some(value) => package_name(value),
+        None => None,
     }
-    Some(name)
 }
 
 fn status_in(fields: &Paragraph) -> Option<Status>
@@ -259,13 +255,10 @@ fn is_missing(fields: &Paragraph) -> bool
     field_in(fields, b"version").is_none() && !is_gone(fields)
 }
 
-fn stands_in(names: &Texts, name: &[u8]) -> bool
+fn stands_in(names: &Texts, name: &str) -> bool
     ensures { result ≡ list_any (bytes_eq name.now) names.now }
 {
-    names
-        .as_slice()
-        .iter()
-        .any(|other| name == other.as_str().as_bytes())
+    names.as_slice().iter().any(|other| name == other.as_str())
 }
 
 fn is_taken(names: &Texts, fields: &Paragraph) -> bool
@@ -301,7 +294,7 @@ fn is_readable(alloc: Global, field: &Field) -> Result<bool, AllocError>
         return Ok(false);
     }
     if name.eq_ignore_ascii_case(b"package") {
-        return Ok(is_package_name(field.first.as_slice()));
+        return Ok(package_name(field.first.as_slice()).is_some());
     }
     if name.eq_ignore_ascii_case(b"status") {
         return Ok(is_readable_status(field));
@@ -332,13 +325,6 @@ struct Entry {
     kept: Option<Record>,
 }
 
-fn text_of(name: &[u8]) -> &str
-    requires { is_package_name name.now ≡ true }
-    ensures { result.now ≡ name.now }
-{
-    str::from_utf8(name).unwrap()
-}
-
 // The fields of a status paragraph but Package, Status and Version.
 fn other_fields(alloc: Global, paragraph: &Paragraph) -> Result<Paragraph, AllocError>
     requires { ∥ AreFields [] paragraph.now ∥₁ }
@@ -356,7 +342,7 @@ fn other_fields(alloc: Global, paragraph: &Paragraph) -> Result<Paragraph, Alloc
 fn record_of(
     alloc: Global,
     fields: &Paragraph,
-    name: &[u8],
+    name: &str,
     status: Status,
     version: Version,
 ) -> Result<Record, AllocError>
@@ -370,7 +356,7 @@ fn record_of(
     ensures fields { IfOk result (λ r. r.fields ≡ other_fields fields.now) }
 {
     Ok(Record {
-        name: Text::from_str(alloc, text_of(name))?,
+        name: Text::from_str(alloc, name)?,
         want: status.want,
         flag: status.flag,
         state: status.state,
@@ -390,7 +376,7 @@ fn read_entry(alloc: Global, fields: &Paragraph) -> Result<Option<Entry>, AllocE
     let Some(status) = status_in(fields) else {
         return Ok(None);
     };
-    let package = Text::from_str(alloc, text_of(name))?;
+    let package = Text::from_str(alloc, name)?;
     if status.state.is_not_installed() {
         return Ok(Some(Entry {
             name: package,

@@ -21,4 +21,4 @@ returns-clause-some c =
     let r = c.in_ok-kept in
     let version = rw c.in-Some-2.is at c.in_ok-version.ensures.some in
     said_record fs r.kept c.in_ok-package.package c.in-Some.name.now c.in-Some-2.version s.want s.flag s.state c.in-Some.ensures.some c.in-Some-status_in.ensures.some version.0 (sym c.is_not_installed.ensures ∙ c.if-is_not_installed.false)
-    (c.in_ok-package.ensures ∙ c.text_of.ensures) r.ensures.name r.ensures.want r.ensures.flag r.ensures.state r.ensures.version r.ensures.fields
+    c.in_ok-package.ensures r.ensures.name r.ensures.want r.ensures.flag r.ensures.state r.ensures.version r.ensures.fields
