@@ -1,9 +1,9 @@
 -- What making a directory and removing the files in one leave.
-use Rattle.std.proofs.Common.{◌≡◌, ◌⊎◌, inl, inr, Bool, true, false, List, [], ◌∷◌, ◌++◌, Option, Some, None, IsTrue, Result, Ok, Err, OnOk, arith, append_assoc, refl, sym, ap, subst, ◌∙◌, Contains}
+use Rattle.std.proofs.Common.{◌≡◌, ◌⊎◌, inl, inr, Bool, true, false, List, [], ◌∷◌, ◌++◌, Option, Some, None, Result, Ok, Err, OnOk, arith, append_assoc, refl, sym, ap, subst, ◌∙◌, Contains}
 use Rattle.std.specs.Prelude.{IsSome, MatchBool}
 use Rattle.std.specs.Str.{bytes_eq}
 use Rattle.std.proofs.lemmas.Slice.Eq.{bytes_eq-Decides}
-use Rattle.std.proofs.lemmas.Bool.{true≢false}
+use Rattle.std.proofs.lemmas.Bool.{true≢false, both_ways}
 use Rattle.host_core.specs.Paths.{Path}
 use Rattle.host_core.specs.World.{World, put, IsDirectory, IsBare, KeepsBut, MakeDir, RemoveDir}
 use Rattle.host_core.specs.Tree.{IsTree, IsListing, has_slash}
@@ -174,12 +174,9 @@ module _ (d : Path) (old : World) where
   }
 
 -- what was found in a directory whose names are all text
-no_fault : (b : Bool) → b ≡ false → IsTrue b → ⊥
-no_fault b e is = true≢false (sym is ∙ e)
-
 pub flat_by : (w : World) (d : Path) (names : List Path) (bad : Bool) → bad ≡ false → IsListing w d names bad → IsPassed w d names → IsFlat w d names
 flat_by w d names bad good listing passed = record {
   plain = λ name has. (listing.there name has).0;
   loose = passed;
-  whole = λ name plain there. elim (listing.whole name plain there) [ inl has ↦ has | inr no_text ↦ absurd (no_fault bad good no_text.1) ];
+  whole = λ name plain there. elim (listing.whole name plain there) [ inl has ↦ has | inr no_text ↦ absurd (both_ways bad good no_text.1) ];
 }

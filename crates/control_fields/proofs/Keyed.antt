@@ -4,7 +4,7 @@ use Rattle.std.specs.Prelude.{option_copied, IfSome, IfNone}
 use Rattle.std.specs.Str.{bytes_eq}
 use Rattle.std.specs.List.{AllByRecursion}
 use Rattle.std.specs.Map.{lookup}
-use Rattle.std.proofs.lemmas.Bool.{or_from, false_from_ne_true, false≢true}
+use Rattle.std.proofs.lemmas.Bool.{or_from, false_from_ne_true, false≢true, or_right}
 use Rattle.std.proofs.lemmas.List.{append-nil, map-append}
 use Rattle.std.proofs.lemmas.Slice.Eq.{bytes_eq-Decides}
 use Rattle.indexmap.specs.IndexMap.{insert_entry}
@@ -88,10 +88,6 @@ popped key es front k f keyed e =
 
 -- a field found by its key
 
-or_true : (b : Bool) → (b || true) ≡ true
-or_true true = refl
-or_true false = refl
-
 still : (text : List ℕ) (before : List Field) (f : Field) → is_called text before ≡ true → is_called text (before ++ f ∷ []) ≡ true
 still text [] f there = absurd (false≢true there)
 still text (g ∷ gs) f there = still_by (bytes_eq (lower g.name) text) (is_called text gs) (is_called text (gs ++ f ∷ [])) (λ e. still text gs f e) there
@@ -102,7 +98,7 @@ still text (g ∷ gs) f there = still_by (bytes_eq (lower g.name) text) (is_call
 
 at_end : (text : List ℕ) (before : List Field) (f : Field) → lower f.name ≡ text → is_called text (before ++ f ∷ []) ≡ true
 at_end text [] f named = ap (λ y. y || false) (told_same (lower f.name) text named)
-at_end text (g ∷ gs) f named = ap (λ y. bytes_eq (lower g.name) text || y) (at_end text gs f named) ∙ or_true (bytes_eq (lower g.name) text)
+at_end text (g ∷ gs) f named = ap (λ y. bytes_eq (lower g.name) text || y) (at_end text gs f named) ∙ or_right (bytes_eq (lower g.name) text) true refl
 
 not_later : (text : List ℕ) (before fs : List Field) → is_called text before ≡ true → AreNew before fs → is_called text fs ≡ false
 not_later text before [] there are = refl
@@ -167,7 +163,7 @@ called_more text ys x before ne = ap (is_called text) (map-append (λ (b : Bor F
 
 called_mid : (text : List ℕ) (xs : List Field) (f : Field) (ys : List Field) → lower f.name ≡ text → is_called text (xs ++ f ∷ ys) ≡ true
 called_mid text [] f ys named = ap (λ y. y || is_called text ys) (told_same (lower f.name) text named)
-called_mid text (g ∷ xs) f ys named = ap (λ y. bytes_eq (lower g.name) text || y) (called_mid text xs f ys named) ∙ or_true (bytes_eq (lower g.name) text)
+called_mid text (g ∷ xs) f ys named = ap (λ y. bytes_eq (lower g.name) text || y) (called_mid text xs f ys named) ∙ or_right (bytes_eq (lower g.name) text) true refl
 
 pub called_at : (text : List ℕ) (all left next : List Field) (ys : List (Bor Field)) (x : Bor Field) → all ≡ map (λ b. b.now) ys ++ left → left ≡ x.now ∷ next → lower x.now.name ≡ text → true ≡ is_called text all
 called_at text all left next ys x e f named = sym (ap (is_called text) (e ∙ ap (λ (l : List Field). map (λ b. b.now) ys ++ l) f) ∙ called_mid text (map (λ b. b.now) ys) x.now next named)

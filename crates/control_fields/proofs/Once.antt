@@ -1,5 +1,6 @@
 -- Lines are read in one way.
 use Rattle.std.proofs.Common.{◌≡◌, ◌+◌, ℕ, List, [], ◌∷◌, ◌++◌, length, refl, sym, ap, subst, ◌∙◌, inl, inr, arith}
+use Rattle.std.proofs.lemmas.List.{append_cancel_left}
 use Rattle.control_fields.specs.Names.{trim_end, trim_start, with_line, begin_line}
 use Rattle.control_fields.specs.Grammar.{Reading, start, closed, IsSeparator, IsContinuation, IsNewField, field_of, Takes, Run, Reads, paragraphs_of}
 use Rattle.control_fields.specs.Faults.{IsFaultIn, IsFaultOf}
@@ -15,8 +16,7 @@ not_empty [] value e = cc
 not_empty (x ∷ name) value e = cc
 
 same_rest : (a x y : List ℕ) → a ++ 58 ∷ x ≡ a ++ 58 ∷ y → x ≡ y
-same_rest [] x y e = cc
-same_rest (c ∷ a) x y e = let t : a ++ 58 ∷ x ≡ a ++ 58 ∷ y = cc e in same_rest a x y t
+same_rest a x y e = let t : 58 ∷ x ≡ 58 ∷ y = append_cancel_left a (58 ∷ x) (58 ∷ y) e in cc t
 
 blank_or_not : (number : ℕ) (text : List ℕ) (s t u : Reading) → IsSeparator text s t → IsContinuation text s u → ⊥
 blank_or_not number text s t u k m = let e : [] ≡ m.begin ∷ m.rest = sym k.blank ∙ m.is in cc e

@@ -5,7 +5,7 @@ use Rattle.std.specs.Str.{IsUtf8, IsAscii}
 use Rattle.std.specs.List.{AllByRecursion}
 use Rattle.std.proofs.Math.Seq.{take-append_seam}
 use Rattle.std.proofs.lemmas.Bool.{eqb-true, or_cases}
-use Rattle.std.proofs.lemmas.List.{length-append}
+use Rattle.std.proofs.lemmas.List.{length-append, drop_at}
 use Rattle.std.proofs.lemmas.Str.{IsUtf8-take, IsUtf8-drop, IsCharBoundary-at_seam, IsCharBoundary-from_take}
 use Rattle.std.proofs.lemmas.Str.Ascii.{IsAscii-nil, IsAscii-cons}
 use Rattle.control_fields.specs.Names.{Lacks, is_blank, keep_before, trim_end, trim_start}
@@ -25,14 +25,10 @@ blanks_are_ascii (b ∷ bs) all = IsAscii-cons b bs (blank_is_ascii b all.0) (bl
 pub utf8_front : (xs ys : List ℕ) → IsUtf8 (xs ++ ys) → IsUtf8 ys → IsUtf8 xs
 utf8_front xs ys all rest = subst IsUtf8 (take-append_seam xs ys) (IsUtf8-take (xs ++ ys) (length xs) all (IsCharBoundary-at_seam (xs ++ ys) xs ys refl rest))
 
-drop_seam : (xs ys : List ℕ) → drop (length xs) (xs ++ ys) ≡ ys
-drop_seam [] ys = refl
-drop_seam (x ∷ xs) ys = drop_seam xs ys
-
 pub utf8_rest : (xs ys : List ℕ) → IsUtf8 (xs ++ ys) → IsUtf8 xs → IsUtf8 ys
 utf8_rest xs ys all front =
     let le : length xs ≤ length (xs ++ ys) = omega (arith, length-append xs ys) in
-    subst IsUtf8 (drop_seam xs ys) (IsUtf8-drop (xs ++ ys) (length xs) all (IsCharBoundary-from_take (xs ++ ys) (length xs) all le (subst IsUtf8 (sym (take-append_seam xs ys)) front)))
+    subst IsUtf8 (drop_at xs ys (length xs) refl) (IsUtf8-drop (xs ++ ys) (length xs) all (IsCharBoundary-from_take (xs ++ ys) (length xs) all le (subst IsUtf8 (sym (take-append_seam xs ys)) front)))
 
 -- what a part lacks
 

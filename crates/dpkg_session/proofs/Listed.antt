@@ -1,13 +1,14 @@
 -- The places that recorded packages list stay those over units.
 use Rattle.std.proofs.Common.{◌≡◌, ◌≢◌, ◌⊎◌, ◌↔◌, inl, inr, ℕ, Bool, true, false, cond, List, [], ◌∷◌, ◌++◌, Option, Some, None, is_some, Result, Ok, Err, IsTrue, Contains, codes, arith, get_or, refl, sym, ap, subst, ◌∙◌, ◌||◌}
-use Rattle.std.proofs.lemmas.Bool.{true≢false, false_from_ne_true}
+use Rattle.std.proofs.lemmas.Bool.{true≢false, false_from_ne_true, cond-true, cond-false}
 use Rattle.std.proofs.lemmas.List.{append_cancel_left, append_cancel_right}
 use Rattle.std.proofs.lemmas.Map.Views.{Contains-from_any, list_any-from_Contains}
 use Rattle.std.proofs.lemmas.Slice.Eq.{bytes_eq-Decides}
 use Rattle.std.proofs.Math.Logic.{∥∥₁_map}
-use Rattle.std.specs.Cmp.{IsEquivalence}
 use Rattle.std.specs.List.{list_any}
 use Rattle.std.specs.Str.{bytes_eq}
+use Rattle.std.proofs.lemmas.Cmp.{nat_list_eq_equiv}
+use Rattle.host_core.proofs.Paths.{decide}
 use Rattle.host_core.specs.Paths.{Path}
 use Rattle.host_core.specs.World.{World, IsDirectory, is_directory, is_kept}
 use Rattle.host_core.specs.declared.call.Script.{Script}
@@ -41,71 +42,40 @@ use Rattle.unwind_stack.specs.Transcript.{Ended, Committed, Unwound}
 
 -- a name among those of the records is one that has a record
 
-eq_sym : (a b : List ℕ) → bytes_eq a b ≡ bytes_eq b a
-eq_sym a b = by_case (bytes_eq a b) (bytes_eq b a) refl refl
-  where
-    by_case : (x y : Bool) → bytes_eq a b ≡ x → bytes_eq b a ≡ y → x ≡ y
-    by_case true true e f = refl
-    by_case false false e f = refl
-    by_case true false e f = absurd (true≢false (sym ((bytes_eq-Decides b a).1 (sym ((bytes_eq-Decides a b).0 e))) ∙ f))
-    by_case false true e f = absurd (true≢false (sym ((bytes_eq-Decides a b).1 (sym ((bytes_eq-Decides b a).0 f))) ∙ e))
-
 or_some : (b : Bool) (r : Record) (rest : Option Record) → (b || is_some rest) ≡ is_some (cond b (Some r) rest)
 or_some true r rest = refl
 or_some false r rest = refl
 
 pub any_named : (table : List Record) (n : List ℕ) → list_any (bytes_eq n) (names_of table) ≡ is_some (record_in table n)
 any_named [] n = refl
-any_named (r ∷ rs) n = ap (λ b. bytes_eq n r.name || b) (any_named rs n) ∙ ap (λ b. b || is_some (record_in rs n)) (eq_sym n r.name) ∙ or_some (bytes_eq r.name n) r (record_in rs n)
-
-bytes_equiv : IsEquivalence bytes_eq
-bytes_equiv = record {
-  refl = λ x. (bytes_eq-Decides x x).1 refl;
-  symm = eq_sym;
-  congr = λ x y z e. ap (λ u. bytes_eq u z) ((bytes_eq-Decides x y).0 e);
-}
+any_named (r ∷ rs) n = ap (λ b. bytes_eq n r.name || b) (any_named rs n) ∙ ap (λ b. b || is_some (record_in rs n)) (nat_list_eq_equiv.symm n r.name) ∙ or_some (bytes_eq r.name n) r (record_in rs n)
 
 pub has_record : (table : List Record) (n : List ℕ) → Contains (names_of table) n → is_some (record_in table n) ≡ true
-has_record table n has = sym (any_named table n) ∙ list_any-from_Contains bytes_equiv n (names_of table) has
+has_record table n has = sym (any_named table n) ∙ list_any-from_Contains nat_list_eq_equiv n (names_of table) has
 
 pub is_named : (table : List Record) (n : List ℕ) → is_some (record_in table n) ≡ true → Contains (names_of table) n
 is_named table n is = Contains-from_any (λ x y e. (bytes_eq-Decides x y).0 e) n (names_of table) (any_named table n ∙ is)
 
 -- the records after one of a name was set or dropped
 
-looked_up : (b : Bool) (entry other : Option Record) → b ≡ true → cond b entry other ≡ entry
-looked_up true entry other e = refl
-looked_up false entry other e = absurd (true≢false (sym e))
-
-looked_past : (b : Bool) (entry other : Option Record) → b ≡ false → cond b entry other ≡ other
-looked_past false entry other e = refl
-looked_past true entry other e = absurd (true≢false e)
-
 at_name : (name : List ℕ) (entry : Option Record) (before after : List Record) → HasChangedRecord name entry before after → record_in after name ≡ entry
-at_name name entry before after table = table name ∙ looked_up (bytes_eq name name) entry (record_in before name) ((bytes_eq-Decides name name).1 refl)
+at_name name entry before after table = table name ∙ cond-true (bytes_eq name name) entry (record_in before name) ((bytes_eq-Decides name name).1 refl)
 
 at_other : (name n : List ℕ) (entry : Option Record) (before after : List Record) → n ≢ name → HasChangedRecord name entry before after → record_in after n ≡ record_in before n
-at_other name n entry before after ne table = table n ∙ looked_past (bytes_eq name n) entry (record_in before n) (false_from_ne_true (bytes_eq name n) (λ t. ne (sym ((bytes_eq-Decides name n).0 t))))
-
-same_or_not : (n name : List ℕ) → (n ≡ name) ⊎ (n ≢ name)
-same_or_not n name = by_test (bytes_eq n name) refl
-  where
-    by_test : (b : Bool) → bytes_eq n name ≡ b → (n ≡ name) ⊎ (n ≢ name)
-    by_test true e = inl ((bytes_eq-Decides n name).0 e)
-    by_test false e = inr (λ same. true≢false (sym ((bytes_eq-Decides n name).1 same) ∙ e))
+at_other name n entry before after ne table = table n ∙ cond-false (bytes_eq name n) entry (record_in before n) (false_from_ne_true (bytes_eq name n) (λ t. ne (sym ((bytes_eq-Decides name n).0 t))))
 
 module _ (name : List ℕ) (before after : List Record) (new_name : is_some (record_in before name) ≡ false) where
   pub names_grown : (entry : Record) → HasChangedRecord name (Some entry) before after → (n : List ℕ) → Contains (names_of after) n ↔ (Contains (names_of before) n ⊎ (n ≡ name))
   names_grown entry table n = (forth, back)
     where
       forth : Contains (names_of after) n → Contains (names_of before) n ⊎ (n ≡ name)
-      forth has = elim (same_or_not n name) [
+      forth has = elim (decide n name) [
         | inl same ↦ inr same
         | inr ne ↦ inl (is_named before n (ap is_some (sym (at_other name n (Some entry) before after ne table)) ∙ has_record after n has))
       ]
 
       back : Contains (names_of before) n ⊎ (n ≡ name) → Contains (names_of after) n
-      back (inl has) = elim (same_or_not n name) [
+      back (inl has) = elim (decide n name) [
         | inl same ↦ absurd (true≢false (sym (subst (λ x. is_some (record_in before x) ≡ true) same (has_record before n has)) ∙ new_name))
         | inr ne ↦ is_named after n (ap is_some (at_other name n (Some entry) before after ne table) ∙ has_record before n has)
       ]
@@ -115,13 +85,13 @@ module _ (name : List ℕ) (before after : List Record) (new_name : is_some (rec
   names_left table n = (forth, back)
     where
       forth : Contains (names_of after) n → Contains (names_of before) n
-      forth has = elim (same_or_not n name) [
+      forth has = elim (decide n name) [
         | inl same ↦ absurd (true≢false (sym (subst (λ x. is_some (record_in after x) ≡ true) same (has_record after n has)) ∙ ap is_some (at_name name None before after table)))
         | inr ne ↦ is_named before n (ap is_some (sym (at_other name n None before after ne table)) ∙ has_record after n has)
       ]
 
       back : Contains (names_of before) n → Contains (names_of after) n
-      back has = elim (same_or_not n name) [
+      back has = elim (decide n name) [
         | inl same ↦ absurd (true≢false (sym (subst (λ x. is_some (record_in before x) ≡ true) same (has_record before n has)) ∙ new_name))
         | inr ne ↦ is_named after n (ap is_some (at_other name n None before after ne table) ∙ has_record before n has)
       ]

@@ -1,6 +1,6 @@
 -- What is judged of one entry.
-use Rattle.std.proofs.Common.{◌≡◌, ◌≢◌, ◌⊎◌, ◌↔◌, inl, inr, ℕ, Bool, true, false, List, ◌++◌, Option, Some, None, Result, Ok, Err, OnOk, IfErr, IsSome, IsTrue, refl, sym, ap, subst, ◌∙◌, Contains}
-use Rattle.std.specs.Prelude.{MatchOption, MatchBool, IfSome, IfNone}
+use Rattle.std.proofs.Common.{◌≡◌, ◌≢◌, ◌⊎◌, ◌↔◌, inl, inr, ℕ, Bool, true, false, List, ◌++◌, Option, Some, None, IsSome, IsTrue, refl, sym, ap, subst, ◌∙◌, Contains}
+use Rattle.std.specs.Prelude.{MatchOption, IfSome, IfNone}
 use Rattle.std.specs.List.{list_any, AllByRecursion}
 use Rattle.std.specs.Str.{bytes_eq}
 use Rattle.std.proofs.lemmas.Bool.{true≢false, false≢true}
@@ -100,15 +100,3 @@ dir_fault names entry found mode is = inl (inr (inl (mode, is)), refl)
 -- a link in the place of a file
 pub link_fault : (names : List (List ℕ)) (entry bytes : Path) (found : Option Node) (target : List ℕ) → bytes ≡ entry → found ≡ Some (Link target) → IsListOf names bytes ⊎ IsScriptOf names bytes → HasFault names entry found 0
 link_fault names entry bytes found target same is of = inl (inr (inr (subst (λ e. IsListOf names e ⊎ IsScriptOf names e) same of, (target, is))), refl)
-
-pub on_ok : {T E P Q : Type 0} (r : Result T E) → (P → Q) → OnOk r P → OnOk r Q
-on_ok (Ok x) so has = so has
-on_ok (Err e) so has = tt
-
-pub on_err : {T E : Type 0} (P Q : E → Type 0) (r : Result T E) → ((e : E) → P e → Q e) → IfErr r P → IfErr r Q
-on_err P Q (Ok x) so has = tt
-on_err P Q (Err e) so has = so e has
-
-pub when_true : (P Q : Type 0) (b : Bool) → b ≡ true → MatchBool b P Q → P
-when_true P Q true is told = told
-when_true P Q false is told = absurd (false≢true is)

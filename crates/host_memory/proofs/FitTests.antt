@@ -1,6 +1,6 @@
 -- Tests of what fits in a tree.
 use Rattle.std.proofs.Common.{◌≡◌, ◌<◌, ◌+◌, Bool, true, false, ◌∷◌, ◌++◌, length, Some, None, refl, sym, ap, subst, ◌∙◌, inl, inr, arith, length-append}
-use Rattle.std.specs.Prelude.{IsSome, IsTrue, not, ◌↔◌, Result, Ok, Err, OnErr, MatchBool}
+use Rattle.std.specs.Prelude.{IsSome, IsTrue, not, ◌↔◌, Result, Ok, Err, OnErr}
 use Rattle.std.proofs.lemmas.Bool.{false≢true}
 use Rattle.host_core.specs.Paths.{Path}
 use Rattle.host_core.specs.World.{World, IsDirectory, is_directory, IsBare, IsLoose}
@@ -73,11 +73,3 @@ shorter front path in_front =
 pub on_err : {A B : Type 0} (r : Result A B) (P : Type 0) → P → OnErr r P
 on_err (Ok x) P p = tt
 on_err (Err e) P p = p
-
-pub match_true : (b : Bool) (P Q : Type 0) → MatchBool b P Q → b ≡ true → P
-match_true true P Q m e = m
-match_true false P Q m e = absurd (false≢true e)
-
-pub match_false : (b : Bool) (P Q : Type 0) → MatchBool b P Q → b ≡ false → Q
-match_false true P Q m e = absurd (false≢true (sym e))
-match_false false P Q m e = m

@@ -1,5 +1,5 @@
 -- The names in a directory, from what is left of the entries.
-use Rattle.std.proofs.Common.{◌≡◌, ◌⊎◌, ◌<◌, ℕ, zero, suc, Bool, true, false, cond, List, [], ◌∷◌, ◌++◌, length, get_or, Option, Some, None, String, refl, sym, ap, subst, ◌∙◌, inl, inr, arith}
+use Rattle.std.proofs.Common.{◌≡◌, ◌⊎◌, ℕ, Bool, true, false, cond, List, [], ◌∷◌, ◌++◌, Option, Some, None, String, refl, sym, ap, subst, ◌∙◌, inl, inr}
 use Rattle.std.specs.Prelude.{IsSome, Contains}
 use Rattle.std.specs.String.{string_bytes}
 use Rattle.std.specs.Map.{lookup}
@@ -12,6 +12,7 @@ use Rattle.std.specs.Str.{IsUtf8}
 use Rattle.std.proofs.lemmas.Bool.{false≢true}
 use Rattle.std.proofs.lemmas.Map.Text.{is_eq-slice_cmp}
 use Rattle.std.proofs.lemmas.Slice.Eq.{bytes_eq-Decides}
+use Rattle.std.proofs.lemmas.List.Elements.{Contains-append_left, Contains-push, Contains-push_cases}
 use Rattle.host_core.specs.Paths.{Path}
 use Rattle.host_core.specs.Tree.{has_slash, IsBelow, IsListing}
 use Rattle.host_memory.proofs.Splits.{same_name}
@@ -76,38 +77,23 @@ listing_none all left e es path names is amid none = record {
   ];
 }
 
-more : (xs : List Path) (n x : Path) (k : ℕ) → k < length xs → get_or xs k x ≡ x → Contains (xs ++ n ∷ []) x
-more [] n x k lt e = absurd (omega arith)
-more (y ∷ ys) n x zero lt e = (0, omega arith, e)
-more (y ∷ ys) n x (suc k) lt e = let m = more ys n x k (omega arith) e in (suc m.0, omega (arith, m.1), m.2)
-
-at_last : (xs : List Path) (n : Path) → Contains (xs ++ n ∷ []) n
-at_last [] n = (0, omega arith, refl)
-at_last (y ∷ ys) n = let m = at_last ys n in (suc m.0, omega (arith, m.1), m.2)
-
-before_or_last : (xs : List Path) (n x : Path) (k : ℕ) → k < length (xs ++ n ∷ []) → get_or (xs ++ n ∷ []) k x ≡ x → Contains xs x ⊎ (x ≡ n)
-before_or_last [] n x zero lt e = inr (sym e)
-before_or_last [] n x (suc k) lt e = absurd (omega arith)
-before_or_last (y ∷ ys) n x zero lt e = inl (0, omega arith, e)
-before_or_last (y ∷ ys) n x (suc k) lt e = elim (before_or_last ys n x k (omega arith) e) [ inl m ↦ inl (suc m.0, omega (arith, m.1), m.2) | inr s ↦ inr s ]
-
 pub listing_some : (all left : List Entry) (e : Entry) (es : List Entry) (path name : Path) (names : List Path) → left ≡ e ∷ es → IsAmidListing all left path names
     → string_bytes e.0 ≡ path ++ 47 ∷ name → has_slash name ≡ false → IsUtf8 name → IsAmidListing all es path (names ++ name ∷ [])
 listing_some all left e es path name names is amid key plain utf8 = record {
   sub = λ q h. amid.sub q (subst (λ (l : List Entry). Has l q) (sym is) (in_tail_at (test q e.0) e.1 (lookup (test q) es) h));
-  text = λ x m. elim (before_or_last names name x m.0 m.1 m.2) [ inl c ↦ amid.text x c | inr s ↦ subst IsUtf8 (sym s) utf8 ];
-  sound = λ x m. elim (before_or_last names name x m.0 m.1 m.2) [
+  text = λ x m. elim (Contains-push_cases names name x m) [ inl c ↦ amid.text x c | inr s ↦ subst IsUtf8 s utf8 ];
+  sound = λ x m. elim (Contains-push_cases names name x m) [
     | inl c ↦ amid.sound x c
     | inr s ↦ (
-      ap has_slash s ∙ plain,
-      subst (λ (n : Path). Has all (path ++ 47 ∷ n)) (sym s)
+      ap has_slash (sym s) ∙ plain,
+      subst (λ (n : Path). Has all (path ++ 47 ∷ n)) s
           (amid.sub (path ++ 47 ∷ name) (subst (λ (l : List Entry). Has l (path ++ 47 ∷ name)) (sym is) (at_head (path ++ 47 ∷ name) e es (sym key)))),
     )
   ];
   whole = λ x bare h. elim (amid.whole x bare h) [
-    | inl c ↦ inl (more names name x c.0 c.1 c.2)
+    | inl c ↦ inl (Contains-append_left names (name ∷ []) x c)
     | inr l ↦ elim (head_or_tail (path ++ 47 ∷ x) e es (test (path ++ 47 ∷ x) e.0) refl (subst (λ (l : List Entry). Has l (path ++ 47 ∷ x)) is l)) [
-      | inl k ↦ inl (subst (λ (n : Path). Contains (names ++ name ∷ []) n) (same_name path name x (sym key ∙ sym k)) (at_last names name))
+      | inl k ↦ inl (subst (λ (n : Path). Contains (names ++ name ∷ []) n) (same_name path name x (sym key ∙ sym k)) (Contains-push names name))
       | inr t ↦ inr t
     ]
   ];

@@ -1,9 +1,8 @@
 -- What keeps a tree.
-use Rattle.std.proofs.Common.{◌≡◌, ◌≢◌, ◌⊎◌, ◌+◌, ℕ, suc, Bool, true, false, List, [], ◌∷◌, ◌++◌, length, Option, Some, None, refl, sym, ap, subst, ◌∙◌, inl, inr, arith, length-append, append_assoc}
+use Rattle.std.proofs.Common.{◌≡◌, ◌≢◌, ◌⊎◌, ◌+◌, ℕ, suc, true, false, List, [], ◌∷◌, ◌++◌, length, Option, Some, None, refl, sym, ap, subst, ◌∙◌, inl, inr, arith, length-append, append_assoc}
 use Rattle.std.specs.Prelude.{IsSome, Contains}
-use Rattle.std.specs.Str.{bytes_eq}
-use Rattle.std.proofs.lemmas.Bool.{false≢true, true≢false}
-use Rattle.std.proofs.lemmas.Slice.Eq.{bytes_eq-Decides}
+use Rattle.std.proofs.lemmas.Bool.{false≢true}
+use Rattle.host_core.proofs.Paths.{decide}
 use Rattle.host_core.specs.Paths.{Path}
 use Rattle.host_core.specs.World.{World, put, moved, IsDirectory, is_directory, IsLoose, IsBare, HasParent}
 use Rattle.host_core.specs.Tree.{IsTree, IsBelow}
@@ -28,13 +27,6 @@ directory_or_not None = inr (λ d. false≢true (test_from-IsDirectory None d))
 directory_or_not (Some (File b m)) = inr (λ d. false≢true (test_from-IsDirectory (Some (File b m)) d))
 directory_or_not (Some (Dir m)) = inl (m, refl)
 directory_or_not (Some (Link t)) = inr (λ d. false≢true (test_from-IsDirectory (Some (Link t)) d))
-
-same_or_not : (p q : Path) → (p ≡ q) ⊎ (p ≢ q)
-same_or_not p q = same_by (bytes_eq p q) refl
-  where
-    same_by : (b : Bool) → bytes_eq p q ≡ b → (p ≡ q) ⊎ (p ≢ q)
-    same_by true e = inl ((bytes_eq-Decides p q).0 e)
-    same_by false e = inr (λ s. true≢false (sym ((bytes_eq-Decides p q).1 s) ∙ e))
 
 pub IsSome-IsDirectory : (o : Option Node) → IsDirectory o → IsSome o
 IsSome-IsDirectory o d = subst (λ (x : Option Node). IsSome x) (sym d.1) refl
@@ -96,11 +88,11 @@ bare_unless_directory w path tree no_dir rest = elim (some_or_none (w (path ++ 4
 
 -- what fits leaves a tree
 pub IsTree-put : (w : World) (path : Path) (node : Option Node) → IsTree w → Fits w path node → IsTree (put w path node)
-IsTree-put w path node tree fits top rest there = elim (same_or_not (top ++ 47 ∷ rest) path) [
+IsTree-put w path node tree fits top rest there = elim (decide (top ++ 47 ∷ rest) path) [
   | inl same ↦ (let above : IsDirectory (w top) = fits.above (subst (λ (o : Option Node). IsSome o) (put_same w path (top ++ 47 ∷ rest) node same) there) top (rest, sym same) in
       subst (λ (o : Option Node). IsDirectory o) (sym (put_other w path top node (λ e. below_differs top rest (same ∙ sym e)))) above)
   | inr other ↦ (let was : IsSome (w (top ++ 47 ∷ rest)) = subst (λ (o : Option Node). IsSome o) (put_other w path (top ++ 47 ∷ rest) node other) there in
-      elim (same_or_not top path) [
+      elim (decide top path) [
         | inl here ↦ elim (directory_or_not node) [
           | inl dir ↦ subst (λ (o : Option Node). IsDirectory o) (sym (put_same w path top node here)) dir
           | inr no_dir ↦ absurd (absent_not_there (w (top ++ 47 ∷ rest)) (ap (λ (p : Path). w (p ++ 47 ∷ rest)) here ∙ fits.below no_dir rest) was)
@@ -152,7 +144,7 @@ moved_parent w from to loose parent = (
 )
 
 moved_over : (w : World) (from to : Path) → (IsDirectory (w to) → ⊥) → IsDirectory (put w from None to) → ⊥
-moved_over w from to over dir = elim (same_or_not to from) [
+moved_over w from to over dir = elim (decide to from) [
   | inl same ↦ absent_not_directory (put w from None to) (put_same w from to None same) dir
   | inr other ↦ over (subst (λ (o : Option Node). IsDirectory o) (put_other w from to None other) dir)
 ]
@@ -184,14 +176,14 @@ part_way_above w m front path in_front part q = elim (part q) [
 -- a way is made from above: the next directory below a way, in a world where it was missing
 pub way_more : (w m : World) (front path : Path) → IsIn front path → w front ≡ None → HasWay w m front → HasWay w (put m front (Some new_directory)) path
 way_more w m front path in_front absent way = record {
-  part = λ q. elim (same_or_not q front) [
+  part = λ q. elim (decide q front) [
     | inl same ↦ inr (subst (λ (p : Path). IsBelow p path) (sym same) (below_from_in front path in_front), ap w same ∙ absent, put_same m front q (Some new_directory) same)
     | inr other ↦ elim (part_way_above w m front path in_front way.part q) [
       | inl same ↦ inl (put_other m front q (Some new_directory) other ∙ same)
       | inr made ↦ inr (made.0, made.1, put_other m front q (Some new_directory) other ∙ made.2)
     ]
   ];
-  made = λ top below missing. elim (same_or_not top front) [
+  made = λ top below missing. elim (decide top front) [
     | inl same ↦ put_same m front top (Some new_directory) same
     | inr other ↦ elim (above_or_in top front path in_front below) [
       | inl same ↦ absurd (other same)

@@ -1,5 +1,5 @@
 -- How the opening of one part goes on to the next.
-use Rattle.std.proofs.Common.{◌≡◌, ◌⊎◌, inl, inr, ℕ, Bool, true, false, List, [], ◌∷◌, ◌++◌, Option, Some, None, IsSome, nat_eq, Result, Ok, Err, IfOk, IfErr, IsErrAnd, refl, sym, ap, subst, ◌∙◌, MatchBool}
+use Rattle.std.proofs.Common.{◌≡◌, ◌⊎◌, inl, inr, ℕ, Bool, true, false, List, [], ◌∷◌, ◌++◌, Option, Some, None, IsSome, nat_eq, Result, Ok, Err, IfOk, IfErr, IsErrAnd, refl, sym, ap, subst, ◌∙◌}
 use Rattle.std.specs.List.{AllByRecursion, list_any}
 use Rattle.std.specs.Str.{bytes_eq}
 use Rattle.std.proofs.lemmas.Slice.Eq.{bytes_eq-Decides}
@@ -280,14 +280,6 @@ diversions_faulty p line n fault s t e told is same faulty = record {
   moments = moments_same s t same;
   finds = subst (IsDamage (Diversions ∷ []) t.world) (sym told) (inl (e, subst (λ m. IsDiversionsFault m line) (is ∙ ap s.world e ∙ ap (λ w. w diversions_path) (sym same.world)) faulty));
 }
-
-pub on_true : {A : Type 0} (B : Type 0) (b : Bool) → b ≡ true → MatchBool b A B → A
-on_true B true e holds = holds
-on_true B false e holds = absurd (true≢false (sym e))
-
-pub on_false : (A : Type 0) {B : Type 0} (b : Bool) → b ≡ false → MatchBool b A B → B
-on_false A true e holds = absurd (true≢false e)
-on_false A false e holds = holds
 
 -- a directory's entry has it as its parent
 pub child_parent : (w : World) (front name : Path) → list_any (nat_eq 47) name ≡ false → IsDirectory (w front) → HasParent w (front ++ 47 ∷ name)

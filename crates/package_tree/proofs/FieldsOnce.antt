@@ -1,22 +1,18 @@
 -- A paragraph has a field once.
-use Rattle.std.proofs.Common.{◌≡◌, ◌||◌, ℕ, Bool, true, false, List, [], ◌∷◌, ◌++◌, refl, sym, ◌∙◌, ap, subst}
+use Rattle.std.proofs.Common.{◌≡◌, ℕ, true, false, List, [], ◌∷◌, ◌++◌, sym, ◌∙◌, ap, subst}
 use Rattle.std.specs.Str.{bytes_eq}
-use Rattle.std.proofs.lemmas.Bool.{true≢false}
+use Rattle.std.proofs.lemmas.Bool.{true≢false, or_parts}
 use Rattle.std.proofs.lemmas.Slice.Eq.{bytes_eq-Decides}
 use Rattle.control_fields.specs.Names.{lower, is_called, IsFieldCalled}
 use Rattle.control_fields.specs.declared.field.Field.{Field}
 use Rattle.package_tree.specs.ControlFile.{key_of, IsGoodField, HasValue, HasBadValue, LacksField}
 use Rattle.package_tree.specs.declared.fault.FieldName.{FieldName}
 
-neither : (a b : Bool) → (a || b) ≡ false → (a ≡ false) × (b ≡ false)
-neither false b h = (refl, h)
-neither true b h = absurd (true≢false h)
-
 not_head : (text : List ℕ) (f : Field) (fs : List Field) → is_called text (f ∷ fs) ≡ false → lower f.name ≡ text → ⊥
-not_head text f fs h named = true≢false (sym ((bytes_eq-Decides (lower f.name) text).1 named) ∙ (neither (bytes_eq (lower f.name) text) (is_called text fs) h).0)
+not_head text f fs h named = true≢false (sym ((bytes_eq-Decides (lower f.name) text).1 named) ∙ (or_parts (bytes_eq (lower f.name) text) (is_called text fs) h).0)
 
 tail_of : (text : List ℕ) (f : Field) (fs : List Field) → is_called text (f ∷ fs) ≡ false → is_called text fs ≡ false
-tail_of text f fs h = (neither (bytes_eq (lower f.name) text) (is_called text fs) h).1
+tail_of text f fs h = (or_parts (bytes_eq (lower f.name) text) (is_called text fs) h).1
 
 uncalled : (text : List ℕ) (front rest : List Field) (f : Field) → is_called text (front ++ f ∷ rest) ≡ false → lower f.name ≡ text → ⊥
 uncalled text [] rest f h named = not_head text f rest h named

@@ -1,7 +1,8 @@
 -- A tree is that of one package, or has one fault.
-use Rattle.std.proofs.Common.{◌≡◌, ℕ, Bool, true, false, List, [], ◌∷◌, ◌++◌, Option, Some, None, IsTrue, refl, sym, ◌∙◌, ap, subst, inl, inr}
+use Rattle.std.proofs.Common.{◌≡◌, ℕ, true, false, List, [], ◌∷◌, ◌++◌, Option, Some, None, sym, ◌∙◌, ap, subst, inl, inr}
 use Rattle.std.specs.List.{AllByRecursion}
 use Rattle.std.proofs.lemmas.Bool.{true≢false}
+use Rattle.std.proofs.lemmas.Bool.Decides.{same_from_decides}
 use Rattle.host_core.specs.Paths.{Path}
 use Rattle.host_core.specs.World.{World}
 use Rattle.host_core.specs.declared.node.Node.{Node}
@@ -62,11 +63,6 @@ no_fault w p (PathBad path) t wrong =
 no_fault w p Device t wrong = tt
 no_fault w p NoMemory t wrong = tt
 
-both : (a b : Bool) → (IsTrue a → IsTrue b) → (IsTrue b → IsTrue a) → a ≡ b
-both true b there back = sym (there refl)
-both false true there back = back refl
-both false false there back = refl
-
 pub control_once : (w : World) (p q : Package) → IsTreeOf w p → IsTreeOf w q → p.control ≡ q.control
 control_once w p q s t = one_control w q t s.text p.control s.there s.control.reads
 
@@ -80,7 +76,7 @@ pub scripts_once : (w : World) (p q : Package) → IsTreeOf w p → IsTreeOf w q
 scripts_once w p q s t script = s.scripts script ∙ sym (t.scripts script)
 
 pub ships_once : (w : World) (p q : Package) → IsTreeOf w p → IsTreeOf w q → p.ships ≡ q.ships
-ships_once w p q s t = both p.ships q.ships (λ h. t.ships.1 (s.ships.0 h)) (λ h. s.ships.1 (t.ships.0 h))
+ships_once w p q s t = same_from_decides p.ships q.ships s.ships t.ships
 
 pub has_conffiles_once : (w : World) (p q : Package) → IsTreeOf w p → IsTreeOf w q → p.has_conffiles ≡ q.has_conffiles
 has_conffiles_once w p q s t = s.has_conffiles ∙ sym t.has_conffiles

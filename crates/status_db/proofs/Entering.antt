@@ -1,9 +1,9 @@
 -- Paragraphs read one after another.
-use Rattle.std.proofs.Common.{◌≡◌, inl, inr, ℕ, zero, suc, ◌+◌, ◌<◌, Bool, true, false, cond, not, ◌||◌, List, [], ◌∷◌, ◌++◌, take, get_or, length, refl, sym, ap, subst, ◌∙◌, arith, add-one, codes}
+use Rattle.std.proofs.Common.{◌≡◌, inl, inr, ℕ, zero, suc, ◌+◌, ◌<◌, true, false, cond, not, ◌||◌, List, [], ◌∷◌, ◌++◌, take, get_or, length, refl, sym, ap, subst, ◌∙◌, arith, add-one, codes}
 use Rattle.std.specs.Prelude.{Result, Ok, Err, IfErr, IsErrAnd}
 use Rattle.std.specs.List.{list_any, AllByRecursion}
 use Rattle.std.specs.Str.{bytes_eq}
-use Rattle.std.proofs.lemmas.Bool.{true≢false, false_from_ne_true}
+use Rattle.std.proofs.lemmas.Bool.{true≢false, false_from_ne_true, or_right}
 use Rattle.std.proofs.lemmas.List.{append-nil, map-append}
 use Rattle.std.proofs.lemmas.List.Folds.{list_any-append}
 use Rattle.std.proofs.lemmas.Slice.Eq.{bytes_eq-Decides}
@@ -84,12 +84,8 @@ known_more : (names : List (List ℕ)) (name : List ℕ) (rs : List Record) → 
 known_more names name [] all = tt
 known_more names name (r ∷ rs) all = (list_any-append (bytes_eq r.name) names (name ∷ []) ∙ ap (λ b. b || (bytes_eq r.name name || false)) all.0, known_more names name rs all.1)
 
-or_last : (b : Bool) → (b || true) ≡ true
-or_last true = refl
-or_last false = refl
-
 known_last : (names : List (List ℕ)) (r : Record) → list_any (bytes_eq r.name) (names ++ r.name ∷ []) ≡ true
-known_last names r = list_any-append (bytes_eq r.name) names (r.name ∷ []) ∙ ap (λ b. list_any (bytes_eq r.name) names || (b || false)) ((bytes_eq-Decides r.name r.name).1 refl) ∙ or_last (list_any (bytes_eq r.name) names)
+known_last names r = list_any-append (bytes_eq r.name) names (r.name ∷ []) ∙ ap (λ b. list_any (bytes_eq r.name) names || (b || false)) ((bytes_eq-Decides r.name r.name).1 refl) ∙ or_right (list_any (bytes_eq r.name) names) true refl
 
 without_last : (name : List ℕ) (rs : List Record) (r : Record) → IsWithout name rs → bytes_eq r.name name ≡ false → IsWithout name (rs ++ r ∷ [])
 without_last name [] r without other = (other, tt)

@@ -6,10 +6,10 @@ use Rattle.std.specs.List.{list_any}
 use Rattle.std.proofs.Props.{props}
 use Rattle.std.proofs.Math.Logic.{∥∥₁_elim, ∥∥₁_map}
 use Rattle.texts.specs.PackageNames.{is_package_name}
-use Rattle.std.proofs.lemmas.Bool.{or_from, false_from_ne_true, false≢true}
+use Rattle.std.proofs.lemmas.Bool.{or_from, or_parts, not-true}
 use Rattle.std.proofs.lemmas.List.{append-nil, map-append}
 use Rattle.std.proofs.lemmas.List.Elements.{filter-append}
-use Rattle.std.proofs.lemmas.Slice.Eq.{bytes_eq-Decides}
+use Rattle.std.proofs.lemmas.Cmp.{nat_list_eq_equiv}
 use Rattle.control_fields.specs.Names.{lower, is_called, stands}
 use Rattle.control_fields.specs.Spelling.{AreFields}
 use Rattle.control_fields.specs.declared.field.Field.{Field}
@@ -17,10 +17,6 @@ use Rattle.status_db.specs.Fields.{first_names, own_names, is_one_of, fields_but
 use Rattle.status_db.specs.Writable.{IsWritable, first_fields}
 
 -- a name that stands nowhere stands in no part
-
-pub or_parts : (a b : Bool) → (a || b) ≡ false → (a ≡ false) × (b ≡ false)
-or_parts true b e = absurd (false≢true (sym e))
-or_parts false b e = (refl, e)
 
 pub called_filter : (text : List ℕ) (keep : Field → Bool) (fs : List Field) → is_called text fs ≡ false → is_called text (filter keep fs) ≡ false
 called_filter text keep [] e = refl
@@ -86,12 +82,8 @@ left_over keep firsts apart before (f ∷ fs) are = by (keep f) refl (left_over 
     )
     by false e rest = subst (λ (l : List Field). AreFields (firsts ++ l) (filter keep fs)) (filter-append keep before (f ∷ []) ∙ ap (λ y. filter keep before ++ cond y (f ∷ []) []) e ∙ append-nil (filter keep before)) rest
 
-not_true : (b : Bool) → not b ≡ true → b ≡ false
-not_true true e = absurd (false≢true e)
-not_true false e = refl
-
 pub swapped : (a b : List ℕ) → bytes_eq a b ≡ false → bytes_eq b a ≡ false
-swapped a b e = false_from_ne_true (bytes_eq b a) (λ t. false≢true (sym e ∙ (bytes_eq-Decides a b).1 (sym ((bytes_eq-Decides b a).0 t))))
+swapped a b e = nat_list_eq_equiv.symm b a ∙ e
 
 first_apart : (f : Field) (name status version : List ℕ) (more : List (List ℕ)) → list_any (bytes_eq (lower f.name)) (codes "package" ∷ codes "status" ∷ codes "version" ∷ more) ≡ false → stands f.name (first_fields name status version) ≡ false
 first_apart f name status version more out =
@@ -105,11 +97,11 @@ first_apart f name status version more out =
 pub recorded_after : (name status version : List ℕ) (fs : List Field) → AreFields [] fs → AreFields (first_fields name status version) (recorded_fields fs)
 recorded_after name status version fs are =
     left_over (λ f. not (is_one_of own_names f)) (first_fields name status version)
-    (λ f kept. first_apart f name status version (codes "config-version" ∷ codes "removed-since" ∷ codes "conffiles" ∷ codes "new-conffiles" ∷ []) (not_true (is_one_of own_names f) kept)) [] fs are
+    (λ f kept. first_apart f name status version (codes "config-version" ∷ codes "removed-since" ∷ codes "conffiles" ∷ codes "new-conffiles" ∷ []) (not-true (is_one_of own_names f) kept)) [] fs are
 
 pub others_after : (name status version : List ℕ) (fs : List Field) → AreFields [] fs → AreFields (first_fields name status version) (other_fields fs)
 others_after name status version fs are =
-    left_over (λ f. not (is_one_of first_names f)) (first_fields name status version) (λ f kept. first_apart f name status version [] (not_true (is_one_of first_names f) kept)) [] fs are
+    left_over (λ f. not (is_one_of first_names f)) (first_fields name status version) (λ f kept. first_apart f name status version [] (not-true (is_one_of first_names f) kept)) [] fs are
 
 pub writable_of : (name other : List ℕ) (fields control : List Field) → name ≡ other → is_package_name other ≡ true → fields ≡ recorded_fields control → ∥ AreFields [] control ∥₁ → ∥ IsWritable name fields ∥₁
 writable_of name other fields control is named left are = ∥∥₁_map are (λ known. record {

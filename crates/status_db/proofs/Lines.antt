@@ -1,5 +1,5 @@
 -- Values that can be written on one line.
-use Rattle.std.proofs.Common.{◌≡◌, ◌≢◌, ℕ, zero, suc, not, ◌<◌, Bool, true, false, cond, ◌&&◌, ltb, eqb, List, [], ◌∷◌, ◌++◌, length, get_or, refl, ap, ◌∙◌, arith, codes, Option, None, Some}
+use Rattle.std.proofs.Common.{◌≡◌, ◌≢◌, ℕ, not, ◌<◌, Bool, true, false, cond, ◌&&◌, ltb, eqb, List, [], ◌∷◌, ◌++◌, length, get_or, refl, ap, ◌∙◌, arith, codes, Option, None, Some}
 use Rattle.std.specs.Prelude.{IfSome}
 use Rattle.std.specs.Char.{is_ascii_digit}
 use Rattle.std.specs.Str.{IsUtf8}
@@ -9,6 +9,7 @@ use Rattle.std.proofs.lemmas.Bool.Decides.{nat_tests}
 use Rattle.std.proofs.lemmas.List.Folds.{list_all-append}
 use Rattle.std.proofs.lemmas.Str.{IsUtf8-from_ascii}
 use Rattle.std.proofs.lemmas.Str.Ascii.{IsAscii-from_reads}
+use Rattle.std.proofs.lemmas.List.Sums.{AllPass-from_list_all, list_all-from_AllPass}
 use Rattle.control_fields.specs.Names.{Lacks, is_blank, keep_before, trim_end, trim_start, IsName}
 use Rattle.control_fields.specs.Spelling.{IsField}
 use Rattle.control_fields.proofs.Trims.{trimmed_after}
@@ -34,13 +35,10 @@ abbrev pub is_printed : ℕ → Bool
 is_printed b = ltb 31 b && ltb b 127
 
 pub weaker : (p q : ℕ → Bool) → ((b : ℕ) → p b ≡ true → q b ≡ true) → (l : List ℕ) → list_all p l ≡ true → list_all q l ≡ true
-weaker p q so [] e = refl
-weaker p q so (b ∷ l) e = let parts = and_parts (p b) (list_all p l) e in and_from (q b) (list_all q l) (so b parts.0) (weaker p q so l parts.1)
+weaker p q so l e = list_all-from_AllPass q l (λ k d lt. so _ (AllPass-from_list_all p l e k d lt))
 
 pub at_place : (p : ℕ → Bool) (l : List ℕ) (k d : ℕ) → k < length l → list_all p l ≡ true → p (get_or l k d) ≡ true
-at_place p [] k d lt e = absurd (omega arith)
-at_place p (b ∷ l) zero d lt e = (and_parts (p b) (list_all p l) e).0
-at_place p (b ∷ l) (suc k) d lt e = at_place p l k d (omega arith) (and_parts (p b) (list_all p l) e).1
+at_place p l k d lt e = AllPass-from_list_all p l e k d lt
 
 printed : (b : ℕ) → is_visible b ≡ true → is_printed b ≡ true
 printed b e = grind (arith, nat_tests)
@@ -86,8 +84,7 @@ name_visible name e = weaker is_name_sign is_visible sign_visible name (signs_of
 -- versions
 
 pass_all : (p q : ℕ → Bool) → ((b : ℕ) → p b ≡ true → q b ≡ true) → (l : List ℕ) → AllPass p l → list_all q l ≡ true
-pass_all p q so [] all = refl
-pass_all p q so (b ∷ l) all = and_from (q b) (list_all q l) (so b (all 0 0 (omega arith))) (pass_all p q so l (λ k d lt. all (suc k) d (omega arith)))
+pass_all p q so l all = list_all-from_AllPass q l (λ k d lt. so _ (all k d lt))
 
 digit_visible : (b : ℕ) → is_ascii_digit b ≡ true → is_visible b ≡ true
 digit_visible b e = grind (arith, nat_tests)

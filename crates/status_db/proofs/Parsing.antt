@@ -1,6 +1,7 @@
 -- A Status is read in one way.
-use Rattle.std.proofs.Common.{◌≡◌, ◌≢◌, ℕ, true, Option, None, Some, Bor, List, [], ◌∷◌, ◌++◌, get_or, refl, sym, ap, ◌∙◌, arith}
+use Rattle.std.proofs.Common.{◌≡◌, ◌≢◌, ℕ, true, Option, None, Some, Bor, List, ◌∷◌, ◌++◌, get_or, refl, sym, ap, ◌∙◌, arith}
 use Rattle.std.specs.Prelude.{IfSome, IfNone, MatchOption}
+use Rattle.std.proofs.lemmas.List.{append_cancel_left}
 use Rattle.control_fields.specs.Names.{Lacks}
 use Rattle.control_fields.proofs.Parts.{one_cut}
 use Rattle.status_db.specs.declared.words.Want.{Want}
@@ -13,14 +14,10 @@ use Rattle.status_db.specs.Words.{want_word, flag_word, state_word, is_not_insta
 use Rattle.status_db.specs.Paragraphs.{status_text, IsStatusText}
 use Rattle.status_db.proofs.Lines.{lacks_blank}
 
-cancel : (a x y : List ℕ) → a ++ x ≡ a ++ y → x ≡ y
-cancel [] x y e = e
-cancel (b ∷ a) x y e = let tails : a ++ x ≡ a ++ y = cc e in cancel a x y tails
-
 pub behind : (a b x y : List ℕ) → Lacks a 32 → Lacks b 32 → a ++ 32 ∷ x ≡ b ++ 32 ∷ y → x ≡ y
 behind a b x y p q e =
     let same = one_cut 32 a b x y e p q in
-    let both : 32 ∷ x ≡ 32 ∷ y = cancel a (32 ∷ x) (32 ∷ y) (e ∙ ap (λ (l : List ℕ). l ++ 32 ∷ y) (sym same)) in
+    let both : 32 ∷ x ≡ 32 ∷ y = append_cancel_left a (32 ∷ x) (32 ∷ y) (e ∙ ap (λ (l : List ℕ). l ++ 32 ∷ y) (sym same)) in
     cc both
 
 want_lacks : (w : Want) → Lacks (want_word w) 32
@@ -84,5 +81,5 @@ prefix_none None bytes t u e is = λ rest same. is rest (same ∙ ap (λ (l : Li
 prefix_none (Some x) bytes t u e is = tt
 
 pub blank_none : (r : Option (Bor (List ℕ))) (bytes word front : List ℕ) → bytes ≡ word ++ front → IfNone r ((rest : List ℕ) → front ≢ 32 ∷ rest) → IfNone r ((rest : List ℕ) → bytes ≢ word ++ 32 ∷ rest)
-blank_none None bytes word front is none = λ rest e. none rest (cancel word front (32 ∷ rest) (sym is ∙ e))
+blank_none None bytes word front is none = λ rest e. none rest (append_cancel_left word front (32 ∷ rest) (sym is ∙ e))
 blank_none (Some x) bytes word front is none = tt

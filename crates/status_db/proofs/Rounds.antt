@@ -3,7 +3,7 @@ use Rattle.std.proofs.Common.{◌≡◌, ◌≢◌, ℕ, Bool, true, false, cond
 use Rattle.std.specs.Str.{bytes_eq}
 use Rattle.std.specs.List.{list_any, AllByRecursion}
 use Rattle.std.proofs.Math.Logic.{∥∥₁_elim, ∥∥₁_map, ∥∥₁_prop}
-use Rattle.std.proofs.lemmas.Bool.{or_from, false≢true}
+use Rattle.std.proofs.lemmas.Bool.{or_from, false≢true, or_parts}
 use Rattle.std.proofs.lemmas.List.{append-nil}
 use Rattle.std.proofs.lemmas.List.Folds.{list_any-append}
 use Rattle.std.proofs.lemmas.Slice.Eq.{bytes_eq-Decides}
@@ -20,7 +20,7 @@ use Rattle.status_db.specs.Writable.{IsWritable, line_field, first_fields}
 use Rattle.status_db.specs.Records.{IsWithout, AreApart, standing}
 use Rattle.status_db.specs.Paragraphs.{status_text, paragraph_of, IsReadable, IsRecordOf, IsEntry, Enters}
 use Rattle.status_db.specs.Status.{IsStatus}
-use Rattle.status_db.proofs.Kept.{or_parts, swapped, called_parts}
+use Rattle.status_db.proofs.Kept.{swapped, called_parts}
 use Rattle.status_db.proofs.Lines.{name_visible, version_visible, package_is_field, status_is_field, version_is_field}
 use Rattle.status_db.proofs.Tables.{apart_filter}
 

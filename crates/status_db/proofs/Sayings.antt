@@ -3,7 +3,7 @@ use Rattle.std.proofs.Common.{◌≡◌, ℕ, ◌+◌, ◌<◌, ◌^◌, Bool, t
 use Rattle.std.specs.Prelude.{IfSome, IfNone, ◌↔◌, option_copied, IfOk, slice_get, ◌==◌}
 use Rattle.std.specs.List.{list_any, AllByRecursion}
 use Rattle.std.specs.Str.{bytes_eq}
-use Rattle.std.proofs.lemmas.Bool.{true≢false, false≢true}
+use Rattle.std.proofs.lemmas.Bool.{true≢false, false≢true, or_parts}
 use Rattle.std.proofs.lemmas.List.{map-append}
 use Rattle.std.proofs.lemmas.Slice.Eq.{bytes_eq-Decides}
 use Rattle.control_fields.specs.Names.{lower, is_called, IsFieldCalled}
@@ -21,7 +21,6 @@ use Rattle.control_fields.specs.Names.{line_of_field}
 use Rattle.control_fields.specs.declared.located.Located.{Located}
 use Rattle.std.proofs.lemmas.Bool.Decides.{nat_tests}
 use Rattle.status_db.specs.Damage.{IsTaken, IsBadField, HasLines}
-use Rattle.status_db.proofs.Kept.{or_parts}
 use Rattle.status_db.proofs.Parsing.{gone_state, is_gone_state}
 
 -- the field of a name

@@ -8,6 +8,7 @@ use Rattle.std.specs.Cmp.Lexicographic.{slice_cmp}
 use Rattle.std.proofs.Math.Seq.{drop-cons}
 use Rattle.std.proofs.lemmas.Bool.{true≢false, false_from_ne_true}
 use Rattle.std.proofs.lemmas.Slice.Eq.{bytes_eq-Decides}
+use Rattle.std.proofs.lemmas.Cmp.{nat_list_eq_equiv}
 use Rattle.status_db.specs.declared.record.Record.{Record}
 use Rattle.status_db.specs.Records.{record_in, drop_record, place_record, put_record, IsWithout, AreApart}
 
@@ -102,9 +103,6 @@ apart_filter keep (r ∷ rs) apart = apart_by (keep r) r (filter keep rs) (witho
 pub apart_dropped : (name : List ℕ) (rs : List Record) → AreApart rs → AreApart (drop_record name rs)
 apart_dropped name rs apart = apart_filter (λ r. not (bytes_eq r.name name)) rs apart
 
-flipped : (a b : List ℕ) → bytes_eq a b ≡ false → bytes_eq b a ≡ false
-flipped a b e = false_from_ne_true (bytes_eq b a) (λ t. true≢false (sym ((bytes_eq-Decides a b).1 (sym ((bytes_eq-Decides b a).0 t))) ∙ e))
-
 without_placed_by : (b : Bool) (name : List ℕ) (r x : Record) (rest xs : List Record) → bytes_eq r.name name ≡ false → bytes_eq x.name name ≡ false → IsWithout name xs → IsWithout name rest → IsWithout name (cond b (x ∷ rest) (r ∷ x ∷ xs))
 without_placed_by true name r x rest xs new here behind placed = (here, placed)
 without_placed_by false name r x rest xs new here behind placed = (new, (here, behind))
@@ -121,7 +119,7 @@ apart_placed_by false r x rest xs without apart fresh placed = (without, apart)
 apart_placed : (r : Record) (rs : List Record) → IsWithout r.name rs → AreApart rs → AreApart (place_record r rs)
 apart_placed r [] without apart = (tt, tt)
 apart_placed r (x ∷ xs) without apart =
-    apart_placed_by (is_lt (slice_cmp nat_cmp x.name r.name)) r x (place_record r xs) xs without apart (without_placed x.name r xs (flipped x.name r.name without.0) apart.0) (apart_placed r xs without.1 apart.1)
+    apart_placed_by (is_lt (slice_cmp nat_cmp x.name r.name)) r x (place_record r xs) xs without apart (without_placed x.name r xs (nat_list_eq_equiv.symm r.name x.name ∙ without.0) apart.0) (apart_placed r xs without.1 apart.1)
 
 pub apart_put : (r : Record) (rs : List Record) → AreApart rs → AreApart (put_record r rs)
 apart_put r rs apart = apart_placed r (drop_record r.name rs) (lacks-drop_record r.name rs) (apart_dropped r.name rs apart)

@@ -1,9 +1,8 @@
 -- What dropping and putting the files of a package leaves.
-use Rattle.std.proofs.Common.{◌≡◌, ◌≢◌, ◌⊎◌, inl, inr, ℕ, Bool, true, false, List, ◌++◌, Option, Some, None, IsTrue, Result, Ok, Err, OnOk, refl, sym, ap, subst, ◌∙◌, codes, Contains, arith}
-use Rattle.std.specs.Str.{bytes_eq}
+use Rattle.std.proofs.Common.{◌≡◌, ◌≢◌, ◌⊎◌, inl, inr, ℕ, true, false, List, ◌++◌, Option, Some, None, IsTrue, refl, sym, ap, subst, ◌∙◌, codes, Contains, arith}
 use Rattle.std.proofs.lemmas.Bool.{true≢false}
 use Rattle.std.proofs.lemmas.List.Elements.{Contains-append_cases}
-use Rattle.std.proofs.lemmas.Slice.Eq.{bytes_eq-Decides}
+use Rattle.host_core.proofs.Paths.{decide}
 use Rattle.host_core.specs.Paths.{Path}
 use Rattle.host_core.specs.World.{World, IsDirectory, IsFile, HasParent, is_file}
 use Rattle.host_core.specs.Host.{State, Silent, Since}
@@ -22,14 +21,6 @@ use Rattle.administration.proofs.Emptying.{dropped_either, none_then}
 use Rattle.unpack_engine.specs.OwnFiles.{OwnFile, ending, own_path, own_node, root_list, HasDroppedScripts, HasPutScripts, IsPut, IsCleared, IsInstalled, IsOwnMoment, IsChanging, IsOwnReady}
 use Rattle.unpack_engine.specs.OwnFiles.IsOwnMoment.{same, gone, whole}
 use Rattle.unpack_engine.proofs.Endings.{own_lasting, own_same, own_apart, info_apart, info_lasting, mark}
-
--- two paths are one or differ
-pub decide : (p q : Path) → (p ≡ q) ⊎ (p ≢ q)
-decide p q = at (bytes_eq p q) refl
-  where
-    at : (b : Bool) → bytes_eq p q ≡ b → (p ≡ q) ⊎ (p ≢ q)
-    at true e = inl ((bytes_eq-Decides p q).0 e)
-    at false e = inr (λ same. true≢false (sym ((bytes_eq-Decides p q).1 same) ∙ e))
 
 module _ (name : List ℕ) (scripts : Scripts) where
   pub changing_start : (w : World) → IsOwnReady name w → IsChanging name scripts w w
@@ -140,10 +131,6 @@ pub goes_there : (name : List ℕ) (scripts : Scripts) (s a : State) → (IsTrue
 goes_there name scripts s a there goes h =
     let h0 = subst IsTrue goes.honest h in
     subst IsDirectory (sym (changing_there name scripts s.world a.world (since_now _ s a (goes.moments h0)))) (there h0)
-
-pub on_ok : {T E A B : Type 0} (result : Result T E) → (A → B) → OnOk result A → OnOk result B
-on_ok (Ok x) so is = so is
-on_ok (Err e) so is = tt
 
 -- the four scripts are dropped one after another
 either_then : (m n o : Option Node) → (n ≡ o) ⊎ (n ≡ None) → (m ≡ n) ⊎ (m ≡ None) → (m ≡ o) ⊎ (m ≡ None)

@@ -2,6 +2,7 @@
 use Rattle.std.proofs.Common.{◌≡◌, ◌⊎◌, inl, inr, Bool, true, false, cond, nat_eq, ◌∷◌, ◌++◌, Option, Some, None, refl, sym, ap, subst, ◌∙◌, codes, Contains, arith, is_some, drop, zero, suc}
 use Rattle.std.specs.Prelude.{IsSome, MatchBool}
 use Rattle.std.proofs.lemmas.Bool.{true≢false, eqb-true, eqb-false}
+use Rattle.host_core.proofs.Paths.{decide}
 use Rattle.host_core.specs.Paths.{Path}
 use Rattle.host_core.specs.World.{World, IsDirectory, IsLoose as IsLooseNode, IsBare, KeepsBut, HasParent}
 use Rattle.host_core.specs.Tree.{IsTree, has_slash}
@@ -21,7 +22,7 @@ use Rattle.administration.proofs.Within.{below_within, directory_within, outside
 use Rattle.unpack_engine.specs.OwnFiles.{IsPut}
 use Rattle.unpack_engine.specs.Incoming.{script_names, AreLaidOut, IsTmpFlat}
 use Rattle.unpack_engine.proofs.Endings.{mark, same_file, tmp_apart, tmp_lasting}
-use Rattle.unpack_engine.proofs.Changes.{decide, script_loose}
+use Rattle.unpack_engine.proofs.Changes.{script_loose}
 
 -- all happens within `tmp.ci`
 pub keeps_then : (area : Path → Bool) (u v w : World) → KeepsBut area u v → KeepsBut area v w → KeepsBut area u w

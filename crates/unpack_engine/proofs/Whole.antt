@@ -4,6 +4,7 @@ use Rattle.std.specs.Prelude.{IsSome}
 use Rattle.std.specs.Str.{bytes_eq}
 use Rattle.std.proofs.lemmas.Bool.{true≢false}
 use Rattle.std.proofs.lemmas.List.{append-nil}
+use Rattle.host_core.proofs.Paths.{decide}
 use Rattle.host_core.specs.Paths.{Path}
 use Rattle.host_core.specs.World.{World, is_kept, IsDirectory, SameOn}
 use Rattle.host_core.specs.Host.{Ran, State, Silent, Calls}
@@ -22,7 +23,7 @@ use Rattle.unwind_stack.specs.declared.fall.Fall.{Fall}
 use Rattle.package_tree.specs.declared.package.Package.{Package}
 use Rattle.unpack_engine.specs.OwnFiles.{OwnFile, own_path, own_node, KeepsBesideOwn}
 use Rattle.unpack_engine.specs.Incoming.{AreLaidOut}
-use Rattle.unpack_engine.proofs.Changes.{decide, own_nodes}
+use Rattle.unpack_engine.proofs.Changes.{own_nodes}
 use Rattle.status_db.specs.declared.words.Flag.{Flag}
 use Rattle.status_db.specs.declared.words.Flag.TheVariants as flag
 use Rattle.status_db.specs.declared.words.State.{State as State'}

@@ -1,5 +1,5 @@
 -- How lists of calls that were made go on.
-use Rattle.std.proofs.Common.{◌≡◌, Bool, IsTrue, List, [], ◌∷◌, ◌++◌, map, Result, Ok, Err, OnOk, IsErrAnd, is_ok, if◌then◌else◌, refl, sym, ap, subst, ◌∙◌, append_assoc}
+use Rattle.std.proofs.Common.{◌≡◌, Bool, IsTrue, List, [], ◌∷◌, ◌++◌, map, Result, Ok, Err, OnOk, IsErrAnd, refl, sym, ap, subst, ◌∙◌, append_assoc}
 use Rattle.std.proofs.lemmas.List.{append-nil, map-append}
 use Rattle.host_core.specs.Paths.{Path}
 use Rattle.host_core.specs.World.{SameOn}
@@ -61,10 +61,6 @@ module _ (kept : Path → Bool) (call : Call) (outcome : Outcome) (a b : State) 
   makes_one same runs grown =
       let one = calls_one kept call outcome a b same runs in
       (one.0 ∷ [], one.3, ((one.0, refl, one.1, one.2), grown ∙ ap (λ c. told ++ record { call = c; outcome = outcome } ∷ []) (sym one.1) ∙ ap (λ o. told ++ record { call = one.0.call; outcome = o } ∷ []) (sym one.2)))
-
--- a push that succeeded
-pub pushed : {T E A : Type 0} (r : Result T E) (y : T) (x : A) (old now : List A) → r ≡ Ok y → now ≡ (if is_ok r then old ++ x ∷ [] else old) → now ≡ old ++ x ∷ []
-pushed r y x old now ok is = is ∙ ap (λ q. if is_ok q then old ++ x ∷ [] else old) ok
 
 -- the answer after a `?`
 

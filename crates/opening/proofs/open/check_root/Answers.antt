@@ -1,7 +1,8 @@
 use Rattle.std.proofs.Common.{◌∷◌, []}
+use Rattle.std.proofs.lemmas.Bool.{MatchBool-at_true, MatchBool-at_false}
 use Rattle.opening.specs.Leaving.{root_path}
 use Rattle.opening.specs.Parts.{Way}
-use Rattle.opening.proofs.Openings.{on_true, on_false, stopped_memory, stopped_same, way_found, way_lacking}
+use Rattle.opening.proofs.Openings.{stopped_memory, stopped_same, way_found, way_lacking}
 use Rattle.opening.proofs.open.check_root.Goals as goal
 
 pub returns-in_err-path-clause-opens : goal.returns-in_err-path-clause-opens
@@ -13,8 +14,8 @@ returns-in_err-is_directory-clause-opens g c = λ h.
 
 pub returns-then-branch-clause-opens : goal.returns-then-branch-clause-opens
 returns-then-branch-clause-opens g c = λ h.
-    way_found _ _ _ _ c.in_ok-path.ensures (c.is_directory.ensures.same h) (on_true _ _ c.if-branch.true (c.in_ok-is_directory.ensures.found h))
+    way_found _ _ _ _ c.in_ok-path.ensures (c.is_directory.ensures.same h) (MatchBool-at_true _ _ c.if-branch.true (c.in_ok-is_directory.ensures.found h))
 
 pub returns-clause-opens : goal.returns-clause-opens
 returns-clause-opens g c = λ h.
-    way_lacking _ _ _ _ _ c.in_ok-path.ensures c.damaged.ensures (c.is_directory.ensures.same h) (on_false _ _ c.if-branch.false (c.in_ok-is_directory.ensures.found h))
+    way_lacking _ _ _ _ _ c.in_ok-path.ensures c.damaged.ensures (c.is_directory.ensures.same h) (MatchBool-at_false _ _ c.if-branch.false (c.in_ok-is_directory.ensures.found h))

@@ -1,6 +1,6 @@
 use Rattle.std.proofs.Common.{sym, subst, IsTrue, refl}
+use Rattle.std.proofs.lemmas.Result.{on_ok_weaker}
 use Rattle.host_core.specs.declared.call.Script.TheVariants.{Preinst, Postinst, Prerm, Postrm}
-use Rattle.unpack_engine.proofs.Changes.{on_ok}
 use Rattle.unpack_engine.proofs.LaidOut.{nothing, one_script, two_scripts, three_scripts, holds_start, holds_more, holds_flat, loose_start, loose_more, laid_out, since_keeps}
 use Rattle.unpack_engine.proofs.incoming.put_all.Goals as goal
 
@@ -117,4 +117,4 @@ returns-clause-laid g c = λ h0.
     let k1 = holds_more s Preinst nothing (g.H.Host.state c.args.host.now).world (g.H.Host.state c.put_incoming.new.host).world refl k0 (c.in_ok-put_incoming.ensures.put h0) in
     let k2 = holds_more s Postinst (one_script c.args.scripts.now) (g.H.Host.state c.put_incoming.new.host).world (g.H.Host.state c.put_incoming-2.new.host).world refl k1 (c.in_ok-put_incoming-2.ensures.put h1) in
     let k3 = holds_more s Prerm (two_scripts c.args.scripts.now) (g.H.Host.state c.put_incoming-2.new.host).world (g.H.Host.state c.put_incoming-3.new.host).world refl k2 (c.in_ok-put_incoming-3.ensures.put h2) in
-    on_ok c.put_incoming-4.result (λ put. laid_out s (g.H.Host.state c.put_incoming-4.new.host).world (holds_more s Postrm (three_scripts c.args.scripts.now) (g.H.Host.state c.put_incoming-3.new.host).world (g.H.Host.state c.put_incoming-4.new.host).world refl k3 put)) (c.put_incoming-4.ensures.put h3)
+    on_ok_weaker c.put_incoming-4.result (λ put. laid_out s (g.H.Host.state c.put_incoming-4.new.host).world (holds_more s Postrm (three_scripts c.args.scripts.now) (g.H.Host.state c.put_incoming-3.new.host).world (g.H.Host.state c.put_incoming-4.new.host).world refl k3 put)) (c.put_incoming-4.ensures.put h3)

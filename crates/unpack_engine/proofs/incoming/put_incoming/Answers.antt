@@ -1,5 +1,6 @@
 use Rattle.std.proofs.Common.{◌≡◌, sym, subst, ap, ◌∙◌, Some, None, OnOk, refl}
 use Rattle.std.specs.Option.{option_copied}
+use Rattle.std.proofs.lemmas.Result.{on_ok_weaker}
 use Rattle.host_core.specs.World.{HasParent}
 use Rattle.host_core.specs.Host.{Since}
 use Rattle.host_core.specs.Moments.{since_weaker}
@@ -7,7 +8,7 @@ use Rattle.administration.specs.Places.{temporary, tmp_script_path}
 use Rattle.administration.specs.Files.{NoDirectory, IsReplacing, IsReplaced}
 use Rattle.administration.specs.Scripts.{script_of, file_of}
 use Rattle.unpack_engine.specs.OwnFiles.{IsPut}
-use Rattle.unpack_engine.proofs.Changes.{put_replaced, put_none, on_ok, file_is}
+use Rattle.unpack_engine.proofs.Changes.{put_replaced, put_none, file_is}
 use Rattle.unpack_engine.proofs.LaidOut.{tmp_parent, replacing_within}
 use Rattle.unpack_engine.proofs.incoming.put_incoming.Goals as goal
 
@@ -36,7 +37,7 @@ returns-clause-put g c = λ h.
     let q = tmp_script_path c.args.script in
     let replaced = subst (λ p. OnOk c.replace.result (IsReplaced p c.in-Some.file.now.node old new)) c.in_ok-path.ensures (c.replace.ensures.replaced h) in
     let is_node : file_of (script_of c.args.scripts.now c.args.script) ≡ Some c.in-Some.file.now.node = ap file_of (sym c.get.ensures ∙ ap option_copied c.in-Some.is) in
-    subst (λ n. OnOk c.replace.result (IsPut q n old new)) (sym is_node) (on_ok c.replace.result (put_replaced q c.in-Some.file.now.node old new) replaced)
+    subst (λ n. OnOk c.replace.result (IsPut q n old new)) (sym is_node) (on_ok_weaker c.replace.result (put_replaced q c.in-Some.file.now.node old new) replaced)
 
 pub returns-clause-any_moment : goal.returns-clause-any_moment
 returns-clause-any_moment g c = λ h.

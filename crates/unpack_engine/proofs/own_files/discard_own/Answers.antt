@@ -1,5 +1,6 @@
 use Rattle.std.proofs.Common.{sym, subst, IsTrue}
-use Rattle.unpack_engine.proofs.Changes.{goes_one, goes_then, goes_ready, on_ok, cleared_all}
+use Rattle.std.proofs.lemmas.Result.{on_ok_weaker}
+use Rattle.unpack_engine.proofs.Changes.{goes_one, goes_then, goes_ready, cleared_all}
 use Rattle.unpack_engine.proofs.own_files.discard_own.Goals as goal
 
 pub drop_scripts-requires : goal.drop_scripts-requires
@@ -10,7 +11,7 @@ drop_scripts-requires g c =
 pub returns-clause-cleared : goal.returns-clause-cleared
 returns-clause-cleared g c = λ h.
     let h1 = subst IsTrue (sym c.drop_list.ensures.silent.honest) h in
-    on_ok c.drop_scripts.result (cleared_all c.args.name.now _ _ _ (c.in_ok-drop_list.ensures.dropped h)) (c.drop_scripts.ensures.dropped h1)
+    on_ok_weaker c.drop_scripts.result (cleared_all c.args.name.now _ _ _ (c.in_ok-drop_list.ensures.dropped h)) (c.drop_scripts.ensures.dropped h1)
 
 pub returns-clause-any_moment : goal.returns-clause-any_moment
 returns-clause-any_moment g c =

@@ -1,5 +1,6 @@
 use Rattle.std.proofs.Common.{sym, subst, IsTrue}
-use Rattle.unpack_engine.proofs.Changes.{goes_one, goes_then, goes_ready, on_ok, dropped_four}
+use Rattle.std.proofs.lemmas.Result.{on_ok_weaker}
+use Rattle.unpack_engine.proofs.Changes.{goes_one, goes_then, goes_ready, dropped_four}
 use Rattle.unpack_engine.proofs.own_files.drop_scripts.Goals as goal
 
 pub drop_script-requires-2 : goal.drop_script-requires-2
@@ -36,7 +37,7 @@ returns-clause-dropped g c = λ h.
     let h1 = subst IsTrue (sym c.drop_script.ensures.silent.honest) h in
     let h2 = subst IsTrue (sym c.drop_script-2.ensures.silent.honest) h1 in
     let h3 = subst IsTrue (sym c.drop_script-3.ensures.silent.honest) h2 in
-    on_ok c.drop_script-4.result (dropped_four c.args.name.now _ _ _ _ _ (c.in_ok-drop_script.ensures.dropped h) (c.in_ok-drop_script-2.ensures.dropped h1) (c.in_ok-drop_script-3.ensures.dropped h2)) (c.drop_script-4.ensures.dropped h3)
+    on_ok_weaker c.drop_script-4.result (dropped_four c.args.name.now _ _ _ _ _ (c.in_ok-drop_script.ensures.dropped h) (c.in_ok-drop_script-2.ensures.dropped h1) (c.in_ok-drop_script-3.ensures.dropped h2)) (c.drop_script-4.ensures.dropped h3)
 
 pub returns-clause-any_moment : goal.returns-clause-any_moment
 returns-clause-any_moment g c =

@@ -1,11 +1,12 @@
 use Rattle.std.proofs.Common.{sym, subst, None, OnOk, refl}
+use Rattle.std.proofs.lemmas.Result.{on_ok_weaker}
 use Rattle.host_core.specs.World.{HasParent}
 use Rattle.host_core.specs.Host.{Since}
 use Rattle.host_core.specs.Moments.{since_weaker, since_start}
 use Rattle.administration.specs.Places.{temporary}
 use Rattle.administration.specs.Files.{NoDirectory, IsReplacing, IsReplaced}
 use Rattle.unpack_engine.specs.OwnFiles.{own_path, root_list}
-use Rattle.unpack_engine.proofs.Changes.{changing_start, changing_replacing, own_parent, put_replaced, on_ok}
+use Rattle.unpack_engine.proofs.Changes.{changing_start, changing_replacing, own_parent, put_replaced}
 use Rattle.unpack_engine.proofs.own_files.put_list.Goals as goal
 
 pub replace-requires-clause-parent : goal.replace-requires-clause-parent
@@ -23,7 +24,7 @@ returns-clause-put g c = λ h.
     let new = (g.H.Host.state c.replace.new.host).world in
     let at_path = subst (λ q. OnOk c.replace.result (IsReplaced q c.in_ok-node.node old new)) c.in_ok-path.ensures (c.replace.ensures.replaced h) in
     let replaced = subst (λ n. OnOk c.replace.result (IsReplaced (own_path c.args.name.now None) n old new)) c.in_ok-node.ensures at_path in
-    on_ok c.replace.result (put_replaced (own_path c.args.name.now None) root_list old new) replaced
+    on_ok_weaker c.replace.result (put_replaced (own_path c.args.name.now None) root_list old new) replaced
 
 pub returns-clause-any_moment : goal.returns-clause-any_moment
 returns-clause-any_moment g c = λ h.

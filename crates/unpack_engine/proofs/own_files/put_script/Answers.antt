@@ -5,9 +5,10 @@ use Rattle.host_core.specs.Moments.{since_weaker, since_start}
 use Rattle.administration.specs.Places.{temporary}
 use Rattle.administration.specs.Files.{NoDirectory, IsReplacing, IsReplaced}
 use Rattle.std.specs.Option.{option_copied}
+use Rattle.std.proofs.lemmas.Result.{on_ok_weaker}
 use Rattle.administration.specs.Scripts.{file_of}
 use Rattle.unpack_engine.specs.OwnFiles.{own_path, own_node, IsPut}
-use Rattle.unpack_engine.proofs.Changes.{changing_start, changing_replacing, own_parent, put_replaced, put_none, on_ok, file_is}
+use Rattle.unpack_engine.proofs.Changes.{changing_start, changing_replacing, own_parent, put_replaced, put_none, file_is}
 use Rattle.unpack_engine.proofs.own_files.put_script.Goals as goal
 
 pub replace-requires-clause-parent : goal.replace-requires-clause-parent
@@ -26,7 +27,7 @@ returns-clause-put g c = λ h.
     let q = own_path c.args.name.now (Some c.args.script) in
     let replaced = subst (λ p. OnOk c.replace.result (IsReplaced p c.in-Some.file.now.node old new)) c.in_ok-path.ensures (c.replace.ensures.replaced h) in
     let is_node : own_node c.args.scripts.now (Some c.args.script) ≡ Some c.in-Some.file.now.node = ap file_of (sym c.get.ensures ∙ ap option_copied c.in-Some.is) in
-    subst (λ n. OnOk c.replace.result (IsPut q n old new)) (sym is_node) (on_ok c.replace.result (put_replaced q c.in-Some.file.now.node old new) replaced)
+    subst (λ n. OnOk c.replace.result (IsPut q n old new)) (sym is_node) (on_ok_weaker c.replace.result (put_replaced q c.in-Some.file.now.node old new) replaced)
 
 pub returns-clause-any_moment : goal.returns-clause-any_moment
 returns-clause-any_moment g c = λ h.

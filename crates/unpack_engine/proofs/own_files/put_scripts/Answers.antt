@@ -1,5 +1,6 @@
 use Rattle.std.proofs.Common.{sym, subst, IsTrue}
-use Rattle.unpack_engine.proofs.Changes.{goes_one, goes_then, goes_ready, goes_there, on_ok, put_four}
+use Rattle.std.proofs.lemmas.Result.{on_ok_weaker}
+use Rattle.unpack_engine.proofs.Changes.{goes_one, goes_then, goes_ready, goes_there, put_four}
 use Rattle.unpack_engine.proofs.own_files.put_scripts.Goals as goal
 
 pub put_script-requires-2-clause-ready : goal.put_script-requires-2-clause-ready
@@ -36,7 +37,7 @@ returns-clause-put g c = λ h.
     let h1 = subst IsTrue (sym c.put_script.ensures.silent.honest) h in
     let h2 = subst IsTrue (sym c.put_script-2.ensures.silent.honest) h1 in
     let h3 = subst IsTrue (sym c.put_script-3.ensures.silent.honest) h2 in
-    on_ok c.put_script-4.result (put_four c.args.name.now c.args.scripts.now _ _ _ _ _ (c.in_ok-put_script.ensures.put h) (c.in_ok-put_script-2.ensures.put h1) (c.in_ok-put_script-3.ensures.put h2)) (c.put_script-4.ensures.put h3)
+    on_ok_weaker c.put_script-4.result (put_four c.args.name.now c.args.scripts.now _ _ _ _ _ (c.in_ok-put_script.ensures.put h) (c.in_ok-put_script-2.ensures.put h1) (c.in_ok-put_script-3.ensures.put h2)) (c.put_script-4.ensures.put h3)
 
 pub returns-clause-any_moment : goal.returns-clause-any_moment
 returns-clause-any_moment g c =

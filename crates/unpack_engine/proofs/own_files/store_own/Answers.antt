@@ -1,5 +1,6 @@
 use Rattle.std.proofs.Common.{sym, subst, IsTrue}
-use Rattle.unpack_engine.proofs.Changes.{goes_one, goes_then, goes_ready, goes_there, on_ok, installed_all}
+use Rattle.std.proofs.lemmas.Result.{on_ok_weaker}
+use Rattle.unpack_engine.proofs.Changes.{goes_one, goes_then, goes_ready, goes_there, installed_all}
 use Rattle.unpack_engine.proofs.own_files.store_own.Goals as goal
 
 pub put_scripts-requires-clause-ready : goal.put_scripts-requires-clause-ready
@@ -10,7 +11,7 @@ put_scripts-requires-clause-ready g c =
 pub returns-clause-installed : goal.returns-clause-installed
 returns-clause-installed g c = λ h.
     let h1 = subst IsTrue (sym c.put_list.ensures.silent.honest) h in
-    on_ok c.put_scripts.result (installed_all c.args.name.now c.args.scripts.now _ _ _ (c.in_ok-put_list.ensures.put h)) (c.put_scripts.ensures.put h1)
+    on_ok_weaker c.put_scripts.result (installed_all c.args.name.now c.args.scripts.now _ _ _ (c.in_ok-put_list.ensures.put h)) (c.put_scripts.ensures.put h1)
 
 pub returns-clause-any_moment : goal.returns-clause-any_moment
 returns-clause-any_moment g c =

@@ -1,9 +1,10 @@
 use Rattle.std.proofs.Common.{List, ◌∷◌, [], ◌++◌, Contains, arith, refl, sym, ap, subst, ◌∙◌, rules}
 use Rattle.std.proofs.lemmas.Bool.{true≢false}
+use Rattle.std.proofs.lemmas.Slice.{pushed}
 use Rattle.host_core.specs.World.{is_kept}
 use Rattle.unwind_stack.specs.declared.rows.Owner.{Owner}
 use Rattle.unwind_stack.specs.Transcript.{Makes, UndoesRow}
-use Rattle.unwind_stack.proofs.Makes.{cause_told, makes_none, makes_weaker, moments_none, no_value, pushed, tells_none}
+use Rattle.unwind_stack.proofs.Makes.{cause_told, makes_none, makes_weaker, moments_none, no_value, tells_none}
 use Rattle.unwind_stack.proofs.OneRow.{undoes_done, undoes_failed}
 use Rattle.unwind_stack.proofs.rows.undo_row.Goals as goal
 
@@ -72,7 +73,7 @@ returns-then-not-is_success-clause-calls g c =
     let row = c.args.row.now in
     let owners = c.args.owners.now.items in
     let lacks : Contains owners row.owner → ⊥ = search rules in
-    let grown = pushed c.push.result _ _ _ _ c.unwrap.ensures c.push.ensures.items ∙ ap (λ l. l ++ c.in_ok-owner.owner ∷ []) c.reserve.ensures.items ∙ ap (λ o. owners ++ o ∷ []) c.in_ok-owner.ensures in
+    let grown = pushed (c.in_ok-owner.owner ∷ []) c.reserve.ensures.items c.unwrap.ensures c.push.ensures.items ∙ ap (λ o. owners ++ o ∷ []) c.in_ok-owner.ensures in
     makes_weaker _ _ (λ ts. UndoesRow row owners ts c.push.new.self.items) _ _ _ _
     (undoes_failed row c.in-Some.undo c.in_ok-outcome.outcome owners c.push.new.self.items c.in-Some.is lacks (sym c.is_success.ensures ∙ c.if-not-is_success.true) grown) c.in_ok-outcome.ensures.calls
 
