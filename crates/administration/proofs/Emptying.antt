@@ -4,6 +4,7 @@ use Rattle.std.specs.Prelude.{IsSome, MatchBool}
 use Rattle.std.specs.Str.{bytes_eq}
 use Rattle.std.proofs.lemmas.Slice.Eq.{bytes_eq-Decides}
 use Rattle.std.proofs.lemmas.Bool.{true≢false, both_ways}
+use Rattle.host_core.proofs.Nodes.{directory_stands, some_or_none}
 use Rattle.host_core.specs.Paths.{Path}
 use Rattle.host_core.specs.World.{World, put, IsDirectory, IsBare, KeepsBut, MakeDir, RemoveDir}
 use Rattle.host_core.specs.Tree.{IsTree, IsListing, has_slash}
@@ -58,16 +59,12 @@ pub first_passed : (w v : World) (d : Path) (names : List Path) (found : Option 
 first_passed w v d names found name b before same e is = least_passed (λ n. IsDirectory (w (d ++ 47 ∷ n))) names found name before
     (no_directory_at (w (d ++ 47 ∷ name)) (v (d ++ 47 ∷ name)) (ap (λ u. u (d ++ 47 ∷ name)) (sym same)) (passed_here (v (d ++ 47 ∷ name)) b e is))
 
-directory_stands : (n : Option Node) → IsDirectory n → IsSome n
-directory_stands None is = absurd (no_directory_none is)
-directory_stands (Some node) is = refl
-
 pub first_in : (w : World) (d : Path) (names : List Path) (bad : Bool) (name : Path) → bad ≡ false → IsListing w d names bad → IsFirstDirectory w d names (Some name) → IsLeastIn IsDirectory w d name
 first_in w d names bad name e listing first = least_in IsDirectory directory_stands w d names bad name e listing first
 
 -- removing one after another
 
-no_element : (n : Path) → Contains [] n → ⊥
+pub no_element : (n : Path) → Contains [] n → ⊥
 no_element n has = absurd (omega (arith, has.1))
 
 -- after one more is dropped each path has what it had, or nothing
@@ -85,7 +82,7 @@ dropping_either p q w v is = at (bytes_eq q p) refl
     at true e = elim is.target [ inl t ↦ inl (ap v ((bytes_eq-Decides q p).0 e) ∙ t ∙ ap w (sym ((bytes_eq-Decides q p).0 e))) | inr t ↦ inr (ap v ((bytes_eq-Decides q p).0 e) ∙ t) ]
     at false e = inl (is.rest q (λ same. true≢false (sym ((bytes_eq-Decides q p).1 same) ∙ e)))
 
-less_then : (m n o : Option Node) → (n ≡ o) ⊎ (n ≡ None) → (m ≡ n) ⊎ (m ≡ None) → (m ≡ o) ⊎ (m ≡ None)
+pub less_then : (m n o : Option Node) → (n ≡ o) ⊎ (n ≡ None) → (m ≡ n) ⊎ (m ≡ None) → (m ≡ o) ⊎ (m ≡ None)
 less_then m n o (inl e) (inl f) = inl (f ∙ e)
 less_then m n o (inr e) (inl f) = inr (f ∙ e)
 less_then m n o before (inr f) = inr f
@@ -128,12 +125,8 @@ module _ (d : Path) (old : World) where
   ]
 
   -- when all names are gone nothing is left below
-  none_or_some : (n : Option Node) → (n ≡ None) ⊎ IsSome n
-  none_or_some None = inl refl
-  none_or_some (Some n) = inr refl
-
   at_name : (names : List Path) (w : World) (name : Path) → IsFlat old d names → IsEmptying d names old w → has_slash name ≡ false → w (d ++ 47 ∷ name) ≡ None
-  at_name names w name flat is plain = elim (none_or_some (w (d ++ 47 ∷ name))) [
+  at_name names w name flat is plain = elim (some_or_none (w (d ++ 47 ∷ name))) [
     | inl e ↦ e
     | inr some ↦ elim (is.less (d ++ 47 ∷ name)) [
       | inl same ↦ is.empty name (flat.whole name plain (subst IsSome same some))
@@ -142,7 +135,7 @@ module _ (d : Path) (old : World) where
   ]
 
   below_none : (w : World) (q : Path) (name more : Path) → IsTree w → q ≡ name ++ 47 ∷ more → w name ≡ None → w q ≡ None
-  below_none w q name more tree is none = elim (none_or_some (w q)) [
+  below_none w q name more tree is none = elim (some_or_none (w q)) [
     | inl e ↦ e
     | inr some ↦ absurd (no_directory_none (subst IsDirectory none (tree name more (subst (λ r. IsSome (w r)) is some))))
   ]

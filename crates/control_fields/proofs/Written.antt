@@ -88,7 +88,7 @@ pub add_field : (before fs : List Field) (f : Field) → AreFields before fs →
 add_field before [] f are is new = (is, subst (λ (l : List Field). stands f.name l ≡ false) (append-nil before) new, tt)
 add_field before (g ∷ fs) f are is new = (are.0, are.1, add_field (before ++ g ∷ []) fs f are.2 is (subst (λ (l : List Field). stands f.name l ≡ false) (sym (append_assoc before (g ∷ []) fs)) new))
 
-add_all : {X : Type 0} (P : X → Type 0) (xs : List X) (x : X) → AllByRecursion P xs → P x → AllByRecursion P (xs ++ x ∷ [])
+pub add_all : {X : Type 0} (P : X → Type 0) (xs : List X) (x : X) → AllByRecursion P xs → P x → AllByRecursion P (xs ++ x ∷ [])
 add_all P [] x all is = (is, tt)
 add_all P (y ∷ xs) x all is = (all.0, add_all P xs x all.1 is)
 

@@ -8,12 +8,11 @@ use Rattle.std.proofs.Math.Logic.{∥∥₁_map}
 use Rattle.std.specs.List.{list_any}
 use Rattle.std.specs.Str.{bytes_eq}
 use Rattle.std.proofs.lemmas.Cmp.{nat_list_eq_equiv}
+use Rattle.host_core.proofs.Nodes.{directory_is}
+use Rattle.unpack_engine.proofs.Changes.{script_mark}
 use Rattle.host_core.proofs.Paths.{decide}
 use Rattle.host_core.specs.Paths.{Path}
-use Rattle.host_core.specs.World.{World, IsDirectory, is_directory, is_kept}
-use Rattle.host_core.specs.declared.call.Script.{Script}
-use Rattle.host_core.specs.declared.call.Script.TheVariants.{Preinst, Postinst, Prerm, Postrm}
-use Rattle.host_core.specs.declared.node.Node.{Node}
+use Rattle.host_core.specs.World.{World, is_kept}
 use Rattle.host_core.specs.Host.{Ran, State, scripts_change}
 use Rattle.host_core.specs.Scripts.{changed_kept}
 use Rattle.administration.specs.Places.{home_path, info_path, list_path, status_path, temporary}
@@ -98,12 +97,6 @@ module _ (name : List ℕ) (before after : List Record) (new_name : is_some (rec
 
 -- the lists of other packages stay
 
-script_differs : (script : Script) → mark (Some script) ≢ 46
-script_differs Preinst e = absurd (omega (arith, e))
-script_differs Postinst e = absurd (omega (arith, e))
-script_differs Prerm e = absurd (omega (arith, e))
-script_differs Postrm e = absurd (omega (arith, e))
-
 list_of : (name : List ℕ) → list_path name ≡ own_path name None
 list_of name = refl
 
@@ -123,7 +116,7 @@ list_outside n name ne = record {
   where
     not_own : (file : OwnFile) → list_path n ≢ own_path name file
     not_own None e = ne (names_of_lists n name e)
-    not_own (Some script) e = own_apart n name None (Some script) (λ same. script_differs script (sym same)) e
+    not_own (Some script) e = own_apart n name None (Some script) (λ same. script_mark script (sym same)) e
 
 -- a unit that was carried out leaves the places
 
@@ -178,9 +171,6 @@ module _ (places : List Path) where
       listed_run cs us run.1 after run.0 t run.4 (subst IsTrue (sym run.2) h) (listed_unit c.label c.tree before run.1 u s run.0 run.3 h has)
 
 -- what a session keeps
-
-directory_is : (found : Option Node) → IsDirectory found → is_directory found ≡ true
-directory_is found is = ap is_directory is.1
 
 pub standing_opened : (table : List Record) (places : List Path) (w : World) → IsOpened table places w → IsStanding table places w
 standing_opened table places w opened = (

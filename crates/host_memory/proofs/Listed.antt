@@ -13,6 +13,7 @@ use Rattle.std.proofs.lemmas.Bool.{false≢true}
 use Rattle.std.proofs.lemmas.Map.Text.{is_eq-slice_cmp}
 use Rattle.std.proofs.lemmas.Slice.Eq.{bytes_eq-Decides}
 use Rattle.std.proofs.lemmas.List.Elements.{Contains-append_left, Contains-push, Contains-push_cases}
+use Rattle.host_core.proofs.Nodes.{none_there}
 use Rattle.host_core.specs.Paths.{Path}
 use Rattle.host_core.specs.Tree.{has_slash, IsBelow, IsListing}
 use Rattle.host_memory.proofs.Splits.{same_name}
@@ -116,10 +117,6 @@ search_more all left e es path is amid apart = record {
 
 pub search_found : (all left : List Entry) (e : Entry) (es : List Entry) (path rest : Path) → left ≡ e ∷ es → IsAmidSearch all left path → string_bytes e.0 ≡ path ++ 47 ∷ rest → Has all (path ++ 47 ∷ rest)
 search_found all left e es path rest is amid key = amid.sub (path ++ 47 ∷ rest) (subst (λ (l : List Entry). Has l (path ++ 47 ∷ rest)) (sym is) (at_head (path ++ 47 ∷ rest) e es (sym key)))
-
-none_there : (o : Option Node) → (IsSome o → ⊥) → o ≡ None
-none_there None apart = refl
-none_there (Some n) apart = absurd (apart refl)
 
 pub search_end : (all left : List Entry) (path : Path) → left ≡ [] → IsAmidSearch all left path → (rest : Path) → lookup (test (path ++ 47 ∷ rest)) all ≡ None
 search_end all left path is amid rest = none_there (lookup (test (path ++ 47 ∷ rest)) all)

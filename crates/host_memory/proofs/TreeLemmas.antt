@@ -2,6 +2,7 @@
 use Rattle.std.proofs.Common.{◌≡◌, ◌≢◌, ◌⊎◌, ◌+◌, ℕ, suc, true, false, List, [], ◌∷◌, ◌++◌, length, Option, Some, None, refl, sym, ap, subst, ◌∙◌, inl, inr, arith, length-append, append_assoc}
 use Rattle.std.specs.Prelude.{IsSome, Contains}
 use Rattle.std.proofs.lemmas.Bool.{false≢true}
+use Rattle.host_core.proofs.Nodes.{some_or_none, none_there, none_stands, directory_stands, directory_is}
 use Rattle.host_core.proofs.Paths.{decide}
 use Rattle.host_core.specs.Paths.{Path}
 use Rattle.host_core.specs.World.{World, put, moved, IsDirectory, is_directory, IsLoose, IsBare, HasParent}
@@ -11,31 +12,17 @@ use Rattle.host_core.specs.declared.node.Node.{Node}
 use Rattle.host_core.specs.declared.node.Node.TheVariants.{File, Dir, Link}
 use Rattle.host_memory.specs.Trees.{IsTreeByTest, IsIn, Fits, IsOpenTo, CanPlace, new_directory, HasWay, HasPartWay}
 
-pub test_from-IsDirectory : (o : Option Node) → IsDirectory o → is_directory o ≡ true
-test_from-IsDirectory o d = ap is_directory d.1
-
 pub test_from-IsTree : (w : World) → IsTree w → IsTreeByTest w
-test_from-IsTree w tree top rest there = test_from-IsDirectory (w top) (tree top rest there)
-
--- either stands there or not
-some_or_none : (o : Option Node) → IsSome o ⊎ (o ≡ None)
-some_or_none None = inr refl
-some_or_none (Some n) = inl refl
+test_from-IsTree w tree top rest there = directory_is (w top) (tree top rest there)
 
 directory_or_not : (o : Option Node) → IsDirectory o ⊎ (IsDirectory o → ⊥)
-directory_or_not None = inr (λ d. false≢true (test_from-IsDirectory None d))
-directory_or_not (Some (File b m)) = inr (λ d. false≢true (test_from-IsDirectory (Some (File b m)) d))
+directory_or_not None = inr (λ d. false≢true (directory_is None d))
+directory_or_not (Some (File b m)) = inr (λ d. false≢true (directory_is (Some (File b m)) d))
 directory_or_not (Some (Dir m)) = inl (m, refl)
-directory_or_not (Some (Link t)) = inr (λ d. false≢true (test_from-IsDirectory (Some (Link t)) d))
-
-pub IsSome-IsDirectory : (o : Option Node) → IsDirectory o → IsSome o
-IsSome-IsDirectory o d = subst (λ (x : Option Node). IsSome x) (sym d.1) refl
+directory_or_not (Some (Link t)) = inr (λ d. false≢true (directory_is (Some (Link t)) d))
 
 pub absent_not_directory : (o : Option Node) → o ≡ None → IsDirectory o → ⊥
-absent_not_directory o is d = false≢true (sym (ap is_directory is) ∙ test_from-IsDirectory o d)
-
-pub absent_not_there : (o : Option Node) → o ≡ None → IsSome o → ⊥
-absent_not_there o is s = false≢true (subst (λ (x : Option Node). IsSome x) is s)
+absent_not_directory o is d = false≢true (sym (ap is_directory is) ∙ directory_is o d)
 
 -- what goes on below a path isn't that path
 pub below_differs : (top rest : Path) → top ++ 47 ∷ rest ≢ top
@@ -81,10 +68,7 @@ there_above w top path tree below there = tree top below.0 (subst (λ (p : Path)
 
 -- below what isn't a directory nothing stands
 pub bare_unless_directory : (w : World) (path : Path) → IsTree w → (IsDirectory (w path) → ⊥) → IsBare w path
-bare_unless_directory w path tree no_dir rest = elim (some_or_none (w (path ++ 47 ∷ rest))) [
-  | inl there ↦ absurd (no_dir (tree path rest there))
-  | inr absent ↦ absent
-]
+bare_unless_directory w path tree no_dir rest = none_there (w (path ++ 47 ∷ rest)) (λ there. no_dir (tree path rest there))
 
 -- what fits leaves a tree
 pub IsTree-put : (w : World) (path : Path) (node : Option Node) → IsTree w → Fits w path node → IsTree (put w path node)
@@ -95,7 +79,7 @@ IsTree-put w path node tree fits top rest there = elim (decide (top ++ 47 ∷ re
       elim (decide top path) [
         | inl here ↦ elim (directory_or_not node) [
           | inl dir ↦ subst (λ (o : Option Node). IsDirectory o) (sym (put_same w path top node here)) dir
-          | inr no_dir ↦ absurd (absent_not_there (w (top ++ 47 ∷ rest)) (ap (λ (p : Path). w (p ++ 47 ∷ rest)) here ∙ fits.below no_dir rest) was)
+          | inr no_dir ↦ absurd (none_stands (w (top ++ 47 ∷ rest)) (ap (λ (p : Path). w (p ++ 47 ∷ rest)) here ∙ fits.below no_dir rest) was)
         ]
         | inr elsewhere ↦ subst (λ (o : Option Node). IsDirectory o) (sym (put_other w path top node elsewhere)) (tree top rest was)
       ])
@@ -105,7 +89,7 @@ IsTree-put w path node tree fits top rest there = elim (decide (top ++ 47 ∷ re
 pub above_HasParent : (w : World) (path : Path) → IsTree w → HasParent w path → (top : Path) → IsBelow top path → IsDirectory (w top)
 above_HasParent w path tree parent top below = elim (above_or_in top parent.0 path (parent.1, parent.2, parent.3) below) [
   | inl same ↦ subst (λ (p : Path). IsDirectory (w p)) (sym same) parent.4
-  | inr above ↦ there_above w top parent.0 tree above (IsSome-IsDirectory (w parent.0) parent.4)
+  | inr above ↦ there_above w top parent.0 tree above (directory_stands (w parent.0) parent.4)
 ]
 
 -- a new node in a directory
@@ -158,7 +142,7 @@ IsTree-moved w from to tree loose over parent =
 pub way_stays : (w m : World) (path q : Path) → HasWay w m path → IsSome (w q) → m q ≡ w q
 way_stays w m path q way there = elim (way.part q) [
   | inl same ↦ same
-  | inr made ↦ absurd (absent_not_there (w q) made.1 there)
+  | inr made ↦ absurd (none_stands (w q) made.1 there)
 ]
 
 pub way_elsewhere : (w m : World) (path q : Path) → HasWay w m path → (IsBelow q path → ⊥) → m q ≡ w q
@@ -197,7 +181,7 @@ pub way_there : (w : World) (front path : Path) → IsTree w → IsIn front path
 way_there w front path tree in_front there = record {
   part = λ q. inl refl;
   made = λ top below missing. elim (above_or_in top front path in_front below) [
-    | inl same ↦ absurd (absent_not_there (w front) (ap w (sym same) ∙ missing) there)
+    | inl same ↦ absurd (none_stands (w front) (ap w (sym same) ∙ missing) there)
     | inr above ↦ absurd (absent_not_directory (w top) missing (there_above w top front tree above there))
   ];
 }
@@ -210,8 +194,8 @@ way_none w path top_none = record { part = λ q. inl refl; made = λ top below m
 pub Fits-way : (w m : World) (path : Path) (node : Node) → IsOpenTo w path → HasWay w m path → ((IsDirectory (Some node) → ⊥) → IsBare m path) → Fits m path (Some node)
 Fits-way w m path node open_to way bare = record {
   above = λ some top below. elim (some_or_none (w top)) [
-    | inl there ↦ subst (λ (o : Option Node). IsDirectory o) (sym (way_stays w m path top way there)) (open_to top below there)
-    | inr missing ↦ (0o755, way.made top below missing)
+    | inl missing ↦ (0o755, way.made top below missing)
+    | inr there ↦ subst (λ (o : Option Node). IsDirectory o) (sym (way_stays w m path top way there)) (open_to top below there)
   ];
   below = bare;
 }

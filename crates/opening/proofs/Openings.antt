@@ -6,6 +6,7 @@ use Rattle.std.proofs.lemmas.Slice.Eq.{bytes_eq-Decides}
 use Rattle.std.proofs.lemmas.Bool.{true≢false}
 use Rattle.std.proofs.lemmas.Cmp.{nat_eq_equiv}
 use Rattle.std.proofs.lemmas.Map.Views.{list_any-from_Contains}
+use Rattle.host_core.proofs.Nodes.{none_there}
 use Rattle.host_core.specs.Paths.{Path}
 use Rattle.host_core.specs.Tree.{has_slash, IsListing}
 use Rattle.host_core.specs.World.{World, HasParent, IsDirectory, IsLoose, KeepsBut}
@@ -287,12 +288,8 @@ child_parent w front name free is = (front, name, refl, (λ has. true≢false (s
 
 -- a directory that has to be empty
 
-none_of : (n : Option Node) → (IsSome n → ⊥) → n ≡ None
-none_of None not = refl
-none_of (Some node) not = absurd (not refl)
-
 pub no_entry : (w : World) (directory : Path) (names : List Path) (bad : Bool) → bad ≡ false → IsListing w directory names bad → IsLeast (λ n. Unit {0}) names None → (name : Path) → has_slash name ≡ false → w (directory ++ 47 ∷ name) ≡ None
-no_entry w directory names bad e listing none name plain = none_of (w (directory ++ 47 ∷ name)) (λ some. elim (listing.whole name plain some) [
+no_entry w directory names bad e listing none name plain = none_there (w (directory ++ 47 ∷ name)) (λ some. elim (listing.whole name plain some) [
   | inl has ↦ none name has tt
   | inr odd ↦ true≢false (sym odd.1 ∙ e)
 ])

@@ -1,5 +1,6 @@
 -- A field has one reading, and one that has a reading has no fault.
 use Rattle.std.proofs.Common.{◌≡◌, ◌≢◌, ◌-◌, length, ℕ, zero, suc, List, [], ◌∷◌, Option, Some, None, sym, refl, ap, ◌∙◌, subst, inl, inr}
+use Rattle.std.proofs.lemmas.Option.{same_Some}
 use Rattle.relation_fields.specs.Words.{past_blanks}
 use Rattle.relation_fields.specs.Grammar.{Part, Start, Wanted, Behind, Opened, Compared, Versioned, Reading, taken, step, Steps, finished, clauses_at_end, start, Reads}
 use Rattle.relation_fields.specs.Faults.{IsFaultOf, fault_before}
@@ -10,12 +11,6 @@ use Rattle.relation_fields.specs.declared.fault.RelationFault.TheVariants.{NoMem
 
 some_is_none : (s : Reading) → ◌≡◌ {A = Option Reading} (Some s) None → ⊥
 some_is_none s h = cc
-
-same_some : (s t : Reading) → ◌≡◌ {A = Option Reading} (Some s) (Some t) → s ≡ t
-same_some s t h = cc
-
-same_list : (cs ds : List (List Alternative)) → ◌≡◌ {A = Option (List (List Alternative))} (Some cs) (Some ds) → cs ≡ ds
-same_list cs ds h = cc
 
 pub no_list : (cs : List (List Alternative)) → ◌≡◌ {A = Option (List (List Alternative))} (Some cs) None → ⊥
 no_list cs h = cc
@@ -39,14 +34,14 @@ same_end rules zero zero s t u h k e f = h ∙ sym k
 same_end rules zero (suc m) s t u h k e f = let none : step rules s ≡ None = ap (step rules) (sym h) ∙ e in absurd (some_is_none (k.0) (sym k.1 ∙ none))
 same_end rules (suc n) zero s t u h k e f = let none : step rules s ≡ None = ap (step rules) (sym k) ∙ f in absurd (some_is_none (h.0) (sym h.1 ∙ none))
 same_end rules (suc n) (suc m) s t u h k e f =
-    let next : h.0 ≡ k.0 = same_some (h.0) (k.0) (sym h.1 ∙ k.1) in
+    let next : h.0 ≡ k.0 = same_Some (h.0) (k.0) (sym h.1 ∙ k.1) in
     let P : Reading → Type 0 = λ x. Steps rules n x t in
     same_end rules n m (k.0) t u (subst P next h.2) k.2 e f
 
 pub one_reading : (rules : Rules) (bytes : List ℕ) (cs ds : List (List Alternative)) → Reads rules bytes cs → Reads rules bytes ds → cs ≡ ds
 one_reading rules bytes cs ds h k =
     let e = same_end rules h.1.0 k.1.0 (start bytes) h.0 k.0 h.1.1 k.1.1 (finished_stuck rules h.0 cs h.2) (finished_stuck rules k.0 ds k.2) in
-    same_list cs ds (sym h.2 ∙ (ap finished e ∙ k.2))
+    same_Some cs ds (sym h.2 ∙ (ap finished e ∙ k.2))
 
 pub no_other_fault : (rules : Rules) (bytes : List ℕ) (clauses : List (List Alternative)) (fault : RelationFault) → Reads rules bytes clauses → IsFaultOf rules bytes fault → fault ≡ NoMemory
 no_other_fault rules bytes clauses fault h (inl k) = k

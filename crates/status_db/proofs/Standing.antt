@@ -3,14 +3,11 @@ use Rattle.std.proofs.Common.{◌≡◌, ℕ, ◌+◌, ◌<◌, Bool, true, fals
 use Rattle.std.specs.List.{AllByRecursion}
 use Rattle.std.proofs.lemmas.List.{append-nil, map-append}
 use Rattle.std.proofs.lemmas.List.Elements.{filter_more}
+use Rattle.control_fields.proofs.Written.{add_all}
 use Rattle.control_fields.specs.declared.field.Field.{Field}
 use Rattle.status_db.specs.declared.record.Record.{Record}
 use Rattle.status_db.specs.Words.{is_not_installed}
 use Rattle.status_db.specs.Records.{standing}
-
-pub all_add : {X : Type 0} (P : X → Type 0) (xs : List X) (x : X) → AllByRecursion P xs → P x → AllByRecursion P (xs ++ x ∷ [])
-all_add P [] x all here = (here, tt)
-all_add P (y ∷ xs) x all here = (all.0, all_add P xs x all.1 here)
 
 standing_more : (rs : List Record) (i : ℕ) (r : Record) (b : Bool) → i < length rs → r ≡ get_or rs i r → is_not_installed r.state ≡ b → standing (take (i + 1) rs) ≡ standing (take i rs) ++ cond (not b) (r ∷ []) []
 standing_more rs i r b lt e is =
@@ -28,7 +25,7 @@ written_more written rs i r ps next p lt e is so_far n same =
     n ∙ ap (λ (l : List (List Field)). l ++ p ∷ []) so_far ∙ ap (λ (q : List Field). map written (standing (take i rs)) ++ q ∷ []) same ∙ sym (map-append written (standing (take i rs)) (r ∷ [])) ∙ ap (map written) (sym (standing_kept rs i r lt e is))
 
 pub all_more : (P : Record → Type 0) (rs : List Record) (i : ℕ) (r : Record) → i < length rs → r ≡ get_or rs i r → is_not_installed r.state ≡ false → AllByRecursion P (standing (take i rs)) → P r → AllByRecursion P (standing (take (i + 1) rs))
-all_more P rs i r lt e is all here = subst (AllByRecursion P) (sym (standing_kept rs i r lt e is)) (all_add P (standing (take i rs)) r all here)
+all_more P rs i r lt e is all here = subst (AllByRecursion P) (sym (standing_kept rs i r lt e is)) (add_all P (standing (take i rs)) r all here)
 
 pub paragraphs_same : (written : Record → List Field) (rs : List Record) (i : ℕ) (r : Record) (ps next : List (List Field)) → i < length rs → r ≡ get_or rs i r → is_not_installed r.state ≡ true
     → ps ≡ map written (standing (take i rs)) → next ≡ ps → next ≡ map written (standing (take (i + 1) rs))

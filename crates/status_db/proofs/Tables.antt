@@ -72,7 +72,7 @@ pub record_in-place_record : (r : Record) (rs : List Record) (q : List ℕ) → 
 record_in-place_record r [] q lacks = refl
 record_in-place_record r (x ∷ xs) q lacks = placed_head (is_lt (slice_cmp nat_cmp x.name r.name)) (bytes_eq x.name q) r x q (place_record r xs) xs lacks.0 (record_in-place_record r xs q lacks.1) refl
 
-covered : (b : Bool) (m n o : Option Record) → cond b m (cond b n o) ≡ cond b m o
+pub covered : (b : Bool) (m n o : Option Record) → cond b m (cond b n o) ≡ cond b m o
 covered true m n o = refl
 covered false m n o = refl
 

@@ -17,7 +17,7 @@ use Rattle.administration.specs.Places.{temporary, info_path}
 use Rattle.administration.specs.Files.{NoDirectory, IsReplaced, IsReplacing, IsDropped, IsDropping}
 use Rattle.administration.specs.declared.scripts.Scripts.{Scripts}
 use Rattle.administration.proofs.WholeFiles.{no_directory_none, no_directory_at, no_directory_file, no_slash}
-use Rattle.administration.proofs.Emptying.{dropped_either, none_then}
+use Rattle.administration.proofs.Emptying.{dropped_either, none_then, less_then}
 use Rattle.unpack_engine.specs.OwnFiles.{OwnFile, ending, own_path, own_node, root_list, HasDroppedScripts, HasPutScripts, IsPut, IsCleared, IsInstalled, IsOwnMoment, IsChanging, IsOwnReady}
 use Rattle.unpack_engine.specs.OwnFiles.IsOwnMoment.{same, gone, whole}
 use Rattle.unpack_engine.proofs.Endings.{own_lasting, own_same, own_apart, info_apart, info_lasting, mark}
@@ -133,11 +133,6 @@ goes_there name scripts s a there goes h =
     subst IsDirectory (sym (changing_there name scripts s.world a.world (since_now _ s a (goes.moments h0)))) (there h0)
 
 -- the four scripts are dropped one after another
-either_then : (m n o : Option Node) → (n ≡ o) ⊎ (n ≡ None) → (m ≡ n) ⊎ (m ≡ None) → (m ≡ o) ⊎ (m ≡ None)
-either_then m n o (inl e) (inl f) = inl (f ∙ e)
-either_then m n o (inr e) (inl f) = inr (f ∙ e)
-either_then m n o before (inr f) = inr f
-
 pub dropped_four : (name : List ℕ) (w0 w1 w2 w3 w4 : World) → IsDropped (own_path name (Some Preinst)) w0 w1 → IsDropped (own_path name (Some Postinst)) w1 w2 → IsDropped (own_path name (Some Prerm)) w2 w3 → IsDropped (own_path name (Some Postrm)) w3 w4 → HasDroppedScripts name w0 w4
 dropped_four name w0 w1 w2 w3 w4 d1 d2 d3 d4 =
     let p : Script → Path = λ s. own_path name (Some s) in
@@ -147,7 +142,7 @@ dropped_four name w0 w1 w2 w3 w4 d1 d2 d3 d4 =
     let e4 : (q : Path) → (w4 q ≡ w3 q) ⊎ (w4 q ≡ None) = λ q. dropped_either (p Postrm) q w3 w4 d4 in
     record {
       gone = λ s. gone_of name w1 w2 w3 w4 d1.target d2.target d3.target d4.target e2 e3 e4 s;
-      less = λ q. either_then (w4 q) (w3 q) (w0 q) (either_then (w3 q) (w2 q) (w0 q) (either_then (w2 q) (w1 q) (w0 q) (e1 q) (e2 q)) (e3 q)) (e4 q);
+      less = λ q. less_then (w4 q) (w3 q) (w0 q) (less_then (w3 q) (w2 q) (w0 q) (less_then (w2 q) (w1 q) (w0 q) (e1 q) (e2 q)) (e3 q)) (e4 q);
       rest = λ q out. d4.rest q (out Postrm) ∙ d3.rest q (out Prerm) ∙ d2.rest q (out Postinst) ∙ d1.rest q (out Preinst);
     }
   where
@@ -212,7 +207,7 @@ module _ (name : List ℕ) (scripts : Scripts) (w0 w1 w2 w3 w4 : World) where
           ∙ beside name _ (Some Postrm) (Some Preinst) w0 w1 (λ e. absurd (omega (arith, e))) p1 ∙ free Postrm)
 
 -- the list first, then the scripts
-script_mark : (script : Script) → mark (Some script) ≢ 46
+pub script_mark : (script : Script) → mark (Some script) ≢ 46
 script_mark Preinst e = absurd (omega (arith, e))
 script_mark Postinst e = absurd (omega (arith, e))
 script_mark Prerm e = absurd (omega (arith, e))

@@ -1,7 +1,8 @@
 -- What laying out the scripts of the incoming tree leaves.
-use Rattle.std.proofs.Common.{◌≡◌, ◌⊎◌, inl, inr, Bool, true, false, cond, nat_eq, ◌∷◌, ◌++◌, Option, Some, None, refl, sym, ap, subst, ◌∙◌, codes, Contains, arith, is_some, drop, zero, suc}
+use Rattle.std.proofs.Common.{◌≡◌, inl, inr, Bool, true, false, cond, nat_eq, ◌∷◌, ◌++◌, Option, Some, None, refl, sym, ap, subst, ◌∙◌, codes, Contains, arith, is_some, drop, zero, suc}
 use Rattle.std.specs.Prelude.{IsSome, MatchBool}
 use Rattle.std.proofs.lemmas.Bool.{true≢false, eqb-true, eqb-false}
+use Rattle.host_core.proofs.Nodes.{none_stands, some_or_none}
 use Rattle.host_core.proofs.Paths.{decide}
 use Rattle.host_core.specs.Paths.{Path}
 use Rattle.host_core.specs.World.{World, IsDirectory, IsLoose as IsLooseNode, IsBare, KeepsBut, HasParent}
@@ -85,9 +86,6 @@ listed Postinst = (1, omega arith, refl)
 listed Prerm = (2, omega arith, refl)
 listed Postrm = (3, omega arith, refl)
 
-none_stands : (n : Option Node) → n ≡ None → IsSome n → ⊥
-none_stands n e is = true≢false (sym is ∙ ap is_some e)
-
 pub holds_more : (scripts : Scripts) (script : Script) (table : Table) (w v : World) → table script ≡ None → Holds table w → IsPut (tmp_script_path script) (file_of (script_of scripts script)) w v → Holds (with_script scripts script table) v
 holds_more scripts script table w v free holds put = record {
   there = subst IsDirectory (sym (put.rest tmp_path (directory_differs tmp_path (script_name script)) (directory_differs tmp_path (script_name script ++ codes ".dpkg-inst")))) holds.there;
@@ -162,11 +160,6 @@ module _ (scripts : Scripts) where
 
   pub laid_out : (w : World) → Holds all_scripts w → AreLaidOut scripts w
   laid_out w holds = record { there = holds.there; files = λ script. holds.files script ∙ all_there script; spares = holds.spares; whole = holds.whole }
-
--- a directory that was made where nothing stood is empty
-some_or_none : (n : Option Node) → (n ≡ None) ⊎ IsSome n
-some_or_none None = inl refl
-some_or_none (Some n) = inr refl
 
 pub made_bare : (w v : World) → IsTree w → w tmp_path ≡ None → IsMade tmp_path w v → IsBare v tmp_path
 made_bare w v tree none made rest =

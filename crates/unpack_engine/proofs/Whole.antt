@@ -1,5 +1,5 @@
 -- The whole unit, from its parts.
-use Rattle.std.proofs.Common.{◌≡◌, ◌≢◌, ◌⊎◌, inl, inr, ℕ, Bool, true, false, cond, List, [], ◌∷◌, ◌++◌, get_or, Option, Some, None, IsTrue, refl, sym, ap, subst, ◌∙◌, arith}
+use Rattle.std.proofs.Common.{◌≡◌, ◌≢◌, ◌⊎◌, inl, inr, ℕ, true, false, cond, List, [], ◌∷◌, ◌++◌, get_or, Option, Some, None, IsTrue, refl, sym, ap, subst, ◌∙◌, arith}
 use Rattle.std.specs.Prelude.{IsSome}
 use Rattle.std.specs.Str.{bytes_eq}
 use Rattle.std.proofs.lemmas.Bool.{true≢false}
@@ -30,7 +30,7 @@ use Rattle.status_db.specs.declared.words.State.{State as State'}
 use Rattle.status_db.specs.declared.words.State.TheVariants as state
 use Rattle.status_db.specs.Records.{record_in, put_record, drop_record}
 use Rattle.status_db.specs.Status.{HasRecords}
-use Rattle.status_db.proofs.Tables.{record_in-put_record, record_in-drop_record}
+use Rattle.status_db.proofs.Tables.{record_in-put_record, record_in-drop_record, covered}
 use Rattle.status_db.specs.declared.record.Record.{Record}
 use Rattle.unpack_engine.specs.ForwardRows.{preinst_row, file_row, rows_of, gives}
 use Rattle.unpack_engine.specs.Turns.{Falls, IsTurn}
@@ -116,10 +116,6 @@ pub installed_within : (p : Package) (w now : World) → KeepsBesideOwn p.name w
 installed_within p w now rest q inside = rest q (λ f. (inside_differs (own_path p.name f) q inside refl, inside_differs (temporary (own_path p.name f)) q inside refl))
 
 -- the records at the end
-
-covered : (b : Bool) (m n o : Option Record) → cond b m (cond b n o) ≡ cond b m o
-covered true m n o = refl
-covered false m n o = refl
 
 put_changed : (p : Package) (flag : Flag) (state : State') (before after : List Record) (put : IsPutAs p flag state before after) → HasChangedRecord p.name (Some put.entry) before after
 put_changed p flag state before after put q =
