@@ -23,6 +23,8 @@ read_within outer inner within word read (inl r) = inl (record {
   behind = within.tree word r.state r.behind;
   reads = r.reads;
   end = r.end;
+  silent = r.silent;
+  same = r.same;
   given = within.seen r.end r.given;
   cause = r.cause;
 })

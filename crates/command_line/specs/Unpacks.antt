@@ -1,7 +1,7 @@
 -- What the report on an unpack has to do with the words for the root and the trees.
 use Rattle.std.specs.Prelude.{◌≡◌, ◌⊎◌, ◌<◌, ℕ, List, map, IsTrue, IsNone, IfSome, Some, None, Result, Ok, Err}
 use Rattle.std.specs.List.{All}
-use Rattle.host_core.specs.Host.{Silent, Since, State}
+use Rattle.host_core.specs.Host.{Same, Silent, Since, State}
 use Rattle.host_core.specs.Paths.{Path}
 use Rattle.host_core.specs.World.{World}
 use Rattle.administration.specs.declared.fault.AdministrationFault.{AdministrationFault}
@@ -46,12 +46,15 @@ abbrev pub Reads : World → Result Package TreeFault → Type 0
 Reads w (Ok read) = IsTreeOf w read
 Reads w (Err fault) = IsTreeFault w fault
 
--- the tree behind a word reads so, on a host that was given back; a fault of the device is one that this host counts
+-- the tree behind a word reads so, on a host on which no script was called and nothing changed, and which was given back; a
+-- fault of the device is one that this host counts
 pub record IsReading (a : Around) (word : List ℕ) (read : Result Package TreeFault) : Type 0 where
   pub state : State
   pub behind : a.tree word state
   pub reads : IsTrue state.honest → Reads state.world read
   pub end : State
+  pub silent : Silent state end
+  pub same : IsTrue state.honest → Same state end
   pub given : a.seen end
   pub cause : read ≡ Err tree_faults.Device → state.faults < end.faults
 
@@ -74,7 +77,7 @@ pub record HasRunTrees (a : Around) (trees : List (List ℕ)) (done : Report) (p
   pub candidates : List Candidate
   pub labels : map (λ (c : Candidate). c.label) candidates ≡ trees
   pub read : All (IsLabelled a) candidates
-  pub part : HasRun candidates done.units.items places table s
+  pub part : HasRun candidates done.units.items places table s end
   pub whole : IsNone done.last → IsWholeRun candidates done places table s end
   pub last : IfSome done.last (λ unit. IsBroken unit.reply)
   pub cause : IfSome done.last (λ unit. IsBrokenBy breakages.Device unit.reply → s.faults < end.faults)

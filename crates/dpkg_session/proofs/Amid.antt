@@ -4,40 +4,52 @@ use Rattle.host_core.specs.Paths.{Path}
 use Rattle.host_core.specs.World.{World}
 use Rattle.host_core.specs.Host.{State, Since}
 use Rattle.host_core.specs.Moments.{since_start, since_then, since_weaker}
-use Rattle.unpack_engine.specs.OwnFiles.{same}
 use Rattle.package_tree.specs.declared.package.Package.{Package}
 use Rattle.package_tree.specs.declared.fault.TreeFault.{TreeFault}
 use Rattle.status_db.specs.declared.record.Record.{Record}
 use Rattle.status_db.specs.Status.{HasRecords}
-use Rattle.unpack_engine.specs.Unpack.{IsAmid, as_before}
+use Rattle.host_core.specs.Tree.{IsTree}
+use Rattle.unpack_engine.specs.Unpack.{IsAmid, IsInOrder}
+use Rattle.unpack_engine.proofs.Amid.{amid_start}
+use Rattle.unpack_engine.proofs.LaidOut.{incoming_absent}
 use Rattle.dpkg_session.specs.declared.refusal.Word.{Word}
 use Rattle.dpkg_session.specs.declared.report.Candidate.{Candidate}
 use Rattle.dpkg_session.specs.declared.report.Unit.{Unit as AUnit}
 use Rattle.dpkg_session.specs.Refusals.{word_of}
-use Rattle.dpkg_session.specs.Run.{IsAmidByWord, IsAmidRun, IsAmidUnitOf, IsRun}
+use Rattle.dpkg_session.specs.Run.{IsAmidByWord, IsAmidNext, IsAmidRun, IsAmidUnitOf, IsRun}
 
 -- nothing is done yet
 
-amid_start : (p : Package) (places : List Path) (before : List Record) (w : World) → HasRecords w before → IsAmid p places before w w
-amid_start p places before w records = record { stage = before; is_stage = as_before; records = records; own = λ file. same refl; rest = λ q out kept. refl }
+-- what the first moment of a unit needs
+pub record IsStart (before : List Record) (w : World) : Type 0 where
+  pub order : IsInOrder w
+  pub tree : IsTree w
+  pub records : HasRecords w before
 
-word_start : (p : Package) (word : Option Word) (places : List Path) (before : List Record) (w : World) → HasRecords w before → IsAmidByWord p word places before w w
-word_start p (Some word) places before w records = refl
-word_start p None places before w records = amid_start p places before w records
+word_start : (p : Package) (word : Option Word) (places : List Path) (before : List Record) (w : World) → IsStart before w → IsAmidByWord p word places before w w
+word_start p (Some word) places before w start = refl
+word_start p None places before w start = amid_start p places before w start.order (incoming_absent w start.tree start.order.tmp) start.records
 
-unit_start : (tree : Result Package TreeFault) (places : List Path) (before : List Record) (w : World) → HasRecords w before → IsAmidUnitOf tree places before w w
-unit_start (Err fault) places before w records = refl
-unit_start (Ok p) places before w records = word_start p (word_of p before) places before w records
+unit_start : (tree : Result Package TreeFault) (places : List Path) (before : List Record) (w : World) → IsStart before w → IsAmidUnitOf tree places before w w
+unit_start (Err fault) places before w start = refl
+unit_start (Ok p) places before w start = word_start p (word_of p before) places before w start
 
-pub since_unit_start : (tree : Result Package TreeFault) (places : List Path) (before : List Record) (s : State) → HasRecords s.world before → Since (IsAmidUnitOf tree places before s.world) s s
-since_unit_start tree places before s records = since_start (IsAmidUnitOf tree places before s.world) s (unit_start tree places before s.world records)
+pub since_unit_start : (tree : Result Package TreeFault) (places : List Path) (before : List Record) (s : State) → IsStart before s.world → Since (IsAmidUnitOf tree places before s.world) s s
+since_unit_start tree places before s start = since_start (IsAmidUnitOf tree places before s.world) s (unit_start tree places before s.world start)
 
-run_start : (cs : List Candidate) (places : List Path) (before : List Record) (s : State) → HasRecords s.world before → IsAmidRun cs places before s s.world
-run_start [] places before s records = refl
-run_start (c ∷ cs) places before s records = inl (unit_start c.tree places before s.world records)
+run_start : (cs : List Candidate) (places : List Path) (before : List Record) (s : State) → IsStart before s.world → IsAmidRun cs places before s s.world
+run_start [] places before s start = refl
+run_start (c ∷ cs) places before s start = inl (unit_start c.tree places before s.world start)
 
-pub since_run_start : (cs : List Candidate) (places : List Path) (before : List Record) (s : State) → HasRecords s.world before → Since (IsAmidRun cs places before s) s s
-since_run_start cs places before s records = since_start (IsAmidRun cs places before s) s (run_start cs places before s records)
+pub since_run_start : (cs : List Candidate) (places : List Path) (before : List Record) (s : State) → IsStart before s.world → Since (IsAmidRun cs places before s) s s
+since_run_start cs places before s start = since_start (IsAmidRun cs places before s) s (run_start cs places before s start)
+
+next_start : (cs : List Candidate) (places : List Path) (before : List Record) (w : World) → IsStart before w → IsAmidNext cs places before w w
+next_start [] places before w start = refl
+next_start (c ∷ cs) places before w start = unit_start c.tree places before w start
+
+pub since_next_start : (cs : List Candidate) (places : List Path) (before : List Record) (s : State) → IsStart before s.world → Since (IsAmidNext cs places before s.world) s s
+since_next_start cs places before s start = since_start (IsAmidNext cs places before s.world) s (next_start cs places before s.world start)
 
 -- a refused unit
 

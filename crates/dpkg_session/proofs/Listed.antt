@@ -21,7 +21,7 @@ use Rattle.file_lists.proofs.Kept.{IsBareList, has_places_grown, has_places_left
 use Rattle.opening.specs.Opened.{IsOpened}
 use Rattle.opening.specs.Parts.{names_of}
 use Rattle.unpack_engine.specs.OwnFiles.{OwnFile, own_path}
-use Rattle.unpack_engine.proofs.Endings.{own_apart, own_lasting, mark}
+use Rattle.unpack_engine.proofs.Endings.{own_apart, own_lasting}
 use Rattle.package_tree.specs.declared.package.Package.{Package}
 use Rattle.package_tree.specs.declared.fault.TreeFault.{TreeFault}
 use Rattle.status_db.specs.Status.{HasRecords}

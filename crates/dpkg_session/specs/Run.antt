@@ -1,7 +1,7 @@
 -- A run of units, one after another.
-use Rattle.std.specs.Prelude.{◌≡◌, ◌⊎◌, List, [], ◌∷◌, ◌++◌, length, take, Option, Some, None, Result, Ok, Err}
+use Rattle.std.specs.Prelude.{◌≡◌, ◌⊎◌, List, [], ◌∷◌, ◌++◌, length, take, drop, IsTrue, Option, Some, None, Result, Ok, Err}
 use Rattle.host_core.specs.Paths.{Path}
-use Rattle.host_core.specs.Host.{State}
+use Rattle.host_core.specs.Host.{State, Since}
 use Rattle.host_core.specs.World.{World}
 use Rattle.package_tree.specs.declared.fault.TreeFault.{TreeFault}
 use Rattle.package_tree.specs.declared.package.Package.{Package}
@@ -26,12 +26,6 @@ IsRun [] (u ∷ us) places before after s t = ⊥
 IsRun (c ∷ cs) [] places before after s t = ⊥
 IsRun (c ∷ cs) (u ∷ us) places before after s t = (m : State) × (mid : List Record) × (m.honest ≡ s.honest) × IsUnit c places before mid u s m × IsRun cs us places mid after m t
 
--- the units are a run of the first candidates
-pub record HasRun (cs : List Candidate) (us : List AUnit) (places : List Path) (before : List Record) (s : State) : Type 0 where
-  pub after : List Record
-  pub end : State
-  pub run : IsRun (take (length us) cs) us places before after s end
-
 -- at each moment of the unit of a package: nothing has changed where it is refused
 abbrev pub IsAmidByWord : Package → Option Word → List Path → List Record → World → World → Type 0
 IsAmidByWord p (Some word) places before old now = now ≡ old
@@ -41,6 +35,20 @@ IsAmidByWord p None places before old now = IsAmid p places before old now
 abbrev pub IsAmidUnitOf : Result Package TreeFault → List Path → List Record → World → World → Type 0
 IsAmidUnitOf (Err fault) places before old now = now ≡ old
 IsAmidUnitOf (Ok p) places before old now = IsAmidByWord p (word_of p before) places before old now
+
+-- at each moment after the units that are done: that of the next tree is under way
+abbrev pub IsAmidNext : List Candidate → List Path → List Record → World → World → Type 0
+IsAmidNext [] places before old now = now ≡ old
+IsAmidNext (c ∷ cs) places before old now = IsAmidUnitOf c.tree places before old now
+
+-- The units are a run of the first candidates up to a moment of the host, and since that moment only the unit of the next
+-- one was under way: so what they left stands, also where that one was broken off.
+pub record HasRun (cs : List Candidate) (us : List AUnit) (places : List Path) (before : List Record) (s t : State) : Type 0 where
+  pub after : List Record
+  pub end : State
+  pub run : IsRun (take (length us) cs) us places before after s end
+  pub honest : end.honest ≡ s.honest
+  pub since : IsTrue s.honest → Since (IsAmidNext (drop (length us) cs) places after end.world) end t
 
 -- at each moment of a run: some units are done, and the next is under way
 abbrev pub IsAmidRun : List Candidate → List Path → List Record → State → World → Type 0

@@ -84,7 +84,7 @@ impl<H: Host> Session<H> {
     /// Runs a command: its units in order, up to one that is broken off, which closes the session.
     pub fn run(&mut self, command: &Command) -> Report
         ensures whole { self.old.closed ≡ false → IsNone result.last → IsRun (candidates_of command.now) result.units.items self.old.keep self.old.database self.new.database (H.state self.old.host) (H.state self.new.host) }
-        ensures part { self.old.closed ≡ false → HasRun (candidates_of command.now) result.units.items self.old.keep self.old.database (H.state self.old.host) }
+        ensures part { self.old.closed ≡ false → HasRun (candidates_of command.now) result.units.items self.old.keep self.old.database (H.state self.old.host) (H.state self.new.host) }
         ensures told { TellsCalls (H.state self.old.host) (H.state self.new.host) result }
         ensures any_moment { self.old.closed ≡ false → IsTrue (H.state self.old.host).honest → Since (IsAmidRun (candidates_of command.now) self.old.keep self.old.database (H.state self.old.host)) (H.state self.old.host) (H.state self.new.host) }
         ensures last { IfSome result.last (λ unit. IsBroken unit.reply) }

@@ -296,7 +296,7 @@ pub(crate) fn run_units<H: Host>(
     requires order { IsTrue (H.state host.old).honest → IsInOrder (H.state host.old).world }
     requires records { IsTrue (H.state host.old).honest → HasRecords (H.state host.old).world database.old }
     ensures whole { IsNone result.last → IsRun candidates.now result.units.items keep.now database.old database.new (H.state host.old) (H.state host.new) }
-    ensures part { HasRun candidates.now result.units.items keep.now database.old (H.state host.old) }
+    ensures part { HasRun candidates.now result.units.items keep.now database.old (H.state host.old) (H.state host.new) }
     ensures told { TellsCalls (H.state host.old) (H.state host.new) result }
     ensures any_moment { IsTrue (H.state host.old).honest → Since (IsAmidRun candidates.now keep.now database.old (H.state host.old)) (H.state host.old) (H.state host.new) }
     ensures last { IfSome result.last (λ unit. IsBroken unit.reply) }

@@ -1,23 +1,37 @@
 -- What holds at each moment of a unit goes on from part to part.
-use Rattle.std.proofs.Common.{◌≡◌, ◌≢◌, inl, inr, List, refl, sym, subst, ◌∙◌}
+use Rattle.std.proofs.Common.{inl, inr, List, refl, sym, subst, ◌∙◌}
 use Rattle.host_core.specs.Paths.{Path}
-use Rattle.host_core.specs.World.{World, is_kept, KeepsBut, SameOn}
+use Rattle.host_core.specs.World.{World, is_kept, SameOn}
 use Rattle.host_core.specs.Host.{State, Since}
 use Rattle.host_core.specs.Moments.{since_then, since_weaker, since_now}
-use Rattle.administration.specs.Places.{status_path, tmp_path, temporary, is_within}
+use Rattle.administration.specs.Places.{status_path, temporary}
+use Rattle.administration.specs.Files.{NoDirectory, KeepsBesideFile}
+use Rattle.administration.proofs.WholeFiles.{no_directory_at}
 use Rattle.package_tree.specs.declared.package.Package.{Package}
 use Rattle.unpack_engine.specs.OwnFiles.{own_path, own_node, IsOwnMoment, IsChanging}
 use Rattle.unpack_engine.specs.OwnFiles.IsOwnMoment.{same}
 use Rattle.unpack_engine.proofs.Changes.{moment_then}
 use Rattle.status_db.specs.declared.record.Record.{Record}
 use Rattle.status_db.specs.Status.{HasRecords, IsNoting}
-use Rattle.unpack_engine.specs.Unpack.{IsStage, IsAmid}
-use Rattle.unpack_engine.proofs.Apart.{own_not_status, own_not_status_spare, spare_not_status}
+use Rattle.unpack_engine.specs.Incoming.{IsIncoming, IsLaying}
+use Rattle.unpack_engine.specs.Unpack.{IsInOrder, IsStage, IsAmid}
+use Rattle.unpack_engine.proofs.Apart.{own_not_status, own_not_status_spare, spare_not_status, spare_not_status_spare, noted_within, scripts_within, installed_within}
+use Rattle.unpack_engine.proofs.Beginning.{own_in_order}
+use Rattle.unpack_engine.proofs.LaidOut.{incoming_kept}
 use Rattle.unpack_engine.proofs.Standing.{moved_records}
 
 module _ (p : Package) (places : List Path) (before : List Record) where
-  pub amid_start : (old : World) → HasRecords old before → IsAmid p places before old old
-  amid_start old has = record { stage = before; is_stage = IsStage.as_before; records = has; own = λ f. same refl; rest = λ q out kept. refl }
+  pub amid_start : (old : World) → IsInOrder old → IsIncoming old → HasRecords old before → IsAmid p places before old old
+  amid_start old order incoming has = record {
+    stage = before;
+    is_stage = IsStage.as_before;
+    records = has;
+    status_spare = order.status_spare;
+    own = λ f. same refl;
+    spares = (own_in_order p.name old p.named order).spares;
+    incoming = incoming;
+    rest = λ q out kept. refl;
+  }
 
   -- the package's own files
   pub amid_changing : (old w now : World) → IsAmid p places before old w → IsChanging p.name p.scripts w now → IsAmid p places before old now
@@ -25,18 +39,24 @@ module _ (p : Package) (places : List Path) (before : List Record) where
     stage = amid.stage;
     is_stage = amid.is_stage;
     records = moved_records amid.stage w now (is.rest status_path (λ f. ((λ e. own_not_status p.name f (sym e)), (λ e. spare_not_status p.name f (sym e))))) amid.records;
+    status_spare = no_directory_at (now (temporary status_path)) (w (temporary status_path)) (is.rest (temporary status_path) (λ f. ((λ e. own_not_status_spare p.name f (sym e)), (λ e. spare_not_status_spare p.name f (sym e))))) amid.status_spare;
     own = λ f. moment_then p.name p.scripts (own_node p.scripts f) (old (own_path p.name f)) (w (own_path p.name f)) (now (own_path p.name f)) (amid.own f) (is.own f);
+    spares = is.spares;
+    incoming = incoming_kept w now (installed_within p w now is.rest) amid.incoming;
     rest = λ q out kept. is.rest q out.own ∙ amid.rest q out kept;
   }
 
   -- within `tmp.ci`
-  pub amid_tmp : (old w now : World) → IsAmid p places before old w → KeepsBut (is_within tmp_path) w now → IsAmid p places before old now
-  amid_tmp old w now amid keeps = record {
+  pub amid_tmp : (old w now : World) → IsAmid p places before old w → IsLaying w now → IsAmid p places before old now
+  amid_tmp old w now amid laying = record {
     stage = amid.stage;
     is_stage = amid.is_stage;
-    records = moved_records amid.stage w now (keeps status_path refl) amid.records;
-    own = λ f. subst (IsOwnMoment (own_node p.scripts f) (old (own_path p.name f))) (sym (keeps (own_path p.name f) refl)) (amid.own f);
-    rest = λ q out kept. keeps q out.tmp ∙ amid.rest q out kept;
+    records = moved_records amid.stage w now (laying.rest status_path refl) amid.records;
+    status_spare = no_directory_at (now (temporary status_path)) (w (temporary status_path)) (laying.rest (temporary status_path) refl) amid.status_spare;
+    own = λ f. subst (IsOwnMoment (own_node p.scripts f) (old (own_path p.name f))) (sym (laying.rest (own_path p.name f) refl)) (amid.own f);
+    spares = λ f. no_directory_at (now (temporary (own_path p.name f))) (w (temporary (own_path p.name f))) (laying.rest (temporary (own_path p.name f)) refl) (amid.spares f);
+    incoming = laying.incoming;
+    rest = λ q out kept. laying.rest q out.tmp ∙ amid.rest q out kept;
   }
 
   -- script calls
@@ -45,24 +65,30 @@ module _ (p : Package) (places : List Path) (before : List Record) where
     stage = amid.stage;
     is_stage = amid.is_stage;
     records = moved_records amid.stage w now (as_kept status_path refl) amid.records;
+    status_spare = no_directory_at (now (temporary status_path)) (w (temporary status_path)) (as_kept (temporary status_path) refl) amid.status_spare;
     own = λ f. subst (IsOwnMoment (own_node p.scripts f) (old (own_path p.name f))) (sym (as_kept (own_path p.name f) refl)) (amid.own f);
+    spares = λ f. no_directory_at (now (temporary (own_path p.name f))) (w (temporary (own_path p.name f))) (as_kept (temporary (own_path p.name f)) refl) (amid.spares f);
+    incoming = incoming_kept w now (scripts_within places w now as_kept) amid.incoming;
     rest = λ q out kept. as_kept q kept ∙ amid.rest q out kept;
   }
 
   -- a note of the next stage
-  pub amid_status : (old w now : World) → IsAmid p places before old w → (next : List Record) → IsStage p before next → HasRecords now next → ((q : Path) → q ≢ status_path → q ≢ temporary status_path → now q ≡ w q) → IsAmid p places before old now
-  amid_status old w now amid next is has rest = record {
+  pub amid_status : (old w now : World) → IsAmid p places before old w → (next : List Record) → IsStage p before next → HasRecords now next → NoDirectory (now (temporary status_path)) → KeepsBesideFile status_path w now → IsAmid p places before old now
+  amid_status old w now amid next is has spare rest = record {
     stage = next;
     is_stage = is;
     records = has;
+    status_spare = spare;
     own = λ f. subst (IsOwnMoment (own_node p.scripts f) (old (own_path p.name f))) (sym (rest (own_path p.name f) (own_not_status p.name f) (own_not_status_spare p.name f))) (amid.own f);
+    spares = λ f. no_directory_at (now (temporary (own_path p.name f))) (w (temporary (own_path p.name f))) (rest (temporary (own_path p.name f)) (spare_not_status p.name f) (spare_not_status_spare p.name f)) (amid.spares f);
+    incoming = incoming_kept w now (noted_within w now rest) amid.incoming;
     rest = λ q out kept. rest q out.status out.status_spare ∙ amid.rest q out kept;
   }
 
   pub amid_noting : (old w now : World) → IsAmid p places before old w → (next : List Record) → IsStage p before next → IsNoting next w now → IsAmid p places before old now
   amid_noting old w now amid next is noting = elim noting.status [
-    | inl e ↦ amid_status old w now amid amid.stage amid.is_stage (moved_records amid.stage w now e amid.records) noting.rest
-    | inr has ↦ amid_status old w now amid next is has noting.rest
+    | inl e ↦ amid_status old w now amid amid.stage amid.is_stage (moved_records amid.stage w now e amid.records) noting.ready.spare noting.rest
+    | inr has ↦ amid_status old w now amid next is has noting.ready.spare noting.rest
   ]
 
   -- one part after another

@@ -1,5 +1,5 @@
 -- What dropping and putting the files of a package leaves.
-use Rattle.std.proofs.Common.{◌≡◌, ◌≢◌, ◌⊎◌, inl, inr, ℕ, true, false, List, ◌++◌, Option, Some, None, IsTrue, refl, sym, ap, subst, ◌∙◌, codes, Contains, arith}
+use Rattle.std.proofs.Common.{◌≡◌, ◌≢◌, ◌⊎◌, inl, inr, ℕ, true, List, ◌++◌, Option, Some, None, IsTrue, refl, sym, ap, subst, ◌∙◌, codes, Contains, arith}
 use Rattle.std.proofs.lemmas.Bool.{true≢false}
 use Rattle.std.proofs.lemmas.List.Elements.{Contains-append_cases}
 use Rattle.host_core.proofs.Paths.{decide}
@@ -86,7 +86,7 @@ changing_ready name scripts w now nodes ready is = record {
 }
 
 -- what is put there is no directory
-kind_of_file : (node : Node) → is_file node ≡ true → NoDirectory (Some node)
+pub kind_of_file : (node : Node) → is_file node ≡ true → NoDirectory (Some node)
 kind_of_file (File b m) is = no_directory_file (File b m) (b, m, refl)
 kind_of_file (Dir m) is = absurd (true≢false (sym is))
 kind_of_file (Link t) is = absurd (true≢false (sym is))

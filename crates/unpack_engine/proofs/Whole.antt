@@ -1,28 +1,28 @@
 -- The whole unit, from its parts.
-use Rattle.std.proofs.Common.{◌≡◌, ◌≢◌, ◌⊎◌, inl, inr, ℕ, true, false, cond, List, [], ◌∷◌, ◌++◌, get_or, Option, Some, None, IsTrue, refl, sym, ap, subst, ◌∙◌, arith}
+use Rattle.std.proofs.Common.{◌≡◌, ◌≢◌, ◌⊎◌, inl, inr, ℕ, true, cond, List, [], ◌∷◌, ◌++◌, get_or, Option, Some, None, IsTrue, refl, sym, ap, subst, ◌∙◌, arith}
 use Rattle.std.specs.Prelude.{IsSome}
 use Rattle.std.specs.Str.{bytes_eq}
-use Rattle.std.proofs.lemmas.Bool.{true≢false}
 use Rattle.std.proofs.lemmas.List.{append-nil}
 use Rattle.host_core.proofs.Paths.{decide}
 use Rattle.host_core.specs.Paths.{Path}
-use Rattle.host_core.specs.World.{World, is_kept, IsDirectory, SameOn}
-use Rattle.host_core.specs.Host.{Ran, State, Silent, Calls}
+use Rattle.host_core.specs.World.{World, is_kept, IsDirectory}
+use Rattle.host_core.specs.Host.{Ran, State, Silent, Calls, IsLater}
+use Rattle.host_core.specs.Moments.{silent_then}
 use Rattle.host_core.specs.declared.node.Node.{Node}
 use Rattle.host_core.specs.declared.call.Script.TheVariants.{Preinst, Postinst, Prerm, Postrm}
-use Rattle.administration.specs.Places.{info_path, status_path, tmp_path, tmp_script_path, temporary, is_within}
-use Rattle.administration.specs.Files.{NoDirectory, KeepsBesideFile}
+use Rattle.administration.specs.Places.{info_path, tmp_path, tmp_script_path, temporary, is_within}
+use Rattle.administration.specs.Files.{NoDirectory}
 use Rattle.administration.specs.Directories.{IsRemoved}
 use Rattle.administration.proofs.WholeFiles.{no_directory_at, no_directory_none}
-use Rattle.administration.proofs.Within.{directory_within, below_within, within_is}
+use Rattle.administration.proofs.Within.{directory_within, below_within}
 use Rattle.unwind_stack.specs.Transcript.{Ended, Committed as AllSucceeded, Unwound, Legal, Tells, Goes, Undid, Tries}
 use Rattle.unwind_stack.specs.declared.rows.Called.{Called}
 use Rattle.unwind_stack.specs.declared.rows.Owner.{Owner}
 use Rattle.unwind_stack.specs.declared.rows.Owner.TheVariants.{Package as OfPackage, Files}
 use Rattle.unwind_stack.specs.declared.fall.Fall.{Fall}
 use Rattle.package_tree.specs.declared.package.Package.{Package}
-use Rattle.unpack_engine.specs.OwnFiles.{OwnFile, own_path, own_node, KeepsBesideOwn}
-use Rattle.unpack_engine.specs.Incoming.{AreLaidOut}
+use Rattle.unpack_engine.specs.OwnFiles.{OwnFile, own_path, own_node}
+use Rattle.unpack_engine.specs.Incoming.{AreLaidOut, IsIncoming}
 use Rattle.unpack_engine.proofs.Changes.{own_nodes}
 use Rattle.status_db.specs.declared.words.Flag.{Flag}
 use Rattle.status_db.specs.declared.words.Flag.TheVariants as flag
@@ -44,6 +44,7 @@ use Rattle.unpack_engine.specs.Units.IsBeginning.{clearing, laying, noting}
 use Rattle.unpack_engine.specs.Units.IsFinishing.{storing, unpacked, forgetting, left}
 use Rattle.unpack_engine.proofs.Standing.{moved_records, kept_outside, stands_start, stands_cleared, stands_tmp, stands_noted, stands_scripts, stands_installed, home_there, info_there}
 use Rattle.unpack_engine.proofs.Amid.{amid_start, amid_changing, amid_tmp, amid_status, amid_noting}
+use Rattle.unpack_engine.proofs.Apart.{noted_within, installed_within}
 use Rattle.unpack_engine.proofs.Beginning.{own_in_order}
 
 -- a turn is a legal transcript
@@ -96,24 +97,6 @@ laid_keeps p w now keeps laid = record {
   spares = λ s. keeps (temporary (tmp_script_path s)) refl ∙ laid.spares s;
   whole = λ name plain there. laid.whole name plain (subst IsSome (keeps (tmp_path ++ 47 ∷ name) (below_within tmp_path name)) there);
 }
-
-inside_differs : (p q : Path) → is_within tmp_path q ≡ true → is_within tmp_path p ≡ false → q ≢ p
-inside_differs p q inside out e = true≢false (sym inside ∙ ap (is_within tmp_path) e ∙ out)
-
-pub noted_within : (w now : World) → KeepsBesideFile status_path w now → (q : Path) → is_within tmp_path q ≡ true → now q ≡ w q
-noted_within w now rest q inside = rest q (inside_differs status_path q inside refl) (inside_differs (temporary status_path) q inside refl)
-
-kept_within : (places : List Path) (q : Path) → is_within tmp_path q ≡ true → is_kept places q ≡ true
-kept_within places q inside = elim (within_is tmp_path q inside) [
-  | inl e ↦ subst (λ r. is_kept places r ≡ true) (sym e) refl
-  | inr r ↦ subst (λ s. is_kept places s ≡ true) (sym r.1) refl
-]
-
-pub scripts_within : (places : List Path) (w now : World) → SameOn (is_kept places) w now → (q : Path) → is_within tmp_path q ≡ true → now q ≡ w q
-scripts_within places w now same q inside = same q (kept_within places q inside)
-
-pub installed_within : (p : Package) (w now : World) → KeepsBesideOwn p.name w now → (q : Path) → is_within tmp_path q ≡ true → now q ≡ w q
-installed_within p w now rest q inside = rest q (λ f. (inside_differs (own_path p.name f) q inside refl, inside_differs (temporary (own_path p.name f)) q inside refl))
 
 -- the records at the end
 
@@ -281,16 +264,16 @@ begun_laid p after old now worlds = laid_keeps p worlds.laid now (noted_within w
 module _ (p : Package) (places : List Path) (before : List Record) where
   amid_notes : (flag : Flag) (state : State') (prev : List Record) (old w now : World) → IsAmid p places before old w → ((entry : Record) → IsRecordOf p flag state entry → IsStage p before (put_record entry prev)) → IsNotingAs p flag state prev w now → IsAmid p places before old now
   amid_notes flag state prev old w now amid stage notes = elim notes.status [
-    | inl e ↦ amid_status p places before old w now amid amid.stage amid.is_stage (moved_records amid.stage w now e amid.records) notes.rest
-    | inr has ↦ amid_status p places before old w now amid (put_record has.0 prev) (stage has.0 has.1) has.2 notes.rest
+    | inl e ↦ amid_status p places before old w now amid amid.stage amid.is_stage (moved_records amid.stage w now e amid.records) notes.ready.spare notes.rest
+    | inr has ↦ amid_status p places before old w now amid (put_record has.0 prev) (stage has.0 has.1) has.2 notes.ready.spare notes.rest
   ]
 
-  pub amid_beginning : (old now : World) → HasRecords old before → IsBeginning p before old now → IsAmid p places before old now
-  amid_beginning old now has (clearing is) = amid_changing p places before old old now (amid_start p places before old has) is
-  amid_beginning old now has (laying cleared is keeps) = amid_tmp p places before old cleared now (amid_changing p places before old old cleared (amid_start p places before old has) is) keeps
-  amid_beginning old now has (noting cleared laid is keeps noted) =
+  pub amid_beginning : (old now : World) → IsInOrder old → IsIncoming old → HasRecords old before → IsBeginning p before old now → IsAmid p places before old now
+  amid_beginning old now order incoming has (clearing is) = amid_changing p places before old old now (amid_start p places before old order incoming has) is
+  amid_beginning old now order incoming has (laying cleared is laid) = amid_tmp p places before old cleared now (amid_changing p places before old old cleared (amid_start p places before old order incoming has) is) laid
+  amid_beginning old now order incoming has (noting cleared laid is within noted) =
       amid_notes flag.Reinstreq state.HalfInstalled before old laid now
-      (amid_tmp p places before old cleared laid (amid_changing p places before old old cleared (amid_start p places before old has) is) keeps) (λ entry is. IsStage.half entry is) noted
+      (amid_tmp p places before old cleared laid (amid_changing p places before old old cleared (amid_start p places before old order incoming has) is) within) (λ entry is. IsStage.half entry is) noted
 
   pub amid_finishing : (turn : Turn) (mid : List Record) (old w now : World) → IsPutAs p flag.Reinstreq state.HalfInstalled before mid → IsAmid p places before old w → IsFinishing p turn mid w now → IsAmid p places before old now
   amid_finishing turn mid old w now half amid (storing t is) = amid_changing p places before old w now amid is
@@ -305,8 +288,8 @@ module _ (p : Package) (places : List Path) (before : List Record) where
 
 pub unit_by : (p : Package) (places : List Path) (turn : Turn) (before mid after : List Record) (ts : List Ran) (s a b c d : State) (told now : List Called) → IsTurn (preinst_row p) turn ts → Silent s a → Calls (is_kept places) ts a b → Silent b c → Silent c d → Tells ts told now
     → IsPutAs p flag.Reinstreq state.HalfInstalled before mid → FinishedTable p turn mid after → (IsTrue s.honest → IsInOrder s.world) → (IsTrue s.honest → HasRecords s.world before)
-    → (IsTrue s.honest → BegunWorlds p mid s.world a.world) → (IsTrue s.honest → FinishedWorlds p turn after b.world c.world) → (IsTrue s.honest → IsRemoved tmp_path c.world d.world) → HasUnpacked p places turn before after s d told now
-unit_by p places turn before mid after ts s a b c d told now turned first made third fourth tells half table order has begun finished removed =
+    → (IsTrue s.honest → BegunWorlds p mid s.world a.world) → (IsTrue s.honest → FinishedWorlds p turn after b.world c.world) → (IsTrue s.honest → IsRemoved tmp_path c.world d.world) → (IsTrue s.honest → IsLater s a × IsLater b d) → HasUnpacked p places turn before after s d told now
+unit_by p places turn before mid after ts s a b c d told now turned first made third fourth tells half table order has begun finished removed later =
     let legal = legal_turn p turn ts turned in
     let end = end_table p turn legal.ended before mid after legal.as_turned half table in
     record {
@@ -317,7 +300,20 @@ unit_by p places turn before mid after ts s a b c d told now turned first made t
       tells = tells;
       unit = record {
         legal = legal.legal;
-        made = record { begun = a; ended = b; before = first.calls; after = fourth.calls ∙ third.calls; made = made; scripts = λ h. (begun_laid p mid s.world a.world (begun h)).files };
+        made = record {
+          begun = a;
+          ended = b;
+          until = first;
+          made = made;
+          since = silent_then b c d third fourth;
+          later = later;
+          ready = λ h. record {
+            scripts = (begun_laid p mid s.world a.world (begun h)).files;
+            entry = half.entry;
+            half = half.is;
+            records = subst (HasRecords a.world) half.table (begun h).noted.records;
+          };
+        };
         leaves = λ h.
             let h1 = subst IsTrue (sym first.honest) h in
             let one = begun_stands p places before mid s.world a.world (order h) (has h) (begun h) in

@@ -9,7 +9,7 @@ use Rattle.unwind_stack.specs.declared.rows.Called.{Called}
 use Rattle.unwind_stack.specs.declared.rows.Owner.{Owner}
 use Rattle.package_tree.specs.declared.package.Package.{Package}
 use Rattle.unpack_engine.specs.OwnFiles.{IsCleared, IsInstalled, IsChanging, IsOwnReady}
-use Rattle.unpack_engine.specs.Incoming.{AreLaidOut}
+use Rattle.unpack_engine.specs.Incoming.{AreLaidOut, IsLaying}
 use Rattle.status_db.specs.declared.record.Record.{Record}
 use Rattle.status_db.specs.declared.words.Flag.TheVariants as flag
 use Rattle.status_db.specs.declared.words.State.TheVariants as state
@@ -37,8 +37,8 @@ pub record HasBegun (p : Package) (before after : List Record) (honest : Type 0)
 -- at each moment of the beginning
 pub data IsBeginning (p : Package) (before : List Record) (old now : World) : Type 0 where
   clearing : IsChanging p.name p.scripts old now → IsBeginning p before old now
-  laying : (cleared : World) → IsChanging p.name p.scripts old cleared → KeepsBut (is_within tmp_path) cleared now → IsBeginning p before old now
-  noting : (cleared laid : World) → IsChanging p.name p.scripts old cleared → KeepsBut (is_within tmp_path) cleared laid → IsNotingAs p flag.Reinstreq state.HalfInstalled before laid now → IsBeginning p before old now
+  laying : (cleared : World) → IsChanging p.name p.scripts old cleared → IsLaying cleared now → IsBeginning p before old now
+  noting : (cleared laid : World) → IsChanging p.name p.scripts old cleared → IsLaying cleared laid → IsNotingAs p flag.Reinstreq state.HalfInstalled before laid now → IsBeginning p before old now
 
 -- how the unit is finished, by the turn that its rows took
 abbrev pub FinishedWorlds : Package → Turn → List Record → World → World → Type 0

@@ -4,7 +4,7 @@ use Rattle.std.specs.Map.{update}
 use Rattle.std.specs.Str.{bytes_eq}
 use Rattle.host_core.specs.Paths.{Path}
 use Rattle.host_core.specs.World.{World, IsDirectory, Avoids, changed, is_kept}
-use Rattle.host_core.specs.Host.{Ran, State, Calls, scripts_change}
+use Rattle.host_core.specs.Host.{Ran, State, Silent, Calls, IsLater, scripts_change}
 use Rattle.host_core.specs.Tree.{has_slash}
 use Rattle.host_core.specs.declared.call.Script.{Script}
 use Rattle.administration.specs.Places.{home_path, info_path, status_path, tmp_path, tmp_script_path, temporary, is_within}
@@ -12,6 +12,7 @@ use Rattle.administration.specs.Files.{NoDirectory}
 use Rattle.administration.specs.Scripts.{script_of, file_of}
 use Rattle.unwind_stack.specs.Transcript.{Ended, Legal}
 use Rattle.package_tree.specs.declared.package.Package.{Package}
+use Rattle.unpack_engine.specs.Incoming.{IsIncoming}
 use Rattle.unpack_engine.specs.OwnFiles.{OwnFile, own_path, own_node, IsOwnMoment}
 use Rattle.status_db.specs.declared.record.Record.{Record}
 use Rattle.status_db.specs.Records.{record_in, put_record, drop_record}
@@ -41,14 +42,23 @@ pub record IsOutside (name : List ℕ) (q : Path) : Type 0 where
 abbrev pub HasChangedRecord : List ℕ → Option Record → List Record → List Record → Type 0
 HasChangedRecord name entry before after = (q : List ℕ) → record_in after q ≡ update bytes_eq (record_in before) name entry q
 
--- the script calls of a unit were made one after another, from a moment at which the tree's scripts lay where the calls name them
-pub record MadeCalls (kept : Path → Bool) (p : Package) (ts : List Ran) (old new : State) : Type 0 where
+-- the tree's scripts lie where the calls name them, and the package is noted as half-installed
+pub record IsReadyForCalls (p : Package) (before : List Record) (w : World) : Type 0 where
+  pub scripts : (script : Script) → w (tmp_script_path script) ≡ file_of (script_of p.scripts script)
+  pub entry : Record
+  pub half : IsRecordOf p flag.Reinstreq state.HalfInstalled entry
+  pub records : HasRecords w (put_record entry before)
+
+-- The script calls of a unit were made one after another between two moments of it, and no others; at the first of these
+-- moments all was ready for them.
+pub record MadeCalls (kept : Path → Bool) (p : Package) (before : List Record) (ts : List Ran) (old new : State) : Type 0 where
   pub begun : State
   pub ended : State
-  pub before : begun.calls ≡ old.calls
-  pub after : new.calls ≡ ended.calls
+  pub until : Silent old begun
   pub made : Calls kept ts begun ended
-  pub scripts : IsTrue old.honest → (script : Script) → begun.world (tmp_script_path script) ≡ file_of (script_of p.scripts script)
+  pub since : Silent ended new
+  pub later : IsTrue old.honest → IsLater old begun × IsLater ended new
+  pub ready : IsTrue old.honest → IsReadyForCalls p before begun.world
 
 -- the world that an unpack leaves
 pub record IsLeft (p : Package) (places : List Path) (before after : List Record) (ended : Ended) (ts : List Ran) (old new : World) : Type 0 where
@@ -66,7 +76,7 @@ pub record IsLeft (p : Package) (places : List Path) (before after : List Record
 -- the unit: its calls are legal for its rows and were made, and the world is as the tables say
 pub record Unpacks (p : Package) (places : List Path) (before after : List Record) (ended : Ended) (ts : List Ran) (old new : State) : Type 0 where
   pub legal : Legal gives [] ended (rows_of p) ts
-  pub made : MadeCalls (is_kept places) p ts old new
+  pub made : MadeCalls (is_kept places) p before ts old new
   pub leaves : IsTrue old.honest → IsLeft p places before after ended ts old.world new.world
 
 -- Which records stand at some moment: those of before; with the package half-installed; then unpacked, or gone.
@@ -76,10 +86,14 @@ pub data IsStage (p : Package) (before : List Record) : List Record → Type 0 w
   unpacked : (r s : Record) → IsRecordOf p flag.Reinstreq state.HalfInstalled r → IsRecordOf p flag.Ok state.Unpacked s → IsStage p before (put_record s (put_record r before))
   forgotten : (r : Record) → IsRecordOf p flag.Reinstreq state.HalfInstalled r → IsStage p before (drop_record p.name (put_record r before))
 
--- At each moment of it: the records are those of a stage, the package's files are whole, all kept places are as before.
+-- At each moment of it: the records are those of a stage, the package's files are whole, nothing is in the way of the next
+-- opening, all kept places are as before.
 pub record IsAmid (p : Package) (places : List Path) (before : List Record) (old now : World) : Type 0 where
   pub stage : List Record
   pub is_stage : IsStage p before stage
   pub records : HasRecords now stage
+  pub status_spare : NoDirectory (now (temporary status_path))
   pub own : (file : OwnFile) → IsOwnMoment (own_node p.scripts file) (old (own_path p.name file)) (now (own_path p.name file))
+  pub spares : (file : OwnFile) → NoDirectory (now (temporary (own_path p.name file)))
+  pub incoming : IsIncoming now
   pub rest : (q : Path) → IsOutside p.name q → is_kept places q ≡ true → now q ≡ old q

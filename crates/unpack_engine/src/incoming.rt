@@ -1,13 +1,13 @@
 // The scripts of the incoming tree, which lie in `tmp.ci` while its unit runs.
 ghost use Rattle.std.specs.Prelude.{◌≡◌, ◌++◌, ◌∷◌, [], IsTrue, OnOk, IfOk, None};
-ghost use Rattle.host_core.specs.World.{IsDirectory, IsBare, KeepsBut};
+ghost use Rattle.host_core.specs.World.{IsDirectory, IsBare};
 ghost use Rattle.host_core.specs.Host.{HasCause, Silent, Since};
 ghost use Rattle.host_core.specs.Outcome.{script_name};
-ghost use Rattle.administration.specs.Places.{home_path, tmp_path as tmp_place, tmp_script_path as script_place, is_within};
+ghost use Rattle.administration.specs.Places.{home_path, tmp_path as tmp_place, tmp_script_path as script_place};
 ghost use Rattle.administration.specs.Directories.{IsMade, IsRemoved};
 ghost use Rattle.administration.specs.Scripts.{script_of, file_of};
 ghost use Rattle.unpack_engine.specs.OwnFiles.{IsPut};
-ghost use Rattle.unpack_engine.specs.Incoming.{AreLaidOut, IsTmpFlat, script_names};
+ghost use Rattle.unpack_engine.specs.Incoming.{AreLaidOut, IsIncoming, IsLaying, script_names};
 
 use administration::{INCOMING, Scripts, make_directory, remove_flat, replace, tmp_script_path};
 use host_core::{Host, HostFault, RootPath, Script};
@@ -19,7 +19,7 @@ fn make_tmp<H: Host>(alloc: Global, host: &mut H) -> Result<(), HostFault>
     requires home { IsTrue (H.state host.old).honest → IsDirectory ((H.state host.old).world home_path) }
     requires absent { IsTrue (H.state host.old).honest → (H.state host.old).world tmp_place ≡ None }
     ensures made { IsTrue (H.state host.old).honest → OnOk result (IsMade tmp_place (H.state host.old).world (H.state host.new).world) }
-    ensures any_moment { IsTrue (H.state host.old).honest → Since (KeepsBut (is_within tmp_place) (H.state host.old).world) (H.state host.old) (H.state host.new) }
+    ensures any_moment { IsTrue (H.state host.old).honest → Since (IsLaying (H.state host.old).world) (H.state host.old) (H.state host.new) }
     ensures silent { Silent (H.state host.old) (H.state host.new) }
     ensures cause { HasCause (H.state host.old) (H.state host.new) result }
 {
@@ -36,9 +36,9 @@ fn put_incoming<H: Host>(
     script: Script,
 ) -> Result<(), HostFault>
     requires there { IsTrue (H.state host.old).honest → IsDirectory ((H.state host.old).world tmp_place) }
-    requires flat { IsTrue (H.state host.old).honest → IsTmpFlat (H.state host.old).world }
+    requires incoming { IsTrue (H.state host.old).honest → IsIncoming (H.state host.old).world }
     ensures put { IsTrue (H.state host.old).honest → OnOk result (IsPut (script_place script) (file_of (script_of scripts.now script)) (H.state host.old).world (H.state host.new).world) }
-    ensures any_moment { IsTrue (H.state host.old).honest → Since (KeepsBut (is_within tmp_place) (H.state host.old).world) (H.state host.old) (H.state host.new) }
+    ensures any_moment { IsTrue (H.state host.old).honest → Since (IsLaying (H.state host.old).world) (H.state host.old) (H.state host.new) }
     ensures silent { Silent (H.state host.old) (H.state host.new) }
     ensures cause { HasCause (H.state host.old) (H.state host.new) result }
 {
@@ -53,7 +53,7 @@ fn put_all<H: Host>(alloc: Global, host: &mut H, scripts: &Scripts) -> Result<()
     requires there { IsTrue (H.state host.old).honest → IsDirectory ((H.state host.old).world tmp_place) }
     requires bare { IsTrue (H.state host.old).honest → IsBare (H.state host.old).world tmp_place }
     ensures laid { IsTrue (H.state host.old).honest → OnOk result (AreLaidOut scripts.now (H.state host.new).world) }
-    ensures any_moment { IsTrue (H.state host.old).honest → Since (KeepsBut (is_within tmp_place) (H.state host.old).world) (H.state host.old) (H.state host.new) }
+    ensures any_moment { IsTrue (H.state host.old).honest → Since (IsLaying (H.state host.old).world) (H.state host.old) (H.state host.new) }
     ensures silent { Silent (H.state host.old) (H.state host.new) }
     ensures cause { HasCause (H.state host.old) (H.state host.new) result }
 {
@@ -72,7 +72,7 @@ pub(crate) fn lay_out<H: Host>(
     requires home { IsTrue (H.state host.old).honest → IsDirectory ((H.state host.old).world home_path) }
     requires absent { IsTrue (H.state host.old).honest → (H.state host.old).world tmp_place ≡ None }
     ensures laid { IsTrue (H.state host.old).honest → OnOk result (AreLaidOut scripts.now (H.state host.new).world) }
-    ensures any_moment { IsTrue (H.state host.old).honest → Since (KeepsBut (is_within tmp_place) (H.state host.old).world) (H.state host.old) (H.state host.new) }
+    ensures any_moment { IsTrue (H.state host.old).honest → Since (IsLaying (H.state host.old).world) (H.state host.old) (H.state host.new) }
     ensures silent { Silent (H.state host.old) (H.state host.new) }
     ensures cause { HasCause (H.state host.old) (H.state host.new) result }
 {
@@ -105,7 +105,7 @@ pub(crate) fn clear_away<H: Host>(
 ) -> Result<(), HostFault>
     requires { IsTrue (H.state host.old).honest → AreLaidOut scripts.now (H.state host.old).world }
     ensures removed { IsTrue (H.state host.old).honest → OnOk result (IsRemoved tmp_place (H.state host.old).world (H.state host.new).world) }
-    ensures any_moment { IsTrue (H.state host.old).honest → Since (KeepsBut (is_within tmp_place) (H.state host.old).world) (H.state host.old) (H.state host.new) }
+    ensures any_moment { IsTrue (H.state host.old).honest → Since (IsLaying (H.state host.old).world) (H.state host.old) (H.state host.new) }
     ensures silent { Silent (H.state host.old) (H.state host.new) }
     ensures cause { HasCause (H.state host.old) (H.state host.new) result }
 {

@@ -17,4 +17,4 @@ returns-clause-told g c =
     tells_unit (g.H.Host.state c.args.host.now) (g.H.Host.state c.unit_of-unit.new.host) c.args.units.now.items c.push.new.self.items unit grown c.unit_of-unit.ensures.told
 
 pub returns-then-is_err-clause-any_moment : goal.returns-then-is_err-clause-any_moment
-returns-then-is_err-clause-any_moment g c = λ h. since_unit_start _ _ _ _ (c.requires.records h)
+returns-then-is_err-clause-any_moment g c = λ h. since_unit_start _ _ _ _ (record { order = c.requires.order h; tree = g.H.Host.tree c.args.host.now h; records = c.requires.records h })

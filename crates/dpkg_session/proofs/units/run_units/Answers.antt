@@ -1,12 +1,13 @@
 use Rattle.std.proofs.Common.{◌≡◌, ◌+◌, List, [], ◌∷◌, ◌++◌, length, take, drop, refl, append_assoc, IsTrue, subst, sym, ap, ◌∙◌, arith, length-append}
-use Rattle.std.proofs.lemmas.List.{take_more, take-append-drop}
+use Rattle.std.proofs.lemmas.List.{drop_more, take_more, take-append-drop}
+use Rattle.host_core.specs.Host.{Since}
 use Rattle.dpkg_session.specs.declared.report.Candidate.{Candidate}
 use Rattle.unwind_stack.specs.Transcript.{TellsAll}
 use Rattle.unwind_stack.proofs.Makes.{tells_none, tells_then}
 use Rattle.dpkg_session.specs.declared.report.Unit.{Unit as AUnit}
 use Rattle.dpkg_session.specs.Units.{calls_of}
-use Rattle.dpkg_session.specs.Run.{IsRun}
-use Rattle.dpkg_session.proofs.Amid.{since_next, since_run_start}
+use Rattle.dpkg_session.specs.Run.{IsAmidNext, IsRun}
+use Rattle.dpkg_session.proofs.Amid.{since_next, since_next_start, since_run_start}
 use Rattle.dpkg_session.proofs.Runs.{run_more, ready_after}
 use Rattle.dpkg_session.proofs.Told.{tells_last, tells_whole}
 use Rattle.dpkg_session.proofs.units.run_units.Goals as goal
@@ -49,7 +50,7 @@ loop-candidate-init g c =
       faults = omega arith;
       told = tells_none old old [] (calls_of c.new-units.result.items) refl (ap calls_of c.new-units.ensures.items);
       ready = record { order = c.requires.order; records = c.requires.records };
-      moments = λ h. since_run_start c.args.candidates.now c.args.keep.now c.args.database.now old (c.requires.records h);
+      moments = λ h. since_run_start c.args.candidates.now c.args.keep.now c.args.database.now old (record { order = c.requires.order h; tree = g.H.Host.tree c.args.host.now h; records = c.requires.records h });
     }
 
 pub returns-in-Err-clause-any_moment : goal.returns-in-Err-clause-any_moment
@@ -61,6 +62,46 @@ returns-in-Err-clause-any_moment g c = λ h.
     let fronts = take_more candidates i p c.loop-candidate-test.true ∙ ap (λ (q : Candidate). take i candidates ++ q ∷ []) (sym c.candidate-item.is) in
     let split = sym (take-append-drop (i + 1) candidates) ∙ ap (λ l. l ++ drop (i + 1) candidates) fronts ∙ append_assoc (take i candidates) (p ∷ []) (drop (i + 1) candidates) in
     since_next candidates (take i candidates) c.loop-candidate.units.items p (drop (i + 1) candidates) _ _ _ _ _ _ split inv.so_far (inv.moments h) (c.run_one.ensures.any_moment (subst IsTrue (sym inv.honest) h))
+
+pub returns-in-Err-clause-part : goal.returns-in-Err-clause-part
+returns-in-Err-clause-part g c =
+    let inv = c.loop-candidate.invariant in
+    let i = c.loop-candidate.candidate-index in
+    let candidates = c.args.candidates.now in
+    let p = c.candidate-item.result in
+    let places = c.args.keep.now in
+    let mid = c.loop-candidate.database in
+    let now = g.H.Host.state c.loop-candidate.host in
+    let new = g.H.Host.state c.run_one.new.host in
+    let same = c.in-Err.ensures.err in
+    let count = ap length same ∙ inv.count in
+    let rest : drop i candidates ≡ p ∷ drop (i + 1) candidates = drop_more candidates i p c.loop-candidate-test.true ∙ ap (λ (q : Candidate). q ∷ drop (i + 1) candidates) (sym c.candidate-item.is) in
+    record {
+      after = mid;
+      end = now;
+      run = subst (λ n. IsRun (take n candidates) c.run_one.new.units.items places c.args.database.now mid (g.H.Host.state c.args.host.now) now) (sym count)
+          (subst (λ us. IsRun (take i candidates) us places c.args.database.now mid (g.H.Host.state c.args.host.now) now) (sym {A = List AUnit} same) inv.so_far);
+      honest = inv.honest;
+      since = λ h. subst (λ cs. Since (IsAmidNext cs places mid now.world) now new) (sym (ap (λ n. drop n candidates) count ∙ rest)) (c.run_one.ensures.any_moment (subst IsTrue (sym inv.honest) h));
+    }
+
+pub returns-clause-part : goal.returns-clause-part
+returns-clause-part g c =
+    let inv = c.loop-candidate.invariant in
+    let i = c.loop-candidate.candidate-index in
+    let candidates = c.args.candidates.now in
+    let places = c.args.keep.now in
+    let mid = c.loop-candidate.database in
+    let now = g.H.Host.state c.loop-candidate.host in
+    record {
+      after = mid;
+      end = now;
+      run = subst (λ n. IsRun (take n candidates) c.loop-candidate.units.items places c.args.database.now mid (g.H.Host.state c.args.host.now) now) (sym inv.count) inv.so_far;
+      honest = inv.honest;
+      since = λ h.
+          let h1 = subst IsTrue (sym inv.honest) h in
+          since_next_start (drop (length c.loop-candidate.units.items) candidates) places mid now (record { order = inv.ready.order h1; tree = g.H.Host.tree c.loop-candidate.host h1; records = inv.ready.records h1 });
+    }
 
 pub returns-in-Err-clause-told : goal.returns-in-Err-clause-told
 returns-in-Err-clause-told g c =

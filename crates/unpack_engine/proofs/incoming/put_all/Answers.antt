@@ -1,25 +1,21 @@
 use Rattle.std.proofs.Common.{sym, subst, IsTrue, refl}
 use Rattle.std.proofs.lemmas.Result.{on_ok_weaker}
+use Rattle.host_core.specs.Moments.{since_now}
 use Rattle.host_core.specs.declared.call.Script.TheVariants.{Preinst, Postinst, Prerm, Postrm}
-use Rattle.unpack_engine.proofs.LaidOut.{nothing, one_script, two_scripts, three_scripts, holds_start, holds_more, holds_flat, loose_start, loose_more, laid_out, since_keeps}
+use Rattle.unpack_engine.proofs.LaidOut.{nothing, one_script, two_scripts, three_scripts, holds_start, holds_more, laid_out, incoming_bare, since_laying}
 use Rattle.unpack_engine.proofs.incoming.put_all.Goals as goal
 
-pub put_incoming-requires-clause-flat : goal.put_incoming-requires-clause-flat
-put_incoming-requires-clause-flat g c = λ h0.
-    let s = c.args.scripts.now in
-    let k0 = holds_start (g.H.Host.state c.args.host.now).world (c.requires.there h0) (c.requires.bare h0) in
-    let l0 = loose_start in
-    holds_flat nothing (g.H.Host.state c.args.host.now).world l0 k0
+pub put_incoming-requires-clause-incoming : goal.put_incoming-requires-clause-incoming
+put_incoming-requires-clause-incoming g c = λ h0. incoming_bare _ (λ loose. loose.1 (c.requires.there h0)) (c.requires.bare h0)
 
-pub put_incoming-requires-2-clause-flat : goal.put_incoming-requires-2-clause-flat
-put_incoming-requires-2-clause-flat g c = λ h1.
-    let h0 = subst IsTrue c.put_incoming.ensures.silent.honest h1 in
-    let s = c.args.scripts.now in
-    let k0 = holds_start (g.H.Host.state c.args.host.now).world (c.requires.there h0) (c.requires.bare h0) in
-    let k1 = holds_more s Preinst nothing (g.H.Host.state c.args.host.now).world (g.H.Host.state c.put_incoming.new.host).world refl k0 (c.in_ok-put_incoming.ensures.put h0) in
-    let l0 = loose_start in
-    let l1 = loose_more s Preinst nothing l0 in
-    holds_flat (one_script c.args.scripts.now) (g.H.Host.state c.put_incoming.new.host).world l1 k1
+pub put_incoming-requires-2-clause-incoming : goal.put_incoming-requires-2-clause-incoming
+put_incoming-requires-2-clause-incoming g c = λ h. (since_now _ _ _ (c.put_incoming.ensures.any_moment (subst IsTrue c.put_incoming.ensures.silent.honest h))).incoming
+
+pub put_incoming-requires-3-clause-incoming : goal.put_incoming-requires-3-clause-incoming
+put_incoming-requires-3-clause-incoming g c = λ h. (since_now _ _ _ (c.put_incoming-2.ensures.any_moment (subst IsTrue c.put_incoming-2.ensures.silent.honest h))).incoming
+
+pub put_incoming-requires-4-clause-incoming : goal.put_incoming-requires-4-clause-incoming
+put_incoming-requires-4-clause-incoming g c = λ h. (since_now _ _ _ (c.put_incoming-3.ensures.any_moment (subst IsTrue c.put_incoming-3.ensures.silent.honest h))).incoming
 
 pub put_incoming-requires-2-clause-there : goal.put_incoming-requires-2-clause-there
 put_incoming-requires-2-clause-there g c = λ h1.
@@ -28,19 +24,6 @@ put_incoming-requires-2-clause-there g c = λ h1.
     let k0 = holds_start (g.H.Host.state c.args.host.now).world (c.requires.there h0) (c.requires.bare h0) in
     let k1 = holds_more s Preinst nothing (g.H.Host.state c.args.host.now).world (g.H.Host.state c.put_incoming.new.host).world refl k0 (c.in_ok-put_incoming.ensures.put h0) in
     k1.there
-
-pub put_incoming-requires-3-clause-flat : goal.put_incoming-requires-3-clause-flat
-put_incoming-requires-3-clause-flat g c = λ h2.
-    let h1 = subst IsTrue c.put_incoming-2.ensures.silent.honest h2 in
-    let h0 = subst IsTrue c.put_incoming.ensures.silent.honest h1 in
-    let s = c.args.scripts.now in
-    let k0 = holds_start (g.H.Host.state c.args.host.now).world (c.requires.there h0) (c.requires.bare h0) in
-    let k1 = holds_more s Preinst nothing (g.H.Host.state c.args.host.now).world (g.H.Host.state c.put_incoming.new.host).world refl k0 (c.in_ok-put_incoming.ensures.put h0) in
-    let k2 = holds_more s Postinst (one_script c.args.scripts.now) (g.H.Host.state c.put_incoming.new.host).world (g.H.Host.state c.put_incoming-2.new.host).world refl k1 (c.in_ok-put_incoming-2.ensures.put h1) in
-    let l0 = loose_start in
-    let l1 = loose_more s Preinst nothing l0 in
-    let l2 = loose_more s Postinst (one_script c.args.scripts.now) l1 in
-    holds_flat (two_scripts c.args.scripts.now) (g.H.Host.state c.put_incoming-2.new.host).world l2 k2
 
 pub put_incoming-requires-3-clause-there : goal.put_incoming-requires-3-clause-there
 put_incoming-requires-3-clause-there g c = λ h2.
@@ -51,22 +34,6 @@ put_incoming-requires-3-clause-there g c = λ h2.
     let k1 = holds_more s Preinst nothing (g.H.Host.state c.args.host.now).world (g.H.Host.state c.put_incoming.new.host).world refl k0 (c.in_ok-put_incoming.ensures.put h0) in
     let k2 = holds_more s Postinst (one_script c.args.scripts.now) (g.H.Host.state c.put_incoming.new.host).world (g.H.Host.state c.put_incoming-2.new.host).world refl k1 (c.in_ok-put_incoming-2.ensures.put h1) in
     k2.there
-
-pub put_incoming-requires-4-clause-flat : goal.put_incoming-requires-4-clause-flat
-put_incoming-requires-4-clause-flat g c = λ h3.
-    let h2 = subst IsTrue c.put_incoming-3.ensures.silent.honest h3 in
-    let h1 = subst IsTrue c.put_incoming-2.ensures.silent.honest h2 in
-    let h0 = subst IsTrue c.put_incoming.ensures.silent.honest h1 in
-    let s = c.args.scripts.now in
-    let k0 = holds_start (g.H.Host.state c.args.host.now).world (c.requires.there h0) (c.requires.bare h0) in
-    let k1 = holds_more s Preinst nothing (g.H.Host.state c.args.host.now).world (g.H.Host.state c.put_incoming.new.host).world refl k0 (c.in_ok-put_incoming.ensures.put h0) in
-    let k2 = holds_more s Postinst (one_script c.args.scripts.now) (g.H.Host.state c.put_incoming.new.host).world (g.H.Host.state c.put_incoming-2.new.host).world refl k1 (c.in_ok-put_incoming-2.ensures.put h1) in
-    let k3 = holds_more s Prerm (two_scripts c.args.scripts.now) (g.H.Host.state c.put_incoming-2.new.host).world (g.H.Host.state c.put_incoming-3.new.host).world refl k2 (c.in_ok-put_incoming-3.ensures.put h2) in
-    let l0 = loose_start in
-    let l1 = loose_more s Preinst nothing l0 in
-    let l2 = loose_more s Postinst (one_script c.args.scripts.now) l1 in
-    let l3 = loose_more s Prerm (two_scripts c.args.scripts.now) l2 in
-    holds_flat (three_scripts c.args.scripts.now) (g.H.Host.state c.put_incoming-3.new.host).world l3 k3
 
 pub put_incoming-requires-4-clause-there : goal.put_incoming-requires-4-clause-there
 put_incoming-requires-4-clause-there g c = λ h3.
@@ -84,7 +51,7 @@ pub returns-in_err-put_incoming-2-clause-any_moment : goal.returns-in_err-put_in
 returns-in_err-put_incoming-2-clause-any_moment g c = λ h0.
     let h1 = subst IsTrue (sym c.put_incoming.ensures.silent.honest) h0 in
     let m0 = c.put_incoming.ensures.any_moment h0 in
-    let m1 = since_keeps _ _ _ _ m0 (c.put_incoming-2.ensures.any_moment h1) in
+    let m1 = since_laying _ _ _ m0 (c.put_incoming-2.ensures.any_moment h1) in
     m1
 
 pub returns-in_err-put_incoming-3-clause-any_moment : goal.returns-in_err-put_incoming-3-clause-any_moment
@@ -92,8 +59,8 @@ returns-in_err-put_incoming-3-clause-any_moment g c = λ h0.
     let h1 = subst IsTrue (sym c.put_incoming.ensures.silent.honest) h0 in
     let h2 = subst IsTrue (sym c.put_incoming-2.ensures.silent.honest) h1 in
     let m0 = c.put_incoming.ensures.any_moment h0 in
-    let m1 = since_keeps _ _ _ _ m0 (c.put_incoming-2.ensures.any_moment h1) in
-    let m2 = since_keeps _ _ _ _ m1 (c.put_incoming-3.ensures.any_moment h2) in
+    let m1 = since_laying _ _ _ m0 (c.put_incoming-2.ensures.any_moment h1) in
+    let m2 = since_laying _ _ _ m1 (c.put_incoming-3.ensures.any_moment h2) in
     m2
 
 pub returns-clause-any_moment : goal.returns-clause-any_moment
@@ -102,9 +69,9 @@ returns-clause-any_moment g c = λ h0.
     let h2 = subst IsTrue (sym c.put_incoming-2.ensures.silent.honest) h1 in
     let h3 = subst IsTrue (sym c.put_incoming-3.ensures.silent.honest) h2 in
     let m0 = c.put_incoming.ensures.any_moment h0 in
-    let m1 = since_keeps _ _ _ _ m0 (c.put_incoming-2.ensures.any_moment h1) in
-    let m2 = since_keeps _ _ _ _ m1 (c.put_incoming-3.ensures.any_moment h2) in
-    let m3 = since_keeps _ _ _ _ m2 (c.put_incoming-4.ensures.any_moment h3) in
+    let m1 = since_laying _ _ _ m0 (c.put_incoming-2.ensures.any_moment h1) in
+    let m2 = since_laying _ _ _ m1 (c.put_incoming-3.ensures.any_moment h2) in
+    let m3 = since_laying _ _ _ m2 (c.put_incoming-4.ensures.any_moment h3) in
     m3
 
 pub returns-clause-laid : goal.returns-clause-laid

@@ -3,13 +3,13 @@ use Rattle.std.specs.Option.{option_copied}
 use Rattle.std.proofs.lemmas.Result.{on_ok_weaker}
 use Rattle.host_core.specs.World.{HasParent}
 use Rattle.host_core.specs.Host.{Since}
-use Rattle.host_core.specs.Moments.{since_weaker}
+use Rattle.host_core.specs.Moments.{since_start, since_weaker}
 use Rattle.administration.specs.Places.{temporary, tmp_script_path}
 use Rattle.administration.specs.Files.{NoDirectory, IsReplacing, IsReplaced}
 use Rattle.administration.specs.Scripts.{script_of, file_of}
 use Rattle.unpack_engine.specs.OwnFiles.{IsPut}
-use Rattle.unpack_engine.proofs.Changes.{put_replaced, put_none, file_is}
-use Rattle.unpack_engine.proofs.LaidOut.{tmp_parent, replacing_within}
+use Rattle.unpack_engine.proofs.Changes.{put_replaced, put_none, file_is, kind_of_file}
+use Rattle.unpack_engine.proofs.LaidOut.{tmp_parent, incoming_flat, laying_replacing, laying_start}
 use Rattle.unpack_engine.proofs.incoming.put_incoming.Goals as goal
 
 pub replace-requires-clause-file : goal.replace-requires-clause-file
@@ -19,10 +19,10 @@ pub replace-requires-clause-parent : goal.replace-requires-clause-parent
 replace-requires-clause-parent g c = λ h. subst (HasParent (g.H.Host.state c.args.host.now).world) (sym c.in_ok-path.ensures) (tmp_parent _ c.args.script (c.requires.there h))
 
 pub replace-requires-clause-target : goal.replace-requires-clause-target
-replace-requires-clause-target g c = λ h. subst (λ q. NoDirectory ((g.H.Host.state c.args.host.now).world q)) (sym c.in_ok-path.ensures) (c.requires.flat h c.args.script).0
+replace-requires-clause-target g c = λ h. subst (λ q. NoDirectory ((g.H.Host.state c.args.host.now).world q)) (sym c.in_ok-path.ensures) (incoming_flat _ (c.requires.incoming h) c.args.script).0
 
 pub replace-requires-clause-spare : goal.replace-requires-clause-spare
-replace-requires-clause-spare g c = λ h. subst (λ q. NoDirectory ((g.H.Host.state c.args.host.now).world (temporary q))) (sym c.in_ok-path.ensures) (c.requires.flat h c.args.script).1
+replace-requires-clause-spare g c = λ h. subst (λ q. NoDirectory ((g.H.Host.state c.args.host.now).world (temporary q))) (sym c.in_ok-path.ensures) (incoming_flat _ (c.requires.incoming h) c.args.script).1
 
 pub returns-in_default-clause-put : goal.returns-in_default-clause-put
 returns-in_default-clause-put g c = λ h.
@@ -44,4 +44,10 @@ returns-clause-any_moment g c = λ h.
     let old = g.H.Host.state c.args.host.now in
     let new = g.H.Host.state c.replace.new.host in
     let replacing = subst (λ q. Since (IsReplacing q c.in-Some.file.now.node old.world) old new) c.in_ok-path.ensures (c.replace.ensures.any_moment h) in
-    since_weaker _ _ _ _ (λ w is. replacing_within c.args.script c.in-Some.file.now.node old.world w is) replacing
+    since_weaker _ _ _ _ (λ w is. laying_replacing c.args.script c.in-Some.file.now.node old.world w (kind_of_file c.in-Some.file.now.node c.in-Some.file.now.file) (c.requires.incoming h) is) replacing
+
+pub returns-in_default-clause-any_moment : goal.returns-in_default-clause-any_moment
+returns-in_default-clause-any_moment g c = λ h. since_start _ _ (laying_start _ (c.requires.incoming h))
+
+pub returns-in_err-path-clause-any_moment : goal.returns-in_err-path-clause-any_moment
+returns-in_err-path-clause-any_moment g c = λ h. since_start _ _ (laying_start _ (c.requires.incoming h))

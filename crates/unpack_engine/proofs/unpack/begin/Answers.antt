@@ -37,7 +37,7 @@ pub note_as-requires : goal.note_as-requires
 note_as-requires g c = λ h2.
     let h1 = subst IsTrue c.lay_out.ensures.silent.honest h2 in
     let h = subst IsTrue c.discard_own.ensures.silent.honest h1 in
-    status_after c.args.incoming.now _ _ _ (c.requires h) (c.in_ok-discard_own.ensures.cleared h) (since_now _ _ _ (c.lay_out.ensures.any_moment h1))
+    status_after c.args.incoming.now _ _ _ (c.requires h) (c.in_ok-discard_own.ensures.cleared h) (since_now _ _ _ (c.lay_out.ensures.any_moment h1)).rest
 
 pub returns-clause-any_moment : goal.returns-clause-any_moment
 returns-clause-any_moment g c = λ h.
@@ -62,5 +62,5 @@ returns-clause-begun g c =
     (λ h. c.in_ok-discard_own.ensures.cleared h)
     (λ h. changing_ready p.name p.scripts old (state c.discard_own.new.host).world (own_nodes p.scripts) (own_in_order p.name old p.named (c.requires h)) (since_now _ _ _ (c.discard_own.ensures.any_moment h)))
     (λ h. c.in_ok-lay_out.ensures.laid (honest1 h))
-    (λ h. since_now _ _ _ (c.lay_out.ensures.any_moment (honest1 h)))
+    (λ h. (since_now _ _ _ (c.lay_out.ensures.any_moment (honest1 h))).rest)
     (noted_earlier p _ _ c.args.database.now _ _ _ _ _ c.note_as.result (λ (h : IsTrue (state c.args.host.now).honest). subst IsTrue (sym c.lay_out.ensures.silent.honest) (honest1 h)) c.note_as.ensures.noted)

@@ -1,10 +1,12 @@
 use Rattle.std.proofs.Common.{[], IsTrue, None, sym, subst}
 use Rattle.host_core.specs.World.{is_kept, SameOn}
-use Rattle.host_core.specs.Moments.{since_weaker}
+use Rattle.host_core.specs.Moments.{since_then, since_weaker}
 use Rattle.unpack_engine.specs.Unpack.{IsAmid}
+use Rattle.unpack_engine.proofs.LaidOut.{incoming_absent}
 use Rattle.unpack_engine.proofs.Amid.{amid_scripts, amid_tmp, since_amid}
 use Rattle.unpack_engine.proofs.Standing.{home_there, info_there, status_ready, own_ready, stands_scripts}
-use Rattle.unpack_engine.proofs.Whole.{amid_beginning, amid_finishing, begun_stands, begun_laid, laid_keeps, laid_finished, scripts_within, unit_by}
+use Rattle.unpack_engine.proofs.Whole.{amid_beginning, amid_finishing, begun_stands, begun_laid, laid_keeps, laid_finished, unit_by}
+use Rattle.unpack_engine.proofs.Apart.{scripts_within}
 use Rattle.administration.proofs.WholeFiles.{no_directory_none}
 use Rattle.host_core.specs.Scripts.{changed_kept}
 use Rattle.unpack_engine.proofs.unpack.unpack_package.Goals as goal
@@ -16,7 +18,7 @@ returns-in_err-begin-clause-any_moment g c = λ h.
     let table = c.args.database.now in
     let s0 = g.H.Host.state c.args.host.now in
     let s1 = g.H.Host.state c.begin.new.host in
-    let m1 = since_weaker _ (IsAmid p places table s0.world) s0 s1 (λ w is. amid_beginning p places table s0.world w (c.requires.records h) is) (c.begin.ensures.any_moment h) in
+    let m1 = since_weaker _ (IsAmid p places table s0.world) s0 s1 (λ w is. amid_beginning p places table s0.world w (c.requires.order h) (incoming_absent s0.world (g.H.Host.tree c.args.host.now h) (c.requires.order h).tmp) (c.requires.records h) is) (c.begin.ensures.any_moment h) in
     m1
 
 pub returns-in_err-turn-clause-any_moment : goal.returns-in_err-turn-clause-any_moment
@@ -28,7 +30,7 @@ returns-in_err-turn-clause-any_moment g c = λ h.
     let s1 = g.H.Host.state c.begin.new.host in
     let s2 = g.H.Host.state c.run_rows.new.host in
     let h1 = subst IsTrue (sym c.begin.ensures.silent.honest) h in
-    let m1 = since_weaker _ (IsAmid p places table s0.world) s0 s1 (λ w is. amid_beginning p places table s0.world w (c.requires.records h) is) (c.begin.ensures.any_moment h) in
+    let m1 = since_weaker _ (IsAmid p places table s0.world) s0 s1 (λ w is. amid_beginning p places table s0.world w (c.requires.order h) (incoming_absent s0.world (g.H.Host.tree c.args.host.now h) (c.requires.order h).tmp) (c.requires.records h) is) (c.begin.ensures.any_moment h) in
     let m2 = since_amid p places table _ s0 s1 s2 (λ w is amid. amid_scripts p places table s0.world s1.world w amid is) m1 (c.run_rows.ensures.any_moment h1) in
     m2
 
@@ -43,7 +45,7 @@ returns-in_err-finish-clause-any_moment g c = λ h.
     let s3 = g.H.Host.state c.finish.new.host in
     let h1 = subst IsTrue (sym c.begin.ensures.silent.honest) h in
     let h2 = subst IsTrue (sym c.run_rows.ensures.honest) h1 in
-    let m1 = since_weaker _ (IsAmid p places table s0.world) s0 s1 (λ w is. amid_beginning p places table s0.world w (c.requires.records h) is) (c.begin.ensures.any_moment h) in
+    let m1 = since_weaker _ (IsAmid p places table s0.world) s0 s1 (λ w is. amid_beginning p places table s0.world w (c.requires.order h) (incoming_absent s0.world (g.H.Host.tree c.args.host.now h) (c.requires.order h).tmp) (c.requires.records h) is) (c.begin.ensures.any_moment h) in
     let m2 = since_amid p places table _ s0 s1 s2 (λ w is amid. amid_scripts p places table s0.world s1.world w amid is) m1 (c.run_rows.ensures.any_moment h1) in
     let m3 = since_amid p places table _ s0 s2 s3 (λ w is amid. amid_finishing p places table c.in_ok-turn.turn c.begin.new.database s0.world s2.world w (c.in_ok-begin.ensures.begun).put amid is) m2 (c.finish.ensures.any_moment h2) in
     m3
@@ -60,7 +62,7 @@ returns-in_err-clear_away-clause-any_moment g c = λ h.
     let h1 = subst IsTrue (sym c.begin.ensures.silent.honest) h in
     let h2 = subst IsTrue (sym c.run_rows.ensures.honest) h1 in
     let h3 = subst IsTrue (sym c.finish.ensures.silent.honest) h2 in
-    let m1 = since_weaker _ (IsAmid p places table s0.world) s0 s1 (λ w is. amid_beginning p places table s0.world w (c.requires.records h) is) (c.begin.ensures.any_moment h) in
+    let m1 = since_weaker _ (IsAmid p places table s0.world) s0 s1 (λ w is. amid_beginning p places table s0.world w (c.requires.order h) (incoming_absent s0.world (g.H.Host.tree c.args.host.now h) (c.requires.order h).tmp) (c.requires.records h) is) (c.begin.ensures.any_moment h) in
     let m2 = since_amid p places table _ s0 s1 s2 (λ w is amid. amid_scripts p places table s0.world s1.world w amid is) m1 (c.run_rows.ensures.any_moment h1) in
     let m3 = since_amid p places table _ s0 s2 s3 (λ w is amid. amid_finishing p places table c.in_ok-turn.turn c.begin.new.database s0.world s2.world w (c.in_ok-begin.ensures.begun).put amid is) m2 (c.finish.ensures.any_moment h2) in
     since_amid p places table _ s0 s3 (g.H.Host.state c.clear_away.new.host) (λ w is amid. amid_tmp p places table s0.world s3.world w amid is) m3 (c.clear_away.ensures.any_moment h3)
@@ -77,7 +79,7 @@ returns-clause-any_moment g c = λ h.
     let h1 = subst IsTrue (sym c.begin.ensures.silent.honest) h in
     let h2 = subst IsTrue (sym c.run_rows.ensures.honest) h1 in
     let h3 = subst IsTrue (sym c.finish.ensures.silent.honest) h2 in
-    let m1 = since_weaker _ (IsAmid p places table s0.world) s0 s1 (λ w is. amid_beginning p places table s0.world w (c.requires.records h) is) (c.begin.ensures.any_moment h) in
+    let m1 = since_weaker _ (IsAmid p places table s0.world) s0 s1 (λ w is. amid_beginning p places table s0.world w (c.requires.order h) (incoming_absent s0.world (g.H.Host.tree c.args.host.now h) (c.requires.order h).tmp) (c.requires.records h) is) (c.begin.ensures.any_moment h) in
     let m2 = since_amid p places table _ s0 s1 s2 (λ w is amid. amid_scripts p places table s0.world s1.world w amid is) m1 (c.run_rows.ensures.any_moment h1) in
     let m3 = since_amid p places table _ s0 s2 s3 (λ w is amid. amid_finishing p places table c.in_ok-turn.turn c.begin.new.database s0.world s2.world w (c.in_ok-begin.ensures.begun).put amid is) m2 (c.finish.ensures.any_moment h2) in
     since_amid p places table _ s0 s3 (g.H.Host.state c.clear_away.new.host) (λ w is amid. amid_tmp p places table s0.world s3.world w amid is) m3 (c.clear_away.ensures.any_moment h3)
@@ -175,3 +177,7 @@ returns-clause-unit g c =
     let to3 = λ (h : IsTrue s0.honest). subst IsTrue (sym c.finish.ensures.silent.honest) (to2 h) in
     unit_by p places c.in_ok-turn.turn table c.begin.new.database c.finish.new.database made.0 s0 s1 s2 s3 (g.H.Host.state c.clear_away.new.host) _ _ made.2.0 c.begin.ensures.silent made.1 c.finish.ensures.silent c.clear_away.ensures.silent made.2.1
     (c.in_ok-begin.ensures.begun).put (c.in_ok-finish.ensures.finished).table c.requires.order c.requires.records (c.in_ok-begin.ensures.begun).worlds (λ h. (c.in_ok-finish.ensures.finished).worlds (to2 h)) (λ h. c.in_ok-clear_away.ensures.removed (to3 h))
+    (λ h. (
+      since_weaker _ (λ w. Unit {0}) s0 s1 (λ w is. tt) (c.begin.ensures.any_moment h),
+      since_then _ s2 s3 (g.H.Host.state c.clear_away.new.host) (since_weaker _ (λ w. Unit {0}) s2 s3 (λ w is. tt) (c.finish.ensures.any_moment (to2 h))) (since_weaker _ (λ w. Unit {0}) s3 _ (λ w is. tt) (c.clear_away.ensures.any_moment (to3 h))),
+    ))
