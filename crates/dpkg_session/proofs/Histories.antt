@@ -1,20 +1,24 @@
 -- What commands leave is what a further command can open.
+use Rattle.std.specs.Prelude.{IsSome}
 use Rattle.std.proofs.Common.{List, [], ◌∷◌, ◌++◌, IsTrue, refl, sym, subst, ◌∙◌}
 use Rattle.host_core.specs.Paths.{Path, is_administration}
 use Rattle.host_core.specs.World.{World, SameOn, IsDirectory}
 use Rattle.host_core.specs.Host.{State}
-use Rattle.administration.specs.Places.{home_path, info_path, status_path, tmp_path, list_path, temporary}
+use Rattle.administration.specs.Places.{home_path, info_path, status_path, tmp_path, list_path, updates_path, diversions_path, temporary}
 use Rattle.administration.proofs.WholeFiles.{no_directory_at}
 use Rattle.file_lists.proofs.Kept.{has_places_kept}
 use Rattle.opening.specs.Opened.{IsOpened}
-use Rattle.opening.specs.Parts.{names_of}
+use Rattle.opening.specs.Parts.{names_of, IsWithoutDiversions}
+use Rattle.file_lists.specs.Info.{entry_path, IsSound}
 use Rattle.status_db.specs.declared.record.Record.{Record}
-use Rattle.status_db.specs.Status.{StandsFor}
+use Rattle.status_db.specs.Status.{IsFileOrNothing, StandsFor}
+use Rattle.status_db.proofs.StatusNode.{file_no_directory, stands_file}
 use Rattle.dpkg_session.specs.declared.report.Candidate.{Candidate}
 use Rattle.dpkg_session.specs.declared.report.Unit.{Unit as AUnit}
 use Rattle.dpkg_session.specs.History.{Ran, IsCommand, IsHistory, Stands}
 use Rattle.dpkg_session.specs.Run.{IsRun}
 use Rattle.dpkg_session.proofs.Listed.{listed_run}
+use Rattle.dpkg_session.proofs.Readable.{IsReadableBeside, readable_run}
 use Rattle.dpkg_session.proofs.Runs.{Ready, ready_after}
 
 -- the administration is read from its own paths alone
@@ -22,12 +26,19 @@ opened_outside : (table : List Record) (places : List Path) (old new : World) �
 opened_outside table places old new same opened = record {
   home = subst IsDirectory (sym (same home_path refl)) opened.home;
   info = subst IsDirectory (sym (same info_path refl)) opened.info;
-  entries = λ name plain. no_directory_at _ _ (same (info_path ++ 47 ∷ name) refl) (opened.entries name plain);
-  status = no_directory_at _ _ (same status_path refl) opened.status;
+  updates = subst IsDirectory (sym (same updates_path refl)) opened.updates;
+  empty = λ name plain. same (updates_path ++ 47 ∷ name) refl ∙ opened.empty name plain;
+  text = λ bad. opened.text (bad.0, bad.1, bad.2, subst IsSome (same (info_path ++ 47 ∷ bad.0) refl) bad.3);
+  status = subst IsFileOrNothing (sym (same status_path refl)) opened.status;
+  diversions = subst IsWithoutDiversions (sym (same diversions_path refl)) opened.diversions;
   status_spare = no_directory_at _ _ (same (temporary status_path) refl) opened.status_spare;
   tmp = same tmp_path refl ∙ opened.tmp;
   records = subst (λ n. StandsFor n table) (sym (same status_path refl)) opened.records;
-  listed = has_places_kept old new (names_of table) places (λ name known. same (list_path name) refl) opened.listed;
+  standing = opened.standing;
+  listed = record {
+    sound = λ entry plain. subst (IsSound (names_of table) entry) (sym (same (entry_path entry) refl)) (opened.listed.sound entry plain);
+    places = has_places_kept old new (names_of table) places (λ name known. same (list_path name) refl) opened.listed.places;
+  };
 }
 
 ready_run : (cs : List Candidate) (us : List AUnit) (places : List Path) (before after : List Record) (s t : State) → IsRun cs us places before after s t → Ready before s → Ready after t
@@ -42,9 +53,19 @@ honest_run [] (u ∷ us) places before after s t run h = absurd run
 honest_run (c ∷ cs) [] places before after s t run h = absurd run
 honest_run (c ∷ cs) (u ∷ us) places before after s t run h = honest_run cs us places run.1 after run.0 t run.4 (subst IsTrue (sym run.2) h)
 
+readable_opened : (table : List Record) (places : List Path) (w : World) → IsOpened table places w → IsReadableBeside w table
+readable_opened table places w opened = record {
+  updates = opened.updates;
+  empty = opened.empty;
+  diversions = opened.diversions;
+  text = opened.text;
+  sound = opened.listed.sound;
+  standing = opened.standing;
+}
+
 ready_opened : (table : List Record) (places : List Path) (s : State) → IsOpened table places s.world → Ready table s
 ready_opened table places s opened = record {
-  order = λ h. record { home = opened.home; info = opened.info; entries = opened.entries; status = opened.status; status_spare = opened.status_spare; tmp = opened.tmp };
+  order = λ h. record { home = opened.home; info = opened.info; entries = λ name plain. (opened.listed.sound name plain).loose; status = file_no_directory (s.world status_path) opened.status; status_spare = opened.status_spare; tmp = opened.tmp };
   records = λ h. opened.records;
 }
 
@@ -52,15 +73,20 @@ opened_run : (cs : List Candidate) (us : List AUnit) (places : List Path) (befor
 opened_run cs us places before after s t run h opened =
     let ready = ready_run cs us places before after s t run (ready_opened before places s opened) in
     let h1 = honest_run cs us places before after s t run h in
+    let beside = readable_run places cs us before after s t run h (readable_opened before places s.world opened) in
     record {
       home = (ready.order h1).home;
       info = (ready.order h1).info;
-      entries = (ready.order h1).entries;
-      status = (ready.order h1).status;
+      updates = beside.updates;
+      empty = beside.empty;
+      text = beside.text;
+      status = stands_file (t.world status_path) after (ready.records h1);
       status_spare = (ready.order h1).status_spare;
+      diversions = beside.diversions;
       tmp = (ready.order h1).tmp;
       records = ready.records h1;
-      listed = listed_run places cs us before after s t run h opened.listed;
+      standing = beside.standing;
+      listed = record { sound = beside.sound; places = listed_run places cs us before after s t run h opened.listed.places };
     }
 
 pub stands_outside : (table : List Record) (old new : World) → SameOn is_administration old new → Stands table old → Stands table new

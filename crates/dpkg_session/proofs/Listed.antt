@@ -25,6 +25,7 @@ use Rattle.unpack_engine.proofs.Endings.{own_apart, own_lasting}
 use Rattle.package_tree.specs.declared.package.Package.{Package}
 use Rattle.package_tree.specs.declared.fault.TreeFault.{TreeFault}
 use Rattle.status_db.specs.Status.{HasRecords}
+use Rattle.status_db.proofs.StatusNode.{file_no_directory}
 use Rattle.status_db.specs.declared.record.Record.{Record}
 use Rattle.status_db.specs.Records.{record_in}
 use Rattle.unpack_engine.specs.Unpack.{HasChangedRecord, IsInOrder, IsLeft, IsOutside}
@@ -60,7 +61,7 @@ is_named table n is = Contains-from_any (λ x y e. (bytes_eq-Decides x y).0 e) n
 at_name : (name : List ℕ) (entry : Option Record) (before after : List Record) → HasChangedRecord name entry before after → record_in after name ≡ entry
 at_name name entry before after table = table name ∙ cond-true (bytes_eq name name) entry (record_in before name) ((bytes_eq-Decides name name).1 refl)
 
-at_other : (name n : List ℕ) (entry : Option Record) (before after : List Record) → n ≢ name → HasChangedRecord name entry before after → record_in after n ≡ record_in before n
+pub at_other : (name n : List ℕ) (entry : Option Record) (before after : List Record) → n ≢ name → HasChangedRecord name entry before after → record_in after n ≡ record_in before n
 at_other name n entry before after ne table = table n ∙ cond-false (bytes_eq name n) entry (record_in before n) (false_from_ne_true (bytes_eq name n) (λ t. ne (sym ((bytes_eq-Decides name n).0 t))))
 
 module _ (name : List ℕ) (before after : List Record) (new_name : is_some (record_in before name) ≡ false) where
@@ -176,12 +177,12 @@ pub standing_opened : (table : List Record) (places : List Path) (w : World) →
 standing_opened table places w opened = (
   directory_is (w home_path) opened.home,
   directory_is (w info_path) opened.info,
-  opened.entries,
-  opened.status,
+  (λ name plain. (opened.listed.sound name plain).loose),
+  file_no_directory (w status_path) opened.status,
   opened.status_spare,
   opened.tmp,
   opened.records,
-  ∣ opened.listed ∣₁,
+  ∣ opened.listed.places ∣₁,
 )
 
 pub standing_run : (cs : List Candidate) (us : List AUnit) (places : List Path) (before after : List Record) (s t : State) → IsRun cs us places before after s t → IsTrue s.honest → IsInOrder t.world → HasRecords t.world after → IsStanding before places s.world → IsStanding after places t.world

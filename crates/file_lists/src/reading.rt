@@ -4,14 +4,16 @@ ghost use Rattle.std.specs.List.{AllByRecursion, list_any};
 ghost use Rattle.file_lists.specs.Lists.{lines_in, places_of, IsGood, HasPlaces};
 ghost use Rattle.file_lists.specs.Reading.{IsLinesFault, IsEntryFault, HasTaken, IsFaultAt, AreSoundAmong, HaveTaken, IsFaultAmong, AreEntries, IsNameFault};
 ghost use Rattle.std.specs.Str.{bytes_eq};
-ghost use Rattle.file_lists.specs.Info.{has_colon, IsOneOf, IsListOf, IsScriptOf, IsSound, entry_path, AreSound, AreLoose, IsInfoDamage};
+ghost use Rattle.file_lists.specs.Info.{is_foreign, IsOneOf, IsListOf, IsScriptOf, IsSound, entry_path, AreSound, IsInfoDamage};
 ghost use Rattle.std.specs.BTreeSet.{contains_text};
 ghost use Rattle.host_core.specs.Host.{Same, Silent};
+ghost use Rattle.administration.specs.Directories.{HasBadName};
 ghost use Rattle.administration.specs.Fault.{HasAdministrationCause};
+ghost use Rattle.administration.specs.Places.{info_path};
 
 use crate::fault::EntryFault;
 use administration::{AdministrationFault, INFO};
-use host_core::{Host, Keep, Node, RootPath, Script};
+use host_core::{Host, Keep, Node, RootPath};
 use std::alloc::{AllocError, Global};
 use std::collections::BTreeSet;
 use std::str;
@@ -69,10 +71,11 @@ fn read_lines(alloc: Global, text: &[u8], keep: &mut Keep) -> Result<(), EntryFa
     Ok(())
 }
 
-fn has_colon(entry: &[u8]) -> bool
-    ensures { result ≡ has_colon entry.now }
+// Whether it belongs to a package of another architecture.
+fn is_foreign(entry: &[u8]) -> bool
+    ensures { result ≡ is_foreign entry.now }
 {
-    entry.contains(&b':')
+    entry.contains(&b':') && !entry.ends_with(b".dpkg-inst")
 }
 
 // What stands before an ending.
@@ -131,7 +134,7 @@ fn take_entry(
     let Some(node) = node else {
         return Ok(());
     };
-    if has_colon(entry) {
+    if is_foreign(entry) {
         return Err(EntryFault::Line(0));
     }
     match node {
@@ -164,9 +167,10 @@ fn sorted(alloc: Global, names: &[Text]) -> Result<BTreeSet<String>, AllocError>
     Ok(set)
 }
 
-// The names in the directory.
+// The names in the directory, all of which are text.
 fn entries_in<H: Host>(alloc: Global, host: &mut H) -> Result<BTreeSet<String>, AdministrationFault>
     ensures entries { IsTrue (H.state host.old).honest → IfOk result (λ set. AreEntries (H.state host.old).world (contains_text set)) }
+    ensures text { IsTrue (H.state host.old).honest → IfOk result (λ set. HasBadName (H.state host.old).world info_path → ⊥) }
     ensures fault { IsTrue (H.state host.old).honest → IfErr result (IsNameFault (H.state host.old).world) }
     ensures same { IsTrue (H.state host.old).honest → Same (H.state host.old) (H.state host.new) }
     ensures silent { Silent (H.state host.old) (H.state host.new) }
@@ -249,7 +253,7 @@ pub fn read_places<H: Host>(
     names: &[Text],
 ) -> Result<Keep, AdministrationFault>
     ensures places { IsTrue (H.state host.old).honest → IfOk result (HasPlaces (H.state host.old).world names.now) }
-    ensures entries { IsTrue (H.state host.old).honest → IfOk result (λ k. AreLoose (H.state host.old).world) }
+    ensures text { IsTrue (H.state host.old).honest → IfOk result (λ k. HasBadName (H.state host.old).world info_path → ⊥) }
     ensures sound { IsTrue (H.state host.old).honest → IfOk result (λ k. AreSound (H.state host.old).world names.now) }
     ensures damage { IsTrue (H.state host.old).honest → IfErr result (IsInfoDamage (H.state host.old).world names.now) }
     ensures same { IsTrue (H.state host.old).honest → Same (H.state host.old) (H.state host.new) }

@@ -29,7 +29,8 @@ pub record IsNewWay (q : Path) (old now : World) : Type 0 where
   pub missing : old q ≡ None
   pub made : now q ≡ new_directory
 
--- Nothing has changed but that missing directories of the administration were made, and that what a unit had left in
--- `tmp.ci` may be gone.
-abbrev pub IsOpening : World → World → Type 0
-IsOpening old now = (q : Path) → is_within tmp_path q ≡ false → (now q ≡ old q) ⊎ IsNewWay q old now
+-- At each moment: missing directories of the administration were made, of what a unit had left in `tmp.ci` some may be
+-- gone, and nothing else has changed.
+pub record IsOpening (old now : World) : Type 0 where
+  pub rest : (q : Path) → is_within tmp_path q ≡ false → (now q ≡ old q) ⊎ IsNewWay q old now
+  pub left : (q : Path) → is_within tmp_path q ≡ true → (now q ≡ old q) ⊎ (now q ≡ None)

@@ -6,13 +6,11 @@ ghost use Rattle.administration.specs.Fault.{HasAdministrationCause};
 ghost use Rattle.administration.specs.Files.{NoDirectory};
 ghost use Rattle.administration.specs.Places.{home_path, updates_path, info_path, tmp_path};
 ghost use Rattle.administration.specs.declared.fault.AdministrationFault.TheVariants.{Damaged, Device};
-ghost use Rattle.opening.specs.Leaving.{is_way, root_path, var_path, lib_path};
-ghost use Rattle.opening.specs.Parts.{Way, Opens, fault_in, Spare, Updates, Finds, Info, names_of, Diversions, IsDiversionsFault, IsWithoutDiversions, Leftovers, parts};
+ghost use Rattle.opening.specs.Leaving.{is_way, var_path, lib_path};
+ghost use Rattle.opening.specs.Parts.{Root, Way, IsTable, Opens, fault_in, Spare, Updates, Finds, Info, names_of, Diversions, IsDiversionsFault, IsWithoutDiversions, Leftovers, parts};
 ghost use Rattle.host_core.specs.Tree.{IsListing};
 ghost use Rattle.administration.specs.Least.{IsLeast};
-ghost use Rattle.file_lists.specs.Lists.{HasPlaces};
-ghost use Rattle.status_db.specs.Status.{HasRecords};
-ghost use Rattle.opening.specs.Opened.{IsOpened};
+ghost use Rattle.opening.specs.Opened.{IsListed, IsOpened};
 
 use administration::{
     AdministrationFault, DIVERSIONS, Flatness, INCOMING, INFO, Standing, UPDATES, inspect_flat,
@@ -63,7 +61,7 @@ fn is_directory<H: Host>(host: &mut H, path: &RootPath) -> Result<bool, HostFaul
 
 // The root has to be a directory.
 fn check_root<H: Host>(alloc: Global, host: &mut H) -> Result<(), AdministrationFault>
-    ensures opens { IsTrue (H.state host.old).honest → Opens (Way root_path ∷ []) (fault_in result) (H.state host.old) (H.state host.new) }
+    ensures opens { IsTrue (H.state host.old).honest → Opens (Root ∷ []) (fault_in result) (H.state host.old) (H.state host.new) }
     ensures silent { Silent (H.state host.old) (H.state host.new) }
     ensures cause { HasAdministrationCause (H.state host.old) (H.state host.new) result }
 {
@@ -76,7 +74,7 @@ fn check_root<H: Host>(alloc: Global, host: &mut H) -> Result<(), Administration
 
 // The root, and the directories from it to the administration.
 fn open_ways<H: Host>(alloc: Global, host: &mut H) -> Result<(), AdministrationFault>
-    ensures opens { IsTrue (H.state host.old).honest → Opens (Way root_path ∷ Way var_path ∷ Way lib_path ∷ Way home_path ∷ []) (fault_in result) (H.state host.old) (H.state host.new) }
+    ensures opens { IsTrue (H.state host.old).honest → Opens (Root ∷ Way var_path ∷ Way lib_path ∷ Way home_path ∷ []) (fault_in result) (H.state host.old) (H.state host.new) }
     ensures silent { Silent (H.state host.old) (H.state host.new) }
     ensures cause { HasAdministrationCause (H.state host.old) (H.state host.new) result }
 {
@@ -163,9 +161,9 @@ fn open_info<H: Host>(
     database: &Database,
 ) -> Result<Keep, AdministrationFault>
     requires home { IsTrue (H.state host.old).honest → IsDirectory ((H.state host.old).world home_path) }
-    requires records { IsTrue (H.state host.old).honest → HasRecords (H.state host.old).world database.now }
+    requires table { IsTrue (H.state host.old).honest → IsTable (H.state host.old).world database.now }
     ensures opens { IsTrue (H.state host.old).honest → Opens (Way info_path ∷ Info ∷ []) (fault_in result) (H.state host.old) (H.state host.new) }
-    ensures places { IsTrue (H.state host.old).honest → IfOk result (HasPlaces (H.state host.new).world (names_of database.now)) }
+    ensures listed { IsTrue (H.state host.old).honest → IfOk result (IsListed (H.state host.new).world (names_of database.now)) }
     ensures silent { Silent (H.state host.old) (H.state host.new) }
     ensures cause { HasAdministrationCause (H.state host.old) (H.state host.new) result }
 {
@@ -285,9 +283,9 @@ fn open_rest<H: Host>(
     database: &Database,
 ) -> Result<Keep, AdministrationFault>
     requires home { IsTrue (H.state host.old).honest → IsDirectory ((H.state host.old).world home_path) }
-    requires records { IsTrue (H.state host.old).honest → HasRecords (H.state host.old).world database.now }
+    requires table { IsTrue (H.state host.old).honest → IsTable (H.state host.old).world database.now }
     ensures opens { IsTrue (H.state host.old).honest → Opens (Spare ∷ Way updates_path ∷ Updates ∷ Way info_path ∷ Info ∷ Diversions ∷ Leftovers ∷ []) (fault_in result) (H.state host.old) (H.state host.new) }
-    ensures places { IsTrue (H.state host.old).honest → IfOk result (HasPlaces (H.state host.new).world (names_of database.now)) }
+    ensures listed { IsTrue (H.state host.old).honest → IfOk result (IsListed (H.state host.new).world (names_of database.now)) }
     ensures silent { Silent (H.state host.old) (H.state host.new) }
     ensures cause { HasAdministrationCause (H.state host.old) (H.state host.new) result }
 {
@@ -303,10 +301,10 @@ fn open_with<H: Host>(
     database: Database,
 ) -> Result<(Database, Keep), AdministrationFault>
     requires home { IsTrue (H.state host.old).honest → IsDirectory ((H.state host.old).world home_path) }
-    requires records { IsTrue (H.state host.old).honest → HasRecords (H.state host.old).world database }
+    requires table { IsTrue (H.state host.old).honest → IsTable (H.state host.old).world database }
     ensures opens { IsTrue (H.state host.old).honest → Opens (Spare ∷ Way updates_path ∷ Updates ∷ Way info_path ∷ Info ∷ Diversions ∷ Leftovers ∷ []) (fault_in result) (H.state host.old) (H.state host.new) }
     ensures database { IfOk result (λ opened. opened.0 ≡ database) }
-    ensures places { IsTrue (H.state host.old).honest → IfOk result (λ opened. HasPlaces (H.state host.new).world (names_of opened.0) opened.1) }
+    ensures listed { IsTrue (H.state host.old).honest → IfOk result (λ opened. IsListed (H.state host.new).world (names_of opened.0) opened.1) }
     ensures silent { Silent (H.state host.old) (H.state host.new) }
     ensures cause { HasAdministrationCause (H.state host.old) (H.state host.new) result }
 {

@@ -15,7 +15,8 @@ use Rattle.status_db.specs.declared.reading.StatusFault.{StatusFault}
 use Rattle.status_db.specs.declared.reading.StatusFault.TheVariants.{Line, NoMemory}
 use Rattle.status_db.specs.Words.{is_not_installed}
 use Rattle.status_db.specs.Records.{IsWithout, AreApart, standing}
-use Rattle.status_db.specs.Paragraphs.{IsReadable, SaysEntry, IsEntry, Enters}
+use Rattle.status_db.specs.Values.{IsReadable}
+use Rattle.status_db.specs.Paragraphs.{SaysEntry, IsEntry, Enters}
 use Rattle.status_db.specs.Damage.{IsFaultyWhole}
 use Rattle.status_db.specs.Faults.{IsEntryFault, IsTableFault}
 use Rattle.status_db.proofs.Sayings.{says_same}

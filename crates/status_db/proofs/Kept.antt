@@ -2,7 +2,7 @@
 use Rattle.std.proofs.Common.{◌≡◌, ℕ, Bool, true, false, cond, not, ◌||◌, List, [], ◌∷◌, ◌++◌, map, Bor, refl, sym, ap, subst, ◌∙◌, append_assoc, codes}
 use Rattle.std.specs.Prelude.{filter}
 use Rattle.std.specs.Str.{bytes_eq}
-use Rattle.std.specs.List.{list_any}
+use Rattle.std.specs.List.{list_any, AllByRecursion}
 use Rattle.std.proofs.Props.{props}
 use Rattle.std.proofs.Math.Logic.{∥∥₁_elim, ∥∥₁_map}
 use Rattle.texts.specs.PackageNames.{is_package_name}
@@ -14,6 +14,9 @@ use Rattle.control_fields.specs.Names.{lower, is_called, stands}
 use Rattle.control_fields.specs.Spelling.{AreFields}
 use Rattle.control_fields.specs.declared.field.Field.{Field}
 use Rattle.status_db.specs.Fields.{first_names, own_names, is_one_of, fields_but, recorded_fields, other_fields}
+use Rattle.status_db.specs.declared.values.Kind.{Kind}
+use Rattle.status_db.specs.declared.values.Kind.TheVariants.{PackageName, StatusWords, VersionText, Yes, Any}
+use Rattle.status_db.specs.Values.{kind_of, IsReadableAs, IsReadable}
 use Rattle.status_db.specs.Writable.{IsWritable, first_fields}
 
 -- a name that stands nowhere stands in no part
@@ -103,10 +106,42 @@ pub others_after : (name status version : List ℕ) (fs : List Field) → AreFie
 others_after name status version fs are =
     left_over (λ f. not (is_one_of first_names f)) (first_fields name status version) (λ f kept. first_apart f name status version [] (not-true (is_one_of first_names f) kept)) [] fs are
 
+-- what is left can be read
+
+kept_by : (b : Bool) (f : Field) (rest : List Field) → (b ≡ true → IsReadable f) → AllByRecursion IsReadable rest → AllByRecursion IsReadable (cond b (f ∷ rest) rest)
+kept_by true f rest here all = (here refl, all)
+kept_by false f rest here all = all
+
+kept_readable : (keep : Field → Bool) (fs : List Field) → AllByRecursion IsReadable fs → AllByRecursion IsReadable (filter keep fs)
+kept_readable keep [] all = tt
+kept_readable keep (f ∷ fs) all = kept_by (keep f) f (filter keep fs) (λ e. all.0) (kept_readable keep fs all.1)
+
+other_kind : (l : List ℕ) → list_any (bytes_eq l) own_names ≡ false → kind_of l ≡ Any
+other_kind l out =
+    let a = or_parts (bytes_eq l (codes "package")) _ out in
+    let b = or_parts (bytes_eq l (codes "status")) _ a.1 in
+    let c = or_parts (bytes_eq l (codes "version")) _ b.1 in
+    let d = or_parts (bytes_eq l (codes "config-version")) _ c.1 in
+    let e = or_parts (bytes_eq l (codes "removed-since")) _ d.1 in
+    ap (λ x. cond x PackageName (kind_but_package l)) a.0 ∙ ap (λ x. cond x StatusWords (kind_but_status l)) b.0 ∙ ap (λ x. cond x VersionText (cond (bytes_eq l (codes "removed-since")) Yes Any)) c.0 ∙ ap (λ x. cond x Yes Any) e.0
+  where
+    kind_but_status : List ℕ → Kind
+    kind_but_status l = cond (bytes_eq l (codes "version")) VersionText (cond (bytes_eq l (codes "removed-since")) Yes Any)
+
+    kind_but_package : List ℕ → Kind
+    kind_but_package l = cond (bytes_eq l (codes "status")) StatusWords (kind_but_status l)
+
+recorded_readable : (fs : List Field) → AllByRecursion IsReadable (recorded_fields fs)
+recorded_readable [] = tt
+recorded_readable (f ∷ fs) =
+    kept_by (not (is_one_of own_names f)) f (recorded_fields fs)
+    (λ e. subst (λ k. IsReadableAs k f) (sym (other_kind (lower f.name) (not-true (is_one_of own_names f) e))) tt) (recorded_readable fs)
+
 pub writable_of : (name other : List ℕ) (fields control : List Field) → name ≡ other → is_package_name other ≡ true → fields ≡ recorded_fields control → ∥ AreFields [] control ∥₁ → ∥ IsWritable name fields ∥₁
 writable_of name other fields control is named left are = ∥∥₁_map are (λ known. record {
   named = ap is_package_name is ∙ named;
   written = λ status version. subst (AreFields (first_fields name status version)) (sym left) (recorded_after name status version control known);
+  readable = subst (AllByRecursion IsReadable) (sym left) (recorded_readable control);
 })
 
 -- the step of a loop that writes the other fields behind the first
@@ -121,8 +156,9 @@ pub written_more : (firsts paragraph next : List Field) (ys : List (Bor Field)) 
 written_more firsts paragraph next ys x f e n same =
     n ∙ ap (λ (l : List Field). l ++ f ∷ []) e ∙ ap (λ (g : Field). (firsts ++ map (λ b. b.now) ys) ++ g ∷ []) same ∙ append_assoc firsts (map (λ b. b.now) ys) (x.now ∷ []) ∙ ap (λ (l : List Field). firsts ++ l) (sym (map-append (λ (b : Bor Field). b.now) ys (x ∷ [])))
 
-pub writable_others : (name other : List ℕ) (fields paragraph : List Field) → name ≡ other → is_package_name other ≡ true → fields ≡ other_fields paragraph → ∥ AreFields [] paragraph ∥₁ → ∥ IsWritable name fields ∥₁
-writable_others name other fields paragraph is named left are = ∥∥₁_map are (λ known. record {
+pub writable_others : (name other : List ℕ) (fields paragraph : List Field) → name ≡ other → is_package_name other ≡ true → fields ≡ other_fields paragraph → ∥ AreFields [] paragraph ∥₁ → AllByRecursion IsReadable paragraph → ∥ IsWritable name fields ∥₁
+writable_others name other fields paragraph is named left are all = ∥∥₁_map are (λ known. record {
   named = ap is_package_name is ∙ named;
   written = λ status version. subst (AreFields (first_fields name status version)) (sym left) (others_after name status version paragraph known);
+  readable = subst (AllByRecursion IsReadable) (sym left) (kept_readable (λ f. not (is_one_of first_names f)) paragraph all);
 })

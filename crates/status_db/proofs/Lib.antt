@@ -8,4 +8,5 @@ pub mod Rounds
 pub mod Missing
 pub mod Entering
 pub mod WholeText
+pub mod StatusNode
 pub mod Noting

@@ -23,9 +23,8 @@ use Rattle.status_db.specs.declared.words.Flag.{Flag}
 use Rattle.status_db.specs.declared.words.Flag.TheVariants as flag
 use Rattle.status_db.specs.declared.words.State.{State}
 use Rattle.status_db.specs.declared.words.State.TheVariants as state
-use Rattle.status_db.specs.Words.{want_word, flag_word, state_word}
+use Rattle.status_db.specs.Words.{want_word, flag_word, state_word, status_text}
 use Rattle.status_db.specs.Writable.{line_field}
-use Rattle.status_db.specs.Paragraphs.{status_text}
 
 -- a sign of ASCII, and the same or a space
 abbrev pub is_visible : ℕ → Bool

@@ -12,13 +12,13 @@ use Rattle.status_db.specs.declared.words.Want.{Want}
 use Rattle.status_db.specs.declared.words.Flag.{Flag}
 use Rattle.status_db.specs.declared.words.State.{State}
 use Rattle.status_db.specs.declared.words.State.TheVariants.{NotInstalled}
-use Rattle.status_db.specs.Words.{is_not_installed}
+use Rattle.status_db.specs.Words.{is_not_installed, status_text}
 use Rattle.status_db.specs.Fields.{other_fields}
-use Rattle.status_db.specs.Paragraphs.{field_in, Says, status_text, IsNamed, IsReadable, SaysEntry}
+use Rattle.status_db.specs.Values.{kind_of, IsReadableAs, IsReadable}
+use Rattle.status_db.specs.Paragraphs.{field_in, Says, IsNamed, SaysEntry}
 use Rattle.status_db.specs.Damage.{IsMissing}
 use Rattle.status_db.proofs.Parsing.{gone_state}
 use Rattle.status_db.proofs.Sayings.{says_same}
-use Rattle.status_db.proofs.Rounds.{is_among}
 
 abbrev AreReadable : List Field → Type 0
 AreReadable fs = AllByRecursion IsReadable fs
@@ -40,23 +40,27 @@ missing_by (Some f) none = absurd (none f refl)
 missing_from : (text : List ℕ) (fs : List Field) → AreReadable fs → ((f : Field) → field_in text fs ≡ Some f → lower f.name ≡ text → IsReadable f → ⊥) → field_in text fs ≡ None
 missing_from text fs all none = missing_by (field_in text fs) (λ f is. let k = found_readable text fs f all is in none f is k.0 k.1)
 
+value_is : (f : Field) (text : List ℕ) → lower f.name ≡ text → IsReadable f → IsReadableAs (kind_of text) f
+value_is f text named good = subst (λ n. IsReadableAs (kind_of n) f) named good
+
 pub missing_name : (fs : List Field) → ((name : List ℕ) → IsNamed fs name → ⊥) → AreReadable fs → IsMissing fs
 missing_name fs none all =
-    inl (missing_from (codes "package") fs all
-    (λ f is named good. none f.first (record { field = f; there = is; value_is = refl; one_line = good.one_line (is_among f (codes "package") [] (codes "status" ∷ codes "version" ∷ []) named) }, good.of_package named)))
+    inl (missing_from (codes "package") fs all (λ f is named good.
+    let value = value_is f (codes "package") named good in
+    none f.first (record { field = f; there = is; value_is = refl; one_line = value.0 }, value.1)))
 
 pub missing_status : (fs : List Field) → ((w : Want) (g : Flag) (s : State) → Says (codes "status") fs (status_text w g s) → ⊥) → AreReadable fs → IsMissing fs
 missing_status fs none all =
-    inr (inl (missing_from (codes "status") fs all
-    (λ f is named good.
-    let text = good.of_status named in
-    none text.0 text.1 text.2 (record { field = f; there = is; value_is = text.3; one_line = good.one_line (is_among f (codes "status") (codes "package" ∷ []) (codes "version" ∷ []) named) }))))
+    inr (inl (missing_from (codes "status") fs all (λ f is named good.
+    let value = value_is f (codes "status") named good in
+    none value.1.0 value.1.1 value.1.2 (record { field = f; there = is; value_is = value.1.3; one_line = value.0 }))))
 
 pub missing_version : (fs : List Field) (w : Want) (g : Flag) (s : State) → Says (codes "status") fs (status_text w g s) → is_not_installed s ≡ false → ((v : List ℕ) → Says (codes "version") fs v × IsVersion v → ⊥) → AreReadable fs → IsMissing fs
 missing_version fs w g s says there none all =
     inr (inr (
-      missing_from (codes "version") fs all
-          (λ f is named good. none f.first (record { field = f; there = is; value_is = refl; one_line = good.one_line (is_among f (codes "version") (codes "package" ∷ codes "status" ∷ []) [] named) }, good.of_version named)),
+      missing_from (codes "version") fs all (λ f is named good.
+          let value = value_is f (codes "version") named good in
+          none f.first (record { field = f; there = is; value_is = refl; one_line = value.0 }, value.1)),
       λ gone. false≢true (sym there ∙ gone_state w gone.0 g gone.1 s (says_same (codes "status") fs (status_text w g s) (status_text gone.0 gone.1 NotInstalled) says gone.2)),
     ))
 

@@ -10,8 +10,7 @@ use Rattle.status_db.specs.declared.words.Flag.{Flag}
 use Rattle.status_db.specs.declared.words.Flag.TheVariants as flag
 use Rattle.status_db.specs.declared.words.State.{State}
 use Rattle.status_db.specs.declared.words.State.TheVariants as state
-use Rattle.status_db.specs.Words.{want_word, flag_word, state_word, is_not_installed}
-use Rattle.status_db.specs.Paragraphs.{status_text, IsStatusText}
+use Rattle.status_db.specs.Words.{want_word, flag_word, state_word, is_not_installed, status_text, IsStatusText}
 use Rattle.status_db.proofs.Lines.{lacks_blank}
 
 pub behind : (a b x y : List ℕ) → Lacks a 32 → Lacks b 32 → a ++ 32 ∷ x ≡ b ++ 32 ∷ y → x ≡ y

@@ -1,24 +1,22 @@
 -- What was written is read again.
-use Rattle.std.proofs.Common.{◌≡◌, ◌≢◌, ℕ, Bool, true, false, cond, not, ◌||◌, List, [], ◌∷◌, ◌++◌, map, get_or, refl, sym, ap, subst, ◌∙◌, append_assoc, arith, codes, inr}
+use Rattle.std.proofs.Common.{◌≡◌, ℕ, Bool, true, false, cond, not, ◌||◌, List, [], ◌∷◌, ◌++◌, map, refl, sym, ap, subst, ◌∙◌, append_assoc, codes, inr}
 use Rattle.std.specs.Str.{bytes_eq}
 use Rattle.std.specs.List.{list_any, AllByRecursion}
 use Rattle.std.proofs.Math.Logic.{∥∥₁_elim, ∥∥₁_map, ∥∥₁_prop}
-use Rattle.std.proofs.lemmas.Bool.{or_from, false≢true, or_parts}
+use Rattle.std.proofs.lemmas.Bool.{or_from, or_parts}
 use Rattle.std.proofs.lemmas.List.{append-nil}
 use Rattle.std.proofs.lemmas.List.Folds.{list_any-append}
-use Rattle.std.proofs.lemmas.Slice.Eq.{bytes_eq-Decides}
 use Rattle.control_fields.specs.Names.{lower, stands}
 use Rattle.control_fields.specs.Spelling.{AreFields, IsParagraph, spell_all}
 use Rattle.control_fields.specs.declared.field.Field.{Field}
 use Rattle.control_fields.proofs.Again.{all_again}
-use Rattle.texts.specs.PackageNames.{is_package_name}
 use Rattle.version_order.specs.Versions.{IsVersion}
 use Rattle.status_db.specs.declared.record.Record.{Record}
-use Rattle.status_db.specs.Words.{is_not_installed}
+use Rattle.status_db.specs.Words.{is_not_installed, status_text}
 use Rattle.status_db.specs.Fields.{first_names, is_one_of, other_fields}
 use Rattle.status_db.specs.Writable.{IsWritable, line_field, first_fields}
 use Rattle.status_db.specs.Records.{IsWithout, AreApart, standing}
-use Rattle.status_db.specs.Paragraphs.{status_text, paragraph_of, IsReadable, IsRecordOf, IsEntry, Enters}
+use Rattle.status_db.specs.Paragraphs.{paragraph_of, IsRecordOf, IsEntry, Enters}
 use Rattle.status_db.specs.Status.{IsStatus}
 use Rattle.status_db.proofs.Kept.{swapped, called_parts}
 use Rattle.status_db.proofs.Lines.{name_visible, version_visible, package_is_field, status_is_field, version_is_field}
@@ -46,55 +44,6 @@ others_stay : (fs : List Field) → AllByRecursion (λ f. is_one_of first_names 
 others_stay [] all = refl
 others_stay (f ∷ fs) all = ap (λ b. cond (not b) (f ∷ other_fields fs) (other_fields fs)) all.0 ∙ ap (λ (l : List Field). f ∷ l) (others_stay fs all.1)
 
-pub is_among : (f : Field) (text : List ℕ) (before : List (List ℕ)) (rest : List (List ℕ)) → lower f.name ≡ text → is_one_of (before ++ text ∷ rest) f ≡ true
-is_among f text before rest e =
-    list_any-append (bytes_eq (lower f.name)) before (text ∷ rest) ∙ ap (λ b. list_any (bytes_eq (lower f.name)) before || (b || list_any (bytes_eq (lower f.name)) rest)) ((bytes_eq-Decides (lower f.name) text).1 e) ∙ or_end (list_any (bytes_eq (lower f.name)) before)
-  where
-    or_end : (b : Bool) → (b || true) ≡ true
-    or_end true = refl
-    or_end false = refl
-
-other_readable : (f : Field) → is_one_of first_names f ≡ false → IsReadable f
-other_readable f e = record {
-  one_line = λ t. absurd (false≢true (sym e ∙ t));
-  of_package = λ t. absurd (false≢true (sym e ∙ is_among f (codes "package") [] (codes "status" ∷ codes "version" ∷ []) t));
-  of_status = λ t. absurd (false≢true (sym e ∙ is_among f (codes "status") (codes "package" ∷ []) (codes "version" ∷ []) t));
-  of_version = λ t. absurd (false≢true (sym e ∙ is_among f (codes "version") (codes "package" ∷ codes "status" ∷ []) [] t));
-}
-
-others_readable : (fs : List Field) → AllByRecursion (λ f. is_one_of first_names f ≡ false) fs → AllByRecursion IsReadable fs
-others_readable [] all = tt
-others_readable (f ∷ fs) all = (other_readable f all.0, others_readable fs all.1)
-
--- the first three
-
-apart_at : (a b : List ℕ) → get_or a 0 0 ≢ get_or b 0 0 → a ≡ b → ⊥
-apart_at a b ne e = ne (ap (λ (l : List ℕ). get_or l 0 0) e)
-
-package_readable : (name : List ℕ) → is_package_name name ≡ true → IsReadable (line_field (codes "Package") name)
-package_readable name named = record {
-  one_line = λ t. refl;
-  of_package = λ t. named;
-  of_status = λ t. absurd (apart_at (codes "package") (codes "status") (omega arith) t);
-  of_version = λ t. absurd (apart_at (codes "package") (codes "version") (omega arith) t);
-}
-
-status_readable : (r : Record) → IsReadable (line_field (codes "Status") (status_text r.want r.flag r.state))
-status_readable r = record {
-  one_line = λ t. refl;
-  of_package = λ t. absurd (apart_at (codes "status") (codes "package") (omega arith) t);
-  of_status = λ t. (r.want, r.flag, r.state, refl);
-  of_version = λ t. absurd (apart_at (codes "status") (codes "version") (omega arith) t);
-}
-
-version_readable : (version : List ℕ) → IsVersion version → IsReadable (line_field (codes "Version") version)
-version_readable version is = record {
-  one_line = λ t. refl;
-  of_package = λ t. absurd (apart_at (codes "version") (codes "package") (omega arith) t);
-  of_status = λ t. absurd (apart_at (codes "version") (codes "status") (omega arith) t);
-  of_version = λ t. is;
-}
-
 -- one paragraph
 
 pub paragraph_written : (r : Record) → IsWritable r.name r.fields → IsVersion r.version → IsParagraph (paragraph_of r)
@@ -119,16 +68,14 @@ record_again r writable there =
     }
 
 entry_again : (names : List (List ℕ)) (r : Record) → IsWritable r.name r.fields → IsVersion r.version → is_not_installed r.state ≡ false → list_any (bytes_eq r.name) names ≡ false → IsEntry names (paragraph_of r) r.name (r ∷ [])
-entry_again names r writable version there new =
-    let others = others_named r.name (status_text r.want r.flag r.state) r.version [] r.fields (subst (λ (l : List Field). AreFields l r.fields) (sym (append-nil (first_fields r.name (status_text r.want r.flag r.state) r.version))) (writable.written (status_text r.want r.flag r.state) r.version)) in
-    record {
-      says = record {
-        named = (record { field = line_field (codes "Package") r.name; there = refl; value_is = refl; one_line = refl }, writable.named);
-        stands_for = inr (r, record_again r writable there, refl);
-      };
-      new = new;
-      readable = (package_readable r.name writable.named, (status_readable r, (version_readable r.version version, others_readable r.fields others)));
-    }
+entry_again names r writable version there new = record {
+  says = record {
+    named = (record { field = line_field (codes "Package") r.name; there = refl; value_is = refl; one_line = refl }, writable.named);
+    stands_for = inr (r, record_again r writable there, refl);
+  };
+  new = new;
+  readable = ((refl, writable.named), ((refl, (r.want, r.flag, r.state, refl)), ((refl, version), writable.readable)));
+}
 
 -- all of them
 

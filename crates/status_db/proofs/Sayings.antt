@@ -1,6 +1,6 @@
 -- What the fields of a paragraph say.
-use Rattle.std.proofs.Common.{◌≡◌, ℕ, ◌+◌, ◌<◌, ◌^◌, Bool, true, false, cond, ◌||◌, Option, None, Some, Bor, List, [], ◌∷◌, ◌++◌, length, refl, sym, ap, subst, ◌∙◌, arith, codes, IsTrue, Result, Ok, Err, suc, map, eqb}
-use Rattle.std.specs.Prelude.{IfSome, IfNone, ◌↔◌, option_copied, IfOk, slice_get, ◌==◌}
+use Rattle.std.proofs.Common.{◌≡◌, ℕ, ◌+◌, ◌<◌, ◌^◌, Bool, true, false, cond, Option, None, Some, Bor, List, [], ◌∷◌, ◌++◌, length, refl, sym, ap, subst, ◌∙◌, arith, codes, IsTrue, suc, map, eqb}
+use Rattle.std.specs.Prelude.{IfSome, IfNone, ◌↔◌, option_copied, slice_get, ◌==◌}
 use Rattle.std.specs.List.{list_any, AllByRecursion}
 use Rattle.std.specs.Str.{bytes_eq}
 use Rattle.std.proofs.lemmas.Bool.{true≢false, false≢true, or_parts}
@@ -14,9 +14,9 @@ use Rattle.status_db.specs.declared.words.Want.{Want}
 use Rattle.status_db.specs.declared.words.Flag.{Flag}
 use Rattle.status_db.specs.declared.words.State.{State}
 use Rattle.status_db.specs.declared.words.State.TheVariants.{NotInstalled}
-use Rattle.status_db.specs.Words.{is_not_installed}
-use Rattle.status_db.specs.Fields.{first_names, is_one_of}
-use Rattle.status_db.specs.Paragraphs.{field_in, Says, status_text, IsNamed, IsStatusText, IsReadable, IsGone}
+use Rattle.status_db.specs.Words.{is_not_installed, status_text, IsStatusText}
+use Rattle.status_db.specs.Values.{IsReadable}
+use Rattle.status_db.specs.Paragraphs.{field_in, Says, IsNamed, IsGone}
 use Rattle.control_fields.specs.Names.{line_of_field}
 use Rattle.control_fields.specs.declared.located.Located.{Located}
 use Rattle.std.proofs.lemmas.Bool.Decides.{nat_tests}
@@ -76,31 +76,10 @@ not_taken names fs none = (λ t. absurd (false≢true t), λ is. absurd (none is
 pub taken_by : (names : List (List ℕ)) (fs : List Field) (name : List ℕ) (b : Bool) → IsNamed fs name → b ≡ list_any (bytes_eq name) names → IsTrue b ↔ IsTaken names fs
 taken_by names fs name b is e = (λ t. (name, is, sym e ∙ t), λ taken. e ∙ ap (λ (n : List ℕ). list_any (bytes_eq n) names) (says_same (codes "package") fs name taken.0 is.0 taken.1.0) ∙ taken.2)
 
--- Version
-
-only_version : (f : Field) → is_one_of first_names f ≡ true → (lower f.name ≡ codes "package" → ⊥) → (lower f.name ≡ codes "status" → ⊥) → lower f.name ≡ codes "version"
-only_version f among no_package no_status = by (bytes_eq (lower f.name) (codes "package")) (bytes_eq (lower f.name) (codes "status")) (bytes_eq (lower f.name) (codes "version")) refl refl refl among
-  where
-    by : (a b d : Bool) → bytes_eq (lower f.name) (codes "package") ≡ a → bytes_eq (lower f.name) (codes "status") ≡ b → bytes_eq (lower f.name) (codes "version") ≡ d → (a || (b || (d || false))) ≡ true → lower f.name ≡ codes "version"
-    by true b d p s v e = absurd (no_package ((bytes_eq-Decides (lower f.name) (codes "package")).0 p))
-    by false true d p s v e = absurd (no_status ((bytes_eq-Decides (lower f.name) (codes "status")).0 s))
-    by false false true p s v e = (bytes_eq-Decides (lower f.name) (codes "version")).0 v
-    by false false false p s v e = absurd (false≢true e)
-
-pub readable_version : (f : Field) (b : Bool) → is_one_of first_names f ≡ true → f.more ≡ [] → (lower f.name ≡ codes "package" → ⊥) → (lower f.name ≡ codes "status" → ⊥) → IsTrue b ↔ IsVersion f.first → IsTrue b ↔ IsReadable f
-readable_version f b among more no_package no_status version = (
-  λ t. record { one_line = λ x. more; of_package = λ x. absurd (no_package x); of_status = λ x. absurd (no_status x); of_version = λ x. version.0 t },
-  λ is. version.1 (is.of_version (only_version f among no_package no_status)),
-)
-
+-- no line goes on with a field
 pub no_lines : (more m : List (List ℕ)) (b : Bool) → m ≡ more → b ≡ (length m == 0) → b ≡ true → more ≡ []
 no_lines [] m b is e t = refl
 no_lines (l ∷ more) m b is e t = let h : eqb (suc (length more)) 0 ≡ true = ap (λ (x : List (List ℕ)). length x == 0) (sym is) ∙ sym e ∙ t in absurd (grind (arith, nat_tests))
-
-pub end_readable : {E : Type 0} (f : Field) (value : List ℕ) (r : Result Bool E) → is_one_of first_names f ≡ true → f.more ≡ [] → (lower f.name ≡ codes "package" → ⊥) → (lower f.name ≡ codes "status" → ⊥) → value ≡ f.first
-    → IfOk r (λ b. IsTrue b ↔ IsVersion value) → IfOk r (λ b. IsTrue b ↔ IsReadable f)
-end_readable f value (Ok b) among more no_package no_status is version = readable_version f b among more no_package no_status (subst (λ (v : List ℕ). IsTrue b ↔ IsVersion v) is version)
-end_readable f value (Err e) among more no_package no_status is version = tt
 
 -- the first field that can't be read
 

@@ -10,7 +10,8 @@ use Rattle.control_fields.specs.declared.located.Located.{Located}
 use Rattle.control_fields.specs.declared.fault.ControlFault.{ControlFault}
 use Rattle.control_fields.specs.declared.fault.ControlFault.TheVariants.{NoColon, BadName, Twice, OrphanContinuation, NotUtf8, NoMemory, Second}
 use Rattle.status_db.specs.declared.record.Record.{Record}
-use Rattle.status_db.specs.Paragraphs.{field_in, IsNamed, IsGone, IsReadable, Enters}
+use Rattle.status_db.specs.Values.{IsReadable}
+use Rattle.status_db.specs.Paragraphs.{field_in, IsNamed, IsGone, Enters}
 
 -- the line that a fault of the control grammar tells
 abbrev pub line_in : ControlFault → ℕ

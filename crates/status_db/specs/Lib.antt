@@ -1,5 +1,6 @@
 pub mod Words
 pub mod Fields
+pub mod Values
 pub mod Writable
 pub mod Records
 pub mod Paragraphs

@@ -5,19 +5,14 @@ use Rattle.std.specs.Str.{bytes_eq}
 use Rattle.control_fields.specs.Names.{lower}
 use Rattle.control_fields.specs.declared.field.Field.{Field}
 use Rattle.texts.specs.PackageNames.{is_package_name}
-use Rattle.version_order.specs.Versions.{IsVersion}
 use Rattle.status_db.specs.declared.record.Record.{Record}
 use Rattle.status_db.specs.declared.words.Want.{Want}
 use Rattle.status_db.specs.declared.words.Flag.{Flag}
-use Rattle.status_db.specs.declared.words.State.{State}
 use Rattle.status_db.specs.declared.words.State.TheVariants.{NotInstalled}
-use Rattle.status_db.specs.Words.{want_word, flag_word, state_word, is_not_installed}
-use Rattle.status_db.specs.Fields.{first_names, is_one_of, other_fields}
+use Rattle.status_db.specs.Words.{status_text, is_not_installed}
+use Rattle.status_db.specs.Fields.{other_fields}
+use Rattle.status_db.specs.Values.{IsReadable}
 use Rattle.status_db.specs.Writable.{first_fields}
-
--- the value of the field Status: three words with one blank between two
-abbrev pub status_text : Want → Flag → State → List ℕ
-status_text want flag state = want_word want ++ 32 ∷ (flag_word flag ++ 32 ∷ state_word state)
 
 -- Package, Status and Version, then the other fields
 abbrev pub paragraph_of : Record → List Field
@@ -38,17 +33,6 @@ pub record Says (text : List ℕ) (fields : List Field) (value : List ℕ) : Typ
 -- the paragraph is of the package of this name
 abbrev pub IsNamed : List Field → List ℕ → Type 0
 IsNamed fields name = Says (codes "package") fields name × (is_package_name name ≡ true)
-
-abbrev pub IsStatusText : List ℕ → Type 0
-IsStatusText text = (want : Want) × (flag : Flag) × (state : State) × (text ≡ status_text want flag state)
-
--- The value of a field can be read: Package has the name of a package (Policy 5.6.1), Status its three words, and
--- Version a version (Policy 5.6.12), each on one line. Other fields are taken as they are.
-pub record IsReadable (f : Field) : Type 0 where
-  pub one_line : is_one_of first_names f ≡ true → f.more ≡ []
-  pub of_package : lower f.name ≡ codes "package" → is_package_name f.first ≡ true
-  pub of_status : lower f.name ≡ codes "status" → IsStatusText f.first
-  pub of_version : lower f.name ≡ codes "version" → IsVersion f.first
 
 -- the state is not-installed
 abbrev pub IsGone : List Field → Type 0

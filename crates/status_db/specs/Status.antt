@@ -14,13 +14,6 @@ use Rattle.status_db.specs.Paragraphs.{Enters}
 use Rattle.status_db.specs.Damage.{IsFirstFault}
 use Rattle.status_db.specs.declared.record.Record.{Record}
 
--- the text of a file; a missing one is empty
-abbrev pub text_of : Option Node → List ℕ
-text_of None = []
-text_of (Some (File bytes mode)) = bytes
-text_of (Some (Dir mode)) = []
-text_of (Some (Link target)) = []
-
 -- The text stands for these records: its paragraphs say them, each of a package of its own. A record of state
 -- not-installed has no paragraph.
 pub record IsStatus (text : List ℕ) (records : List Record) : Type 0 where
@@ -29,9 +22,16 @@ pub record IsStatus (text : List ℕ) (records : List Record) : Type 0 where
   pub reads : Reads (lines_of text) paragraphs
   pub enters : Enters [] [] paragraphs names (standing records)
 
+-- the status file of these records stands there; a missing one has an empty text, a directory or a link is none
+abbrev pub IsStatusAt : Option Node → List Record → Type 0
+IsStatusAt None records = IsStatus [] records
+IsStatusAt (Some (File bytes mode)) records = IsStatus bytes records
+IsStatusAt (Some (Dir mode)) records = ⊥
+IsStatusAt (Some (Link target)) records = ⊥
+
 -- the node at the status file's place stands for these records
 abbrev pub StandsFor : Option Node → List Record → Type 0
-StandsFor node records = ∥ IsStatus (text_of node) records ∥₁
+StandsFor node records = ∥ IsStatusAt node records ∥₁
 
 abbrev pub HasRecords : World → List Record → Type 0
 HasRecords w records = StandsFor (w status_path) records

@@ -1,5 +1,5 @@
 -- The words of the field `Status`: want, flag and state.
-use Rattle.std.specs.Prelude.{ℕ, Bool, true, false, List, codes}
+use Rattle.std.specs.Prelude.{◌≡◌, ◌∷◌, ◌++◌, ℕ, Bool, true, false, List, codes}
 use Rattle.status_db.specs.declared.words.Want.{Want}
 use Rattle.status_db.specs.declared.words.Want.TheVariants as want
 use Rattle.status_db.specs.declared.words.Flag.{Flag}
@@ -33,3 +33,10 @@ is_not_installed state.HalfInstalled = false
 is_not_installed state.Unpacked = false
 is_not_installed state.HalfConfigured = false
 is_not_installed state.Installed = false
+
+-- the value of the field: three words with one blank between two
+abbrev pub status_text : Want → Flag → State → List ℕ
+status_text want flag state = want_word want ++ 32 ∷ (flag_word flag ++ 32 ∷ state_word state)
+
+abbrev pub IsStatusText : List ℕ → Type 0
+IsStatusText text = (want : Want) × (flag : Flag) × (state : State) × (text ≡ status_text want flag state)

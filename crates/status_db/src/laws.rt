@@ -6,12 +6,13 @@ ghost use Rattle.host_core.specs.World.{World};
 ghost use Rattle.administration.specs.Places.{status_path};
 ghost use Rattle.status_db.specs.declared.record.Record.{Record as ARecord};
 ghost use Rattle.status_db.specs.Records.{record_in, put_record, drop_record};
-ghost use Rattle.status_db.specs.Status.{HasRecords};
+ghost use Rattle.status_db.specs.Status.{HasRecords, IsFileOrNothing};
 
 /// Setting and dropping a record changes the look-up of its name alone. The records are those of the status file,
-/// whatever else changes.
+/// whatever else changes; they are those of a file or of nothing, never of a directory or a link.
 pub fn records_are_a_table()
     ensures put { (r : ARecord) (rs : List ARecord) (q : List ℕ) → record_in (put_record r rs) q ≡ update bytes_eq (record_in rs) r.name (Some r) q }
     ensures drop { (name : List ℕ) (rs : List ARecord) (q : List ℕ) → record_in (drop_record name rs) q ≡ update bytes_eq (record_in rs) name None q }
     ensures one_file { (w v : World) (rs : List ARecord) → v status_path ≡ w status_path → HasRecords w rs → HasRecords v rs }
+    ensures file { (w : World) (rs : List ARecord) → HasRecords w rs → IsFileOrNothing (w status_path) }
 {}

@@ -5,6 +5,7 @@ mod database;
 mod laws;
 mod reading;
 mod record;
+mod values;
 mod words;
 mod writing;
 

@@ -11,20 +11,21 @@ ghost use Rattle.status_db.specs.declared.words.Want.{Want as AWant};
 ghost use Rattle.status_db.specs.declared.words.Flag.{Flag as AFlag};
 ghost use Rattle.status_db.specs.declared.words.State.{State as AState};
 ghost use Rattle.status_db.specs.declared.reading.StatusFault.TheVariants.{NoMemory};
-ghost use Rattle.status_db.specs.Words.{want_word, flag_word, state_word};
+ghost use Rattle.status_db.specs.Words.{status_text};
 ghost use Rattle.status_db.specs.Fields.{other_fields};
 ghost use Rattle.status_db.specs.Records.{AreApart, standing};
-ghost use Rattle.status_db.specs.Paragraphs.{field_in, status_text, Says, IsNamed, IsStatusText, IsReadable, IsGone, IsEntry, SaysEntry, Enters};
+ghost use Rattle.status_db.specs.Values.{IsReadable};
+ghost use Rattle.status_db.specs.Paragraphs.{field_in, Says, IsNamed, IsGone, IsEntry, SaysEntry, Enters};
 ghost use Rattle.status_db.specs.Damage.{IsMissing, IsTaken, IsFaultyWhole, IsBadField, HasLines, line_in};
 ghost use Rattle.status_db.specs.Faults.{IsEntryFault, IsTableFault, IsTextFault, IsEndFault, IsSound};
 ghost use Rattle.status_db.specs.Status.{IsStatus};
 
 use crate::record::{Record, is_first};
-use crate::words::{Flag, State, Want};
+use crate::values::{Status, is_readable, one_line, read_status, read_version};
 use control_fields::{ControlFault, Field, Located, Paragraph, read_located};
 use std::alloc::{AllocError, AllocFailed, Global};
 use texts::{Text, Texts, package_name};
-use version_order::{Version, VersionFault};
+use version_order::Version;
 
 /// Why the text has no records: its first faulty line.
 #[derive(Clone, Copy)]
@@ -49,125 +50,6 @@ impl<T: Drop> From<AllocFailed<T>> for StatusFault {
     }
 }
 
-// The three words of a Status.
-#[derive(Clone, Copy)]
-struct Status {
-    want: Want,
-    flag: Flag,
-    state: State,
-}
-
-fn after_blank(bytes: &[u8]) -> Option<&[u8]>
-    ensures some { IfSome result (λ rest. bytes.now ≡ 32 ∷ rest.now) }
-    ensures none { IfNone result ((rest : List ℕ) → bytes.now ≢ 32 ∷ rest) }
-{
-    match bytes {
-        [b' ', rest @ ..] => Some(rest),
-        _ => None,
-    }
-}
-
-fn after_text<'a>(bytes: &'a [u8], text: &str) -> Option<&'a [u8]>
-    ensures some { IfSome result (λ rest. bytes.now ≡ text.now ++ rest.now) }
-    ensures none { IfNone result ((rest : List ℕ) → bytes.now ≢ text.now ++ rest) }
-{
-    bytes.strip_prefix(text.as_bytes())
-}
-
-// What stands behind a word and a blank.
-fn after_word<'a>(bytes: &'a [u8], word: &str) -> Option<&'a [u8]>
-    ensures some { IfSome result (λ rest. bytes.now ≡ word.now ++ 32 ∷ rest.now) }
-    ensures none { IfNone result ((rest : List ℕ) → bytes.now ≢ word.now ++ 32 ∷ rest) }
-{
-    match after_text(bytes, word) {
-        Some(rest) => after_blank(rest),
-        None => None,
-    }
-}
-
-fn read_want(bytes: &[u8]) -> Option<(Want, &[u8])>
-    ensures some { IfSome result (λ r. bytes.now ≡ want_word r.0 ++ 32 ∷ r.1.now) }
-    ensures none { IfNone result ((want : AWant) (rest : List ℕ) → bytes.now ≢ want_word want ++ 32 ∷ rest) }
-{
-    if let Some(rest) = after_word(bytes, Want::Unknown.name()) {
-        return Some((Want::Unknown, rest));
-    }
-    if let Some(rest) = after_word(bytes, Want::Install.name()) {
-        return Some((Want::Install, rest));
-    }
-    if let Some(rest) = after_word(bytes, Want::Hold.name()) {
-        return Some((Want::Hold, rest));
-    }
-    if let Some(rest) = after_word(bytes, Want::Deinstall.name()) {
-        return Some((Want::Deinstall, rest));
-    }
-    if let Some(rest) = after_word(bytes, Want::Purge.name()) {
-        return Some((Want::Purge, rest));
-    }
-    None
-}
-
-fn read_flag(bytes: &[u8]) -> Option<(Flag, &[u8])>
-    ensures some { IfSome result (λ r. bytes.now ≡ flag_word r.0 ++ 32 ∷ r.1.now) }
-    ensures none { IfNone result ((flag : AFlag) (rest : List ℕ) → bytes.now ≢ flag_word flag ++ 32 ∷ rest) }
-{
-    if let Some(rest) = after_word(bytes, Flag::Ok.name()) {
-        return Some((Flag::Ok, rest));
-    }
-    if let Some(rest) = after_word(bytes, Flag::Reinstreq.name()) {
-        return Some((Flag::Reinstreq, rest));
-    }
-    None
-}
-
-fn is_state(bytes: &[u8], state: State) -> bool
-    ensures { IsTrue result ↔ (bytes.now ≡ state_word state) }
-{
-    bytes == state.name().as_bytes()
-}
-
-fn read_state(bytes: &[u8]) -> Option<State>
-    ensures some { IfSome result (λ state. bytes.now ≡ state_word state) }
-    ensures none { IfNone result ((state : AState) → bytes.now ≢ state_word state) }
-{
-    if is_state(bytes, State::NotInstalled) {
-        return Some(State::NotInstalled);
-    }
-    if is_state(bytes, State::ConfigFiles) {
-        return Some(State::ConfigFiles);
-    }
-    if is_state(bytes, State::HalfInstalled) {
-        return Some(State::HalfInstalled);
-    }
-    if is_state(bytes, State::Unpacked) {
-        return Some(State::Unpacked);
-    }
-    if is_state(bytes, State::HalfConfigured) {
-        return Some(State::HalfConfigured);
-    }
-    if is_state(bytes, State::Installed) {
-        return Some(State::Installed);
-    }
-    None
-}
-
-// The words of a Status, with one blank between two.
-fn read_status(bytes: &[u8]) -> Option<Status>
-    ensures some { IfSome result (λ s. bytes.now ≡ status_text s.want s.flag s.state) }
-    ensures none { IfNone result (IsStatusText bytes.now → ⊥) }
-{
-    let Some((want, behind_want)) = read_want(bytes) else {
-        return None;
-    };
-    let Some((flag, behind_flag)) = read_flag(behind_want) else {
-        return None;
-    };
-    match read_state(behind_flag) {
-        Some(state) => Some(Status { want, flag, state }),
-        None => None,
-    }
-}
-
 fn field_in<'a>(fields: &'a Paragraph, lower: &[u8]) -> Option<&'a Field>
     ensures { option_copied result ≡ field_in lower.now fields.now }
 {
@@ -179,13 +61,10 @@ fn value_in<'a>(fields: &'a Paragraph, lower: &[u8]) -> Option<&'a [u8]>
     ensures some { IfSome result (λ value. Says lower.now fields.now value.now) }
     ensures none { IfNone result ((value : List ℕ) → Says lower.now fields.now value → ⊥) }
 {
-    let Some(field) = field_in(fields, lower) else {
-        return None;
-    };
-    if !field.more.as_slice().is_empty() {
-        return None;
+    match field_in(fields, lower) {
+        Some(field) => one_line(field),
+        None => None,
     }
-    Some(field.first.as_slice())
 }
 
 fn name_in(fields: &Paragraph) -> Option<&str>
@@ -214,25 +93,6 @@ fn is_gone(fields: &Paragraph) -> bool
     match status_in(fields) {
         Some(status) => status.state.is_not_installed(),
         None => false,
-    }
-}
-
-fn read_version(alloc: Global, value: &[u8]) -> Result<Option<Version>, AllocError>
-    ensures { IfOk result (λ o. MatchOption o (IsVersion value.now → ⊥) (λ v. (v ≡ value.now) × IsVersion value.now)) }
-{
-    match Version::parse(alloc, value) {
-        Ok(version) => Ok(Some(version)),
-        Err(VersionFault::NoMemory) => Err(AllocError),
-        Err(_) => Ok(None),
-    }
-}
-
-fn is_version(alloc: Global, value: &[u8]) -> Result<bool, AllocError>
-    ensures { IfOk result (λ good. IsTrue good ↔ IsVersion value.now) }
-{
-    match read_version(alloc, value)? {
-        Some(_) => Ok(true),
-        None => Ok(false),
     }
 }
 
@@ -274,32 +134,6 @@ fn is_faulty_whole(names: &Texts, fields: &Paragraph) -> bool
     ensures { IsTrue result ↔ IsFaultyWhole names.now fields.now }
 {
     is_missing(fields) || is_taken(names, fields)
-}
-
-fn is_readable_status(field: &Field) -> bool
-    ensures { IsTrue result ↔ IsStatusText field.now.first }
-{
-    read_status(field.first.as_slice()).is_some()
-}
-
-// Whether the value of a field can be read.
-fn is_readable(alloc: Global, field: &Field) -> Result<bool, AllocError>
-    ensures { IfOk result (λ good. IsTrue good ↔ IsReadable field.now) }
-{
-    let name = field.name.as_slice();
-    if !is_first(name) {
-        return Ok(true);
-    }
-    if !field.more.as_slice().is_empty() {
-        return Ok(false);
-    }
-    if name.eq_ignore_ascii_case(b"package") {
-        return Ok(package_name(field.first.as_slice()).is_some());
-    }
-    if name.eq_ignore_ascii_case(b"status") {
-        return Ok(is_readable_status(field));
-    }
-    is_version(alloc, field.first.as_slice())
 }
 
 // The line of the first field whose value can't be read.
@@ -348,6 +182,7 @@ fn record_of(
 ) -> Result<Record, AllocError>
     requires named { is_package_name name.now ≡ true }
     requires written { ∥ AreFields [] fields.now ∥₁ }
+    requires readable { AllByRecursion IsReadable fields.now }
     ensures name { IfOk result (λ r. r.name ≡ name.now) }
     ensures want { IfOk result (λ r. r.want ≡ status.want) }
     ensures flag { IfOk result (λ r. r.flag ≡ status.flag) }
@@ -366,9 +201,10 @@ fn record_of(
 }
 
 fn read_entry(alloc: Global, fields: &Paragraph) -> Result<Option<Entry>, AllocError>
-    requires { ∥ AreFields [] fields.now ∥₁ }
+    requires written { ∥ AreFields [] fields.now ∥₁ }
+    requires readable { AllByRecursion IsReadable fields.now }
     ensures some { IfOk result (λ o. IfSome o (λ e. SaysEntry fields.now e.name (option_to_list e.kept))) }
-    ensures none { IfOk result (λ o. IfNone o (AllByRecursion IsReadable fields.now → IsMissing fields.now)) }
+    ensures none { IfOk result (λ o. IfNone o (IsMissing fields.now)) }
 {
     let Some(name) = name_in(fields) else {
         return Ok(None);

@@ -15,7 +15,7 @@ use texts::Text;
 use version_order::Version;
 
 /// What the status file says of a package. `fields` are all fields but Package, Status and Version,
-/// in their order.
+/// in their order; written, their values can be read again.
 #[derive(Drop)]
 pub struct Record {
     pub name: Text,

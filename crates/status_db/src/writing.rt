@@ -7,7 +7,8 @@ ghost use Rattle.host_core.specs.declared.node.Node.TheVariants.{File};
 ghost use Rattle.version_order.specs.Versions.{IsVersion};
 ghost use Rattle.status_db.specs.Records.{AreApart, standing};
 ghost use Rattle.status_db.specs.Writable.{first_fields, line_field};
-ghost use Rattle.status_db.specs.Paragraphs.{status_text, paragraph_of};
+ghost use Rattle.status_db.specs.Words.{status_text};
+ghost use Rattle.status_db.specs.Paragraphs.{paragraph_of};
 ghost use Rattle.status_db.specs.Status.{IsStatus, IsStatusReady, IsNoted, IsNoting};
 
 use crate::record::Record;

@@ -26,20 +26,20 @@ use Rattle.unpack_engine.specs.Stages.{IsNotedAs}
 use Rattle.unpack_engine.specs.Units.{HasBegun}
 use Rattle.unpack_engine.proofs.Apart.{own_not_status, own_not_status_spare, home_not_own}
 
--- a package's name has no slash
+-- a byte that no name has, as a slash
 
-no_sign : (b : ℕ) (t : Bool) → nat_eq b 47 ≡ t → is_name_sign b ≡ true → t ≡ false
-no_sign b true e sign = absurd (true≢false (sym sign ∙ ap is_name_sign (eqb-true b 47 e)))
-no_sign b false e sign = refl
+no_sign : (s b : ℕ) (t : Bool) → is_name_sign s ≡ false → nat_eq b s ≡ t → is_name_sign b ≡ true → t ≡ false
+no_sign s b true none e sign = absurd (true≢false (sym sign ∙ ap is_name_sign (eqb-true b s e) ∙ none))
+no_sign s b false none e sign = refl
 
-signs_plain : (name : List ℕ) → list_all is_name_sign name ≡ true → has_slash name ≡ false
-signs_plain [] e = refl
-signs_plain (b ∷ bs) e =
+pub signs_without : (s : ℕ) → is_name_sign s ≡ false → (name : List ℕ) → list_all is_name_sign name ≡ true → list_any (λ b. nat_eq b s) name ≡ false
+signs_without s none [] e = refl
+signs_without s none (b ∷ bs) e =
     let parts = and_parts (is_name_sign b) (list_all is_name_sign bs) e in
-    ap (λ t. t || has_slash bs) (no_sign b (nat_eq b 47) refl parts.0) ∙ signs_plain bs parts.1
+    ap (λ t. t || list_any (λ b. nat_eq b s) bs) (no_sign s b (nat_eq b s) none refl parts.0) ∙ signs_without s none bs parts.1
 
 pub name_plain : (name : List ℕ) → is_package_name name ≡ true → has_slash name ≡ false
-name_plain name e = signs_plain name (signs_of_name name e)
+name_plain name e = signs_without 47 refl name (signs_of_name name e)
 
 flip_at : (b : ℕ) (s t : Bool) → nat_eq 47 b ≡ s → nat_eq b 47 ≡ t → s ≡ t
 flip_at b true true e f = refl

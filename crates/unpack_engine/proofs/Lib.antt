@@ -9,3 +9,4 @@ pub mod Amid
 pub mod Beginning
 pub mod Finishing
 pub mod Whole
+pub mod Tables

@@ -1,5 +1,5 @@
 -- The whole unit, from its parts.
-use Rattle.std.proofs.Common.{◌≡◌, ◌≢◌, ◌⊎◌, inl, inr, ℕ, true, cond, List, [], ◌∷◌, ◌++◌, get_or, Option, Some, None, IsTrue, refl, sym, ap, subst, ◌∙◌, arith}
+use Rattle.std.proofs.Common.{◌≡◌, ◌≢◌, ◌⊎◌, inl, inr, ℕ, true, false, cond, List, [], ◌∷◌, ◌++◌, get_or, Option, Some, None, IsTrue, refl, sym, ap, subst, ◌∙◌, arith}
 use Rattle.std.specs.Prelude.{IsSome}
 use Rattle.std.specs.Str.{bytes_eq}
 use Rattle.std.proofs.lemmas.List.{append-nil}
@@ -28,7 +28,8 @@ use Rattle.status_db.specs.declared.words.Flag.{Flag}
 use Rattle.status_db.specs.declared.words.Flag.TheVariants as flag
 use Rattle.status_db.specs.declared.words.State.{State as State'}
 use Rattle.status_db.specs.declared.words.State.TheVariants as state
-use Rattle.status_db.specs.Records.{record_in, put_record, drop_record}
+use Rattle.status_db.specs.Records.{record_in, put_record, drop_record, standing}
+use Rattle.status_db.specs.Words.{is_not_installed}
 use Rattle.status_db.specs.Status.{HasRecords}
 use Rattle.status_db.proofs.Tables.{record_in-put_record, record_in-drop_record, covered}
 use Rattle.status_db.specs.declared.record.Record.{Record}
@@ -46,6 +47,7 @@ use Rattle.unpack_engine.proofs.Standing.{moved_records, kept_outside, stands_st
 use Rattle.unpack_engine.proofs.Amid.{amid_start, amid_changing, amid_tmp, amid_status, amid_noting}
 use Rattle.unpack_engine.proofs.Apart.{noted_within, installed_within}
 use Rattle.unpack_engine.proofs.Beginning.{own_in_order}
+use Rattle.unpack_engine.proofs.Tables.{standing_put, standing_dropped}
 
 -- a turn is a legal transcript
 
@@ -138,6 +140,16 @@ end_table p UndoFailed (Unwound fall owners) before mid after turned half kept =
   table = λ q. ap (λ t. record_in t q) kept ∙ put_changed p flag.Reinstreq state.HalfInstalled before mid half q;
 }
 
+-- of packages that are there
+put_standing : (p : Package) (flag : Flag) (state : State') (before after : List Record) → is_not_installed state ≡ false → IsPutAs p flag state before after → standing before ≡ before → standing after ≡ after
+put_standing p flag state before after here put e = subst (λ l. standing l ≡ l) (sym put.table) (standing_put put.entry before (ap is_not_installed put.is.in_state ∙ here) e)
+
+end_standing : (p : Package) (turn : Turn) (before mid after : List Record) → IsPutAs p flag.Reinstreq state.HalfInstalled before mid → FinishedTable p turn mid after → standing before ≡ before → standing after ≡ after
+end_standing p Committed before mid after half put e = put_standing p flag.Ok state.Unpacked mid after refl put (put_standing p flag.Reinstreq state.HalfInstalled before mid refl half e)
+end_standing p Undone before mid after half dropped e =
+    subst (λ l. standing l ≡ l) (sym dropped) (standing_dropped p.name mid (put_standing p flag.Reinstreq state.HalfInstalled before mid refl half e))
+end_standing p UndoFailed before mid after half kept e = subst (λ l. standing l ≡ l) (sym kept) (put_standing p flag.Reinstreq state.HalfInstalled before mid refl half e)
+
 -- the files at the end
 abbrev pub turn_file : Package → Turn → OwnFile → Option Node
 turn_file p Committed file = own_node p.scripts file
@@ -171,7 +183,7 @@ laid_finished p UndoFailed after w now e laid = subst (AreLaidOut p.scripts) (sy
 
 -- the administration is in order again
 
-own_or_not : (name : List ℕ) (q : Path) → ((file : OwnFile) × (q ≡ own_path name file)) ⊎ ((file : OwnFile) → q ≢ own_path name file)
+pub own_or_not : (name : List ℕ) (q : Path) → ((file : OwnFile) × (q ≡ own_path name file)) ⊎ ((file : OwnFile) → q ≢ own_path name file)
 own_or_not name q = elim (decide q (own_path name None)) [
   | inl e ↦ inl (None, e)
   | inr n0 ↦ elim (decide q (own_path name (Some Preinst))) [
@@ -196,7 +208,7 @@ own_or_not name q = elim (decide q (own_path name None)) [
     none_of name q n0 n1 n2 n3 n4 (Some Prerm) = n3
     none_of name q n0 n1 n2 n3 n4 (Some Postrm) = n4
 
-spare_or_not : (name : List ℕ) (q : Path) → ((file : OwnFile) × (q ≡ temporary (own_path name file))) ⊎ ((file : OwnFile) → q ≢ temporary (own_path name file))
+pub spare_or_not : (name : List ℕ) (q : Path) → ((file : OwnFile) × (q ≡ temporary (own_path name file))) ⊎ ((file : OwnFile) → q ≢ temporary (own_path name file))
 spare_or_not name q = elim (decide q (temporary (own_path name None))) [
   | inl e ↦ inl (None, e)
   | inr n0 ↦ elim (decide q (temporary (own_path name (Some Preinst)))) [
@@ -221,7 +233,7 @@ spare_or_not name q = elim (decide q (temporary (own_path name None))) [
     none_of name q n0 n1 n2 n3 n4 (Some Prerm) = n3
     none_of name q n0 n1 n2 n3 n4 (Some Postrm) = n4
 
-entry_outside : (name entry : Path) → ((file : OwnFile) → info_path ++ 47 ∷ entry ≢ own_path name file) → ((file : OwnFile) → info_path ++ 47 ∷ entry ≢ temporary (own_path name file)) → IsOutside name (info_path ++ 47 ∷ entry)
+pub entry_outside : (name entry : Path) → ((file : OwnFile) → info_path ++ 47 ∷ entry ≢ own_path name file) → ((file : OwnFile) → info_path ++ 47 ∷ entry ≢ temporary (own_path name file)) → IsOutside name (info_path ++ 47 ∷ entry)
 entry_outside name entry own spare = record {
   status = λ e. let d : ◌≡◌ {A = ℕ} 105 115 = ap (λ (l : Path). get_or l 14 0) e in absurd (omega arith);
   status_spare = λ e. let d : ◌≡◌ {A = ℕ} 105 115 = ap (λ (l : Path). get_or l 14 0) e in absurd (omega arith);
@@ -326,6 +338,7 @@ unit_by p places turn before mid after ts s a b c d told now turned first made t
               entry = end.entry;
               end = end.is;
               table = end.table;
+              standing = end_standing p turn before mid after half table;
               records = four.records;
               files = λ file. four.own file ∙ end_files p turn legal.ended legal.as_turned file;
               rest = four.rest;

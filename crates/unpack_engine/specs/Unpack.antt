@@ -15,7 +15,7 @@ use Rattle.package_tree.specs.declared.package.Package.{Package}
 use Rattle.unpack_engine.specs.Incoming.{IsIncoming}
 use Rattle.unpack_engine.specs.OwnFiles.{OwnFile, own_path, own_node, IsOwnMoment}
 use Rattle.status_db.specs.declared.record.Record.{Record}
-use Rattle.status_db.specs.Records.{record_in, put_record, drop_record}
+use Rattle.status_db.specs.Records.{record_in, put_record, drop_record, standing}
 use Rattle.status_db.specs.Status.{HasRecords}
 use Rattle.status_db.specs.declared.words.Flag.TheVariants as flag
 use Rattle.status_db.specs.declared.words.State.TheVariants as state
@@ -68,6 +68,8 @@ pub record IsLeft (p : Package) (places : List Path) (before after : List Record
   pub entry : Option Record
   pub end : IsEnd p ended entry
   pub table : HasChangedRecord p.name entry before after
+  -- no record comes in of a package that is gone
+  pub standing : standing before ≡ before → standing after ≡ after
   pub records : HasRecords new after
   pub files : (file : OwnFile) → new (own_path p.name file) ≡ end_file p ended file
   -- apart from that nothing has changed but what the script calls changed

@@ -2,7 +2,7 @@ use Rattle.std.proofs.Common.{◌∷◌, [], sym, subst, IsTrue}
 use Rattle.administration.specs.Directories.{HasFlatness}
 use Rattle.opening.specs.Parts.{Leftovers}
 use Rattle.opening.proofs.Openings.{leftovers_bad, leftovers_held, leftovers_removed, moments_removing, stopped_host, stopped_same}
-use Rattle.host_core.specs.Moments.{since_weaker}
+use Rattle.std.proofs.lemmas.Bool.{true≢false}
 use Rattle.opening.proofs.open.clear_directory.Goals as goal
 
 pub returns-in_err-names-clause-opens : goal.returns-in_err-names-clause-opens
@@ -13,12 +13,12 @@ pub returns-in_err-remove_flat-in-Flat-clause-opens : goal.returns-in_err-remove
 returns-in_err-remove_flat-in-Flat-clause-opens g c = λ h.
     let h1 = subst IsTrue (sym c.inspect_flat.ensures.silent.honest) h in
     stopped_host (Leftovers ∷ []) _ c.from_residual-in_err-remove_flat-in-Flat.result _ _ c.from_residual-in_err-remove_flat-in-Flat.ensures.1
-    (moments_removing _ _ _ _ c.requires.place (c.inspect_flat.ensures.same h) (since_weaker _ _ _ _ (λ w is. is.rest) (c.remove_flat.ensures.any_moment h1)))
+    (moments_removing _ _ _ _ c.requires.place (c.inspect_flat.ensures.same h) (c.remove_flat.ensures.any_moment h1)) (λ none. absurd (true≢false none))
 
 pub returns-in-Flat-clause-opens : goal.returns-in-Flat-clause-opens
 returns-in-Flat-clause-opens g c = λ h.
     let h1 = subst IsTrue (sym c.inspect_flat.ensures.silent.honest) h in
-    leftovers_removed _ _ _ _ c.requires.place (c.inspect_flat.ensures.same h) (since_weaker _ _ _ _ (λ w is. is.rest) (c.remove_flat.ensures.any_moment h1)) (c.in_ok-remove_flat-in-Flat.ensures.removed h1)
+    leftovers_removed _ _ _ _ c.requires.place (c.inspect_flat.ensures.same h) (c.remove_flat.ensures.any_moment h1) (c.in_ok-remove_flat-in-Flat.ensures.removed h1)
 
 pub returns-in-BadName-clause-opens : goal.returns-in-BadName-clause-opens
 returns-in-BadName-clause-opens g c = λ h.

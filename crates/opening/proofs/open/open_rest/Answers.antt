@@ -1,7 +1,7 @@
 use Rattle.std.proofs.Common.{◌∷◌, [], refl, sym, subst, IsTrue}
 use Rattle.administration.specs.Places.{info_path, updates_path}
 use Rattle.opening.specs.Parts.{Way, Spare, Updates, Info, Diversions, Leftovers, names_of}
-use Rattle.opening.proofs.Openings.{opens_then, home_kept, records_kept, listed_through, stopped_before}
+use Rattle.opening.proofs.Openings.{opens_then, home_kept, table_opens, listed_through, stopped_before}
 use Rattle.opening.proofs.open.open_rest.Goals as goal
 
 pub returns-in_err-check_spare-clause-opens : goal.returns-in_err-check_spare-clause-opens
@@ -25,11 +25,11 @@ open_info-requires-clause-home g c = λ h2.
     let h = subst IsTrue c.check_spare.ensures.silent.honest h1 in
     home_kept _ _ (c.in_ok-open_updates.ensures.opens h1) (home_kept _ _ (c.in_ok-check_spare.ensures.opens h) (c.requires.home h))
 
-pub open_info-requires-clause-records : goal.open_info-requires-clause-records
-open_info-requires-clause-records g c = λ h2.
+pub open_info-requires-clause-table : goal.open_info-requires-clause-table
+open_info-requires-clause-table g c = λ h2.
     let h1 = subst IsTrue c.open_updates.ensures.silent.honest h2 in
     let h = subst IsTrue c.check_spare.ensures.silent.honest h1 in
-    records_kept _ _ _ (c.in_ok-open_updates.ensures.opens h1) (records_kept _ _ _ (c.in_ok-check_spare.ensures.opens h) (c.requires.records h))
+    table_opens _ _ _ (c.in_ok-open_updates.ensures.opens h1) (table_opens _ _ _ (c.in_ok-check_spare.ensures.opens h) (c.requires.table h))
 
 pub returns-in_err-keep-clause-opens : goal.returns-in_err-keep-clause-opens
 returns-in_err-keep-clause-opens g c = λ h.
@@ -48,9 +48,9 @@ returns-clause-opens g c = λ h.
     (opens_then (Way updates_path ∷ Updates ∷ []) (Way info_path ∷ Info ∷ Diversions ∷ Leftovers ∷ []) _ _ _ _ (refl, (tt, tt)) (c.in_ok-open_updates.ensures.opens h1)
     (opens_then (Way info_path ∷ Info ∷ []) (Diversions ∷ Leftovers ∷ []) _ _ _ _ (refl, (tt, tt)) (c.in_ok-keep.ensures.opens h2) (c.settle_with.ensures.opens h3)))
 
-pub returns-clause-places : goal.returns-clause-places
-returns-clause-places g c = λ h.
+pub returns-clause-listed : goal.returns-clause-listed
+returns-clause-listed g c = λ h.
     let h1 = subst IsTrue (sym c.check_spare.ensures.silent.honest) h in
     let h2 = subst IsTrue (sym c.open_updates.ensures.silent.honest) h1 in
     let h3 = subst IsTrue (sym c.open_info.ensures.silent.honest) h2 in
-    listed_through c.settle_with.result (names_of c.args.database.now) c.in_ok-keep.keep _ _ (c.settle_with.ensures.opens h3) c.settle_with.ensures.places (c.in_ok-keep.ensures.places h2)
+    listed_through c.settle_with.result (names_of c.args.database.now) c.in_ok-keep.keep _ _ (c.settle_with.ensures.opens h3) c.settle_with.ensures.places (c.in_ok-keep.ensures.listed h2)

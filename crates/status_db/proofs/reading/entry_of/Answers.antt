@@ -22,7 +22,7 @@ pub returns-in-Some-clause-fault : goal.returns-in-Some-clause-fault
 returns-in-Some-clause-fault c = inr (λ whole. true≢false (sym (c.is_faulty_whole.ensures.1 whole) ∙ c.if-is_faulty_whole.false), rw c.in-Some.is at c.in_ok-line.ensures)
 
 pub read_entry-requires : goal.read_entry-requires
-read_entry-requires c = c.requires.written
+read_entry-requires c = record { written = c.requires.written; readable = rw c.in_default.is at c.in_ok-line.ensures }
 
 pub returns-in_err-entry-clause-entry : goal.returns-in_err-entry-clause-entry
 returns-in_err-entry-clause-entry c = IfOk-from_err c.from_residual-in_err-entry.result _ c.from_residual-in_err-entry.ensures.0
@@ -36,4 +36,4 @@ returns-in-Some-2-clause-entry c =
     (rw c.in_default.is at c.in_ok-line.ensures) (rw c.in-Some-2.is at c.in_ok-entry.ensures.some)
 
 pub returns-in-None-clause-fault : goal.returns-in-None-clause-fault
-returns-in-None-clause-fault c = inl (inl ((rw c.in-None.is at c.in_ok-entry.ensures.none) (rw c.in_default.is at c.in_ok-line.ensures)), refl)
+returns-in-None-clause-fault c = inl (inl (rw c.in-None.is at c.in_ok-entry.ensures.none), refl)

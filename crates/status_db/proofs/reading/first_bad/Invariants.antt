@@ -1,6 +1,6 @@
 use Rattle.std.proofs.Common.{◌≡◌, ◌++◌, map, length}
 use Rattle.std.specs.List.{AllByRecursion}
-use Rattle.status_db.specs.Paragraphs.{IsReadable}
+use Rattle.status_db.specs.Values.{IsReadable}
 use Rattle.status_db.proofs.reading.first_bad.Given as goal
 
 abbrev pub invariant-loop-field : goal.invariant-loop-field

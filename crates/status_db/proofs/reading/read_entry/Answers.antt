@@ -3,16 +3,16 @@ use Rattle.status_db.proofs.Missing.{missing_name, missing_status, missing_versi
 use Rattle.status_db.proofs.reading.read_entry.Goals as goal
 
 pub returns-in_default-clause-none : goal.returns-in_default-clause-none
-returns-in_default-clause-none c = missing_name c.args.fields.now c.in_default.ensures.none
+returns-in_default-clause-none c = missing_name c.args.fields.now c.in_default.ensures.none c.requires.readable
 
 pub returns-in_default-status_in-clause-none : goal.returns-in_default-status_in-clause-none
-returns-in_default-status_in-clause-none c = missing_status c.args.fields.now c.in_default-status_in.ensures.none
+returns-in_default-status_in-clause-none c = missing_status c.args.fields.now c.in_default-status_in.ensures.none c.requires.readable
 
 pub returns-in_default-2-clause-none : goal.returns-in_default-2-clause-none
 returns-in_default-2-clause-none c =
     let fs = c.args.fields.now in
     let s = c.in-Some-status_in.status in
-    missing_version fs s.want s.flag s.state c.in-Some-status_in.ensures.some (sym c.is_not_installed.ensures ∙ c.if-is_not_installed.false) (rw c.in_default-2.is at c.in_ok-version.ensures.none)
+    missing_version fs s.want s.flag s.state c.in-Some-status_in.ensures.some (sym c.is_not_installed.ensures ∙ c.if-is_not_installed.false) (rw c.in_default-2.is at c.in_ok-version.ensures.none) c.requires.readable
 
 pub returns-clause-some : goal.returns-clause-some
 returns-clause-some c =

@@ -1,5 +1,5 @@
 use Rattle.control_fields.proofs.Keyed.{walk_more}
-use Rattle.status_db.specs.Paragraphs.{status_text}
+use Rattle.status_db.specs.Words.{status_text}
 use Rattle.status_db.specs.Writable.{first_fields}
 use Rattle.status_db.proofs.Kept.{written_new, written_more}
 use Rattle.status_db.proofs.writing.add_other_fields.Goals as goal

@@ -1,6 +1,6 @@
 use Rattle.std.proofs.Common.{◌≡◌, ◌++◌, map}
 use Rattle.status_db.specs.Writable.{first_fields}
-use Rattle.status_db.specs.Paragraphs.{status_text}
+use Rattle.status_db.specs.Words.{status_text}
 use Rattle.status_db.proofs.writing.add_other_fields.Given as goal
 
 abbrev pub invariant-loop-field : goal.invariant-loop-field
