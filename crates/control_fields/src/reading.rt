@@ -84,20 +84,28 @@ fn is_blank(b: u8) -> bool
 fn trim_end(line: &[u8]) -> &[u8]
     ensures { result.now ≡ trim_end line.now }
 {
-    match line {
-        [front @ .., last] if is_blank(*last) => trim_end(front),
-        _ => line,
+    let mut rest = line;
+    while let [front @ .., last] = rest {
+        if !is_blank(*last) {
+            return rest;
+        }
+        rest = front;
     }
+    rest
 }
 
 // Without the spaces and tabs at the start.
 fn trim_start(line: &[u8]) -> &[u8]
     ensures { result.now ≡ trim_start line.now }
 {
-    match line {
-        [first, rest @ ..] if is_blank(*first) => trim_start(rest),
-        _ => line,
+    let mut rest = line;
+    while let [first, behind @ ..] = rest {
+        if !is_blank(*first) {
+            return rest;
+        }
+        rest = behind;
     }
+    rest
 }
 
 // Whether a field may have this name.
