@@ -1,4 +1,3 @@
-use Rattle.std.proofs.Common.{rules}
 use Rattle.status_db.proofs.Parsing.{no_want, no_flag, no_state}
 use Rattle.status_db.proofs.values.read_status.Goals as goal
 
@@ -10,6 +9,3 @@ returns-in_default-read_flag-clause-none c = no_flag c.args.bytes.now _ _ c.in-S
 
 pub returns-in-None-clause-none : goal.returns-in-None-clause-none
 returns-in-None-clause-none c = no_state c.args.bytes.now _ _ _ _ c.in-Some.ensures.some c.in-Some-read_flag.ensures.some c.in-None.ensures.none
-
-pub returns-in-Some-read_state-clause-some : goal.returns-in-Some-read_state-clause-some
-returns-in-Some-read_state-clause-some c = search rules
