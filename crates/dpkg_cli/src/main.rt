@@ -5,7 +5,7 @@ mod directories;
 
 use command_line::{FAILED, run_words};
 use directories::Directories;
-use std::io::Write;
+use std::io::{ErrorKind, Write};
 use std::process::ExitCode;
 use std::rt::Env;
 use std::{env, io};
@@ -14,7 +14,15 @@ fn words_of<R: Env + AllocGlobal>(rt: &R) -> io::Result<Vec<String>> {
     Ok(env::args(rt)?.collect(rt.alloc())?)
 }
 
-/// Words that are not text, or can't be had, are a usage fault.
+// Why the words can't be had: they are not text, or memory was wanting.
+fn complaint(error: &io::Error) -> &'static str {
+    match error.kind() {
+        ErrorKind::OutOfMemory => "broken memory\n",
+        _ => "error: the words of the command line are not text\n",
+    }
+}
+
+/// Words that are not text are a usage fault.
 fn main(rt: HostRuntime) -> ExitCode {
     let stderr = rt.stderr();
     let mut err = io::writer(&stderr);
@@ -25,8 +33,8 @@ fn main(rt: HostRuntime) -> ExitCode {
             let status = run_words(rt.alloc(), &mut hosts, words.as_slice(), &mut out, &mut err);
             ExitCode::from(status)
         }
-        Err(_) => {
-            let _ = err.write_all(b"error: the words of the command line are not text\n");
+        Err(error) => {
+            let _ = err.write_all(complaint(&error).as_bytes());
             ExitCode::from(FAILED)
         }
     }

@@ -1,1 +1,3 @@
 mod Openings
+mod OneTable
+mod Faultless

@@ -2,6 +2,8 @@
 //! a unit left behind that was broken off is removed.
 #![tactic(auto)]
 
+mod laws;
 mod open;
 
+pub use laws::what_is_fine_has_no_fault;
 pub use open::open_administration;

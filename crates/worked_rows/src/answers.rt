@@ -11,8 +11,9 @@ use control_fields::{Paragraph, read_one, read_paragraphs, write_paragraph};
 use relation_fields::{Clause, Form, Provided, Provides, Relations};
 use std::alloc::{AllocError, Global};
 use std::process::Abort;
-use std::str;
+use std::rt::Env;
 use std::test::Fail;
+use std::{env, str};
 
 // Stops the test where the answer isn't the row's.
 fn expect(rt: &impl Abort, answer: Result<String, AllocError>, row: &str) -> Result<(), Fail> {
@@ -23,6 +24,38 @@ fn expect(rt: &impl Abort, answer: Result<String, AllocError>, row: &str) -> Res
 // What stands in bytes that are to be text.
 fn text_of(bytes: &[u8]) -> &str {
     str::from_utf8(bytes).unwrap_or("bytes that are no text")
+}
+
+// Told on standard error; where the test's buffers can't grow, a write fails.
+const WANTS: &[&str] = &["|broken memory\n|2\n", "||2\n"];
+
+// Told as the fault of the tree.
+fn is_unread_tree(text: &str) -> bool {
+    match text.strip_suffix(" NoMemory\n||1\n") {
+        Some(refused) => refused.starts_with("refused ") && !refused.contains('\n'),
+        None => false,
+    }
+}
+
+// Whether a unit was broken off for want of memory, behind the lines of calls that it made.
+fn is_broken_off(text: &str, calls: &str) -> bool {
+    match text.strip_suffix("broken memory\n||2\n") {
+        Some(made) => calls.starts_with(made) && (made.is_empty() || made.ends_with("\n")),
+        None => false,
+    }
+}
+
+fn is_want(text: &str, calls: &str) -> bool {
+    WANTS.contains(&text) || is_unread_tree(text) || is_broken_off(text, calls)
+}
+
+// Whether an allocation of this run is refused, as scripts/refused_memory does: only then may a want of memory stand in
+// place of an answer.
+fn is_refusing(rt: &(impl Env + AllocGlobal)) -> bool {
+    match env::var(rt, "FAIL_AT") {
+        Ok(number) => number.as_str() != "0",
+        Err(_) => false,
+    }
 }
 
 // The words of a line, parted by spaces.

@@ -1,14 +1,19 @@
-// Unpacks on real files, with real scripts.
+// Unpacks on real files, with real scripts. scripts/refused_memory refuses each allocation of the rows that stand here in
+// turn: then a want of memory may stand in place of an answer, and ends the row.
 ghost use Rattle.std.specs.Prelude.{⊤};
 
-use super::answer;
+mod device_rows;
+mod link_rows;
+
+use super::{answer, is_refusing, is_want, text_of};
 use command_line::Hosts;
 use host_core::HostFault;
 use host_files::FilesHost;
 use std::alloc::AllocError;
-use std::process::Command;
+use std::io::{Error, ErrorKind};
+use std::process::{Command, Stdio};
 use std::test::Fail;
-use std::{env, fs, process};
+use std::{fs, io};
 
 // Opens directories by their paths. Of the host that was given back last it keeps how many calls and faults it had.
 #[derive(Drop)]
@@ -69,109 +74,188 @@ impl Hosts for RealHosts {
     }
 }
 
-// The path of a new directory.
-fn new_directory(rt: &HostRuntime) -> Result<String, Fail> {
-    let base = env::temp_dir(rt)?;
-    let base = base.as_str();
-    let id = process::id(rt.process());
-    let directory = format!(in rt.alloc(); "{base}/worked_rows_{id}")?;
-    fs::create_dir(rt, directory.as_str())?;
-    Ok(directory)
+// Carries out the lines that it is given, in the directory that the first word names. A script notes that it was
+// started, in a file beside the root, which is its working directory.
+const SHELL: &str = "umask 022
+cd \"$1\"
+tree() {
+  mkdir -p \"$1/DEBIAN\"
+  printf 'Package: %s\\nVersion: %s\\n' \"$2\" \"$3\" >\"$1/DEBIAN/control\"
 }
+script() {
+  printf '#!/bin/sh\\necho \"%s $*\" >>../started\\n%s\\n' \"$2\" \"$4\" >\"$1/DEBIAN/$2\"
+  chmod \"$3\" \"$1/DEBIAN/$2\"
+}
+eval \"$0\"";
 
-// Runs lines of shell, which have the path of the directory as their first argument.
-fn prepare(rt: &HostRuntime, directory: &str, lines: &str) -> Result<(), Fail> {
+const NEW_DIRECTORY: &str = "made=$(mktemp -d)
+printf %s \"$made\"";
+
+// What lines of shell print.
+fn shell(rt: &HostRuntime, lines: &str, words: &[&str]) -> io::Result<String> {
     let mut command = Command::new(rt.alloc(), "/bin/sh")?;
-    command.args(["-euc", lines, "sh", directory])?;
-    match command.status(rt)?.success() {
-        true => Ok(()),
-        false => Err(Fail::new("the directory can't be prepared")),
+    command.args(["-euc", SHELL, lines])?;
+    for word in words {
+        command.arg(*word)?;
+    }
+    command.stderr(Stdio::inherit());
+    let output = command.output(rt)?;
+    match output.status.success() {
+        true => Ok(String::from_str(rt.alloc(), text_of(output.stdout.as_slice()))?),
+        false => Err(Error::other("the shell's lines failed")),
     }
 }
 
-// Adds the answer to the unpack of a tree under the root, and how many calls and faults the host counts.
-fn unpack(
-    rt: &HostRuntime,
-    directory: &str,
-    tree: &str,
-    text: &mut String,
-) -> Result<(), AllocError> {
-    let alloc = rt.alloc();
-    let mut hosts = RealHosts::new(*rt);
+// Tells how many calls and faults the host counts, which scripts were started, and each file under the root: its mode,
+// its name and what it holds. An empty status file is the same as none. No script was started by a call that the host
+// doesn't list.
+const LOOK: &str = ">>started
+if [ \"$(wc -l <started)\" -gt \"$2\" ]; then
+  echo 'a script was started by a call that is not listed' >&2
+  exit 1
+fi
+echo \"calls $2 faults $3\"
+cat started
+>started
+[ -d root/var/lib/dpkg ] || exit 0
+find root \\( ! -type d -o -name tmp.ci \\) -printf '%m %p\\n' | LC_ALL=C sort -k 2 | while read -r mode path; do
+  [ \"${path##*/}\" != status ] || [ -s \"$path\" ] || continue
+  echo \"$mode ${path#root/var/lib/dpkg/}\"
+  [ ! -f \"$path\" ] || cat \"$path\"
+done";
+
+// A command: lines of shell that come before it, the tree that it unpacks, the lines of its calls and what follows them
+// in its answer, and what is left.
+struct Step {
+    before: &'static str,
+    tree: &'static str,
+    calls: &'static str,
+    rest: &'static str,
+    left: &'static str,
+}
+
+impl Step {
+    // Behind a unit that was broken off the incoming scripts may be left too.
+    fn is_left(&self, left: &str) -> bool {
+        match left.strip_prefix(self.left) {
+            Some(more) => more.is_empty() || self.rest.starts_with("broken device\n"),
+            None => false,
+        }
+    }
+
+    fn is_answer(&self, answer: &str) -> bool {
+        answer.strip_prefix(self.calls) == Some(self.rest)
+    }
+}
+
+// The answer to the unpack of a tree under the root.
+fn unpack(hosts: &mut RealHosts, directory: &str, tree: &str) -> Result<String, AllocError> {
+    let alloc = hosts.rt.alloc();
     let line = format!(in alloc; "dpkg_cli unpack --root {directory}/root {directory}/{tree}")?;
-    text.push_str(answer(alloc, &mut hosts, line.as_str())?.as_str())?;
+    answer(alloc, hosts, line.as_str())
+}
+
+fn look(hosts: &RealHosts, directory: &str) -> io::Result<String> {
     let calls = hosts.calls;
     let broken = hosts.broken;
-    text.push_str(format!(in alloc; "calls {calls} faults {broken}\n")?.as_str())
+    let calls = format!(in hosts.rt.alloc(); "{calls}")?;
+    let broken = format!(in hosts.rt.alloc(); "{broken}")?;
+    shell(
+        &hosts.rt,
+        LOOK,
+        &[directory, calls.as_str(), broken.as_str()],
+    )
 }
 
-// Runs lines and unpacks the first tree, then runs further lines and unpacks the second.
-fn run_in(
-    rt: &HostRuntime,
-    directory: &str,
-    steps: &[(&str, &str)],
-    text: &mut String,
-) -> Result<(), Fail> {
-    for (lines, tree) in steps {
-        prepare(rt, directory, lines)?;
-        unpack(rt, directory, tree, text)?;
+// Carries out a command, and keeps in the text what isn't the row.
+fn try_step(rt: &HostRuntime, directory: &str, step: &Step, text: &mut String) -> io::Result<()> {
+    shell(rt, step.before, &[directory])?;
+    let mut hosts = RealHosts::new(*rt);
+    let answer = unpack(&mut hosts, directory, step.tree)?;
+    let left = look(&hosts, directory)?;
+    if is_want(answer.as_str(), step.calls) {
+        return Err(Error::from(ErrorKind::OutOfMemory));
     }
-    Ok(())
+    if step.is_answer(answer.as_str()) && step.is_left(left.as_str()) {
+        return Ok(());
+    }
+    text.push_str(answer.as_str())?;
+    text.push_str(left.as_str())?;
+    Err(Error::other("not the row"))
 }
 
-// What is answered, where it isn't the row, is how the test fails.
-fn check(rt: &HostRuntime, steps: &[(&str, &str)], row: &str) -> Result<(), Fail> {
+// Carries out the commands over a new root.
+fn try_steps(rt: &HostRuntime, steps: &[Step], text: &mut String) -> io::Result<()> {
+    let directory = shell(rt, NEW_DIRECTORY, &["/"])?;
+    for step in steps {
+        try_step(rt, directory.as_str(), step, text)?;
+    }
+    fs::remove_dir_all(rt, directory.as_str())
+}
+
+// Whether it is for want of memory, where an allocation is refused.
+fn is_refused(rt: &HostRuntime, error: &Error) -> bool {
+    error.kind() == ErrorKind::OutOfMemory && error.raw_os_error().is_none() && is_refusing(rt)
+}
+
+// What isn't the row is how the test fails.
+fn check(rt: &HostRuntime, steps: &[Step]) -> Result<(), Fail> {
     let mut text = String::new(rt.alloc());
-    let directory = new_directory(rt)?;
-    run_in(rt, directory.as_str(), steps, &mut text)?;
-    fs::remove_dir_all(rt, directory.as_str())?;
-    match text.as_str() == row {
-        true => Ok(()),
-        false => Err(Fail::new(text)),
+    match try_steps(rt, steps, &mut text) {
+        Ok(()) => Ok(()),
+        Err(error) if is_refused(rt, &error) => Ok(()),
+        Err(error) => Err(Fail::new(format_args!("{error}:\n{text}"))),
     }
 }
 
-const PREINST_WITHOUT_BITS: &str = "cd \"$1\"
-mkdir -p root t/DEBIAN
-printf 'Package: alpha\\nVersion: 1.0\\n' >t/DEBIAN/control
-printf '#!/bin/sh\\nexit 0\\n' >t/DEBIAN/preinst
-chmod 644 t/DEBIAN/preinst";
+const NOT_STARTED: &[Step] = &[Step {
+    before: "mkdir root
+tree t alpha 1.0
+script t preinst 644 'exit 0'",
+    tree: "t",
+    calls: "call new alpha preinst install: not started\n",
+    rest: "state alpha none\nfailed alpha preinst install\n||1\n",
+    left: "calls 1 faults 0\n",
+}];
 
 #[test]
 fn preinst_cannot_be_run(rt: HostRuntime) -> Result<(), Fail> {
-    let row = "call new alpha preinst install: not started
-state alpha none
-failed alpha preinst install
-||1
-calls 1 faults 0
-";
-    check(&rt, &[(PREINST_WITHOUT_BITS, "t")], row)
+    check(&rt, NOT_STARTED)
 }
 
-const PREINST_KILLS_ITSELF: &str = "cd \"$1\"
-mkdir -p root t/DEBIAN
-printf 'Package: alpha\\nVersion: 1.0\\n' >t/DEBIAN/control
-printf '#!/bin/sh\\nkill -9 $$\\n' >t/DEBIAN/preinst
-chmod 755 t/DEBIAN/preinst";
+const KILLED: &[Step] = &[
+    Step {
+        before: "mkdir root
+tree t alpha 1.0
+script t preinst 755 'kill -9 $$'",
+        tree: "t",
+        calls: "call new alpha preinst install: killed\n",
+        rest: "state alpha none\nfailed alpha preinst install\n||1\n",
+        left: "calls 1 faults 0\npreinst install\n",
+    },
+    Step {
+        before: "script t postrm 755 'exit 0'",
+        tree: "t",
+        calls: "call new alpha preinst install: killed
+call new alpha postrm abort-install: exit 0
+",
+        rest: "state alpha none\nfailed alpha preinst install\n||1\n",
+        left: "calls 2 faults 0\npreinst install\npostrm abort-install\n",
+    },
+];
 
 #[test]
 fn preinst_kills_itself(rt: HostRuntime) -> Result<(), Fail> {
-    let row = "call new alpha preinst install: killed
-state alpha none
-failed alpha preinst install
-||1
-calls 1 faults 0
-";
-    check(&rt, &[(PREINST_KILLS_ITSELF, "t")], row)
+    check(&rt, KILLED)
 }
 
-// The script ends with another status where it sees something wrong.
-const PREINST_LOOKS: &str = "cd \"$1\"
-mkdir -p root t/DEBIAN
-printf 'Package: alpha\\nVersion: 1.0\\n' >t/DEBIAN/control
-{
-  printf '#!/bin/sh\\nroot=%s/root\\n' \"$1\"
-  cat <<'END'
+// The preinst ends with another status where it sees something wrong. The root is what its own path is under.
+const LOOKING: &[Step] = &[Step {
+    before: "mkdir root
+tree t alpha 1.0
+script t preinst 5775 '. ../looks'
+cat >looks <<'END'
+root=${0%/var/lib/dpkg/tmp.ci/preinst}
 [ \"$(pwd -P)\" = \"$(cd \"$root\" && pwd -P)\" ] || exit 11
 [ \"$DPKG_ROOT\" = \"$root\" ] || exit 12
 [ \"$DPKG_ADMINDIR\" = \"$root/var/lib/dpkg\" ] || exit 13
@@ -179,70 +263,28 @@ printf 'Package: alpha\\nVersion: 1.0\\n' >t/DEBIAN/control
 [ \"$DPKG_MAINTSCRIPT_NAME\" = preinst ] || exit 15
 [ \"$PATH\" = /usr/sbin:/usr/bin:/sbin:/bin ] || exit 16
 [ \"$#$*\" = 1install ] || exit 17
-[ -z \"$(cat)\" ] || exit 18
-END
-} >t/DEBIAN/preinst
-chmod 755 t/DEBIAN/preinst";
+[ \"$(readlink \"/proc/$$/fd/0\")\" = /dev/null ] || exit 18
+[ -z \"$(cat)\" ] || exit 19
+END",
+    tree: "t",
+    calls: "call new alpha preinst install: exit 0\n",
+    rest: "state alpha 1.0 install ok unpacked\ndone\n||0\n",
+    left: "calls 1 faults 0
+preinst install
+644 info/alpha.list
+/.
+5775 info/alpha.preinst
+#!/bin/sh
+echo \"preinst $*\" >>../started
+. ../looks
+644 status
+Package: alpha
+Status: install ok unpacked
+Version: 1.0
+",
+}];
 
 #[test]
 fn script_sees_its_surroundings(rt: HostRuntime) -> Result<(), Fail> {
-    let row = "call new alpha preinst install: exit 0
-state alpha 1.0 install ok unpacked
-done
-||0
-calls 1 faults 0
-";
-    check(&rt, &[(PREINST_LOOKS, "t")], row)
-}
-
-// Nobody makes a directory in /proc, root neither.
-const ROOT_IN_PROC: &str = "cd \"$1\"
-ln -s /proc root
-mkdir -p t/DEBIAN
-printf 'Package: alpha\\nVersion: 1.0\\n' >t/DEBIAN/control
-printf '#!/bin/sh\\nexit 0\\n' >t/DEBIAN/preinst
-chmod 755 t/DEBIAN/preinst";
-
-#[test]
-fn root_cannot_be_written_at_first(rt: HostRuntime) -> Result<(), Fail> {
-    let row = "|broken device
-|2
-calls 0 faults 1
-call new alpha preinst install: exit 0
-state alpha 1.0 install ok unpacked
-done
-||0
-calls 1 faults 0
-";
-    let steps = [
-        (ROOT_IN_PROC, "t"),
-        ("rm \"$1/root\"\nmkdir \"$1/root\"", "t"),
-    ];
-    check(&rt, &steps, row)
-}
-
-// The preinst takes the directory of stored scripts away, so that none can be stored.
-const INFO_GOES_AWAY: &str = "cd \"$1\"
-mkdir -p root t/DEBIAN b/DEBIAN
-printf 'Package: alpha\\nVersion: 1.0\\n' >t/DEBIAN/control
-printf 'Package: bravo\\nVersion: 1\\n' >b/DEBIAN/control
-printf '#!/bin/sh\\nmv var/lib/dpkg/info away\\n' >t/DEBIAN/preinst
-chmod 755 t/DEBIAN/preinst";
-
-#[test]
-fn directory_goes_away_in_a_unit(rt: HostRuntime) -> Result<(), Fail> {
-    let row = "call new alpha preinst install: exit 0
-broken device
-||2
-calls 1 faults 1
-state bravo 1 install ok unpacked
-done
-||0
-calls 0 faults 0
-";
-    let steps = [
-        (INFO_GOES_AWAY, "t"),
-        ("mv \"$1/root/away\" \"$1/root/var/lib/dpkg/info\"", "b"),
-    ];
-    check(&rt, &steps, row)
+    check(&rt, LOOKING)
 }

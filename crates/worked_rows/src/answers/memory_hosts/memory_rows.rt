@@ -5,19 +5,23 @@ use super::word_rows::FAULTS;
 use super::{MemoryHosts, TreeFile, hosts, is_usage, worded};
 use crate::answers::control_rows::{ONE_PARAGRAPH_ROWS, ROWS};
 use crate::answers::relation_rows::{FIELD_ROWS, PROVIDES_ROWS};
-use crate::answers::{package_of, read_control, read_field, read_provides};
+use crate::answers::{is_refusing, is_want, package_of, read_control, read_field, read_provides};
 use host_core::Outcome;
 use relation_fields::Form;
 use std::alloc::{AllocError, Global};
 use std::process::Abort;
+use std::rt::Env;
 
-// The answer to a line of words after other lines, which have to be answered as told. The root has to come back
-// whatever the answer.
+// A line of words, the lines of its calls, and what follows them in its answer.
+type Answered = (&'static str, &'static str, &'static str);
+
+// The answer to a line of words after another line, where that is answered as told. Its want of memory leaves no answer,
+// and another answer stands in place of this line's. The root has to come back whatever the answer.
 fn told_after(
     alloc: Global,
     trees: &'static [TreeFile],
     outcomes: &[Outcome],
-    before: (&str, &str),
+    before: &Answered,
     line: &str,
 ) -> Result<String, AllocError> {
     let mut text = String::new(alloc);
@@ -29,13 +33,17 @@ fn told_after(
 impl MemoryHosts {
     fn step_after(
         &mut self,
-        before: (&str, &str),
+        before: &Answered,
         line: &str,
         text: &mut String,
     ) -> Result<(), AllocError> {
-        self.step(before.0, text)?;
-        if text.as_str() != before.1 {
+        let (first, calls, rest) = before;
+        self.step(first, text)?;
+        if is_want(text.as_str(), calls) {
             return Err(AllocError);
+        }
+        if text.as_str().strip_prefix(*calls) != Some(*rest) {
+            return text.push_str("this is answered to the line before");
         }
         text.clear();
         self.step(line, text)?;
@@ -47,7 +55,7 @@ impl MemoryHosts {
 }
 
 // A line that does nothing, and what comes of it.
-const NOTHING: (&str, &str) = ("write /etc/motd", "");
+const NOTHING: &Answered = &("write /etc/motd", "", "");
 
 fn told(
     alloc: Global,
@@ -58,40 +66,27 @@ fn told(
     told_after(alloc, trees, outcomes, NOTHING, line)
 }
 
-// Told on standard error; where the test's buffers can't grow, a write fails.
-const WANTS: &[&str] = &["|broken memory\n|2\n", "||2\n"];
-
-// Told as the fault of the tree.
-fn is_unread_tree(text: &str) -> bool {
-    match text.strip_suffix(" NoMemory\n||1\n") {
-        Some(refused) => refused.starts_with("refused ") && !refused.contains('\n'),
-        None => false,
-    }
-}
-
-// Whether a unit was broken off for want of memory, behind the lines of calls that it made.
-fn is_broken_off(text: &str, calls: &str) -> bool {
-    match text.strip_suffix("broken memory\n||2\n") {
-        Some(made) => calls.starts_with(made) && (made.is_empty() || made.ends_with("\n")),
-        None => false,
-    }
-}
-
-fn is_want(text: &str, calls: &str) -> bool {
-    WANTS.contains(&text) || is_unread_tree(text) || is_broken_off(text, calls)
-}
-
 // The row is the lines of calls and what follows them.
-fn check_text(rt: &impl Abort, text: &str, calls: &str, rest: &str) {
+fn check_text(rt: &(impl Abort + Env + AllocGlobal), text: &str, calls: &str, rest: &str) {
     assert!(rt;
-        text.strip_prefix(calls) == Some(rest) || is_want(text, calls),
+        text.strip_prefix(calls) == Some(rest) || is_want(text, calls) && is_refusing(rt),
         "{text}"
     );
 }
 
-fn check(rt: &impl Abort, told: Result<String, AllocError>, calls: &str, rest: &str) {
-    if let Ok(text) = told {
-        check_text(rt, text.as_str(), calls, rest);
+fn check_no_answer(rt: &(impl Abort + Env + AllocGlobal)) {
+    assert!(rt; is_refusing(rt), "there is no answer");
+}
+
+fn check(
+    rt: &(impl Abort + Env + AllocGlobal),
+    told: Result<String, AllocError>,
+    calls: &str,
+    rest: &str,
+) {
+    match told {
+        Ok(text) => check_text(rt, text.as_str(), calls, rest),
+        Err(_) => check_no_answer(rt),
     }
 }
 
@@ -146,10 +141,9 @@ fn preinst_succeeds(rt: HostRuntime) {
 
 #[test]
 fn unpacked_package_is_refused(rt: HostRuntime) {
-    let done =
-        "call new alpha preinst install: exit 0\nstate alpha 1.0 install ok unpacked\ndone\n||0\n";
     let line = "dpkg_cli unpack t";
-    let told = told_after(rt.alloc(), WITH_PREINST, &[], (line, done), line);
+    let before = (line, UNPACKED.0, UNPACKED.1);
+    let told = told_after(rt.alloc(), WITH_PREINST, &[], &before, line);
     check(&rt, told, "", "refused alpha NotYet record\n||1\n");
 }
 
@@ -161,26 +155,30 @@ fn trees_are_refused(rt: HostRuntime) {
 }
 
 // What follows the first tree's line, which may be a want of memory itself.
-fn behind_first(text: &str) -> Option<&str> {
+fn behind_first<'a>(rt: &(impl Env + AllocGlobal), text: &'a str) -> Option<&'a str> {
     match text.strip_prefix("refused empty NoControl\n") {
         Some(rest) => Some(rest),
-        None => text.strip_prefix("refused empty NoMemory\n"),
+        None if is_refusing(rt) => text.strip_prefix("refused empty NoMemory\n"),
+        None => None,
     }
 }
 
 #[test]
 fn second_tree_is_unpacked(rt: HostRuntime) {
     let told = told(rt.alloc(), TREES, &[], "dpkg_cli unpack empty a");
-    if let Ok(text) = told {
-        let text = text.as_str();
-        let done = "state alpha 1.0 install ok unpacked\ndone\n||1\n";
-        check_text(&rt, behind_first(text).unwrap_or(text), UNPACKED.0, done);
-    }
+    let Ok(text) = told else {
+        return check_no_answer(&rt);
+    };
+    let text = text.as_str();
+    let done = "state alpha 1.0 install ok unpacked\ndone\n||1\n";
+    let behind = behind_first(&rt, text).unwrap_or(text);
+    check_text(&rt, behind, UNPACKED.0, done);
 }
 
 #[test]
 fn line_without_colon_is_damage(rt: HostRuntime) {
-    let told = told_after(rt.alloc(), TREES, &[], (DAMAGING, ""), "dpkg_cli unpack a");
+    let line = "dpkg_cli unpack a";
+    let told = told_after(rt.alloc(), TREES, &[], &(DAMAGING, "", ""), line);
     check(&rt, told, "", "|damaged /var/lib/dpkg/status 2\n|2\n");
 }
 
@@ -202,11 +200,15 @@ fn bad_version_is_told(rt: HostRuntime) {
     check(&rt, told, "", "|bad version 1-: EmptyPart\n|2\n");
 }
 
-fn check_usage(rt: &impl Abort, told: Result<String, AllocError>) {
-    if let Ok(text) = told {
-        let text = text.as_str();
-        assert!(rt; is_usage(text) || is_want(text, ""), "{text}");
-    }
+fn check_usage(rt: &(impl Abort + Env + AllocGlobal), told: Result<String, AllocError>) {
+    let Ok(text) = told else {
+        return check_no_answer(rt);
+    };
+    let text = text.as_str();
+    assert!(rt;
+        is_usage(text) || is_want(text, "") && is_refusing(rt),
+        "{text}"
+    );
 }
 
 #[test]
@@ -217,14 +219,17 @@ fn faults_of_usage_are_told(rt: HostRuntime) {
 }
 
 // A reading, or what stands in its place.
-fn check_reading(rt: &impl Abort, told: Result<String, AllocError>, row: &str) {
-    if let Ok(text) = told {
-        let text = text.as_str();
-        assert!(rt;
-            text == row || text == "NoMemory" || text == "paragraph\nNoMemory",
-            "{text}"
-        );
-    }
+fn check_reading(
+    rt: &(impl Abort + Env + AllocGlobal),
+    told: Result<String, AllocError>,
+    row: &str,
+) {
+    let Ok(text) = told else {
+        return check_no_answer(rt);
+    };
+    let text = text.as_str();
+    let is_want = text == "NoMemory" || text == "paragraph\nNoMemory";
+    assert!(rt; text == row || is_want && is_refusing(rt), "{text}");
 }
 
 #[test]
