@@ -17,7 +17,7 @@ use Rattle.host_core.specs.Host.{Ran, State, scripts_change}
 use Rattle.host_core.specs.Scripts.{changed_kept}
 use Rattle.administration.specs.Places.{home_path, info_path, list_path, status_path, temporary}
 use Rattle.file_lists.specs.Lists.{HasPlaces}
-use Rattle.file_lists.proofs.Kept.{IsBareList, has_places_grown, has_places_left}
+use Rattle.file_lists.proofs.Kept.{has_places_grown, has_places_left}
 use Rattle.opening.specs.Opened.{IsOpened}
 use Rattle.opening.specs.Parts.{names_of}
 use Rattle.unpack_engine.specs.OwnFiles.{OwnFile, own_path}
@@ -37,7 +37,7 @@ use Rattle.dpkg_session.specs.Refusals.{word_of}
 use Rattle.dpkg_session.specs.Run.{IsRun}
 use Rattle.dpkg_session.specs.Standing.{IsStanding}
 use Rattle.dpkg_session.specs.Units.{IsUnitByWord, IsUnitOf}
-use Rattle.unpack_engine.specs.EndStates.{IsEnd, end_file}
+use Rattle.unpack_engine.specs.EndStates.{IsEnd}
 use Rattle.unwind_stack.specs.Transcript.{Ended, Committed, Unwound}
 
 -- a name among those of the records is one that has a record
@@ -127,21 +127,21 @@ module _ (p : Package) (places : List Path) (before after : List Record) (ended 
       left.rest (list_path n) (list_outside n p.name (λ same. true≢false (sym (subst (λ x. is_some (record_in before x) ≡ true) same (has_record before n has)) ∙ new_name)))
       ∙ changed_kept (is_kept places) (scripts_change ts) old left.avoids (list_path n) refl
 
-  listed_grown : (entry : Record) → left.entry ≡ Some entry → IsBareList (new (list_path p.name)) → HasPlaces old (names_of before) places → HasPlaces new (names_of after) places
-  listed_grown entry is bare has = has_places_grown old new (names_of before) (names_of after) p.name places
-      (names_grown p.name before after new_name entry (subst (λ e. HasChangedRecord p.name e before after) is left.table)) list_stays bare has
+  listed_grown : (entry : Record) → left.entry ≡ Some entry → HasPlaces old (names_of before) places → HasPlaces new (names_of after) places
+  listed_grown entry is has = has_places_grown old new (names_of before) (names_of after) p.name places
+      (names_grown p.name before after new_name entry (subst (λ e. HasChangedRecord p.name e before after) is left.table)) list_stays left.list has
 
   listed_less : left.entry ≡ None → HasPlaces old (names_of before) places → HasPlaces new (names_of after) places
   listed_less is has = has_places_left old new (names_of before) (names_of after) places
       (names_left p.name before after new_name (subst (λ e. HasChangedRecord p.name e before after) is left.table)) list_stays has
 
-  by_end : (e : Ended) → IsEnd p e left.entry → new (list_path p.name) ≡ end_file p e None → HasPlaces old (names_of before) places → HasPlaces new (names_of after) places
-  by_end Committed end file has = listed_grown end.0 end.1 (inr (0o644, file)) has
-  by_end (Unwound fall []) end file has = listed_less end has
-  by_end (Unwound fall (owner ∷ owners)) end file has = listed_grown end.0 end.1 (inl file) has
+  by_end : (e : Ended) → IsEnd p e left.entry → HasPlaces old (names_of before) places → HasPlaces new (names_of after) places
+  by_end Committed end has = listed_grown end.0 end.1 has
+  by_end (Unwound fall []) end has = listed_less end has
+  by_end (Unwound fall (owner ∷ owners)) end has = listed_grown end.0 end.1 has
 
   pub listed_left : HasPlaces old (names_of before) places → HasPlaces new (names_of after) places
-  listed_left has = by_end ended left.end (left.files None) has
+  listed_left has = by_end ended left.end has
 
 -- what is carried out has no record before
 

@@ -1,40 +1,36 @@
 -- What the administration holds can still be read after units.
-use Rattle.std.proofs.Common.{◌≡◌, ◌≢◌, ◌⊎◌, inl, inr, ℕ, Bool, true, false, not, List, [], ◌∷◌, ◌++◌, Option, Some, None, is_some, Result, Ok, Err, IsTrue, Contains, codes, drop, refl, sym, ap, subst, ◌∙◌, ◌&&◌, ◌<◌, arith, get_or}
+use Rattle.std.proofs.Common.{◌≡◌, ◌≢◌, ◌⊎◌, inl, inr, ℕ, Bool, true, false, not, List, [], ◌∷◌, ◌++◌, Option, Some, None, is_some, Result, Ok, Err, IsTrue, Contains, codes, drop, refl, sym, ap, subst, ◌∙◌, ◌&&◌, arith, get_or}
 use Rattle.std.specs.Prelude.{IsSome}
 use Rattle.std.specs.List.{list_all, ends_with}
 use Rattle.std.specs.Str.{IsUtf8}
 use Rattle.std.proofs.Common.{nat_eq}
 use Rattle.std.proofs.lemmas.Bool.{true≢false}
-use Rattle.std.proofs.lemmas.Bool.Decides.{nat_tests}
 use Rattle.std.proofs.lemmas.List.Folds.{list_all-append}
-use Rattle.std.proofs.lemmas.List.Sums.{AllPass-from_list_all}
 use Rattle.std.proofs.lemmas.Str.{IsUtf8-from_ascii}
-use Rattle.std.proofs.lemmas.Str.Ascii.{IsAscii-from_all}
 use Rattle.host_core.proofs.Paths.{decide}
 use Rattle.host_core.specs.Paths.{Path}
 use Rattle.host_core.specs.Tree.{has_slash}
 use Rattle.host_core.specs.World.{World, IsDirectory, is_file, is_kept}
 use Rattle.host_core.specs.Host.{Ran, State, scripts_change}
 use Rattle.host_core.specs.Scripts.{changed_kept}
+use Rattle.host_core.specs.declared.call.Script.{Script}
 use Rattle.host_core.specs.declared.call.Script.TheVariants.{Preinst, Postinst, Prerm, Postrm}
 use Rattle.host_core.specs.declared.node.Node.{Node}
-use Rattle.host_core.specs.declared.node.Node.TheVariants.{File}
 use Rattle.texts.specs.PackageNames.{is_name_sign, is_package_name}
-use Rattle.texts.proofs.PackageNames.{signs_of_name}
+use Rattle.texts.proofs.PackageNames.{signs_ascii, signs_of_name}
 use Rattle.administration.specs.Directories.{HasBadName}
-use Rattle.administration.specs.Places.{info_path, updates_path, diversions_path, temporary}
+use Rattle.administration.specs.Places.{info_path, updates_path, diversions_path, temporary, tmp_path, is_within}
 use Rattle.administration.specs.Scripts.{script_of, file_of}
 use Rattle.administration.specs.declared.scripts.ScriptFile.{ScriptFile}
 use Rattle.file_lists.specs.Info.{is_foreign, entry_path, AreSound, IsSound, IsListOf, IsLink}
 use Rattle.file_lists.specs.Lists.{IsReadable}
-use Rattle.file_lists.proofs.Kept.{bare_readable}
 use Rattle.opening.specs.Parts.{names_of, IsEmptyIn, IsWithoutDiversions}
 use Rattle.package_tree.specs.declared.package.Package.{Package}
 use Rattle.package_tree.specs.declared.fault.TreeFault.{TreeFault}
 use Rattle.status_db.specs.declared.record.Record.{Record}
 use Rattle.status_db.specs.Records.{standing}
-use Rattle.unpack_engine.specs.OwnFiles.{OwnFile, ending, own_path, own_node}
-use Rattle.unpack_engine.specs.EndStates.{end_file}
+use Rattle.unpack_engine.specs.OwnFiles.{OwnFile, ending, own_path}
+use Rattle.unpack_engine.specs.EndStates.{end_script}
 use Rattle.unpack_engine.specs.Unpack.{IsLeft, IsOutside}
 use Rattle.unpack_engine.proofs.Beginning.{signs_without}
 use Rattle.unpack_engine.proofs.Changes.{script_mark}
@@ -61,11 +57,8 @@ pub record IsReadableBeside (w : World) (table : List Record) : Type 0 where
 
 -- names of the signs of a package's name are text, and of no other architecture
 
-sign_ascii : (b : ℕ) → is_name_sign b ≡ true → b < 128
-sign_ascii b h = grind (arith, nat_tests)
-
 signs_text : (name : List ℕ) → list_all is_name_sign name ≡ true → IsUtf8 name
-signs_text name h = IsUtf8-from_ascii name (IsAscii-from_all name (λ i d l. sign_ascii _ (AllPass-from_list_all is_name_sign name h i d l)))
+signs_text name h = IsUtf8-from_ascii name (signs_ascii name h)
 
 signs_own : (entry : Path) → list_all is_name_sign entry ≡ true → is_foreign entry ≡ false
 signs_own entry h = ap (λ t. t && not (ends_with nat_eq entry (codes ".dpkg-inst"))) (signs_without 58 refl entry h)
@@ -86,7 +79,7 @@ own_signs name file named = both_signs name (ending file) (signs_of_name name na
 spare_signs : (name : List ℕ) (file : OwnFile) → is_package_name name ≡ true → list_all is_name_sign (temporary (name ++ ending file)) ≡ true
 spare_signs name file named = both_signs (name ++ ending file) (codes ".dpkg-inst") (own_signs name file named) refl
 
--- what stands there at the end is no link, and its list is read
+-- what stands there at the end is no link
 
 abbrev file_in : Option Node → Bool
 file_in None = false
@@ -102,35 +95,28 @@ script_no_link : (script : Option ScriptFile) → IsLink (file_of script) → �
 script_no_link None link = none_no_link link
 script_no_link (Some script) link = file_no_link script.node script.file link
 
-own_no_link : (p : Package) (file : OwnFile) → IsLink (own_node p.scripts file) → ⊥
-own_no_link p None link = file_no_link (File (codes "/.\n") 0o644) refl link
-own_no_link p (Some script) link = script_no_link (script_of p.scripts script) link
+end_no_link : (p : Package) (ended : Ended) (script : Script) → IsLink (end_script p ended script) → ⊥
+end_no_link p Committed script link = script_no_link (script_of p.scripts script) link
+end_no_link p (Unwound fall owners) script link = none_no_link link
 
-end_no_link : (p : Package) (ended : Ended) (file : OwnFile) → IsLink (end_file p ended file) → ⊥
-end_no_link p Committed file link = own_no_link p file link
-end_no_link p (Unwound fall owners) file link = none_no_link link
-
-end_readable : (p : Package) (ended : Ended) → IsReadable (end_file p ended None)
-end_readable p Committed = bare_readable (own_node p.scripts None) (inr (0o644, refl))
-end_readable p (Unwound fall owners) = tt
+list_no_link : (node : Option Node) → IsReadable node → IsLink node → ⊥
+list_no_link found is link = subst IsReadable link.1 is
 
 -- of the other directories and files of the administration none is the unit's
 
-updates_outside : (name rest : List ℕ) → IsOutside name (updates_path ++ rest)
-updates_outside name rest = record {
-  status = λ e. absurd (omega (arith, ap (λ (l : Path). get_or l 14 0) e));
-  status_spare = λ e. absurd (omega (arith, ap (λ (l : Path). get_or l 14 0) e));
-  own = λ file. ((λ e. absurd (omega (arith, ap (λ (l : Path). get_or l 14 0) e))), (λ e. absurd (omega (arith, ap (λ (l : Path). get_or l 14 0) e))));
-  tmp = refl;
+elsewhere : (name : List ℕ) (q : Path) → get_or q 14 0 ≢ 115 → get_or q 14 0 ≢ 105 → is_within tmp_path q ≡ false → IsOutside name q
+elsewhere name q no_status no_info out = record {
+  status = λ e. no_status (ap (λ (l : Path). get_or l 14 0) e);
+  status_spare = λ e. no_status (ap (λ (l : Path). get_or l 14 0) e);
+  own = λ file. ((λ e. no_info (ap (λ (l : Path). get_or l 14 0) e)), (λ e. no_info (ap (λ (l : Path). get_or l 14 0) e)));
+  tmp = out;
 }
 
+updates_outside : (name rest : List ℕ) → IsOutside name (updates_path ++ rest)
+updates_outside name rest = elsewhere name (updates_path ++ rest) (λ e. absurd (omega (arith, e))) (λ e. absurd (omega (arith, e))) refl
+
 diversions_outside : (name : List ℕ) → IsOutside name diversions_path
-diversions_outside name = record {
-  status = λ e. absurd (omega (arith, ap (λ (l : Path). get_or l 14 0) e));
-  status_spare = λ e. absurd (omega (arith, ap (λ (l : Path). get_or l 14 0) e));
-  own = λ file. ((λ e. absurd (omega (arith, ap (λ (l : Path). get_or l 14 0) e))), (λ e. absurd (omega (arith, ap (λ (l : Path). get_or l 14 0) e))));
-  tmp = refl;
-}
+diversions_outside name = elsewhere name diversions_path (λ e. absurd (omega (arith, e))) (λ e. absurd (omega (arith, e))) refl
 
 -- a unit that was carried out
 
@@ -144,19 +130,21 @@ module _ (p : Package) (places : List Path) (before after : List Record) (ended 
     | inr ne ↦ inl (is_named before n (ap is_some (sym (at_other p.name n left.entry before after ne left.table)) ∙ has_record after n has))
   ]
 
-  own_list : (file : OwnFile) (entry : Path) → entry_path entry ≡ own_path p.name file → IsListOf (names_of after) entry → IsReadable (end_file p ended file)
-  own_list None entry e is = end_readable p ended
+  own_list : (file : OwnFile) (entry : Path) → entry_path entry ≡ own_path p.name file → IsListOf (names_of after) entry → IsReadable (new (own_path p.name file))
+  own_list None entry e is = left.list.readable
   own_list (Some script) entry e is = absurd (own_apart p.name is.0 (Some script) None (script_mark script) (sym e ∙ ap entry_path is.2))
 
+  own_no_link : (file : OwnFile) → IsLink (new (own_path p.name file)) → ⊥
+  own_no_link None link = list_no_link (new (own_path p.name None)) left.list.readable link
+  own_no_link (Some script) link = end_no_link p ended script (subst IsLink (left.scripts script) link)
+
   own_sound : (file : OwnFile) (entry : Path) → has_slash entry ≡ false → entry_path entry ≡ own_path p.name file → IsSound (names_of after) entry (new (entry_path entry))
-  own_sound file entry plain e =
-      let node = ap new e ∙ left.files file in
-      record {
-        colon = λ there. signs_own entry (subst (λ n. list_all is_name_sign n ≡ true) (sym (ap (drop 19) e)) (own_signs p.name file p.named));
-        loose = left.order.entries entry plain;
-        list = λ is. subst IsReadable (sym node) (own_list file entry e is);
-        script = λ is link. end_no_link p ended file (subst IsLink node link);
-      }
+  own_sound file entry plain e = record {
+    colon = λ there. signs_own entry (subst (λ n. list_all is_name_sign n ≡ true) (sym (ap (drop 19) e)) (own_signs p.name file p.named));
+    loose = left.order.entries entry plain;
+    list = λ is. subst IsReadable (sym (ap new e)) (own_list file entry e is);
+    script = λ is link. own_no_link file (subst IsLink (ap new e) link);
+  }
 
   spare_sound : (file : OwnFile) (entry : Path) → has_slash entry ≡ false → entry_path entry ≡ temporary (own_path p.name file) → IsSound (names_of after) entry (new (entry_path entry))
   spare_sound file entry plain e = record {

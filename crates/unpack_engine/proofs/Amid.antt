@@ -1,5 +1,5 @@
 -- What holds at each moment of a unit goes on from part to part.
-use Rattle.std.proofs.Common.{inl, inr, List, refl, sym, subst, ◌∙◌}
+use Rattle.std.proofs.Common.{◌≡◌, ◌⊎◌, inl, inr, List, Option, Some, None, refl, sym, subst, ◌∙◌}
 use Rattle.host_core.specs.Paths.{Path}
 use Rattle.host_core.specs.World.{World, is_kept, SameOn}
 use Rattle.host_core.specs.Host.{State, Since}
@@ -8,8 +8,12 @@ use Rattle.administration.specs.Places.{status_path, temporary}
 use Rattle.administration.specs.Files.{NoDirectory, KeepsBesideFile}
 use Rattle.administration.proofs.WholeFiles.{no_directory_at}
 use Rattle.package_tree.specs.declared.package.Package.{Package}
-use Rattle.unpack_engine.specs.OwnFiles.{own_path, own_node, IsOwnMoment, IsChanging}
-use Rattle.unpack_engine.specs.OwnFiles.IsOwnMoment.{same}
+use Rattle.host_core.specs.declared.node.Node.{Node}
+use Rattle.administration.specs.Scripts.{script_of, file_of}
+use Rattle.file_lists.specs.Lists.{NamesNothing}
+use Rattle.file_lists.proofs.Kept.{missing_names_nothing, root_names_nothing}
+use Rattle.unpack_engine.specs.OwnFiles.{own_path, root_list, IsOwnMoment, IsChanging}
+use Rattle.unpack_engine.specs.OwnFiles.IsOwnMoment.{same, gone, whole}
 use Rattle.unpack_engine.proofs.Changes.{moment_then}
 use Rattle.status_db.specs.declared.record.Record.{Record}
 use Rattle.status_db.specs.Status.{HasRecords, IsNoting}
@@ -20,6 +24,13 @@ use Rattle.unpack_engine.proofs.Beginning.{own_in_order}
 use Rattle.unpack_engine.proofs.LaidOut.{incoming_kept}
 use Rattle.unpack_engine.proofs.Standing.{moved_records}
 
+-- the list is that of before, or names nothing
+list_then : (a b c : Option Node) → (b ≡ a) ⊎ NamesNothing b → IsOwnMoment (Some root_list) b c → (c ≡ a) ⊎ NamesNothing c
+list_then a b c (inl e) (same f) = inl (f ∙ e)
+list_then a b c (inr none) (same f) = inr (subst NamesNothing (sym f) none)
+list_then a b c first (gone f) = inr (subst NamesNothing (sym f) missing_names_nothing)
+list_then a b c first (whole f) = inr (subst NamesNothing (sym f) (root_names_nothing 0o644))
+
 module _ (p : Package) (places : List Path) (before : List Record) where
   pub amid_start : (old : World) → IsInOrder old → IsIncoming old → HasRecords old before → IsAmid p places before old old
   amid_start old order incoming has = record {
@@ -27,7 +38,8 @@ module _ (p : Package) (places : List Path) (before : List Record) where
     is_stage = IsStage.as_before;
     records = has;
     status_spare = order.status_spare;
-    own = λ f. same refl;
+    list = inl refl;
+    scripts = λ script. same refl;
     spares = (own_in_order p.name old p.named order).spares;
     incoming = incoming;
     rest = λ q out kept. refl;
@@ -40,7 +52,8 @@ module _ (p : Package) (places : List Path) (before : List Record) where
     is_stage = amid.is_stage;
     records = moved_records amid.stage w now (is.rest status_path (λ f. ((λ e. own_not_status p.name f (sym e)), (λ e. spare_not_status p.name f (sym e))))) amid.records;
     status_spare = no_directory_at (now (temporary status_path)) (w (temporary status_path)) (is.rest (temporary status_path) (λ f. ((λ e. own_not_status_spare p.name f (sym e)), (λ e. spare_not_status_spare p.name f (sym e))))) amid.status_spare;
-    own = λ f. moment_then p.name p.scripts (own_node p.scripts f) (old (own_path p.name f)) (w (own_path p.name f)) (now (own_path p.name f)) (amid.own f) (is.own f);
+    list = list_then (old (own_path p.name None)) (w (own_path p.name None)) (now (own_path p.name None)) amid.list (is.own None);
+    scripts = λ script. moment_then p.name p.scripts (file_of (script_of p.scripts script)) (old (own_path p.name (Some script))) (w (own_path p.name (Some script))) (now (own_path p.name (Some script))) (amid.scripts script) (is.own (Some script));
     spares = is.spares;
     incoming = incoming_kept w now (installed_within p w now is.rest) amid.incoming;
     rest = λ q out kept. is.rest q out.own ∙ amid.rest q out kept;
@@ -53,7 +66,8 @@ module _ (p : Package) (places : List Path) (before : List Record) where
     is_stage = amid.is_stage;
     records = moved_records amid.stage w now (laying.rest status_path refl) amid.records;
     status_spare = no_directory_at (now (temporary status_path)) (w (temporary status_path)) (laying.rest (temporary status_path) refl) amid.status_spare;
-    own = λ f. subst (IsOwnMoment (own_node p.scripts f) (old (own_path p.name f))) (sym (laying.rest (own_path p.name f) refl)) (amid.own f);
+    list = subst (λ n. (n ≡ old (own_path p.name None)) ⊎ NamesNothing n) (sym (laying.rest (own_path p.name None) refl)) amid.list;
+    scripts = λ script. subst (IsOwnMoment (file_of (script_of p.scripts script)) (old (own_path p.name (Some script)))) (sym (laying.rest (own_path p.name (Some script)) refl)) (amid.scripts script);
     spares = λ f. no_directory_at (now (temporary (own_path p.name f))) (w (temporary (own_path p.name f))) (laying.rest (temporary (own_path p.name f)) refl) (amid.spares f);
     incoming = laying.incoming;
     rest = λ q out kept. laying.rest q out.tmp ∙ amid.rest q out kept;
@@ -66,7 +80,8 @@ module _ (p : Package) (places : List Path) (before : List Record) where
     is_stage = amid.is_stage;
     records = moved_records amid.stage w now (as_kept status_path refl) amid.records;
     status_spare = no_directory_at (now (temporary status_path)) (w (temporary status_path)) (as_kept (temporary status_path) refl) amid.status_spare;
-    own = λ f. subst (IsOwnMoment (own_node p.scripts f) (old (own_path p.name f))) (sym (as_kept (own_path p.name f) refl)) (amid.own f);
+    list = subst (λ n. (n ≡ old (own_path p.name None)) ⊎ NamesNothing n) (sym (as_kept (own_path p.name None) refl)) amid.list;
+    scripts = λ script. subst (IsOwnMoment (file_of (script_of p.scripts script)) (old (own_path p.name (Some script)))) (sym (as_kept (own_path p.name (Some script)) refl)) (amid.scripts script);
     spares = λ f. no_directory_at (now (temporary (own_path p.name f))) (w (temporary (own_path p.name f))) (as_kept (temporary (own_path p.name f)) refl) (amid.spares f);
     incoming = incoming_kept w now (scripts_within places w now as_kept) amid.incoming;
     rest = λ q out kept. as_kept q kept ∙ amid.rest q out kept;
@@ -79,7 +94,8 @@ module _ (p : Package) (places : List Path) (before : List Record) where
     is_stage = is;
     records = has;
     status_spare = spare;
-    own = λ f. subst (IsOwnMoment (own_node p.scripts f) (old (own_path p.name f))) (sym (rest (own_path p.name f) (own_not_status p.name f) (own_not_status_spare p.name f))) (amid.own f);
+    list = subst (λ n. (n ≡ old (own_path p.name None)) ⊎ NamesNothing n) (sym (rest (own_path p.name None) (own_not_status p.name None) (own_not_status_spare p.name None))) amid.list;
+    scripts = λ script. subst (IsOwnMoment (file_of (script_of p.scripts script)) (old (own_path p.name (Some script)))) (sym (rest (own_path p.name (Some script)) (own_not_status p.name (Some script)) (own_not_status_spare p.name (Some script)))) (amid.scripts script);
     spares = λ f. no_directory_at (now (temporary (own_path p.name f))) (w (temporary (own_path p.name f))) (rest (temporary (own_path p.name f)) (spare_not_status p.name f) (spare_not_status_spare p.name f)) (amid.spares f);
     incoming = incoming_kept w now (noted_within w now rest) amid.incoming;
     rest = λ q out kept. rest q out.status out.status_spare ∙ amid.rest q out kept;

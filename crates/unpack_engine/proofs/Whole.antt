@@ -9,6 +9,9 @@ use Rattle.host_core.specs.World.{World, is_kept, IsDirectory}
 use Rattle.host_core.specs.Host.{Ran, State, Silent, Calls, IsLater}
 use Rattle.host_core.specs.Moments.{silent_then}
 use Rattle.host_core.specs.declared.node.Node.{Node}
+use Rattle.host_core.specs.declared.call.Script.{Script}
+use Rattle.file_lists.specs.Lists.{NamesNothing}
+use Rattle.file_lists.proofs.Kept.{missing_names_nothing, root_names_nothing}
 use Rattle.host_core.specs.declared.call.Script.TheVariants.{Preinst, Postinst, Prerm, Postrm}
 use Rattle.administration.specs.Places.{info_path, tmp_path, tmp_script_path, temporary, is_within}
 use Rattle.administration.specs.Files.{NoDirectory}
@@ -37,7 +40,7 @@ use Rattle.unpack_engine.specs.ForwardRows.{preinst_row, file_row, rows_of, give
 use Rattle.unpack_engine.specs.Turns.{Falls, IsTurn}
 use Rattle.unpack_engine.specs.declared.rows.Turn.{Turn}
 use Rattle.unpack_engine.specs.declared.rows.Turn.TheVariants.{Committed, Undone, UndoFailed}
-use Rattle.unpack_engine.specs.EndStates.{IsRecordOf, IsSomeRecord, UndoneEnd, IsEnd, end_file}
+use Rattle.unpack_engine.specs.EndStates.{IsRecordOf, IsSomeRecord, UndoneEnd, IsEnd, end_script}
 use Rattle.unpack_engine.specs.Unpack.{IsInOrder, IsOutside, HasChangedRecord, IsStage, IsAmid}
 use Rattle.unpack_engine.specs.Stages.{Stands, IsPutAs, IsNotingAs}
 use Rattle.unpack_engine.specs.Units.{EndsAs, FinishedTable, FinishedWorlds, BegunWorlds, IsBeginning, IsFinishing, HasUnpacked}
@@ -156,13 +159,18 @@ turn_file p Committed file = own_node p.scripts file
 turn_file p Undone file = None
 turn_file p UndoFailed file = None
 
-pub end_files : (p : Package) (turn : Turn) (ended : Ended) → EndsAs turn ended → (file : OwnFile) → turn_file p turn file ≡ end_file p ended file
-end_files p Committed AllSucceeded turned file = refl
-end_files p Committed (Unwound fall owners) turned file = absurd turned
-end_files p Undone AllSucceeded turned file = absurd turned
-end_files p Undone (Unwound fall owners) turned file = refl
-end_files p UndoFailed AllSucceeded turned file = absurd turned
-end_files p UndoFailed (Unwound fall owners) turned file = refl
+pub end_scripts : (p : Package) (turn : Turn) (ended : Ended) → EndsAs turn ended → (script : Script) → turn_file p turn (Some script) ≡ end_script p ended script
+end_scripts p Committed AllSucceeded turned script = refl
+end_scripts p Committed (Unwound fall owners) turned script = absurd turned
+end_scripts p Undone AllSucceeded turned script = absurd turned
+end_scripts p Undone (Unwound fall owners) turned script = refl
+end_scripts p UndoFailed AllSucceeded turned script = absurd turned
+end_scripts p UndoFailed (Unwound fall owners) turned script = refl
+
+turn_list : (p : Package) (turn : Turn) → NamesNothing (turn_file p turn None)
+turn_list p Committed = root_names_nothing 0o644
+turn_list p Undone = missing_names_nothing
+turn_list p UndoFailed = missing_names_nothing
 
 pub turn_loose : (p : Package) (turn : Turn) (file : OwnFile) → NoDirectory (turn_file p turn file)
 turn_loose p Committed file = own_nodes p.scripts file
@@ -340,7 +348,8 @@ unit_by p places turn before mid after ts s a b c d told now turned first made t
               table = end.table;
               standing = end_standing p turn before mid after half table;
               records = four.records;
-              files = λ file. four.own file ∙ end_files p turn legal.ended legal.as_turned file;
+              list = subst NamesNothing (sym (four.own None)) (turn_list p turn);
+              scripts = λ script. four.own (Some script) ∙ end_scripts p turn legal.ended legal.as_turned script;
               rest = four.rest;
             };
       };

@@ -4,7 +4,8 @@ use Rattle.host_core.specs.declared.node.Node.{Node}
 use Rattle.unwind_stack.specs.declared.rows.Owner.{Owner}
 use Rattle.unwind_stack.specs.Transcript.{Ended, Committed, Unwound}
 use Rattle.package_tree.specs.declared.package.Package.{Package}
-use Rattle.unpack_engine.specs.OwnFiles.{OwnFile, own_node}
+use Rattle.host_core.specs.declared.call.Script.{Script}
+use Rattle.administration.specs.Scripts.{script_of, file_of}
 use Rattle.status_db.specs.Fields.{recorded_fields}
 use Rattle.status_db.specs.declared.record.Record.{Record}
 use Rattle.status_db.specs.declared.words.Want.TheVariants.{Install}
@@ -35,7 +36,7 @@ abbrev pub IsEnd : Package → Ended → Option Record → Type 0
 IsEnd p Committed entry = IsSomeRecord p flag.Ok state.Unpacked entry
 IsEnd p (Unwound fall owners) entry = UndoneEnd p owners entry
 
--- the package's list and stored scripts at the end; a missing list is that of a package without paths
-abbrev pub end_file : Package → Ended → OwnFile → Option Node
-end_file p Committed file = own_node p.scripts file
-end_file p (Unwound fall owners) file = None
+-- the package's stored scripts at the end
+abbrev pub end_script : Package → Ended → Script → Option Node
+end_script p Committed script = file_of (script_of p.scripts script)
+end_script p (Unwound fall owners) script = None

@@ -1,5 +1,5 @@
 -- What an unpack of a package that has scripts alone, and wasn't installed before, does.
-use Rattle.std.specs.Prelude.{◌≡◌, ◌≢◌, ℕ, Bool, true, false, List, [], ◌∷◌, ◌++◌, Option, None, IsTrue}
+use Rattle.std.specs.Prelude.{◌≡◌, ◌≢◌, ◌⊎◌, ℕ, Bool, true, false, List, [], ◌∷◌, ◌++◌, Option, Some, None, IsTrue}
 use Rattle.std.specs.Map.{update}
 use Rattle.std.specs.Str.{bytes_eq}
 use Rattle.host_core.specs.Paths.{Path}
@@ -13,14 +13,15 @@ use Rattle.administration.specs.Scripts.{script_of, file_of}
 use Rattle.unwind_stack.specs.Transcript.{Ended, Legal}
 use Rattle.package_tree.specs.declared.package.Package.{Package}
 use Rattle.unpack_engine.specs.Incoming.{IsIncoming}
-use Rattle.unpack_engine.specs.OwnFiles.{OwnFile, own_path, own_node, IsOwnMoment}
+use Rattle.file_lists.specs.Lists.{NamesNothing}
+use Rattle.unpack_engine.specs.OwnFiles.{OwnFile, own_path, IsOwnMoment}
 use Rattle.status_db.specs.declared.record.Record.{Record}
 use Rattle.status_db.specs.Records.{record_in, put_record, drop_record, standing}
 use Rattle.status_db.specs.Status.{HasRecords}
 use Rattle.status_db.specs.declared.words.Flag.TheVariants as flag
 use Rattle.status_db.specs.declared.words.State.TheVariants as state
 use Rattle.unpack_engine.specs.ForwardRows.{rows_of, gives}
-use Rattle.unpack_engine.specs.EndStates.{IsRecordOf, IsEnd, end_file}
+use Rattle.unpack_engine.specs.EndStates.{IsRecordOf, IsEnd, end_script}
 
 -- The administration is in order: its directories are there, no directory is in a file's way, no unit is under way.
 pub record IsInOrder (w : World) : Type 0 where
@@ -71,7 +72,8 @@ pub record IsLeft (p : Package) (places : List Path) (before after : List Record
   -- no record comes in of a package that is gone
   pub standing : standing before ≡ before → standing after ≡ after
   pub records : HasRecords new after
-  pub files : (file : OwnFile) → new (own_path p.name file) ≡ end_file p ended file
+  pub list : NamesNothing (new (own_path p.name None))
+  pub scripts : (script : Script) → new (own_path p.name (Some script)) ≡ end_script p ended script
   -- apart from that nothing has changed but what the script calls changed
   pub rest : (q : Path) → IsOutside p.name q → new q ≡ changed (scripts_change ts) old q
 
@@ -95,7 +97,8 @@ pub record IsAmid (p : Package) (places : List Path) (before : List Record) (old
   pub is_stage : IsStage p before stage
   pub records : HasRecords now stage
   pub status_spare : NoDirectory (now (temporary status_path))
-  pub own : (file : OwnFile) → IsOwnMoment (own_node p.scripts file) (old (own_path p.name file)) (now (own_path p.name file))
+  pub list : (now (own_path p.name None) ≡ old (own_path p.name None)) ⊎ NamesNothing (now (own_path p.name None))
+  pub scripts : (script : Script) → IsOwnMoment (file_of (script_of p.scripts script)) (old (own_path p.name (Some script))) (now (own_path p.name (Some script)))
   pub spares : (file : OwnFile) → NoDirectory (now (temporary (own_path p.name file)))
   pub incoming : IsIncoming now
   pub rest : (q : Path) → IsOutside p.name q → is_kept places q ≡ true → now q ≡ old q
