@@ -67,7 +67,7 @@ amid_next [] [] c rest places before mid s m now run amid =
 amid_next [] (u ∷ us) c rest places before mid s m now run amid = absurd run
 amid_next (d ∷ done) [] c rest places before mid s m now run amid = absurd run
 amid_next (d ∷ done) (u ∷ us) c rest places before mid s m now run amid =
-    inr (u, run.0, run.1, run.3, amid_next done us c rest places run.1 mid run.0 m now run.4 amid)
+    inr (u, run.0, run.1, run.2.is, amid_next done us c rest places run.1 mid run.0 m now run.3 amid)
 
 pub since_next : (cs done : List Candidate) (us : List AUnit) (c : Candidate) (rest : List Candidate) (places : List Path) (before mid : List Record) (s m t : State) → cs ≡ done ++ c ∷ rest → IsRun done us places before mid s m → Since (IsAmidRun cs places before s) s m → Since (IsAmidUnitOf c.tree places mid m.world) m t → Since (IsAmidRun cs places before s) s t
 since_next cs done us c rest places before mid s m t split run first second = since_then (IsAmidRun cs places before s) s m t first

@@ -45,13 +45,13 @@ ready_run : (cs : List Candidate) (us : List AUnit) (places : List Path) (before
 ready_run [] [] places before after s t run ready = subst (λ x. Ready x t) (sym run.1) (subst (Ready before) (sym run.0) ready)
 ready_run [] (u ∷ us) places before after s t run ready = absurd run
 ready_run (c ∷ cs) [] places before after s t run ready = absurd run
-ready_run (c ∷ cs) (u ∷ us) places before after s t run ready = ready_run cs us places run.1 after run.0 t run.4 (ready_after c places before run.1 u s run.0 run.2 ready run.3)
+ready_run (c ∷ cs) (u ∷ us) places before after s t run ready = ready_run cs us places run.1 after run.0 t run.3 (ready_after c places before run.1 u s run.0 run.2.honest ready run.2.is)
 
 honest_run : (cs : List Candidate) (us : List AUnit) (places : List Path) (before after : List Record) (s t : State) → IsRun cs us places before after s t → IsTrue s.honest → IsTrue t.honest
 honest_run [] [] places before after s t run h = subst (λ x. IsTrue x.honest) (sym run.0) h
 honest_run [] (u ∷ us) places before after s t run h = absurd run
 honest_run (c ∷ cs) [] places before after s t run h = absurd run
-honest_run (c ∷ cs) (u ∷ us) places before after s t run h = honest_run cs us places run.1 after run.0 t run.4 (subst IsTrue (sym run.2) h)
+honest_run (c ∷ cs) (u ∷ us) places before after s t run h = honest_run cs us places run.1 after run.0 t run.3 (subst IsTrue (sym run.2.honest) h)
 
 readable_opened : (table : List Record) (places : List Path) (w : World) → IsOpened table places w → IsReadableBeside w table
 readable_opened table places w opened = record {

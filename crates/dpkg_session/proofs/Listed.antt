@@ -169,7 +169,7 @@ module _ (places : List Path) where
   listed_run [] (u ∷ us) before after s t run h has = absurd run
   listed_run (c ∷ cs) [] before after s t run h has = absurd run
   listed_run (c ∷ cs) (u ∷ us) before after s t run h has =
-      listed_run cs us run.1 after run.0 t run.4 (subst IsTrue (sym run.2) h) (listed_unit c.label c.tree before run.1 u s run.0 run.3 h has)
+      listed_run cs us run.1 after run.0 t run.3 (subst IsTrue (sym run.2.honest) h) (listed_unit c.label c.tree before run.1 u s run.0 run.2.is h has)
 
 -- what a session keeps
 

@@ -212,4 +212,4 @@ module _ (places : List Path) where
   readable_run [] (u ∷ us) before after s t run h was = absurd run
   readable_run (c ∷ cs) [] before after s t run h was = absurd run
   readable_run (c ∷ cs) (u ∷ us) before after s t run h was =
-      readable_run cs us run.1 after run.0 t run.4 (subst IsTrue (sym run.2) h) (readable_unit c.label c.tree before run.1 u s run.0 run.3 h was)
+      readable_run cs us run.1 after run.0 t run.3 (subst IsTrue (sym run.2.honest) h) (readable_unit c.label c.tree before run.1 u s run.0 run.2.is h was)

@@ -16,15 +16,15 @@ use Rattle.dpkg_session.specs.declared.report.Candidate.{Candidate}
 use Rattle.dpkg_session.specs.declared.report.Unit.{Unit as AUnit}
 use Rattle.dpkg_session.specs.Refusals.{word_of}
 use Rattle.dpkg_session.specs.Units.{IsUnit, IsUnitOf, IsUnitByWord, IsRefused, IsBroken}
-use Rattle.dpkg_session.specs.Run.{IsRun}
+use Rattle.dpkg_session.specs.Run.{IsRun, RunsUnit}
 
-pub run_more : (cs : List Candidate) (us : List AUnit) (c : Candidate) (u : AUnit) (places : List Path) (before mid after : List Record) (s m t : State) → IsRun cs us places before mid s m → m.honest ≡ s.honest → IsUnit c places mid after u m t → t.honest ≡ m.honest → IsRun (cs ++ c ∷ []) (us ++ u ∷ []) places before after s t
-run_more [] [] c u places before mid after s m t so_far same unit kept =
-    (t, after, kept ∙ same, subst (λ x. IsUnit c places x after u s t) so_far.1 (subst (λ x. IsUnit c places mid after u x t) so_far.0 unit), (refl, refl))
-run_more [] (v ∷ us) c u places before mid after s m t so_far same unit kept = absurd so_far
-run_more (q ∷ cs) [] c u places before mid after s m t so_far same unit kept = absurd so_far
-run_more (q ∷ cs) (v ∷ us) c u places before mid after s m t so_far same unit kept =
-    (so_far.0, so_far.1, so_far.2, so_far.3, run_more cs us c u places so_far.1 mid after so_far.0 m t so_far.4 (same ∙ sym so_far.2) unit kept)
+pub run_more : (cs : List Candidate) (us : List AUnit) (c : Candidate) (u : AUnit) (places : List Path) (before mid after : List Record) (s m t : State) → IsRun cs us places before mid s m → m.honest ≡ s.honest → RunsUnit c places mid after u m t → IsRun (cs ++ c ∷ []) (us ++ u ∷ []) places before after s t
+run_more [] [] c u places before mid after s m t so_far same unit =
+    (t, after, subst (λ x. RunsUnit c places x after u s t) so_far.1 (subst (λ x. RunsUnit c places mid after u x t) so_far.0 unit), (refl, refl))
+run_more [] (v ∷ us) c u places before mid after s m t so_far same unit = absurd so_far
+run_more (q ∷ cs) [] c u places before mid after s m t so_far same unit = absurd so_far
+run_more (q ∷ cs) (v ∷ us) c u places before mid after s m t so_far same unit =
+    (so_far.0, so_far.1, so_far.2, run_more cs us c u places so_far.1 mid after so_far.0 m t so_far.3 (same ∙ sym so_far.2.honest) unit)
 
 -- what the next unit needs
 pub record Ready (table : List Record) (s : State) : Type 0 where

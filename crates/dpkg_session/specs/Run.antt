@@ -19,13 +19,6 @@ pub record AddsUnit (c : Candidate) (places : List Path) (before after : List Re
   pub grown : new ≡ old ++ unit ∷ []
   pub is : IsUnit c places before after unit s t
 
--- each unit is as the tables say, from what the one before it left
-abbrev pub IsRun : List Candidate → List AUnit → List Path → List Record → List Record → State → State → Type 0
-IsRun [] [] places before after s t = (t ≡ s) × (after ≡ before)
-IsRun [] (u ∷ us) places before after s t = ⊥
-IsRun (c ∷ cs) [] places before after s t = ⊥
-IsRun (c ∷ cs) (u ∷ us) places before after s t = (m : State) × (mid : List Record) × (m.honest ≡ s.honest) × IsUnit c places before mid u s m × IsRun cs us places mid after m t
-
 -- at each moment of the unit of a package: nothing has changed where it is refused
 abbrev pub IsAmidByWord : Package → Option Word → List Path → List Record → World → World → Type 0
 IsAmidByWord p (Some word) places before old now = now ≡ old
@@ -35,6 +28,19 @@ IsAmidByWord p None places before old now = IsAmid p places before old now
 abbrev pub IsAmidUnitOf : Result Package TreeFault → List Path → List Record → World → World → Type 0
 IsAmidUnitOf (Err fault) places before old now = now ≡ old
 IsAmidUnitOf (Ok p) places before old now = IsAmidByWord p (word_of p before) places before old now
+
+-- a unit as the tables say, from one moment of the host to a later one; at each moment between them it is under way
+pub record RunsUnit (c : Candidate) (places : List Path) (before after : List Record) (u : AUnit) (s t : State) : Type 0 where
+  pub is : IsUnit c places before after u s t
+  pub honest : t.honest ≡ s.honest
+  pub moments : IsTrue s.honest → Since (IsAmidUnitOf c.tree places before s.world) s t
+
+-- unit after unit, each from what the one before it left
+abbrev pub IsRun : List Candidate → List AUnit → List Path → List Record → List Record → State → State → Type 0
+IsRun [] [] places before after s t = (t ≡ s) × (after ≡ before)
+IsRun [] (u ∷ us) places before after s t = ⊥
+IsRun (c ∷ cs) [] places before after s t = ⊥
+IsRun (c ∷ cs) (u ∷ us) places before after s t = (m : State) × (mid : List Record) × RunsUnit c places before mid u s m × IsRun cs us places mid after m t
 
 -- at each moment after the units that are done: that of the next tree is under way
 abbrev pub IsAmidNext : List Candidate → List Path → List Record → World → World → Type 0

@@ -54,7 +54,7 @@ HasNoneWrong w paths = AllByRecursion (λ path. is_wrong (w path) ≡ false) pat
 abbrev pub is_white : ℕ → Bool
 is_white b = nat_eq b 32 || (nat_eq b 9 || (nat_eq b 12 || (nat_eq b 11 || nat_eq b 13)))
 
--- a line that names a conffile (Policy 10.7.2)
+-- a line that names a conffile (Policy 10.7.1)
 abbrev pub is_entry : List ℕ → Bool
 is_entry line = not (list_all is_white line)
 

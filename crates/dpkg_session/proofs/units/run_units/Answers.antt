@@ -27,7 +27,7 @@ loop-candidate-preserved g c =
     let now = g.H.Host.state c.loop-candidate.host in
     let new = g.H.Host.state c.run_one.new.host in
     let fronts : take (i + 1) candidates ≡ take i candidates ++ p ∷ [] = take_more candidates i p c.loop-candidate-test.true ∙ ap (λ (q : Candidate). take i candidates ++ q ∷ []) (sym c.candidate-item.is) in
-    let more = run_more (take i candidates) c.loop-candidate.units.items p adds.unit places before mid after old now new inv.so_far inv.honest adds.is c.run_one.ensures.honest in
+    let more = run_more (take i candidates) c.loop-candidate.units.items p adds.unit places before mid after old now new inv.so_far inv.honest (record { is = adds.is; honest = c.run_one.ensures.honest; moments = c.run_one.ensures.any_moment }) in
     record {
       count = ap length adds.grown ∙ length-append c.loop-candidate.units.items (adds.unit ∷ []) ∙ ap (λ n. n + 1) inv.count;
       so_far = subst (λ l. IsRun l c.run_one.new.units.items places before after old new) (sym fronts) (subst (λ us. IsRun (take i candidates ++ p ∷ []) us places before after old new) (sym adds.grown) more);
