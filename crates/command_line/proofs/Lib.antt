@@ -1,2 +1,2 @@
 mod Trees
-mod Writing
+mod Held

@@ -1,7 +1,7 @@
 -- What a command writes, and the status that it ends with.
-use Rattle.std.specs.Prelude.{ℕ, List, [], ◌⊎◌, ◌≡◌, Bool, true, false, Option, Some, None, Result, Ok, Err, codes, if◌then◌else◌}
+use Rattle.std.specs.Prelude.{ℕ, List, [], ◌++◌, ◌⊎◌, ◌≡◌, ◌≢◌, Bool, true, false, Option, Some, None, Result, Ok, Err, codes, if◌then◌else◌}
 use Rattle.std.specs.Option.{option_map_or}
-use Rattle.std.specs.Io.KnownBytes.{Appends}
+use Rattle.std.specs.Io.KnownBytes.{Appends, Keeps}
 use Rattle.version_order.specs.VersionOrder.{version_order}
 use Rattle.version_order.specs.declared.fault.VersionFault.{VersionFault}
 use Rattle.administration.specs.declared.fault.AdministrationFault.{AdministrationFault}
@@ -9,17 +9,12 @@ use Rattle.dpkg_session.specs.declared.report.Report.{Report}
 use Rattle.report_lines.specs.Openings.{opening_line}
 use Rattle.report_lines.specs.Reports.{report_lines, report_status}
 use Rattle.command_words.specs.Comparisons.{bad_version, bad_version_line, holds}
+use Rattle.command_line.specs.declared.answer.Answer.{Answer}
 use Rattle.command_line.specs.Unpacks.{Around, HasUnpacked, IsRootFault}
 use Rattle.command_words.specs.declared.comparison.Comparison.{Comparison}
 use Rattle.command_words.specs.declared.words.Asked.{Asked}
 use Rattle.command_words.specs.declared.words.Asked.TheVariants.{Names, CompareVersions, Unpack}
 use Rattle.command_words.specs.declared.words.Unpacking.{Unpacking}
-
--- what is written to standard output and to standard error, and the status
-pub record Answer : Type 0 where
-  pub output : List ℕ
-  pub error : List ℕ
-  pub status : ℕ
 
 -- the names of the subcommands, one a line, in byte order
 abbrev pub names_answer : Answer
@@ -85,23 +80,22 @@ unpacks (Some (CompareVersions c)) = false
 unpacks (Some (Unpack u)) = true
 unpacks None = false
 
--- an answer that has nothing for standard output is written to standard error
-pub record IsComplaint (answer : Answer) (old new : Option (List ℕ)) (ended : ℕ) : Type 0 where
-  pub status : ended ≡ answer.status
-  pub error : Appends old new answer.error
-  pub output : answer.output ≡ []
-
 -- an answer is written to what standard output and standard error held, and its status returned
 pub record IsWritten (answer : Answer) (output_old output_new error_old error_new : Option (List ℕ)) (ended : ℕ) : Type 0 where
   pub status : ended ≡ answer.status
   pub output : Appends output_old output_new answer.output
   pub error : Appends error_old error_new answer.error
 
--- an answer is written, or in its place that memory is wanting
-abbrev pub IsTold : Answer → Option (List ℕ) → Option (List ℕ) → Option (List ℕ) → Option (List ℕ) → ℕ → Type 0
-IsTold answer output_old output_new error_old error_new ended = IsWritten answer output_old output_new error_old error_new ended
-    ⊎ IsWritten memory_answer output_old output_new error_old error_new ended
+-- a front of a text was written, but not all of it
+abbrev pub AppendsPart : Option (List ℕ) → Option (List ℕ) → List ℕ → Type 0
+AppendsPart old new text = (front rest : List ℕ) × (text ≡ front ++ rest) × (rest ≢ []) × Appends old new front
 
--- the same of one that has nothing for standard output
-abbrev pub IsComplained : Answer → Option (List ℕ) → Option (List ℕ) → ℕ → Type 0
-IsComplained answer old new ended = IsComplaint answer old new ended ⊎ IsComplaint memory_answer old new ended
+-- the writing of an answer was cut short: on standard output, or after that on standard error
+abbrev pub IsCut : Answer → Option (List ℕ) → Option (List ℕ) → Option (List ℕ) → Option (List ℕ) → Type 0
+IsCut answer output_old output_new error_old error_new = (AppendsPart output_old output_new answer.output × Keeps error_old error_new)
+    ⊎ (Appends output_old output_new answer.output × AppendsPart error_old error_new answer.error)
+
+-- an answer is written, or the status is 2 and its writing was cut short
+abbrev pub IsGiven : Answer → Option (List ℕ) → Option (List ℕ) → Option (List ℕ) → Option (List ℕ) → ℕ → Type 0
+IsGiven answer output_old output_new error_old error_new ended = IsWritten answer output_old output_new error_old error_new ended
+    ⊎ ((ended ≡ 2) × IsCut answer output_old output_new error_old error_new)

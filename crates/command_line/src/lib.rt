@@ -2,7 +2,11 @@
 #![tactic(auto)]
 
 mod answer;
+mod command;
 mod hosts;
+mod unpacking;
+mod writing;
 
-pub use answer::{FAILED, run_words};
+pub use answer::FAILED;
+pub use command::run_words;
 pub use hosts::Hosts;

@@ -1,6 +1,6 @@
 -- Parts of lines, names of fields, and fields by name (Policy 5.1).
-use Rattle.std.specs.Prelude.{◌≡◌, ◌≢◌, ℕ, zero, suc, ◌<◌, ◌+◌, Bool, false, cond, List, [], ◌∷◌, ◌++◌, length, map, nat_eq, ◌||◌, slice_index, EachIndex}
-use Rattle.std.specs.List.{list_any, AllByRecursion}
+use Rattle.std.specs.Prelude.{◌≡◌, ◌≢◌, ℕ, zero, suc, ◌<◌, ◌+◌, Bool, false, cond, List, [], ◌∷◌, ◌++◌, length, map, nat_eq, ◌||◌, slice_index, EachIndex, codes, true}
+use Rattle.std.specs.List.{list_any, flat_map, AllByRecursion}
 use Rattle.std.specs.Str.{bytes_eq}
 use Rattle.std.specs.Char.{to_ascii_lowercase}
 use Rattle.control_fields.specs.declared.field.Field.{Field}
@@ -70,6 +70,18 @@ pub record IsKeyed {K : Type 0} (key : K → List ℕ) (entries : List (K × Fie
 -- a field with a line more
 abbrev pub with_line : Field → List ℕ → Field
 with_line field text = record { name = field.name; first = field.first; more = field.more ++ text ∷ [] }
+
+-- `yes` or `no` (Policy 5.6.9)
+abbrev pub is_yes_or_no : List ℕ → Bool
+is_yes_or_no value = bytes_eq value (codes "yes") || bytes_eq value (codes "no")
+
+-- the field has such a value, on one line
+abbrev pub IsYesOrNo : Field → Type 0
+IsYesOrNo field = (field.more ≡ []) × (is_yes_or_no field.first ≡ true)
+
+-- the value on all its lines, with a newline between two
+abbrev pub value_of : Field → List ℕ
+value_of field = field.first ++ flat_map (λ line. 10 ∷ line) field.more
 
 -- the line where a paragraph begins, that of its first field
 abbrev pub begin_line : List Field → ℕ → ℕ → ℕ

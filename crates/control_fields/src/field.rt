@@ -1,5 +1,6 @@
 // Fields.
-ghost use Rattle.std.specs.Prelude.{◌≡◌, IfOk, []};
+ghost use Rattle.std.specs.Prelude.{◌≡◌, ◌↔◌, IfOk, IsTrue, []};
+ghost use Rattle.control_fields.specs.Names.{is_yes_or_no};
 
 use crate::line_list::Lines;
 use std::alloc::{AllocError, Global};
@@ -14,7 +15,15 @@ pub struct Field {
     pub more: Lines,
 }
 
+fn is_yes_or_no(value: &[u8]) -> bool
+    ensures { result ≡ is_yes_or_no value.now }
+{
+    value == b"yes".as_slice() || value == b"no".as_slice()
+}
+
 impl Field {
+    ghost use Rattle.control_fields.specs.Names.{value_of, IsYesOrNo};
+
     /// A field of one line.
     pub fn one_line(alloc: Global, name: &[u8], value: &[u8]) -> Result<Field, AllocError>
         ensures { IfOk result (λ f. (f.name ≡ name.now) × (f.first ≡ value.now) × (f.more ≡ [])) }
@@ -24,6 +33,29 @@ impl Field {
             first: Bytes::from_slice(alloc, value)?,
             more: Lines::new(alloc),
         })
+    }
+
+    /// The value on all its lines, with a newline between two.
+    pub fn value(&self, alloc: Global) -> Result<Vec<u8>, AllocError>
+        ensures { IfOk result (λ value. value.items ≡ value_of self.now) }
+    {
+        let mut value = Vec::new(alloc);
+        value.extend_from_slice(self.first.as_slice())?;
+        for line in self.more.as_slice() {
+            value.push(b'\n')?;
+            value.extend_from_slice(line.as_slice())?;
+        }
+        Ok(value)
+    }
+
+    /// Whether the value is `yes` or `no` (Policy 5.6.9).
+    pub fn is_yes_or_no(&self) -> bool
+        ensures { IsTrue result ↔ IsYesOrNo self.now }
+    {
+        if !self.more.as_slice().is_empty() {
+            return false;
+        }
+        is_yes_or_no(self.first.as_slice())
     }
 
     pub fn copy(&self) -> Result<Field, AllocError>

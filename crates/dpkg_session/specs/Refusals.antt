@@ -7,17 +7,9 @@ use Rattle.status_db.specs.declared.record.Record.{Record}
 use Rattle.status_db.specs.Records.{record_in}
 use Rattle.dpkg_session.specs.declared.refusal.Word.{Word}
 use Rattle.dpkg_session.specs.declared.refusal.Word.TheVariants.{Files, Record as ItsRecord, Conffiles, Relation}
-use Rattle.dpkg_session.specs.declared.refusal.RelationField.{RelationField}
-use Rattle.dpkg_session.specs.declared.refusal.RelationField.TheVariants.{Depends, PreDepends, Breaks, Conflicts, Provides, Replaces}
-
--- a field of the control file (Policy 7.1)
-abbrev pub relation_name : RelationField → List ℕ
-relation_name Depends = codes "Depends"
-relation_name PreDepends = codes "Pre-Depends"
-relation_name Breaks = codes "Breaks"
-relation_name Conflicts = codes "Conflicts"
-relation_name Provides = codes "Provides"
-relation_name Replaces = codes "Replaces"
+use Rattle.relation_fields.specs.RelationFields.{relation_name}
+use Rattle.relation_fields.specs.declared.relation_field.RelationField.{RelationField}
+use Rattle.relation_fields.specs.declared.relation_field.RelationField.TheVariants.{Depends, PreDepends, Breaks, Conflicts, Provides, Replaces}
 
 -- some record has a field of this name
 abbrev pub any_has : List Record → List ℕ → Bool

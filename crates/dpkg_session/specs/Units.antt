@@ -1,5 +1,5 @@
 -- Units and runs of them.
-use Rattle.std.specs.Prelude.{◌≡◌, ℕ, List, [], ◌∷◌, ◌++◌, Option, Some, None, IsSomeAnd, Result, Ok, Err, codes}
+use Rattle.std.specs.Prelude.{◌≡◌, ◌<◌, ℕ, length, List, [], ◌∷◌, ◌++◌, Option, Some, None, IsSomeAnd, Result, Ok, Err, codes}
 use Rattle.host_core.specs.Paths.{Path}
 use Rattle.host_core.specs.Host.{State}
 use Rattle.host_core.specs.declared.call.Script.TheVariants.{Preinst}
@@ -83,6 +83,12 @@ IsBrokenBy breakage reply = reply ≡ Broken breakage
 abbrev pub breakage_of : HostFault → Breakage
 breakage_of host.Device = Device
 breakage_of host.NoMemory = NoMemory
+
+-- the unit of a command that was broken off: it tells no package, and is that of a tree behind those of the other units
+pub record IsBrokenOff (cs : List Candidate) (us : List AUnit) (u : AUnit) : Type 0 where
+  pub broken : IsBroken u.reply
+  pub untouched : u.touched.items ≡ []
+  pub within : length us < length cs
 
 -- the unit tells these calls, and the answer to this turn
 pub record IsAnswered (p : Package) (after : List Record) (turn : Turn) (calls : List Called) (u : AUnit) : Type 0 where

@@ -8,6 +8,6 @@ mod session;
 mod units;
 
 pub use laws::history_stands;
-pub use refusal::{Refusal, RelationField, Rule, Word};
+pub use refusal::{Refusal, Rule, Word};
 pub use report::{Breakage, Candidate, Failure, Reply, Report, Touched, Unit};
 pub use session::{Command, Session};

@@ -1,37 +1,11 @@
 // Why an unpack is refused.
 ghost use Rattle.std.specs.Prelude.{◌≡◌, ◌||◌, codes};
-ghost use Rattle.dpkg_session.specs.Refusals.{any_has, has_relation, relation_name, relation_word, word_of};
+ghost use Rattle.dpkg_session.specs.Refusals.{any_has, has_relation, relation_word, word_of};
 
 use package_tree::{Package, TreeFault};
+use relation_fields::RelationField;
 use status_db::{Database, Record};
 use texts::Text;
-
-/// The fields that tell relations between packages (Policy 7.1).
-#[derive(Clone, Copy)]
-pub enum RelationField {
-    Depends,
-    PreDepends,
-    Breaks,
-    Conflicts,
-    Provides,
-    Replaces,
-}
-
-impl RelationField {
-    /// The field's name in a control file.
-    pub fn name(self) -> &'static str
-        ensures { result.now ≡ relation_name self }
-    {
-        match self {
-            RelationField::Depends => "Depends",
-            RelationField::PreDepends => "Pre-Depends",
-            RelationField::Breaks => "Breaks",
-            RelationField::Conflicts => "Conflicts",
-            RelationField::Provides => "Provides",
-            RelationField::Replaces => "Replaces",
-        }
-    }
-}
 
 /// What isn't carried out yet: a tree with files, a package that has a record, conffiles, relations.
 #[derive(Clone, Copy)]

@@ -44,8 +44,9 @@ pub enum Reply {
     Broken(Breakage),
 }
 
-/// The work on one package: the script calls with their outcomes, the packages whose records were
-/// looked at or changed, and the reply.
+/// The work on one package: the script calls with their outcomes, the package that was named and
+/// those whose records differ since, and the reply. Where the unit was broken off or refused no
+/// package is told.
 #[derive(Drop)]
 pub struct Unit {
     pub calls: Vec<Called>,

@@ -14,11 +14,11 @@ not_head text f fs h named = true≢false (sym ((bytes_eq-Decides (lower f.name)
 tail_of : (text : List ℕ) (f : Field) (fs : List Field) → is_called text (f ∷ fs) ≡ false → is_called text fs ≡ false
 tail_of text f fs h = (or_parts (bytes_eq (lower f.name) text) (is_called text fs) h).1
 
-uncalled : (text : List ℕ) (front rest : List Field) (f : Field) → is_called text (front ++ f ∷ rest) ≡ false → lower f.name ≡ text → ⊥
+pub uncalled : (text : List ℕ) (front rest : List Field) (f : Field) → is_called text (front ++ f ∷ rest) ≡ false → lower f.name ≡ text → ⊥
 uncalled text [] rest f h named = not_head text f rest h named
 uncalled text (g ∷ front) rest f h named = uncalled text front rest f (tail_of text g (front ++ f ∷ rest) h) named
 
-same_field : (text : List ℕ) (xs ys cs ds : List Field) (f g : Field) → xs ++ f ∷ cs ≡ ys ++ g ∷ ds → lower f.name ≡ text → lower g.name ≡ text → is_called text xs ≡ false → is_called text ys ≡ false → f ≡ g
+pub same_field : (text : List ℕ) (xs ys cs ds : List Field) (f g : Field) → xs ++ f ∷ cs ≡ ys ++ g ∷ ds → lower f.name ≡ text → lower g.name ≡ text → is_called text xs ≡ false → is_called text ys ≡ false → f ≡ g
 same_field text [] [] cs ds f g e nf ng a b = cc e
 same_field text [] (y ∷ ys) cs ds f g e nf ng a b = let head : f ≡ y = cc e in absurd (not_head text y ys b (ap (λ (x : Field). lower x.name) (sym head) ∙ nf))
 same_field text (x ∷ xs) [] cs ds f g e nf ng a b = let head : x ≡ g = cc e in absurd (not_head text x xs a (ap (λ (z : Field). lower z.name) head ∙ ng))

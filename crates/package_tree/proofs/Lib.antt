@@ -1,5 +1,6 @@
 pub mod Readable
 pub mod Shipped
 pub mod FieldsOnce
+pub mod RelationsInOrder
 pub mod OneTree
 pub mod Passing

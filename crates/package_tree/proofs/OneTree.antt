@@ -14,11 +14,13 @@ use Rattle.control_fields.specs.declared.field.Field.{Field}
 use Rattle.control_fields.proofs.OnlyOne.{reads_one_once, no_fault_of_one}
 use Rattle.administration.specs.Scripts.{script_of, file_of}
 use Rattle.package_tree.specs.Fault.{IsHostFault}
-use Rattle.package_tree.specs.ControlFile.{key_of, HasValue, HasNoBadEssential, HasBadValue}
+use Rattle.package_tree.specs.ControlFile.{key_of, relation_order, HasValue, HasNoBad, HasNoBadRelation, HasBadValue}
 use Rattle.package_tree.specs.Debian.{is_wrong}
 use Rattle.package_tree.specs.Tree.{HasControl, IsTreeOf, IsTreeFault}
 use Rattle.package_tree.specs.declared.package.Package.{Package}
+use Rattle.package_tree.specs.declared.fault.FieldName.{FieldName}
 use Rattle.package_tree.specs.declared.fault.FieldName.TheVariants as field
+use Rattle.relation_fields.specs.declared.relation_field.RelationField.{RelationField}
 use Rattle.package_tree.specs.declared.fault.TreeFault.{TreeFault}
 use Rattle.package_tree.specs.declared.fault.TreeFault.TheVariants.{NoControl, Control, FieldMissing, FieldBad, PathBad, Device, NoMemory}
 use Rattle.package_tree.proofs.FieldsOnce.{lacked, one_value, not_bad, not_lacked}
@@ -36,9 +38,13 @@ one_control : (w : World) (p : Package) → (t : IsTreeOf w p) → (text : List 
 one_control w p t text paragraph there reads =
     reads_one_once (lines_of t.text) paragraph p.control (subst (λ (b : List ℕ). ReadsOne (lines_of b) paragraph) (one_text w text t.text there t.there) reads) t.control.reads
 
-not_bad_essential : (fields : List Field) → HasNoBadEssential fields → HasBadValue field.Essential fields → ⊥
-not_bad_essential fields (inl lacks) bad = lacked (key_of field.Essential) fields bad.field bad.called lacks
-not_bad_essential fields (inr good) bad = not_bad field.Essential fields good.0 good.1 bad
+none_bad : (name : FieldName) (fields : List Field) → HasNoBad name fields → HasBadValue name fields → ⊥
+none_bad name fields (inl lacks) bad = lacked (key_of name) fields bad.field bad.called lacks
+none_bad name fields (inr good) bad = not_bad name fields good.0 good.1 bad
+
+relation_among : (before after : List RelationField) (relation : RelationField) (fields : List Field) → HasNoBadRelation (before ++ relation ∷ after) fields → HasNoBad (field.Relation relation) fields
+relation_among [] after relation fields all = all.0
+relation_among (r ∷ before) after relation fields all = relation_among before after relation fields all.1
 
 among : (w : World) (before after : List Path) (path : Path) → AllByRecursion (λ q. is_wrong (w q) ≡ false) (before ++ path ∷ after) → is_wrong (w path) ≡ false
 among w [] after path all = all.0
@@ -52,12 +58,17 @@ no_fault w p (FieldMissing field.Package) t wrong =
 no_fault w p (FieldMissing field.Version) t wrong =
     not_lacked field.Version wrong.2.0 p.version (subst (λ (l : List Field). HasValue field.Version l p.version) (sym (one_control w p t wrong.0 wrong.2.0 wrong.1 wrong.2.1)) t.control.fields.versioned) wrong.2.2.1
 no_fault w p (FieldMissing field.Essential) t wrong = absurd wrong.2.2
+no_fault w p (FieldMissing (field.Relation relation)) t wrong = absurd wrong.2.2
 no_fault w p (FieldBad field.Package) t wrong =
     not_bad field.Package wrong.2.0 p.name (subst (λ (l : List Field). HasValue field.Package l p.name) (sym (one_control w p t wrong.0 wrong.2.0 wrong.1 wrong.2.1)) t.control.fields.named) wrong.2.2.1
 no_fault w p (FieldBad field.Version) t wrong =
     not_bad field.Version wrong.2.0 p.version (subst (λ (l : List Field). HasValue field.Version l p.version) (sym (one_control w p t wrong.0 wrong.2.0 wrong.1 wrong.2.1)) t.control.fields.versioned) wrong.2.2.1
 no_fault w p (FieldBad field.Essential) t wrong =
-    not_bad_essential wrong.2.0 (subst HasNoBadEssential (sym (one_control w p t wrong.0 wrong.2.0 wrong.1 wrong.2.1)) t.control.fields.essential) wrong.2.2.2
+    none_bad field.Essential wrong.2.0 (subst (HasNoBad field.Essential) (sym (one_control w p t wrong.0 wrong.2.0 wrong.1 wrong.2.1)) t.control.fields.essential) wrong.2.2.2
+no_fault w p (FieldBad (field.Relation relation)) t wrong =
+    let first = wrong.2.2.3 in
+    let good = subst (HasNoBadRelation relation_order) (sym (one_control w p t wrong.0 wrong.2.0 wrong.1 wrong.2.1)) t.control.fields.relations in
+    none_bad (field.Relation relation) wrong.2.0 (relation_among first.front first.rest relation wrong.2.0 (subst (λ (l : List RelationField). HasNoBadRelation l wrong.2.0) first.is good)) first.bad
 no_fault w p (PathBad path) t wrong =
     true≢false (sym wrong.1.wrong ∙ among w wrong.1.before wrong.1.after path (subst (AllByRecursion (λ q. is_wrong (w q) ≡ false)) wrong.1.is t.files))
 no_fault w p Device t wrong = tt

@@ -3,10 +3,11 @@ ghost use Rattle.std.specs.Prelude.{◌≡◌, ◌↔◌, true, [], IsTrue, IfOk
 ghost use Rattle.control_fields.specs.Grammar.{ReadsOne, lines_of};
 ghost use Rattle.control_fields.specs.Spelling.{AreFields};
 ghost use Rattle.texts.specs.PackageNames.{is_package_name};
-ghost use Rattle.package_tree.specs.ControlFile.{is_yes_or_no, IsGoodField, HasBadValue, HasNoBadEssential, HasGoodFields, IsFieldFault, IsControlText, IsTextFault};
+ghost use Rattle.package_tree.specs.ControlFile.{relation_order, IsGoodField, HasBadValue, HasNoBad, HasNoBadRelation, IsFirstBadRelation, IsReadable, HasGoodFields, IsFieldFault, IsControlText, IsTextFault};
 
 use crate::fault::{FieldName, TreeFault};
 use control_fields::{ControlFault, Field, Paragraph, read_one};
+use relation_fields::RelationField;
 use std::alloc::{AllocError, Global};
 use texts::{Text, package_name};
 use version_order::{Version, VersionFault};
@@ -19,6 +20,7 @@ pub struct ControlFile {
     pub paragraph: Paragraph,
     pub ghost named: { is_package_name name ≡ true },
     pub ghost written: { ∥ AreFields [] paragraph ∥₁ },
+    pub ghost readable: { ∥ IsReadable paragraph ∥₁ },
 }
 
 // The text as one paragraph. What is read can be written again.
@@ -58,28 +60,13 @@ fn version_of(alloc: Global, field: &Field) -> Result<Option<Version>, AllocErro
     }
 }
 
-fn is_yes_or_no(value: &[u8]) -> bool
-    ensures { result ≡ is_yes_or_no value.now }
-{
-    value == b"yes".as_slice() || value == b"no".as_slice()
-}
-
-fn is_good_essential(field: &Field) -> bool
-    ensures { IsTrue result ↔ IsGoodField FieldName.Essential field.now }
-{
-    if !field.more.as_slice().is_empty() {
-        return false;
-    }
-    is_yes_or_no(field.first.as_slice())
-}
-
 // Whether nothing is wrong with the field Essential, which need not stand.
 fn has_no_bad_essential(paragraph: &Paragraph) -> bool
-    ensures { MatchBool result (HasNoBadEssential paragraph.now) (HasBadValue FieldName.Essential paragraph.now) }
+    ensures { MatchBool result (HasNoBad FieldName.Essential paragraph.now) (HasBadValue FieldName.Essential paragraph.now) }
 {
     match paragraph.get(b"essential") {
         Some(field) => {
-            if is_good_essential(field) {
+            if field.is_yes_or_no() {
                 return true;
             }
             return false;
@@ -88,6 +75,72 @@ fn has_no_bad_essential(paragraph: &Paragraph) -> bool
             return true;
         }
     }
+}
+
+fn is_good_relation(
+    alloc: Global,
+    relation: RelationField,
+    field: &Field,
+) -> Result<bool, AllocError>
+    ensures { IfOk result (λ good. IsTrue good ↔ IsGoodField (FieldName.Relation relation) field.now) }
+{
+    let value = field.value(alloc)?;
+    relation.is_value(alloc, value.as_slice())
+}
+
+// Whether nothing is wrong with a relation field, which need not stand.
+fn has_no_bad(
+    alloc: Global,
+    paragraph: &Paragraph,
+    relation: RelationField,
+) -> Result<bool, AllocError>
+    ensures { IfOk result (λ good. MatchBool good (HasNoBad (FieldName.Relation relation) paragraph.now) (HasBadValue (FieldName.Relation relation) paragraph.now)) }
+{
+    match paragraph.get(relation.key().as_bytes()) {
+        Some(field) => {
+            return is_good_relation(alloc, relation, field);
+        }
+        None => {
+            return Ok(true);
+        }
+    }
+}
+
+// The first of some relation fields whose value can't be read.
+fn first_bad(
+    alloc: Global,
+    paragraph: &Paragraph,
+    relations: &[RelationField],
+) -> Result<Option<RelationField>, AllocError>
+    ensures { IfOk result (λ found. MatchOption found (HasNoBadRelation relations.now paragraph.now) (IsFirstBadRelation relations.now paragraph.now)) }
+{
+    for relation in relations {
+        if !has_no_bad(alloc, paragraph, *relation)? {
+            return Ok(Some(*relation));
+        }
+    }
+    Ok(None)
+}
+
+// The first relation field whose value can't be read.
+fn first_bad_relation(
+    alloc: Global,
+    paragraph: &Paragraph,
+) -> Result<Option<RelationField>, AllocError>
+    ensures { IfOk result (λ found. MatchOption found (HasNoBadRelation relation_order paragraph.now) (IsFirstBadRelation relation_order paragraph.now)) }
+{
+    first_bad(
+        alloc,
+        paragraph,
+        &[
+            RelationField::Depends,
+            RelationField::PreDepends,
+            RelationField::Breaks,
+            RelationField::Conflicts,
+            RelationField::Provides,
+            RelationField::Replaces,
+        ],
+    )
 }
 
 fn read_fields(alloc: Global, paragraph: &Paragraph) -> Result<(Text, Version), TreeFault>
@@ -108,6 +161,9 @@ fn read_fields(alloc: Global, paragraph: &Paragraph) -> Result<(Text, Version), 
     };
     if !has_no_bad_essential(paragraph) {
         return Err(TreeFault::FieldBad(FieldName::Essential));
+    }
+    if let Some(relation) = first_bad_relation(alloc, paragraph)? {
+        return Err(TreeFault::FieldBad(FieldName::Relation(relation)));
     }
     Ok((Text::from_str(alloc, name)?, version))
 }

@@ -5,6 +5,7 @@ ghost use Rattle.package_tree.specs.Fault.{fault_of};
 
 use control_fields::ControlFault;
 use host_core::{HostFault, RootPath};
+use relation_fields::RelationField;
 use std::alloc::AllocError;
 use thiserror::Error;
 
@@ -14,6 +15,7 @@ pub enum FieldName {
     Package,
     Version,
     Essential,
+    Relation(RelationField),
 }
 
 /// The faults of a tree, in the order in which they are looked for; Device and NoMemory stand where

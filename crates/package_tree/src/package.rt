@@ -1,10 +1,12 @@
 // A package as its tree gives it.
-ghost use Rattle.std.specs.Prelude.{◌≡◌, true, []};
+ghost use Rattle.std.specs.Prelude.{◌≡◌, IfOk, true, []};
 ghost use Rattle.control_fields.specs.Spelling.{AreFields};
 ghost use Rattle.texts.specs.PackageNames.{is_package_name};
+ghost use Rattle.package_tree.specs.ControlFile.{IsReadable};
 
-use administration::Scripts;
+use administration::{ScriptFile, Scripts};
 use control_fields::Paragraph;
+use std::alloc::AllocError;
 use texts::Text;
 use version_order::Version;
 
@@ -22,4 +24,41 @@ pub struct Package {
     pub has_conffiles: bool,
     pub ghost named: { is_package_name name ≡ true },
     pub ghost written: { ∥ AreFields [] control ∥₁ },
+    pub ghost readable: { ∥ IsReadable control ∥₁ },
+}
+
+fn copy_script(script: &Option<ScriptFile>) -> Result<Option<ScriptFile>, AllocError>
+    ensures { IfOk result (λ copy. copy ≡ script.now) }
+{
+    match script {
+        Some(script) => Ok(Some(script.copy()?)),
+        None => Ok(None),
+    }
+}
+
+fn copy_scripts(scripts: &Scripts) -> Result<Scripts, AllocError>
+    ensures { IfOk result (λ copy. copy ≡ scripts.now) }
+{
+    Ok(Scripts {
+        preinst: copy_script(&scripts.preinst)?,
+        postinst: copy_script(&scripts.postinst)?,
+        prerm: copy_script(&scripts.prerm)?,
+        postrm: copy_script(&scripts.postrm)?,
+    })
+}
+
+impl Package {
+    /// An equal package, or want of memory.
+    pub fn copy(&self) -> Result<Package, AllocError>
+        ensures { IfOk result (λ copy. copy ≡ self.now) }
+    {
+        Ok(Package {
+            name: self.name.copy()?,
+            version: self.version.copy()?,
+            control: self.control.copy()?,
+            scripts: copy_scripts(&self.scripts)?,
+            ships: self.ships,
+            has_conffiles: self.has_conffiles,
+        })
+    }
 }

@@ -5,10 +5,10 @@ use Rattle.std.specs.Str.{bytes_eq}
 use Rattle.control_fields.specs.declared.fault.ControlFault.{ControlFault}
 use Rattle.control_fields.specs.declared.fault.ControlFault.TheVariants as control
 use Rattle.package_tree.specs.declared.fault.FieldName.{FieldName}
-use Rattle.package_tree.specs.declared.fault.FieldName.TheVariants.{Package, Version, Essential}
+use Rattle.package_tree.specs.declared.fault.FieldName.TheVariants as field
 use Rattle.package_tree.specs.declared.fault.TreeFault.{TreeFault}
 use Rattle.package_tree.specs.declared.fault.TreeFault.TheVariants.{NoControl, Control, FieldMissing, FieldBad, PathBad, Device, NoMemory}
-use Rattle.dpkg_session.specs.Refusals.{relation_name}
+use Rattle.relation_fields.specs.RelationFields.{relation_name}
 use Rattle.dpkg_session.specs.declared.refusal.Rule.{Rule}
 use Rattle.dpkg_session.specs.declared.refusal.Rule.TheVariants.{Tree, NotYet}
 use Rattle.dpkg_session.specs.declared.refusal.Word.{Word}
@@ -26,9 +26,10 @@ control_text (control.Second line) = codes "Second " ++ decimal line
 
 -- a field of the control file (Policy 5.3)
 abbrev pub field_word : FieldName → List ℕ
-field_word Package = codes "Package"
-field_word Version = codes "Version"
-field_word Essential = codes "Essential"
+field_word field.Package = codes "Package"
+field_word field.Version = codes "Version"
+field_word field.Essential = codes "Essential"
+field_word (field.Relation relation) = relation_name relation
 
 -- a path under the root; the root itself is kept as the empty text
 abbrev pub path_text : List ℕ → List ℕ

@@ -31,6 +31,7 @@ fn field_word(name: FieldName) -> &'static str
         FieldName::Package => "Package",
         FieldName::Version => "Version",
         FieldName::Essential => "Essential",
+        FieldName::Relation(relation) => relation.name(),
     }
 }
 

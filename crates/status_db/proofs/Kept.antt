@@ -15,8 +15,8 @@ use Rattle.control_fields.specs.Spelling.{AreFields}
 use Rattle.control_fields.specs.declared.field.Field.{Field}
 use Rattle.status_db.specs.Fields.{first_names, own_names, is_one_of, fields_but, recorded_fields, other_fields}
 use Rattle.status_db.specs.declared.values.Kind.{Kind}
-use Rattle.status_db.specs.declared.values.Kind.TheVariants.{PackageName, StatusWords, VersionText, Yes, Any}
-use Rattle.status_db.specs.Values.{kind_of, IsReadableAs, IsReadable}
+use Rattle.status_db.specs.declared.values.Kind.TheVariants.{PackageName, StatusWords, VersionText, Yes}
+use Rattle.status_db.specs.Values.{kind_of, control_kind, IsReadableAs, IsReadable, IsReadableControl}
 use Rattle.status_db.specs.Writable.{IsWritable, first_fields}
 
 -- a name that stands nowhere stands in no part
@@ -116,33 +116,40 @@ kept_readable : (keep : Field → Bool) (fs : List Field) → AllByRecursion IsR
 kept_readable keep [] all = tt
 kept_readable keep (f ∷ fs) all = kept_by (keep f) f (filter keep fs) (λ e. all.0) (kept_readable keep fs all.1)
 
-other_kind : (l : List ℕ) → list_any (bytes_eq l) own_names ≡ false → kind_of l ≡ Any
+other_kind : (l : List ℕ) → list_any (bytes_eq l) own_names ≡ false → kind_of l ≡ control_kind l
 other_kind l out =
     let a = or_parts (bytes_eq l (codes "package")) _ out in
     let b = or_parts (bytes_eq l (codes "status")) _ a.1 in
     let c = or_parts (bytes_eq l (codes "version")) _ b.1 in
     let d = or_parts (bytes_eq l (codes "config-version")) _ c.1 in
     let e = or_parts (bytes_eq l (codes "removed-since")) _ d.1 in
-    ap (λ x. cond x PackageName (kind_but_package l)) a.0 ∙ ap (λ x. cond x StatusWords (kind_but_status l)) b.0 ∙ ap (λ x. cond x VersionText (cond (bytes_eq l (codes "removed-since")) Yes Any)) c.0 ∙ ap (λ x. cond x Yes Any) e.0
+    ap (λ x. cond x PackageName (kind_but_package l)) a.0 ∙ ap (λ x. cond x StatusWords (kind_but_status l)) b.0 ∙ ap (λ x. cond x VersionText (kind_but_version l)) c.0
+    ∙ ap (λ x. cond x VersionText (kind_but_earlier l)) d.0 ∙ ap (λ x. cond x Yes (control_kind l)) e.0
   where
+    kind_but_earlier : List ℕ → Kind
+    kind_but_earlier l = cond (bytes_eq l (codes "removed-since")) Yes (control_kind l)
+
+    kind_but_version : List ℕ → Kind
+    kind_but_version l = cond (bytes_eq l (codes "config-version")) VersionText (kind_but_earlier l)
+
     kind_but_status : List ℕ → Kind
-    kind_but_status l = cond (bytes_eq l (codes "version")) VersionText (cond (bytes_eq l (codes "removed-since")) Yes Any)
+    kind_but_status l = cond (bytes_eq l (codes "version")) VersionText (kind_but_version l)
 
     kind_but_package : List ℕ → Kind
     kind_but_package l = cond (bytes_eq l (codes "status")) StatusWords (kind_but_status l)
 
-recorded_readable : (fs : List Field) → AllByRecursion IsReadable (recorded_fields fs)
-recorded_readable [] = tt
-recorded_readable (f ∷ fs) =
+recorded_readable : (fs : List Field) → AllByRecursion IsReadableControl fs → AllByRecursion IsReadable (recorded_fields fs)
+recorded_readable [] all = tt
+recorded_readable (f ∷ fs) all =
     kept_by (not (is_one_of own_names f)) f (recorded_fields fs)
-    (λ e. subst (λ k. IsReadableAs k f) (sym (other_kind (lower f.name) (not-true (is_one_of own_names f) e))) tt) (recorded_readable fs)
+    (λ e. subst (λ k. IsReadableAs k f) (sym (other_kind (lower f.name) (not-true (is_one_of own_names f) e))) all.0) (recorded_readable fs all.1)
 
-pub writable_of : (name other : List ℕ) (fields control : List Field) → name ≡ other → is_package_name other ≡ true → fields ≡ recorded_fields control → ∥ AreFields [] control ∥₁ → ∥ IsWritable name fields ∥₁
-writable_of name other fields control is named left are = ∥∥₁_map are (λ known. record {
+pub writable_of : (name other : List ℕ) (fields control : List Field) → name ≡ other → is_package_name other ≡ true → fields ≡ recorded_fields control → ∥ AreFields [] control ∥₁ → ∥ AllByRecursion IsReadableControl control ∥₁ → ∥ IsWritable name fields ∥₁
+writable_of name other fields control is named left are readable = ∥∥₁_elim are (hlevel props) (λ known. ∥∥₁_map readable (λ all. record {
   named = ap is_package_name is ∙ named;
   written = λ status version. subst (AreFields (first_fields name status version)) (sym left) (recorded_after name status version control known);
-  readable = subst (AllByRecursion IsReadable) (sym left) (recorded_readable control);
-})
+  readable = subst (AllByRecursion IsReadable) (sym left) (recorded_readable control all);
+}))
 
 -- the step of a loop that writes the other fields behind the first
 pub written_new : (name status version : List ℕ) (fields paragraph left next : List Field) (ys : List (Bor Field)) (x : Bor Field) (f : Field) → ∥ IsWritable name fields ∥₁ → paragraph ≡ first_fields name status version ++ map (λ b. b.now) ys

@@ -1,5 +1,6 @@
 pub mod Tables
 pub mod Kept
+pub mod ControlValues
 pub mod Lines
 pub mod Parsing
 pub mod Sayings

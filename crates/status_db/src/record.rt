@@ -1,11 +1,12 @@
 // The record of a package, and which fields of a control file it keeps.
 ghost use Rattle.std.specs.Prelude.{◌≡◌, IfOk, true, []};
-ghost use Rattle.std.specs.List.{list_any};
+ghost use Rattle.std.specs.List.{list_any, AllByRecursion};
 ghost use Rattle.std.specs.Str.{bytes_eq};
 ghost use Rattle.control_fields.specs.Names.{lower};
 ghost use Rattle.control_fields.specs.Spelling.{AreFields};
 ghost use Rattle.texts.specs.PackageNames.{is_package_name};
 ghost use Rattle.status_db.specs.Fields.{own_names, first_names, recorded_fields};
+ghost use Rattle.status_db.specs.Values.{IsReadableControl};
 ghost use Rattle.status_db.specs.Writable.{IsWritable};
 
 use crate::words::{Flag, State, Want};
@@ -71,6 +72,7 @@ impl Record {
     ) -> Result<Record, AllocError>
         requires named { is_package_name name.now ≡ true }
         requires written { ∥ AreFields [] control.now ∥₁ }
+        requires readable { ∥ AllByRecursion IsReadableControl control.now ∥₁ }
         ensures name { IfOk result (λ r. r.name ≡ name.now) }
         ensures want { IfOk result (λ r. r.want ≡ Want.Install) }
         ensures flag { IfOk result (λ r. r.flag ≡ flag) }

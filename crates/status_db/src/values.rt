@@ -6,10 +6,11 @@ ghost use Rattle.status_db.specs.declared.words.Want.{Want as AWant};
 ghost use Rattle.status_db.specs.declared.words.Flag.{Flag as AFlag};
 ghost use Rattle.status_db.specs.declared.words.State.{State as AState};
 ghost use Rattle.status_db.specs.Words.{want_word, flag_word, state_word, status_text, IsStatusText};
-ghost use Rattle.status_db.specs.Values.{kind_of, IsReadableAs, IsReadable};
+ghost use Rattle.status_db.specs.Values.{kind_of, control_kind, relation_kind, IsReadableAs, IsReadable};
 
 use crate::words::{Flag, State, Want};
 use control_fields::Field;
+use relation_fields::RelationField;
 use std::alloc::{AllocError, Global};
 use texts::package_name;
 use version_order::{Version, VersionFault};
@@ -151,7 +152,27 @@ pub(crate) enum Kind {
     StatusWords,
     VersionText,
     Yes,
+    YesOrNo,
+    Relation(RelationField),
     Any,
+}
+
+fn relation_kind(name: &[u8]) -> Kind
+    ensures { result ≡ relation_kind (lower name.now) }
+{
+    match RelationField::called(name) {
+        Some(relation) => Kind::Relation(relation),
+        None => Kind::Any,
+    }
+}
+
+fn control_kind(name: &[u8]) -> Kind
+    ensures { result ≡ control_kind (lower name.now) }
+{
+    if name.eq_ignore_ascii_case(b"essential") {
+        return Kind::YesOrNo;
+    }
+    relation_kind(name)
 }
 
 fn kind_of(name: &[u8]) -> Kind
@@ -166,10 +187,13 @@ fn kind_of(name: &[u8]) -> Kind
     if name.eq_ignore_ascii_case(b"version") {
         return Kind::VersionText;
     }
+    if name.eq_ignore_ascii_case(b"config-version") {
+        return Kind::VersionText;
+    }
     if name.eq_ignore_ascii_case(b"removed-since") {
         return Kind::Yes;
     }
-    Kind::Any
+    control_kind(name)
 }
 
 /// The value of a field that stands on one line.
@@ -219,6 +243,17 @@ fn is_yes(field: &Field) -> bool
     }
 }
 
+fn is_relation(
+    alloc: Global,
+    relation: RelationField,
+    field: &Field,
+) -> Result<bool, AllocError>
+    ensures { IfOk result (λ good. IsTrue good ↔ IsReadableAs (Kind.Relation relation) field.now) }
+{
+    let value = field.value(alloc)?;
+    relation.is_value(alloc, value.as_slice())
+}
+
 /// Whether the value of a field can be read.
 pub(crate) fn is_readable(alloc: Global, field: &Field) -> Result<bool, AllocError>
     ensures { IfOk result (λ good. IsTrue good ↔ IsReadable field.now) }
@@ -228,6 +263,8 @@ pub(crate) fn is_readable(alloc: Global, field: &Field) -> Result<bool, AllocErr
         Kind::StatusWords => Ok(is_status(field)),
         Kind::VersionText => is_version(alloc, field),
         Kind::Yes => Ok(is_yes(field)),
+        Kind::YesOrNo => Ok(field.is_yes_or_no()),
+        Kind::Relation(relation) => is_relation(alloc, relation, field),
         Kind::Any => Ok(true),
     }
 }

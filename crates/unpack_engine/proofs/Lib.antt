@@ -2,6 +2,7 @@ pub mod Endings
 pub mod Changes
 pub mod LaidOut
 pub mod Falling
+pub mod Recordable
 pub mod Noting
 pub mod Apart
 pub mod Standing

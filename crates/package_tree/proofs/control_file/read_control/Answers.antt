@@ -1,3 +1,5 @@
+use Rattle.std.proofs.Common.{◌≡◌, true, subst}
+use Rattle.texts.specs.PackageNames.{is_package_name}
 use Rattle.package_tree.proofs.Passing.{passed_fault, told_fields}
 use Rattle.package_tree.proofs.control_file.read_control.Goals as goal
 
@@ -9,3 +11,8 @@ returns-in_err-name-clause-fault c =
     let fault = c.in_err-name.field-0.0 in
     passed_fault _ c.from_residual-in_err-name.result fault c.from_residual-in_err-name.ensures.1
     (told_fields c.args.text.now c.in_ok-paragraph.paragraph fault c.in_ok-paragraph.ensures.reads c.in_err-name.ensures.fault)
+
+pub invariant_of-result : goal.invariant_of-result
+invariant_of-result c =
+    let fields = c.in_ok-name.ensures.fields in
+    record { named = subst (λ n. is_package_name n ≡ true) fields.named.is fields.named.good.1; written = ∣ c.in_ok-paragraph.ensures.written ∣₁; readable = ∣ (fields.essential, fields.relations) ∣₁ }

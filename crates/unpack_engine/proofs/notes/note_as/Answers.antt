@@ -3,6 +3,7 @@ use Rattle.host_core.specs.Moments.{since_weaker, since_start}
 use Rattle.unpack_engine.specs.EndStates.{IsRecordOf}
 use Rattle.unpack_engine.specs.Stages.{IsNotingAs}
 use Rattle.unpack_engine.proofs.Noting.{noted_as, noting_as}
+use Rattle.unpack_engine.proofs.Recordable.{recordable}
 use Rattle.status_db.proofs.Noting.{none_noted, none_cause}
 use Rattle.unpack_engine.proofs.notes.note_as.Goals as goal
 
@@ -28,3 +29,8 @@ returns-in_err-record-clause-any_moment g c = λ h.
 
 pub returns-in_err-record-clause-cause : goal.returns-in_err-record-clause-cause
 returns-in_err-record-clause-cause g c = none_cause (g.H.Host.state c.args.host.now) c.from_residual.result c.from_residual.ensures.1
+
+pub of_package-requires-clause-readable : goal.of_package-requires-clause-readable
+of_package-requires-clause-readable g c =
+    let incoming = c.args.incoming.now in
+    recordable incoming.control incoming.written incoming.readable

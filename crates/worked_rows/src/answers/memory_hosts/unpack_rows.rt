@@ -26,6 +26,21 @@ pub(crate) const TREES: &[TreeFile] = &[
     ("colon", CONTROL, "Package\n"),
     ("name", CONTROL, "Package: A\nVersion: 1.0\n"),
     ("version", CONTROL, "Package: alpha\nVersion: 1_0\n"),
+    (
+        "essential",
+        CONTROL,
+        "Package: alpha\nVersion: 1.0\nEssential: maybe\n",
+    ),
+    (
+        "bar",
+        CONTROL,
+        "Package: alpha\nVersion: 1.0\nBreaks: bravo\nDepends: |\n",
+    ),
+    (
+        "folded",
+        CONTROL,
+        "Package: alpha\nVersion: 1.0\nBreaks: bravo,\n charlie (>= )\n",
+    ),
     ("files", CONTROL, ALPHA),
     ("files", "/usr/bin/x", "x"),
     (
@@ -141,6 +156,15 @@ pub(crate) const REFUSALS: &[(&str, &str)] = &[
         "dpkg_cli unpack version",
         "refused version FieldBad Version\n||1\n",
     ),
+    (
+        "dpkg_cli unpack essential",
+        "refused essential FieldBad Essential\n||1\n",
+    ),
+    ("dpkg_cli unpack bar", "refused bar FieldBad Depends\n||1\n"),
+    (
+        "dpkg_cli unpack folded",
+        "refused folded FieldBad Breaks\n||1\n",
+    ),
     ("dpkg_cli unpack files", "refused alpha NotYet files\n||1\n"),
     (
         "dpkg_cli unpack depends",
@@ -222,13 +246,53 @@ fn line_without_colon_is_damage(rt: HostRuntime) -> Result<(), Fail> {
     check(&rt, TREES, &[], &lines, row)
 }
 
+// Status files of one record, and the line of the first value that can't be read.
+const DAMAGES: &[(&str, u64)] = &[
+    (
+        "Package: alpha\nStatus: install ok triggers-pending\nVersion: 1\n",
+        2,
+    ),
+    (
+        "Package: alpha\nStatus: install ok unpacked\nVersion: 1\nEssential: maybe\n",
+        4,
+    ),
+    (
+        "Package: alpha\nStatus: install ok unpacked\nVersion: 1\nProvides: mta | web\n",
+        4,
+    ),
+    (
+        "Package: alpha\nStatus: install ok unpacked\nVersion: 1\nRemoved-Since: no\n",
+        4,
+    ),
+];
+
+// Stops the test where a status file isn't told as damaged at this line, or is another then.
+fn check_damage(
+    rt: &(impl Abort + AllocGlobal),
+    status: &str,
+    line: u64,
+) -> Result<(), Fail> {
+    let alloc = rt.alloc();
+    let write = format!(in alloc; "write /var/lib/dpkg/status {status}")?;
+    let row = format!(in alloc; "|damaged /var/lib/dpkg/status {line}\n|2\n|{status}|||||")?;
+    let lines = [write.as_str(), "dpkg_cli unpack a"];
+    check(rt, TREES, &[], &lines, row.as_str())
+}
+
 #[test]
-fn unknown_state_is_damage(rt: HostRuntime) -> Result<(), Fail> {
+fn values_that_cannot_be_read_are_damage(rt: HostRuntime) -> Result<(), Fail> {
+    for (status, line) in DAMAGES {
+        check_damage(&rt, status, *line)?;
+    }
+    Ok(())
+}
+
+#[test]
+fn relations_of_a_record_are_not_carried_out(rt: HostRuntime) -> Result<(), Fail> {
     let lines = [
-        "write /var/lib/dpkg/status Package: alpha\nStatus: install ok triggers-pending\nVersion: 1\n",
+        "write /var/lib/dpkg/status Package: charlie\nStatus: install ok unpacked\nVersion: 1\nDepends: bravo,\n delta (>= 1)\nEssential: no\n",
         "dpkg_cli unpack a",
     ];
-    let row =
-        "|damaged /var/lib/dpkg/status 2\n|2\n|Package: alpha\nStatus: install ok triggers-pending\nVersion: 1\n|||||";
+    let row = "refused alpha NotYet Depends\n||1\n|Package: charlie\nStatus: install ok unpacked\nVersion: 1\nDepends: bravo,\n delta (>= 1)\nEssential: no\n|||||";
     check(&rt, TREES, &[], &lines, row)
 }

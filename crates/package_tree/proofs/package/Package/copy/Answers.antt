@@ -1,0 +1,37 @@
+use Rattle.std.proofs.Common.{◌≡◌, ℕ, true, List, [], sym, ap, subst, ◌∙◌}
+use Rattle.std.proofs.Props.{props}
+use mathlib.Core.HLevel.{is_prop→PathP}
+use Rattle.administration.specs.declared.scripts.Scripts.{Scripts}
+use Rattle.control_fields.specs.Spelling.{AreFields}
+use Rattle.control_fields.specs.declared.field.Field.{Field}
+use Rattle.texts.specs.PackageNames.{is_package_name}
+use Rattle.package_tree.specs.ControlFile.{IsReadable}
+use Rattle.package_tree.specs.declared.package.Package.{Package}
+use Rattle.package_tree.proofs.package.Package.copy.Goals as goal
+
+same : (name version : List ℕ) (control : List Field) (scripts : Scripts) (named : is_package_name name ≡ true) (written : ∥ AreFields [] control ∥₁) (readable : ∥ IsReadable control ∥₁) (p : Package)
+    → name ≡ p.name → version ≡ p.version → control ≡ p.control → scripts ≡ p.scripts
+    → record { name = name; version = version; control = control; scripts = scripts; ships = p.ships; has_conffiles = p.has_conffiles; named = named; written = written; readable = readable } ≡ p
+same name version control scripts named written readable p n v f s = λ i. record {
+  name = n i;
+  version = v i;
+  control = f i;
+  scripts = s i;
+  ships = p.ships;
+  has_conffiles = p.has_conffiles;
+  named = is_prop→PathP (λ j. is_package_name (n j) ≡ true) (λ j. hlevel props) named p.named i;
+  written = is_prop→PathP (λ j. ∥ AreFields [] (f j) ∥₁) (λ j. hlevel props) written p.written i;
+  readable = is_prop→PathP (λ j. ∥ IsReadable (f j) ∥₁) (λ j. hlevel props) readable p.readable i;
+}
+
+pub invariant_of-result : goal.invariant_of-result
+invariant_of-result c =
+    let p = c.args.self.now in
+    record {
+      named = ap is_package_name c.in_ok-copy.ensures ∙ p.named;
+      written = subst (λ (fields : List Field). ∥ AreFields [] fields ∥₁) (sym c.in_ok-copy-3.ensures) p.written;
+      readable = subst (λ (fields : List Field). ∥ IsReadable fields ∥₁) (sym c.in_ok-copy-3.ensures) p.readable;
+    }
+
+pub returns : goal.returns
+returns c = same _ _ _ _ _ _ _ c.args.self.now c.in_ok-copy.ensures c.in_ok-copy-2.ensures c.in_ok-copy-3.ensures c.in_ok-copy_scripts.ensures
