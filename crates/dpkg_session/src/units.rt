@@ -164,26 +164,12 @@ fn refused(alloc: Global, rule: Rule, name: &Text) -> Unit
     }
 }
 
-fn copy_of(fault: &TreeFault) -> Result<TreeFault, AllocError>
-    ensures { IfOk result (λ copy. copy ≡ fault.now) }
-{
-    match fault {
-        TreeFault::NoControl => Ok(TreeFault::NoControl),
-        TreeFault::Control(control) => Ok(TreeFault::Control(*control)),
-        TreeFault::FieldMissing(name) => Ok(TreeFault::FieldMissing(*name)),
-        TreeFault::FieldBad(name) => Ok(TreeFault::FieldBad(*name)),
-        TreeFault::PathBad(path) => Ok(TreeFault::PathBad(path.copy()?)),
-        TreeFault::Device => Ok(TreeFault::Device),
-        TreeFault::NoMemory => Ok(TreeFault::NoMemory),
-    }
-}
-
 fn refused_tree(alloc: Global, fault: &TreeFault, label: &Text) -> Unit
     ensures unit { IsBrokenBy NoMemory result.reply ⊎ IsRefusedUnit (Tree fault.now) label.now result }
     ensures told { result.calls.items ≡ [] }
     ensures untouched { IsBroken result.reply → result.touched.items ≡ [] }
 {
-    match copy_of(fault) {
+    match fault.copy() {
         Ok(copy) => refused(alloc, Rule::Tree(copy), label),
         Err(_) => broken(alloc, Vec::new(alloc), Breakage::NoMemory),
     }

@@ -1,5 +1,5 @@
 -- What a root in memory tells.
-use Rattle.std.specs.Prelude.{◌≡◌, Bool, true, List, [], ◌∷◌, ◌++◌, map, drop, IsTrue}
+use Rattle.std.specs.Prelude.{◌≡◌, Bool, true, List, [], ◌∷◌, ◌++◌, map, drop, IsTrue, Result, Ok, Err}
 use Rattle.std.specs.BTreeMap.{get_by_text}
 use Rattle.host_core.specs.Paths.{Path}
 use Rattle.host_core.specs.World.{Change, Step, Write, Move, Take, MakeDir, RemoveDir, Script}
@@ -7,6 +7,8 @@ use Rattle.host_core.specs.Host.{Ran, State, Stepped}
 use Rattle.host_core.specs.Tree.{IsTree}
 use Rattle.host_core.specs.declared.call.Call.{Call}
 use Rattle.host_core.specs.declared.call.Outcome.{Outcome}
+use Rattle.host_core.specs.declared.fault.HostFault.{HostFault}
+use Rattle.host_core.specs.declared.fault.HostFault.TheVariants.{Device, NoMemory}
 use Rattle.host_memory.specs.declared.change.Planned.{Planned}
 use Rattle.host_memory.specs.declared.memory.MemoryHost.{MemoryHost}
 use Rattle.host_memory.specs.declared.memory.Made.{Made}
@@ -62,3 +64,21 @@ pub record TouchesFilesAlone (old new : MemoryHost) : Type 0 where
   pub calls : (memory_state new).calls ≡ (memory_state old).calls
   pub faults : (memory_state new).faults ≡ (memory_state old).faults
   pub planned : planned_of new ≡ planned_of old
+
+-- a step was made and nothing else: no script was called, and the plans are as before
+pub record HasStepped (step : Step) (old new : MemoryHost) : Type 0 where
+  pub stepped : Stepped step (memory_state old) (memory_state new)
+  pub calls : (memory_state new).calls ≡ (memory_state old).calls
+  pub faults : (memory_state new).faults ≡ (memory_state old).faults
+  pub planned : planned_of new ≡ planned_of old
+
+-- nothing was done, and the plans are as before
+pub record IsUnchanged (old new : MemoryHost) : Type 0 where
+  pub state : memory_state new ≡ memory_state old
+  pub planned : planned_of new ≡ planned_of old
+
+-- the step was made, or memory was refused and nothing was done
+abbrev pub MakesStep : {T : Type 0} → Step → MemoryHost → MemoryHost → Result T HostFault → Type 0
+MakesStep step old new (Ok x) = HasStepped step old new
+MakesStep step old new (Err Device) = ⊥
+MakesStep step old new (Err NoMemory) = IsUnchanged old new

@@ -176,25 +176,39 @@ impl MemoryHost {
 }
 
 impl Host for MemoryHost {
-    ghost use Rattle.std.specs.Prelude.{◌≡◌, ◌≤◌, IfOk, OnErr};
-    ghost use Rattle.host_core.specs.World.{is_kept};
+    ghost use Rattle.std.specs.Prelude.{◌≡◌, ◌≤◌, None, IfOk, OnErr};
+    ghost use Rattle.host_core.specs.World.{Write, Move, Take, MakeDir, RemoveDir, IsBare, IsFile, is_kept};
     ghost use Rattle.host_core.specs.Host.{Runs, HasCause};
-    ghost use Rattle.host_memory.specs.Memory.{memory_state, memory_tree, planned_of, HasEnded};
+    ghost use Rattle.host_core.specs.Tree.{IsListing};
+    ghost use Rattle.host_memory.specs.Memory.{memory_state, memory_tree, planned_of, HasEnded, IsUnchanged, MakesStep};
 
     ghost state = { memory_state };
 
     ghost tree = { memory_tree };
 
-    fn node(&mut self, path: &RootPath) -> Result<Option<Node>, HostFault> {
+    fn node(&mut self, path: &RootPath) -> Result<Option<Node>, HostFault>
+        ensures found { IfOk result (λ node. node ≡ (memory_state self.old).world path.now) }
+        ensures unchanged { IsUnchanged self.old self.new }
+        ensures cause { HasCause (memory_state self.old) (memory_state self.new) result }
+    {
         Ok(self.files.copy_at(path)?)
     }
 
-    fn list(&mut self, path: &RootPath) -> Result<Listing, HostFault> {
+    fn list(&mut self, path: &RootPath) -> Result<Listing, HostFault>
+        ensures listed { IfOk result (λ listing. IsListing (memory_state self.old).world path.now listing.names listing.bad) }
+        ensures unchanged { IsUnchanged self.old self.new }
+        ensures cause { HasCause (memory_state self.old) (memory_state self.new) result }
+    {
         let names = self.files.names_in(self.alloc, path)?;
         Ok(Listing { names, bad: false })
     }
 
-    fn write_new(&mut self, path: &RootPath, node: &Node) -> Result<(), HostFault> {
+    fn write_new(&mut self, path: &RootPath, node: &Node) -> Result<(), HostFault>
+        requires file { IsFile node.now }
+        requires absent { (memory_state self.old).world path.now ≡ None }
+        requires parent { HasParent (memory_state self.old).world path.now }
+        ensures { MakesStep (Write path.now node.now) self.old self.new result }
+    {
         self.steps.reserve(1)?;
         let at = path.copy()?;
         let written = node.copy()?;
@@ -203,7 +217,11 @@ impl Host for MemoryHost {
         Ok(())
     }
 
-    fn make_dir(&mut self, path: &RootPath, mode: u16) -> Result<(), HostFault> {
+    fn make_dir(&mut self, path: &RootPath, mode: u16) -> Result<(), HostFault>
+        requires absent { (memory_state self.old).world path.now ≡ None }
+        requires parent { HasParent (memory_state self.old).world path.now }
+        ensures { MakesStep (MakeDir path.now mode) self.old self.new result }
+    {
         self.steps.reserve(1)?;
         let at = path.copy()?;
         self.files
@@ -212,7 +230,12 @@ impl Host for MemoryHost {
         Ok(())
     }
 
-    fn rename(&mut self, from: &RootPath, to: &RootPath) -> Result<(), HostFault> {
+    fn rename(&mut self, from: &RootPath, to: &RootPath) -> Result<(), HostFault>
+        requires there { IsLoose ((memory_state self.old).world from.now) }
+        requires over { IsDirectory ((memory_state self.old).world to.now) → ⊥ }
+        requires parent { HasParent (memory_state self.old).world to.now }
+        ensures { MakesStep (Move from.now to.now) self.old self.new result }
+    {
         self.steps.reserve(1)?;
         let left = from.copy()?;
         let reached = to.copy()?;
@@ -221,7 +244,10 @@ impl Host for MemoryHost {
         Ok(())
     }
 
-    fn remove(&mut self, path: &RootPath) -> Result<(), HostFault> {
+    fn remove(&mut self, path: &RootPath) -> Result<(), HostFault>
+        requires { IsLoose ((memory_state self.old).world path.now) }
+        ensures { MakesStep (Take path.now) self.old self.new result }
+    {
         self.steps.reserve(1)?;
         let at = path.copy()?;
         self.files.take(path.as_str());
@@ -229,7 +255,11 @@ impl Host for MemoryHost {
         Ok(())
     }
 
-    fn remove_dir(&mut self, path: &RootPath) -> Result<(), HostFault> {
+    fn remove_dir(&mut self, path: &RootPath) -> Result<(), HostFault>
+        requires there { IsDirectory ((memory_state self.old).world path.now) }
+        requires bare { IsBare (memory_state self.old).world path.now }
+        ensures { MakesStep (RemoveDir path.now) self.old self.new result }
+    {
         self.steps.reserve(1)?;
         let at = path.copy()?;
         self.files.take(path.as_str());

@@ -41,6 +41,25 @@ pub enum TreeFault {
     NoMemory,
 }
 
+impl TreeFault {
+    ghost use Rattle.std.specs.Prelude.{IfOk};
+
+    /// An equal fault, or want of memory.
+    pub fn copy(&self) -> Result<TreeFault, AllocError>
+        ensures { IfOk result (λ copy. copy ≡ self.now) }
+    {
+        match self {
+            TreeFault::NoControl => Ok(TreeFault::NoControl),
+            TreeFault::Control(fault) => Ok(TreeFault::Control(*fault)),
+            TreeFault::FieldMissing(name) => Ok(TreeFault::FieldMissing(*name)),
+            TreeFault::FieldBad(name) => Ok(TreeFault::FieldBad(*name)),
+            TreeFault::PathBad(path) => Ok(TreeFault::PathBad(path.copy()?)),
+            TreeFault::Device => Ok(TreeFault::Device),
+            TreeFault::NoMemory => Ok(TreeFault::NoMemory),
+        }
+    }
+}
+
 impl From<HostFault> for TreeFault {
     ghost from_gives = { λ h e. e ≡ fault_of h };
 

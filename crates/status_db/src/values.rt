@@ -243,11 +243,7 @@ fn is_yes(field: &Field) -> bool
     }
 }
 
-fn is_relation(
-    alloc: Global,
-    relation: RelationField,
-    field: &Field,
-) -> Result<bool, AllocError>
+fn is_relation(alloc: Global, relation: RelationField, field: &Field) -> Result<bool, AllocError>
     ensures { IfOk result (λ good. IsTrue good ↔ IsReadableAs (Kind.Relation relation) field.now) }
 {
     let value = field.value(alloc)?;

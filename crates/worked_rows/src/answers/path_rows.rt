@@ -17,6 +17,7 @@ const SHIP_ROWS: &[(&str, &str)] = &[
     ("/", "none"),
     ("/usr/bin/x", "/usr/bin/x"),
     ("/usr/../x", "none"),
+    ("/var/lib/dpkg", "/var/lib/dpkg"),
     ("/var/lib/dpkg/x", "none"),
     ("/etc/q.dpkg-old", "none"),
 ];

@@ -106,9 +106,9 @@ fn shell(rt: &HostRuntime, lines: &str, words: &[&str]) -> io::Result<String> {
     }
 }
 
-// Tells how many calls and faults the host counts, which scripts were started, and each file under the root: its mode,
-// its name and what it holds. An empty status file is the same as none. No script was started by a call that the host
-// doesn't list.
+// Tells how many calls and faults the host counts, which scripts were started, and what stands under the root: its mode,
+// its name and what it holds, but for the administration's directories where their mode is 755. An empty status file is
+// the same as none. No script was started by a call that the host doesn't list.
 const LOOK: &str = ">>started
 if [ \"$(wc -l <started)\" -gt \"$2\" ]; then
   echo 'a script was started by a call that is not listed' >&2
@@ -118,7 +118,9 @@ echo \"calls $2 faults $3\"
 cat started
 >started
 [ -d root/var/lib/dpkg ] || exit 0
-find root \\( ! -type d -o -name tmp.ci \\) -printf '%m %p\\n' | LC_ALL=C sort -k 2 | while read -r mode path; do
+administration='-path root -o -path root/var -o -path root/var/lib -o -path root/var/lib/dpkg'
+administration=\"$administration -o -path root/var/lib/dpkg/info -o -path root/var/lib/dpkg/updates\"
+find root ! \\( -type d -perm 755 \\( $administration \\) \\) -printf '%m %p\\n' | LC_ALL=C sort -k 2 | while read -r mode path; do
   [ \"${path##*/}\" != status ] || [ -s \"$path\" ] || continue
   echo \"$mode ${path#root/var/lib/dpkg/}\"
   [ ! -f \"$path\" ] || cat \"$path\"

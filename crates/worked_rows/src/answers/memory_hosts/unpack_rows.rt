@@ -267,11 +267,7 @@ const DAMAGES: &[(&str, u64)] = &[
 ];
 
 // Stops the test where a status file isn't told as damaged at this line, or is another then.
-fn check_damage(
-    rt: &(impl Abort + AllocGlobal),
-    status: &str,
-    line: u64,
-) -> Result<(), Fail> {
+fn check_damage(rt: &(impl Abort + AllocGlobal), status: &str, line: u64) -> Result<(), Fail> {
     let alloc = rt.alloc();
     let write = format!(in alloc; "write /var/lib/dpkg/status {status}")?;
     let row = format!(in alloc; "|damaged /var/lib/dpkg/status {line}\n|2\n|{status}|||||")?;
@@ -293,6 +289,7 @@ fn relations_of_a_record_are_not_carried_out(rt: HostRuntime) -> Result<(), Fail
         "write /var/lib/dpkg/status Package: charlie\nStatus: install ok unpacked\nVersion: 1\nDepends: bravo,\n delta (>= 1)\nEssential: no\n",
         "dpkg_cli unpack a",
     ];
-    let row = "refused alpha NotYet Depends\n||1\n|Package: charlie\nStatus: install ok unpacked\nVersion: 1\nDepends: bravo,\n delta (>= 1)\nEssential: no\n|||||";
+    let row =
+        "refused alpha NotYet Depends\n||1\n|Package: charlie\nStatus: install ok unpacked\nVersion: 1\nDepends: bravo,\n delta (>= 1)\nEssential: no\n|||||";
     check(&rt, TREES, &[], &lines, row)
 }

@@ -60,6 +60,7 @@ Version: 1.0
         calls: "",
         rest: "broken device\n||2\n",
         left: "calls 0 faults 1
+555 root/var/lib/dpkg
 644 info/alpha.list
 /.
 644 status
@@ -113,6 +114,7 @@ tree b bravo 1",
         rest: "broken device\n||2\n",
         left: "calls 1 faults 1
 preinst install
+755 root/away
 644 status
 Package: alpha
 Status: install reinstreq half-installed

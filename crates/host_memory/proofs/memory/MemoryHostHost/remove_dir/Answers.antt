@@ -1,4 +1,4 @@
-use Rattle.std.proofs.Common.{subst, ap, ◌≡◌, None}
+use Rattle.std.proofs.Common.{refl, subst, ap, ◌≡◌, None}
 use Rattle.std.specs.BTreeMap.{get_by_text}
 use Rattle.host_core.specs.Paths.{Path}
 use Rattle.host_core.specs.World.{put, RemoveDir}
@@ -6,8 +6,13 @@ use Rattle.host_memory.specs.declared.memory.Done.TheVariants.{RemovedDir}
 use Rattle.host_memory.proofs.Recorded.{recorded}
 use Rattle.host_memory.proofs.memory.MemoryHostHost.remove_dir.Goals as goal
 
-pub returns-clause-does : goal.returns-clause-does
-returns-clause-does c = λ honest. record {
-  world = subst (λ (p : Path). get_by_text c.take.new.self.nodes ≡ put (get_by_text c.args.self.now.files.nodes) p None) c.as_str.ensures c.take.ensures;
-  steps = recorded (RemoveDir c.args.path.now) (RemovedDir c.in_ok-at.at) c.args.self.now.steps.items c.reserve.new.self.items c.push_reserved.new.self.items (ap RemoveDir c.in_ok-at.ensures) c.in_ok-reserve.ensures.items c.push_reserved.ensures.items;
+pub returns : goal.returns
+returns c = record {
+  stepped = record {
+    world = subst (λ (p : Path). get_by_text c.take.new.self.nodes ≡ put (get_by_text c.args.self.now.files.nodes) p None) c.as_str.ensures c.take.ensures;
+    steps = recorded (RemoveDir c.args.path.now) (RemovedDir c.in_ok-at.at) c.args.self.now.steps.items c.reserve.new.self.items c.push_reserved.new.self.items (ap RemoveDir c.in_ok-at.ensures) c.in_ok-reserve.ensures.items c.push_reserved.ensures.items;
+  };
+  calls = refl;
+  faults = refl;
+  planned = refl;
 }

@@ -1,0 +1,24 @@
+use Rattle.std.proofs.Common.{rules, ◌≡◌, map, string_bytes, Some, refl, inl, inr}
+use Rattle.command_words.specs.Commands.{asked_of}
+use Rattle.command_words.specs.declared.words.Asked.TheVariants.{CompareVersions, Names, Unpack}
+use Rattle.command_line.specs.Reports.{comparison_answer, memory_answer, names_answer, unpack_answer}
+use Rattle.command_line.proofs.answer.answer_to.Goals as goal
+
+pub returns-in-Ok-Names-clause-answered : goal.returns-in-Ok-Names-clause-answered
+returns-in-Ok-Names-clause-answered g c =
+    let asked : asked_of (map string_bytes c.args.words.now) ≡ Some Names = search rules in
+    (names_answer, rw asked (inl refl), c.names.ensures)
+
+pub returns-in-Ok-CompareVersions-clause-answered : goal.returns-in-Ok-CompareVersions-clause-answered
+returns-in-Ok-CompareVersions-clause-answered g c =
+    let asked : asked_of (map string_bytes c.args.words.now) ≡ Some (CompareVersions c.in-Ok-CompareVersions.comparison) = search rules in
+    (comparison_answer c.in-Ok-CompareVersions.comparison, rw asked (inl refl), c.compared.ensures)
+
+pub returns-in-Ok-Unpack-clause-answered : goal.returns-in-Ok-Unpack-clause-answered
+returns-in-Ok-Unpack-clause-answered g c =
+    let asked : asked_of (map string_bytes c.args.words.now) ≡ Some (Unpack c.in-Ok-Unpack.unpacking) = search rules in
+    let ended = c.unpacked.ensures.ended in
+    (unpack_answer ended.0, rw asked (inl (ended.0, ended.1, refl)), ended.2)
+
+pub returns-in-Err-NoMemory-clause-answered : goal.returns-in-Err-NoMemory-clause-answered
+returns-in-Err-NoMemory-clause-answered g c = (memory_answer, inr (refl, refl), tt)
