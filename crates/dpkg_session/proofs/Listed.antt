@@ -37,7 +37,7 @@ use Rattle.dpkg_session.specs.Refusals.{word_of}
 use Rattle.dpkg_session.specs.Run.{IsRun}
 use Rattle.dpkg_session.specs.Standing.{IsStanding}
 use Rattle.dpkg_session.specs.Units.{IsUnitByWord, IsUnitOf}
-use Rattle.unpack_engine.specs.EndStates.{IsEnd}
+use Rattle.unpack_engine.specs.EndStates.{IsEnd, IsUnwoundEnd, own_undo_failed}
 use Rattle.unwind_stack.specs.Transcript.{Ended, Committed, Unwound}
 
 -- a name among those of the records is one that has a record
@@ -135,10 +135,13 @@ module _ (p : Package) (places : List Path) (before after : List Record) (ended 
   listed_less is has = has_places_left old new (names_of before) (names_of after) places
       (names_left p.name before after new_name (subst (λ e. HasChangedRecord p.name e before after) is left.table)) list_stays has
 
+  by_unwound : (failed : Bool) → IsUnwoundEnd p failed left.entry → HasPlaces old (names_of before) places → HasPlaces new (names_of after) places
+  by_unwound false end has = listed_less end has
+  by_unwound true end has = listed_grown end.0 end.1 has
+
   by_end : (e : Ended) → IsEnd p e left.entry → HasPlaces old (names_of before) places → HasPlaces new (names_of after) places
   by_end Committed end has = listed_grown end.0 end.1 has
-  by_end (Unwound fall []) end has = listed_less end has
-  by_end (Unwound fall (owner ∷ owners)) end has = listed_grown end.0 end.1 has
+  by_end (Unwound fall owners) end has = by_unwound (own_undo_failed p owners) end has
 
   pub listed_left : HasPlaces old (names_of before) places → HasPlaces new (names_of after) places
   listed_left has = by_end ended left.end has

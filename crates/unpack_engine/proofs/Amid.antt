@@ -9,65 +9,112 @@ use Rattle.administration.specs.Files.{NoDirectory, KeepsBesideFile}
 use Rattle.administration.proofs.WholeFiles.{no_directory_at}
 use Rattle.package_tree.specs.declared.package.Package.{Package}
 use Rattle.host_core.specs.declared.node.Node.{Node}
-use Rattle.administration.specs.Scripts.{script_of, file_of}
+use Rattle.host_core.specs.declared.call.Script.{Script}
 use Rattle.file_lists.specs.Lists.{NamesNothing}
 use Rattle.file_lists.proofs.Kept.{missing_names_nothing, root_names_nothing}
-use Rattle.unpack_engine.specs.OwnFiles.{own_path, root_list, IsOwnMoment, IsChanging}
+use Rattle.unpack_engine.specs.OwnFiles.{OwnFile, own_path, own_node, root_list, KeepsBesideOwn, IsOwnMoment, IsChanging, IsClearing, IsInstalled}
 use Rattle.unpack_engine.specs.OwnFiles.IsOwnMoment.{same, gone, whole}
-use Rattle.unpack_engine.proofs.Changes.{moment_then}
+use Rattle.unpack_engine.proofs.Endings.{own_lasting}
 use Rattle.status_db.specs.declared.record.Record.{Record}
 use Rattle.status_db.specs.Status.{HasRecords, IsNoting}
 use Rattle.unpack_engine.specs.Incoming.{IsIncoming, IsLaying}
-use Rattle.unpack_engine.specs.Unpack.{IsInOrder, IsStage, IsAmid}
+use Rattle.unpack_engine.specs.Unpack.{IsInOrder, HasOwn, MayBeStored, IsStored, IsNotStored, IsStage, IsAmid}
+use Rattle.unpack_engine.specs.Unpack.IsStage.{as_before, half, unpacked, forgotten}
 use Rattle.unpack_engine.proofs.Apart.{own_not_status, own_not_status_spare, spare_not_status, spare_not_status_spare, noted_within, scripts_within, installed_within}
 use Rattle.unpack_engine.proofs.Beginning.{own_in_order}
 use Rattle.unpack_engine.proofs.LaidOut.{incoming_kept}
 use Rattle.unpack_engine.proofs.Standing.{moved_records}
 
--- the list is that of before, or names nothing
-list_then : (a b c : Option Node) → (b ≡ a) ⊎ NamesNothing b → IsOwnMoment (Some root_list) b c → (c ≡ a) ⊎ NamesNothing c
-list_then a b c (inl e) (same f) = inl (f ∙ e)
-list_then a b c (inr none) (same f) = inr (subst NamesNothing (sym f) none)
-list_then a b c first (gone f) = inr (subst NamesNothing (sym f) missing_names_nothing)
-list_then a b c first (whole f) = inr (subst NamesNothing (sym f) (root_names_nothing 0o644))
+-- the package's files by stage
+
+names_nothing_put : (old now : Option Node) → old ≡ None → IsOwnMoment (Some root_list) old now → NamesNothing now
+names_nothing_put old now none (same e) = subst NamesNothing (sym (e ∙ none)) missing_names_nothing
+names_nothing_put old now none (gone e) = subst NamesNothing (sym e) missing_names_nothing
+names_nothing_put old now none (whole e) = subst NamesNothing (sym e) (root_names_nothing 0o644)
+
+some_put : (stored old now : Option Node) → old ≡ None → IsOwnMoment stored old now → (now ≡ None) ⊎ (now ≡ stored)
+some_put stored old now none (same e) = inl (e ∙ none)
+some_put stored old now none (gone e) = inl e
+some_put stored old now none (whole e) = inr e
+
+module _ (p : Package) where
+  -- none stands
+  pub own_gone : (w : World) → ((file : OwnFile) → w (own_path p.name file) ≡ None) → HasOwn IsNotStored p w
+  own_gone w none = record { list = subst NamesNothing (sym (none None)) missing_names_nothing; scripts = λ script. none (Some script) }
+
+  pub own_none : (w : World) → ((file : OwnFile) → w (own_path p.name file) ≡ None) → HasOwn MayBeStored p w
+  own_none w none = record { list = (own_gone w none).list; scripts = λ script. inl (none (Some script)) }
+
+  -- the tree's are put there, where none stands
+  pub own_putting : (w now : World) → ((file : OwnFile) → w (own_path p.name file) ≡ None) → IsChanging p.name p.scripts w now → HasOwn MayBeStored p now
+  own_putting w now none is = record {
+    list = names_nothing_put (w (own_path p.name None)) (now (own_path p.name None)) (none None) (is.own None);
+    scripts = λ script. some_put (own_node p.scripts (Some script)) (w (own_path p.name (Some script))) (now (own_path p.name (Some script))) (none (Some script)) (is.own (Some script));
+  }
+
+  -- and stand
+  pub own_stored : (w now : World) → ((file : OwnFile) → w (own_path p.name file) ≡ None) → IsInstalled p.name p.scripts w now → HasOwn IsStored p now
+  own_stored w now none installed = record {
+    list = subst NamesNothing (sym (installed.stands none None)) (root_names_nothing 0o644);
+    scripts = λ script. installed.stands none (Some script);
+  }
+
+  pub some_stored : (w : World) → HasOwn IsStored p w → HasOwn MayBeStored p w
+  some_stored w own = record { list = own.list; scripts = λ script. inr (own.scripts script) }
+
+  -- what leaves these files leaves the stage
+  own_kept : (scripts_are : Package → Script → Option Node → Type 0) (w now : World) → ((file : OwnFile) → now (own_path p.name file) ≡ w (own_path p.name file)) → HasOwn scripts_are p w → HasOwn scripts_are p now
+  own_kept scripts_are w now keeps own = record { list = subst NamesNothing (sym (keeps None)) own.list; scripts = λ script. subst (scripts_are p script) (sym (keeps (Some script))) (own.scripts script) }
+
+  less_kept : (old w now : Option Node) → now ≡ w → (w ≡ old) ⊎ (w ≡ None) → (now ≡ old) ⊎ (now ≡ None)
+  less_kept old w now e (inl f) = inl (e ∙ f)
+  less_kept old w now e (inr f) = inr (e ∙ f)
+
+  pub stage_kept : (before : List Record) (old w now : World) → ((file : OwnFile) → now (own_path p.name file) ≡ w (own_path p.name file)) → (table : List Record) → IsStage p before old w table → IsStage p before old now table
+  stage_kept before old w now keeps table (as_before own) = as_before (λ f. less_kept (old (own_path p.name f)) (w (own_path p.name f)) (now (own_path p.name f)) (keeps f) (own f))
+  stage_kept before old w now keeps table (half r is own) = half r is (own_kept MayBeStored w now keeps own)
+  stage_kept before old w now keeps table (unpacked r s is_half is own) = unpacked r s is_half is (own_kept IsStored w now keeps own)
+  stage_kept before old w now keeps table (forgotten r is own) = forgotten r is (own_kept IsNotStored w now keeps own)
 
 module _ (p : Package) (places : List Path) (before : List Record) where
   pub amid_start : (old : World) → IsInOrder old → IsIncoming old → HasRecords old before → IsAmid p places before old old
   amid_start old order incoming has = record {
     stage = before;
-    is_stage = IsStage.as_before;
+    is_stage = as_before (λ f. inl refl);
     records = has;
     status_spare = order.status_spare;
-    list = inl refl;
-    scripts = λ script. same refl;
     spares = (own_in_order p.name old p.named order).spares;
     incoming = incoming;
     rest = λ q out kept. refl;
   }
 
   -- the package's own files
-  pub amid_changing : (old w now : World) → IsAmid p places before old w → IsChanging p.name p.scripts w now → IsAmid p places before old now
-  amid_changing old w now amid is = record {
-    stage = amid.stage;
-    is_stage = amid.is_stage;
-    records = moved_records amid.stage w now (is.rest status_path (λ f. ((λ e. own_not_status p.name f (sym e)), (λ e. spare_not_status p.name f (sym e))))) amid.records;
-    status_spare = no_directory_at (now (temporary status_path)) (w (temporary status_path)) (is.rest (temporary status_path) (λ f. ((λ e. own_not_status_spare p.name f (sym e)), (λ e. spare_not_status_spare p.name f (sym e))))) amid.status_spare;
-    list = list_then (old (own_path p.name None)) (w (own_path p.name None)) (now (own_path p.name None)) amid.list (is.own None);
-    scripts = λ script. moment_then p.name p.scripts (file_of (script_of p.scripts script)) (old (own_path p.name (Some script))) (w (own_path p.name (Some script))) (now (own_path p.name (Some script))) (amid.scripts script) (is.own (Some script));
-    spares = is.spares;
-    incoming = incoming_kept w now (installed_within p w now is.rest) amid.incoming;
-    rest = λ q out kept. is.rest q out.own ∙ amid.rest q out kept;
+  pub amid_own : (old w now : World) → IsAmid p places before old w → (next : List Record) → HasRecords w next → IsStage p before old now next → ((file : OwnFile) → NoDirectory (now (temporary (own_path p.name file)))) → KeepsBesideOwn p.name w now → IsAmid p places before old now
+  amid_own old w now amid next has is spares rest = record {
+    stage = next;
+    is_stage = is;
+    records = moved_records next w now (rest status_path (λ f. ((λ e. own_not_status p.name f (sym e)), (λ e. spare_not_status p.name f (sym e))))) has;
+    status_spare = no_directory_at (now (temporary status_path)) (w (temporary status_path)) (rest (temporary status_path) (λ f. ((λ e. own_not_status_spare p.name f (sym e)), (λ e. spare_not_status_spare p.name f (sym e))))) amid.status_spare;
+    spares = spares;
+    incoming = incoming_kept w now (installed_within p w now rest) amid.incoming;
+    rest = λ q out kept. rest q out.own ∙ amid.rest q out kept;
   }
+
+  -- what stood before is taken away
+  pub amid_clearing : (old now : World) → IsInOrder old → IsIncoming old → HasRecords old before → IsClearing p.name old now → IsAmid p places before old now
+  amid_clearing old now order incoming has is =
+      let start = amid_start old order incoming has in
+      amid_own old old now start before has (as_before is.own)
+      (λ f. no_directory_at (now (temporary (own_path p.name f))) (old (temporary (own_path p.name f))) (is.rest (temporary (own_path p.name f)) (λ other e. own_lasting p.name other (own_path p.name f) (sym e))) (start.spares f))
+      (λ q out. is.rest q (λ f. (out f).0))
 
   -- within `tmp.ci`
   pub amid_tmp : (old w now : World) → IsAmid p places before old w → IsLaying w now → IsAmid p places before old now
   amid_tmp old w now amid laying = record {
     stage = amid.stage;
-    is_stage = amid.is_stage;
+    is_stage = stage_kept p before old w now (λ f. laying.rest (own_path p.name f) refl) amid.stage amid.is_stage;
     records = moved_records amid.stage w now (laying.rest status_path refl) amid.records;
     status_spare = no_directory_at (now (temporary status_path)) (w (temporary status_path)) (laying.rest (temporary status_path) refl) amid.status_spare;
-    list = subst (λ n. (n ≡ old (own_path p.name None)) ⊎ NamesNothing n) (sym (laying.rest (own_path p.name None) refl)) amid.list;
-    scripts = λ script. subst (IsOwnMoment (file_of (script_of p.scripts script)) (old (own_path p.name (Some script)))) (sym (laying.rest (own_path p.name (Some script)) refl)) (amid.scripts script);
     spares = λ f. no_directory_at (now (temporary (own_path p.name f))) (w (temporary (own_path p.name f))) (laying.rest (temporary (own_path p.name f)) refl) (amid.spares f);
     incoming = laying.incoming;
     rest = λ q out kept. laying.rest q out.tmp ∙ amid.rest q out kept;
@@ -77,31 +124,27 @@ module _ (p : Package) (places : List Path) (before : List Record) where
   pub amid_scripts : (old w now : World) → IsAmid p places before old w → SameOn (is_kept places) w now → IsAmid p places before old now
   amid_scripts old w now amid as_kept = record {
     stage = amid.stage;
-    is_stage = amid.is_stage;
+    is_stage = stage_kept p before old w now (λ f. as_kept (own_path p.name f) refl) amid.stage amid.is_stage;
     records = moved_records amid.stage w now (as_kept status_path refl) amid.records;
     status_spare = no_directory_at (now (temporary status_path)) (w (temporary status_path)) (as_kept (temporary status_path) refl) amid.status_spare;
-    list = subst (λ n. (n ≡ old (own_path p.name None)) ⊎ NamesNothing n) (sym (as_kept (own_path p.name None) refl)) amid.list;
-    scripts = λ script. subst (IsOwnMoment (file_of (script_of p.scripts script)) (old (own_path p.name (Some script)))) (sym (as_kept (own_path p.name (Some script)) refl)) (amid.scripts script);
     spares = λ f. no_directory_at (now (temporary (own_path p.name f))) (w (temporary (own_path p.name f))) (as_kept (temporary (own_path p.name f)) refl) (amid.spares f);
     incoming = incoming_kept w now (scripts_within places w now as_kept) amid.incoming;
     rest = λ q out kept. as_kept q kept ∙ amid.rest q out kept;
   }
 
   -- a note of the next stage
-  pub amid_status : (old w now : World) → IsAmid p places before old w → (next : List Record) → IsStage p before next → HasRecords now next → NoDirectory (now (temporary status_path)) → KeepsBesideFile status_path w now → IsAmid p places before old now
+  pub amid_status : (old w now : World) → IsAmid p places before old w → (next : List Record) → IsStage p before old w next → HasRecords now next → NoDirectory (now (temporary status_path)) → KeepsBesideFile status_path w now → IsAmid p places before old now
   amid_status old w now amid next is has spare rest = record {
     stage = next;
-    is_stage = is;
+    is_stage = stage_kept p before old w now (λ f. rest (own_path p.name f) (own_not_status p.name f) (own_not_status_spare p.name f)) next is;
     records = has;
     status_spare = spare;
-    list = subst (λ n. (n ≡ old (own_path p.name None)) ⊎ NamesNothing n) (sym (rest (own_path p.name None) (own_not_status p.name None) (own_not_status_spare p.name None))) amid.list;
-    scripts = λ script. subst (IsOwnMoment (file_of (script_of p.scripts script)) (old (own_path p.name (Some script)))) (sym (rest (own_path p.name (Some script)) (own_not_status p.name (Some script)) (own_not_status_spare p.name (Some script)))) (amid.scripts script);
     spares = λ f. no_directory_at (now (temporary (own_path p.name f))) (w (temporary (own_path p.name f))) (rest (temporary (own_path p.name f)) (spare_not_status p.name f) (spare_not_status_spare p.name f)) (amid.spares f);
     incoming = incoming_kept w now (noted_within w now rest) amid.incoming;
     rest = λ q out kept. rest q out.status out.status_spare ∙ amid.rest q out kept;
   }
 
-  pub amid_noting : (old w now : World) → IsAmid p places before old w → (next : List Record) → IsStage p before next → IsNoting next w now → IsAmid p places before old now
+  pub amid_noting : (old w now : World) → IsAmid p places before old w → (next : List Record) → IsStage p before old w next → IsNoting next w now → IsAmid p places before old now
   amid_noting old w now amid next is noting = elim noting.status [
     | inl e ↦ amid_status old w now amid amid.stage amid.is_stage (moved_records amid.stage w now e amid.records) noting.ready.spare noting.rest
     | inr has ↦ amid_status old w now amid next is has noting.ready.spare noting.rest

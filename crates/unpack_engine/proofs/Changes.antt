@@ -18,7 +18,7 @@ use Rattle.administration.specs.Files.{NoDirectory, IsReplaced, IsReplacing, IsD
 use Rattle.administration.specs.declared.scripts.Scripts.{Scripts}
 use Rattle.administration.proofs.WholeFiles.{no_directory_none, no_directory_at, no_directory_file, no_slash}
 use Rattle.administration.proofs.Emptying.{dropped_either, none_then, less_then}
-use Rattle.unpack_engine.specs.OwnFiles.{OwnFile, ending, own_path, own_node, root_list, HasDroppedScripts, HasPutScripts, IsPut, IsCleared, IsInstalled, IsOwnMoment, IsChanging, IsOwnReady}
+use Rattle.unpack_engine.specs.OwnFiles.{OwnFile, ending, own_path, own_node, root_list, HasDroppedScripts, HasPutScripts, IsPut, IsCleared, IsClearing, IsInstalled, IsOwnMoment, IsChanging, IsOwnReady}
 use Rattle.unpack_engine.specs.OwnFiles.IsOwnMoment.{same, gone, whole}
 use Rattle.unpack_engine.proofs.Endings.{own_lasting, own_same, own_apart, info_apart, info_lasting, mark}
 
@@ -38,21 +38,6 @@ module _ (name : List ℕ) (scripts : Scripts) where
     own = λ f. moment_then (own_node scripts f) (u (own_path name f)) (v (own_path name f)) (w (own_path name f)) (first.own f) (second.own f);
     spares = second.spares;
     rest = λ q out. second.rest q out ∙ first.rest q out;
-  }
-
-  -- part after part
-  pub since_changing : (s a b : State) → Since (IsChanging name scripts s.world) s a → Since (IsChanging name scripts a.world) a b → Since (IsChanging name scripts s.world) s b
-  since_changing s a b first second = since_then _ s a b first (since_weaker _ _ a b (λ w is. changing_then s.world a.world w (since_now _ s a first) is) second)
-
-  -- one file is dropped
-  pub changing_dropping : (file : OwnFile) (w now : World) → IsOwnReady name w → IsDropping (own_path name file) w now → IsChanging name scripts w now
-  changing_dropping file w now ready is = record {
-    own = λ f. elim (decide (own_path name f) (own_path name file)) [
-      | inl e ↦ elim is.target [ inl t ↦ same (ap now e ∙ t ∙ ap w (sym e)) | inr t ↦ gone (ap now e ∙ t) ]
-      | inr ne ↦ same (is.rest (own_path name f) ne)
-    ];
-    spares = λ f. no_directory_at (now (temporary (own_path name f))) (w (temporary (own_path name f))) (is.rest (temporary (own_path name f)) (λ e. own_lasting name file (own_path name f) (sym e))) (ready.spares f);
-    rest = λ q out. is.rest q (out file).0;
   }
 
   -- one file is put there
@@ -105,24 +90,33 @@ own_nodes scripts None = no_directory_file root_list (codes "/.\n", 0o644, refl)
 own_nodes scripts (Some script) = script_loose (script_of scripts script)
 
 -- one part of the work, and one after another
-pub record Goes (name : List ℕ) (scripts : Scripts) (s a : State) : Type 0 where
+pub record Parts (part : World → World → Type 0) (s a : State) : Type 0 where
   pub honest : a.honest ≡ s.honest
-  pub moments : IsTrue s.honest → Since (IsChanging name scripts s.world) s a
+  pub moments : IsTrue s.honest → Since (part s.world) s a
 
-module _ (name : List ℕ) (scripts : Scripts) where
-  pub goes_one : (s a : State) → Silent s a → (IsTrue s.honest → Since (IsChanging name scripts s.world) s a) → Goes name scripts s a
-  goes_one s a silent moments = record { honest = silent.honest; moments = moments }
-
-  pub goes_then : (s a b : State) → Goes name scripts s a → Silent a b → (IsTrue a.honest → Since (IsChanging name scripts a.world) a b) → Goes name scripts s b
-  goes_then s a b first silent moments = record {
+module _ (part : World → World → Type 0) (both : (u v w : World) → part u v → part v w → part u w) where
+  parts_then : (s a b : State) → Parts part s a → Silent a b → (IsTrue a.honest → Since (part a.world) a b) → Parts part s b
+  parts_then s a b first silent moments = record {
     honest = silent.honest ∙ first.honest;
-    moments = λ h. since_changing name scripts s a b (first.moments h) (moments (subst IsTrue (sym first.honest) h));
+    moments = λ h.
+        let m = first.moments h in
+        since_then (part s.world) s a b m (since_weaker (part a.world) (part s.world) a b (λ w is. both s.world a.world w (since_now (part s.world) s a m) is) (moments (subst IsTrue (sym first.honest) h)));
   }
 
-  pub goes_ready : (s a : State) → (IsTrue s.honest → IsOwnReady name s.world) → Goes name scripts s a → IsTrue a.honest → IsOwnReady name a.world
+module _ (name : List ℕ) (scripts : Scripts) where
+  abbrev pub Goes : State → State → Type 0
+  Goes s a = Parts (IsChanging name scripts) s a
+
+  pub goes_one : (s a : State) → Silent s a → (IsTrue s.honest → Since (IsChanging name scripts s.world) s a) → Goes s a
+  goes_one s a silent moments = record { honest = silent.honest; moments = moments }
+
+  pub goes_then : (s a b : State) → Goes s a → Silent a b → (IsTrue a.honest → Since (IsChanging name scripts a.world) a b) → Goes s b
+  goes_then s a b first silent moments = parts_then (IsChanging name scripts) (changing_then name scripts) s a b first silent moments
+
+  pub goes_ready : (s a : State) → (IsTrue s.honest → IsOwnReady name s.world) → Goes s a → IsTrue a.honest → IsOwnReady name a.world
   goes_ready s a ready goes h =
       let h0 = subst IsTrue goes.honest h in
-      changing_ready name scripts s.world a.world (own_nodes scripts) (ready h0) (since_now _ s a (goes.moments h0))
+      changing_ready name scripts s.world a.world (own_nodes scripts) (ready h0) (since_now (IsChanging name scripts s.world) s a (goes.moments h0))
 
 pub changing_there : (name : List ℕ) (scripts : Scripts) (w now : World) → IsChanging name scripts w now → now info_path ≡ w info_path
 changing_there name scripts w now is = is.rest info_path (λ f. (info_apart name f, info_lasting (own_path name f)))
@@ -130,7 +124,54 @@ changing_there name scripts w now is = is.rest info_path (λ f. (info_apart name
 pub goes_there : (name : List ℕ) (scripts : Scripts) (s a : State) → (IsTrue s.honest → IsDirectory (s.world info_path)) → Goes name scripts s a → IsTrue a.honest → IsDirectory (a.world info_path)
 goes_there name scripts s a there goes h =
     let h0 = subst IsTrue goes.honest h in
-    subst IsDirectory (sym (changing_there name scripts s.world a.world (since_now _ s a (goes.moments h0)))) (there h0)
+    subst IsDirectory (sym (changing_there name scripts s.world a.world (since_now (IsChanging name scripts s.world) s a (goes.moments h0)))) (there h0)
+
+-- what stands under the name is taken away
+less_ready : (m now : Option Node) → NoDirectory m → (now ≡ m) ⊎ (now ≡ None) → NoDirectory now
+less_ready m now free (inl e) = no_directory_at now m e free
+less_ready m now free (inr e) = no_directory_at now None e no_directory_none
+
+module _ (name : List ℕ) where
+  pub clearing_then : (u v w : World) → IsClearing name u v → IsClearing name v w → IsClearing name u w
+  clearing_then u v w first second = record {
+    own = λ f. less_then (w (own_path name f)) (v (own_path name f)) (u (own_path name f)) (first.own f) (second.own f);
+    rest = λ q out. second.rest q out ∙ first.rest q out;
+  }
+
+  -- one file is dropped
+  pub clearing_dropping : (file : OwnFile) (w now : World) → IsDropping (own_path name file) w now → IsClearing name w now
+  clearing_dropping file w now is = record {
+    own = λ f. elim (decide (own_path name f) (own_path name file)) [
+      | inl e ↦ elim is.target [ inl t ↦ inl (ap now e ∙ t ∙ ap w (sym e)) | inr t ↦ inr (ap now e ∙ t) ]
+      | inr ne ↦ inl (is.rest (own_path name f) ne)
+    ];
+    rest = λ q out. is.rest q (out file);
+  }
+
+  -- all are gone
+  pub clearing_cleared : (w now : World) → IsCleared name w now → IsClearing name w now
+  clearing_cleared w now cleared = record { own = λ f. inr (cleared.gone f); rest = cleared.rest }
+
+  -- still no directory is in the way
+  pub clearing_ready : (w now : World) → IsOwnReady name w → IsClearing name w now → IsOwnReady name now
+  clearing_ready w now ready is = record {
+    own = λ f. less_ready (w (own_path name f)) (now (own_path name f)) (ready.own f) (is.own f);
+    spares = λ f. no_directory_at (now (temporary (own_path name f))) (w (temporary (own_path name f))) (is.rest (temporary (own_path name f)) (λ other e. own_lasting name other (own_path name f) (sym e))) (ready.spares f);
+  }
+
+  abbrev pub Clears : State → State → Type 0
+  Clears s a = Parts (IsClearing name) s a
+
+  pub clears_one : (s a : State) → Silent s a → (IsTrue s.honest → Since (IsClearing name s.world) s a) → Clears s a
+  clears_one s a silent moments = record { honest = silent.honest; moments = moments }
+
+  pub clears_then : (s a b : State) → Clears s a → Silent a b → (IsTrue a.honest → Since (IsClearing name a.world) a b) → Clears s b
+  clears_then s a b first silent moments = parts_then (IsClearing name) clearing_then s a b first silent moments
+
+  pub clears_ready : (s a : State) → (IsTrue s.honest → IsOwnReady name s.world) → Clears s a → IsTrue a.honest → IsOwnReady name a.world
+  clears_ready s a ready clears h =
+      let h0 = subst IsTrue clears.honest h in
+      clearing_ready s.world a.world (ready h0) (since_now (IsClearing name s.world) s a (clears.moments h0))
 
 -- the four scripts are dropped one after another
 pub dropped_four : (name : List ℕ) (w0 w1 w2 w3 w4 : World) → IsDropped (own_path name (Some Preinst)) w0 w1 → IsDropped (own_path name (Some Postinst)) w1 w2 → IsDropped (own_path name (Some Prerm)) w2 w3 → IsDropped (own_path name (Some Postrm)) w3 w4 → HasDroppedScripts name w0 w4

@@ -1,8 +1,9 @@
 -- The whole unit, from its parts.
 use Rattle.std.proofs.Common.{◌≡◌, ◌≢◌, ◌⊎◌, inl, inr, ℕ, true, false, cond, List, [], ◌∷◌, ◌++◌, get_or, Option, Some, None, IsTrue, refl, sym, ap, subst, ◌∙◌, arith}
-use Rattle.std.specs.Prelude.{IsSome}
+use Rattle.std.specs.Prelude.{◌||◌, IsSome}
 use Rattle.std.specs.Str.{bytes_eq}
 use Rattle.std.proofs.lemmas.List.{append-nil}
+use Rattle.std.proofs.lemmas.Slice.Eq.{bytes_eq-Decides}
 use Rattle.host_core.proofs.Paths.{decide}
 use Rattle.host_core.specs.Paths.{Path}
 use Rattle.host_core.specs.World.{World, is_kept, IsDirectory}
@@ -18,7 +19,7 @@ use Rattle.administration.specs.Files.{NoDirectory}
 use Rattle.administration.specs.Directories.{IsRemoved}
 use Rattle.administration.proofs.WholeFiles.{no_directory_at, no_directory_none}
 use Rattle.administration.proofs.Within.{directory_within, below_within}
-use Rattle.unwind_stack.specs.Transcript.{Ended, Committed as AllSucceeded, Unwound, Legal, Tells, Goes, Undid, Tries}
+use Rattle.unwind_stack.specs.Transcript.{Ended, Committed as AllSucceeded, Unwound, Legal, Tells, Goes, Undid, UndoesRow, Tries}
 use Rattle.unwind_stack.specs.declared.rows.Called.{Called}
 use Rattle.unwind_stack.specs.declared.rows.Owner.{Owner}
 use Rattle.unwind_stack.specs.declared.rows.Owner.TheVariants.{Package as OfPackage, Files}
@@ -26,7 +27,7 @@ use Rattle.unwind_stack.specs.declared.fall.Fall.{Fall}
 use Rattle.package_tree.specs.declared.package.Package.{Package}
 use Rattle.unpack_engine.specs.OwnFiles.{OwnFile, own_path, own_node}
 use Rattle.unpack_engine.specs.Incoming.{AreLaidOut, IsIncoming}
-use Rattle.unpack_engine.proofs.Changes.{own_nodes}
+use Rattle.unpack_engine.proofs.Changes.{own_nodes, clearing_cleared}
 use Rattle.status_db.specs.declared.words.Flag.{Flag}
 use Rattle.status_db.specs.declared.words.Flag.TheVariants as flag
 use Rattle.status_db.specs.declared.words.State.{State as State'}
@@ -40,14 +41,14 @@ use Rattle.unpack_engine.specs.ForwardRows.{preinst_row, file_row, rows_of, give
 use Rattle.unpack_engine.specs.Turns.{Falls, IsTurn}
 use Rattle.unpack_engine.specs.declared.rows.Turn.{Turn}
 use Rattle.unpack_engine.specs.declared.rows.Turn.TheVariants.{Committed, Undone, UndoFailed}
-use Rattle.unpack_engine.specs.EndStates.{IsRecordOf, IsSomeRecord, UndoneEnd, IsEnd, end_script}
-use Rattle.unpack_engine.specs.Unpack.{IsInOrder, IsOutside, HasChangedRecord, IsStage, IsAmid}
+use Rattle.unpack_engine.specs.EndStates.{IsRecordOf, IsUnwoundEnd, IsEnd, own_undo_failed, end_script}
+use Rattle.unpack_engine.specs.Unpack.{IsInOrder, IsOutside, HasChangedRecord, HasOwn, MayBeStored, IsStage, IsAmid}
 use Rattle.unpack_engine.specs.Stages.{Stands, IsPutAs, IsNotingAs}
 use Rattle.unpack_engine.specs.Units.{EndsAs, FinishedTable, FinishedWorlds, BegunWorlds, IsBeginning, IsFinishing, HasUnpacked}
 use Rattle.unpack_engine.specs.Units.IsBeginning.{clearing, laying, noting}
 use Rattle.unpack_engine.specs.Units.IsFinishing.{storing, unpacked, forgetting, left}
 use Rattle.unpack_engine.proofs.Standing.{moved_records, kept_outside, stands_start, stands_cleared, stands_tmp, stands_noted, stands_scripts, stands_installed, home_there, info_there}
-use Rattle.unpack_engine.proofs.Amid.{amid_start, amid_changing, amid_tmp, amid_status, amid_noting}
+use Rattle.unpack_engine.proofs.Amid.{own_gone, own_none, own_putting, own_stored, some_stored, amid_own, amid_clearing, amid_tmp, amid_status, amid_noting}
 use Rattle.unpack_engine.proofs.Apart.{noted_within, installed_within}
 use Rattle.unpack_engine.proofs.Beginning.{own_in_order}
 use Rattle.unpack_engine.proofs.Tables.{standing_put, standing_dropped}
@@ -83,15 +84,28 @@ legal_unwound p owners ts falls = record {
   undoes = ([], falls.back, [], refl, (refl, refl), Undid.called [] owners falls.back (not_files p) falls.undoes);
 }
 
+-- a failed undo of the preinst row is the package's own
+
+owned : (p : Package) (before owners : List Owner) (back : List Ran) → before ≡ [] → UndoesRow (preinst_row p) before back owners → (owners ≡ []) ⊎ (own_undo_failed p owners ≡ true)
+owned p before owners back none (UndoesRow.absent same e) = inl none
+owned p before owners back none (UndoesRow.spared same e) = inl none
+owned p before owners back none (UndoesRow.done same t e new ok) = inl none
+owned p before owners back none (UndoesRow.failed old now t e new ok grown) =
+    inr (ap (own_undo_failed p) (grown ∙ ap (λ (l : List Owner). l ++ OfPackage p.name ∷ []) none) ∙ ap (λ b. b || false) ((bytes_eq-Decides p.name p.name).1 refl))
+
+some_owned : (p : Package) (owner : Owner) (owners : List Owner) → (owner ∷ owners ≡ []) ⊎ (own_undo_failed p (owner ∷ owners) ≡ true) → own_undo_failed p (owner ∷ owners) ≡ true
+some_owned p owner owners (inl e) = cc
+some_owned p owner owners (inr failed) = failed
+
 pub record LegalTurn (p : Package) (turn : Turn) (ts : List Ran) : Type 0 where
   pub ended : Ended
-  pub as_turned : EndsAs turn ended
+  pub as_turned : EndsAs p turn ended
   pub legal : Legal gives [] ended (rows_of p) ts
 
 pub legal_turn : (p : Package) (turn : Turn) (ts : List Ran) → IsTurn (preinst_row p) turn ts → LegalTurn p turn ts
 legal_turn p Committed ts tries = record { ended = AllSucceeded; as_turned = tt; legal = legal_committed p ts tries }
 legal_turn p Undone ts falls = record { ended = Unwound at_preinst []; as_turned = refl; legal = legal_unwound p [] ts falls }
-legal_turn p UndoFailed ts (owner, owners, falls) = record { ended = Unwound at_preinst (owner ∷ owners); as_turned = (owner, owners, refl); legal = legal_unwound p (owner ∷ owners) ts falls }
+legal_turn p UndoFailed ts (owner, owners, falls) = record { ended = Unwound at_preinst (owner ∷ owners); as_turned = some_owned p owner owners (owned p [] (owner ∷ owners) falls.back refl falls.undoes); legal = legal_unwound p (owner ∷ owners) ts falls }
 
 -- the scripts lie in `tmp.ci` until they are cleared away
 
@@ -117,13 +131,7 @@ pub record EndTable (p : Package) (ended : Ended) (before after : List Record) :
   pub is : IsEnd p ended entry
   pub table : HasChangedRecord p.name entry before after
 
-undone_none : (p : Package) (owners : List Owner) → owners ≡ [] → UndoneEnd p owners None
-undone_none p owners e = subst (λ l. UndoneEnd p l None) (sym e) refl
-
-undone_some : (p : Package) (owner : Owner) (rest owners : List Owner) (entry : Option Record) → owners ≡ owner ∷ rest → IsSomeRecord p flag.Reinstreq state.HalfInstalled entry → UndoneEnd p owners entry
-undone_some p owner rest owners entry e is = subst (λ l. UndoneEnd p l entry) (sym e) is
-
-pub end_table : (p : Package) (turn : Turn) (ended : Ended) (before mid after : List Record) → EndsAs turn ended → IsPutAs p flag.Reinstreq state.HalfInstalled before mid → FinishedTable p turn mid after → EndTable p ended before after
+pub end_table : (p : Package) (turn : Turn) (ended : Ended) (before mid after : List Record) → EndsAs p turn ended → IsPutAs p flag.Reinstreq state.HalfInstalled before mid → FinishedTable p turn mid after → EndTable p ended before after
 end_table p Committed AllSucceeded before mid after turned half put = record {
   entry = Some put.entry;
   is = (put.entry, refl, put.is);
@@ -133,13 +141,13 @@ end_table p Committed (Unwound fall owners) before mid after turned half put = a
 end_table p Undone AllSucceeded before mid after turned half dropped = absurd turned
 end_table p Undone (Unwound fall owners) before mid after turned half dropped = record {
   entry = None;
-  is = undone_none p owners turned;
+  is = subst (λ failed. IsUnwoundEnd p failed None) (sym turned) refl;
   table = twice_changed p.name (Some half.entry) None before mid after (put_changed p flag.Reinstreq state.HalfInstalled before mid half) (λ q. ap (λ t. record_in t q) dropped ∙ record_in-drop_record p.name mid q);
 }
 end_table p UndoFailed AllSucceeded before mid after turned half kept = absurd turned
 end_table p UndoFailed (Unwound fall owners) before mid after turned half kept = record {
   entry = Some half.entry;
-  is = undone_some p turned.0 turned.1 owners (Some half.entry) turned.2 (half.entry, refl, half.is);
+  is = subst (λ failed. IsUnwoundEnd p failed (Some half.entry)) (sym turned) (half.entry, refl, half.is);
   table = λ q. ap (λ t. record_in t q) kept ∙ put_changed p flag.Reinstreq state.HalfInstalled before mid half q;
 }
 
@@ -159,7 +167,7 @@ turn_file p Committed file = own_node p.scripts file
 turn_file p Undone file = None
 turn_file p UndoFailed file = None
 
-pub end_scripts : (p : Package) (turn : Turn) (ended : Ended) → EndsAs turn ended → (script : Script) → turn_file p turn (Some script) ≡ end_script p ended script
+pub end_scripts : (p : Package) (turn : Turn) (ended : Ended) → EndsAs p turn ended → (script : Script) → turn_file p turn (Some script) ≡ end_script p ended script
 end_scripts p Committed AllSucceeded turned script = refl
 end_scripts p Committed (Unwound fall owners) turned script = absurd turned
 end_scripts p Undone AllSucceeded turned script = absurd turned
@@ -282,27 +290,32 @@ begun_laid p after old now worlds = laid_keeps p worlds.laid now (noted_within w
 -- moments
 
 module _ (p : Package) (places : List Path) (before : List Record) where
-  amid_notes : (flag : Flag) (state : State') (prev : List Record) (old w now : World) → IsAmid p places before old w → ((entry : Record) → IsRecordOf p flag state entry → IsStage p before (put_record entry prev)) → IsNotingAs p flag state prev w now → IsAmid p places before old now
+  amid_notes : (flag : Flag) (state : State') (prev : List Record) (old w now : World) → IsAmid p places before old w → ((entry : Record) → IsRecordOf p flag state entry → IsStage p before old w (put_record entry prev)) → IsNotingAs p flag state prev w now → IsAmid p places before old now
   amid_notes flag state prev old w now amid stage notes = elim notes.status [
     | inl e ↦ amid_status p places before old w now amid amid.stage amid.is_stage (moved_records amid.stage w now e amid.records) notes.ready.spare notes.rest
     | inr has ↦ amid_status p places before old w now amid (put_record has.0 prev) (stage has.0 has.1) has.2 notes.ready.spare notes.rest
   ]
 
   pub amid_beginning : (old now : World) → IsInOrder old → IsIncoming old → HasRecords old before → IsBeginning p before old now → IsAmid p places before old now
-  amid_beginning old now order incoming has (clearing is) = amid_changing p places before old old now (amid_start p places before old order incoming has) is
-  amid_beginning old now order incoming has (laying cleared is laid) = amid_tmp p places before old cleared now (amid_changing p places before old old cleared (amid_start p places before old order incoming has) is) laid
+  amid_beginning old now order incoming has (clearing is) = amid_clearing p places before old now order incoming has is
+  amid_beginning old now order incoming has (laying cleared is laid) = amid_tmp p places before old cleared now (amid_clearing p places before old cleared order incoming has (clearing_cleared p.name old cleared is)) laid
   amid_beginning old now order incoming has (noting cleared laid is within noted) =
       amid_notes flag.Reinstreq state.HalfInstalled before old laid now
-      (amid_tmp p places before old cleared laid (amid_changing p places before old old cleared (amid_start p places before old order incoming has) is) within) (λ entry is. IsStage.half entry is) noted
+      (amid_tmp p places before old cleared laid (amid_clearing p places before old cleared order incoming has (clearing_cleared p.name old cleared is)) within)
+      (λ entry is_entry. IsStage.half entry is_entry (own_none p laid (λ f. within.rest (own_path p.name f) refl ∙ is.gone f))) noted
 
-  pub amid_finishing : (turn : Turn) (mid : List Record) (old w now : World) → IsPutAs p flag.Reinstreq state.HalfInstalled before mid → IsAmid p places before old w → IsFinishing p turn mid w now → IsAmid p places before old now
-  amid_finishing turn mid old w now half amid (storing t is) = amid_changing p places before old w now amid is
-  amid_finishing turn mid old w now half amid (unpacked t stored is noted) =
-      amid_notes flag.Ok state.Unpacked mid old stored now (amid_changing p places before old w stored amid is)
-      (λ entry is. subst (λ l. IsStage p before (put_record entry l)) (sym half.table) (IsStage.unpacked half.entry entry half.is is)) noted
-  amid_finishing turn mid old w now half amid (forgetting t is) =
-      amid_noting p places before old w now amid (drop_record p.name mid) (subst (λ l. IsStage p before (drop_record p.name l)) (sym half.table) (IsStage.forgotten half.entry half.is)) is
-  amid_finishing turn mid old w now half amid (left t e) = subst (IsAmid p places before old) (sym e) amid
+  half_stage : (mid : List Record) (old w : World) → IsPutAs p flag.Reinstreq state.HalfInstalled before mid → HasOwn MayBeStored p w → IsStage p before old w mid
+  half_stage mid old w half own = subst (IsStage p before old w) (sym half.table) (IsStage.half half.entry half.is own)
+
+  pub amid_finishing : (turn : Turn) (ts : List Ran) (mid : List Record) (old w now : World) → IsPutAs p flag.Reinstreq state.HalfInstalled before mid → Stands p places ts mid (λ file. None) old w → IsAmid p places before old w → IsFinishing p turn mid w now → IsAmid p places before old now
+  amid_finishing turn ts mid old w now half stands amid (storing t is) = amid_own p places before old w now amid mid stands.records (half_stage mid old now half (own_putting p w now stands.own is)) is.spares is.rest
+  amid_finishing turn ts mid old w now half stands amid (unpacked t stored is ready noted) =
+      let own = own_stored p w stored stands.own is in
+      amid_notes flag.Ok state.Unpacked mid old stored now (amid_own p places before old w stored amid mid stands.records (half_stage mid old stored half (some_stored p stored own)) ready.spares is.rest)
+      (λ entry is_entry. subst (λ l. IsStage p before old stored (put_record entry l)) (sym half.table) (IsStage.unpacked half.entry entry half.is is_entry own)) noted
+  amid_finishing turn ts mid old w now half stands amid (forgetting t is) =
+      amid_noting p places before old w now amid (drop_record p.name mid) (subst (λ l. IsStage p before old w (drop_record p.name l)) (sym half.table) (IsStage.forgotten half.entry half.is (own_gone p w stands.own))) is
+  amid_finishing turn ts mid old w now half stands amid (left t e) = subst (IsAmid p places before old) (sym e) amid
 
 -- the whole
 

@@ -1,7 +1,10 @@
--- The end of a package that wasn't installed before, by how its rows ended.
-use Rattle.std.specs.Prelude.{◌≡◌, List, [], ◌∷◌, Option, Some, None}
+-- The end of a package that wasn't installed before and had no record, by how its rows ended (Policy 6.6).
+use Rattle.std.specs.Prelude.{◌≡◌, ℕ, Bool, true, false, List, Option, Some, None}
+use Rattle.std.specs.List.{list_any}
+use Rattle.std.specs.Str.{bytes_eq}
 use Rattle.host_core.specs.declared.node.Node.{Node}
 use Rattle.unwind_stack.specs.declared.rows.Owner.{Owner}
+use Rattle.unwind_stack.specs.declared.rows.Owner.TheVariants.{Package as OfPackage, Files}
 use Rattle.unwind_stack.specs.Transcript.{Ended, Committed, Unwound}
 use Rattle.package_tree.specs.declared.package.Package.{Package}
 use Rattle.host_core.specs.declared.call.Script.{Script}
@@ -26,15 +29,23 @@ pub record IsRecordOf (p : Package) (flag : Flag) (state : State) (r : Record) :
 abbrev pub IsSomeRecord : Package → Flag → State → Option Record → Type 0
 IsSomeRecord p flag state entry = (r : Record) × (entry ≡ Some r) × IsRecordOf p flag state r
 
--- after an undo that failed or didn't
-abbrev pub UndoneEnd : Package → List Owner → Option Record → Type 0
-UndoneEnd p [] entry = entry ≡ None
-UndoneEnd p (owner ∷ owners) entry = IsSomeRecord p flag.Reinstreq state.HalfInstalled entry
+-- whether a failed undo is one of the package's own
+abbrev pub is_owned_by : List ℕ → Owner → Bool
+is_owned_by name (OfPackage other) = bytes_eq other name
+is_owned_by name Files = false
+
+abbrev pub own_undo_failed : Package → List Owner → Bool
+own_undo_failed p owners = list_any (is_owned_by p.name) owners
+
+-- After unwinding, by whether an undo of its own failed: none, as before; or half-installed, and to be installed again.
+abbrev pub IsUnwoundEnd : Package → Bool → Option Record → Type 0
+IsUnwoundEnd p false entry = entry ≡ None
+IsUnwoundEnd p true entry = IsSomeRecord p flag.Reinstreq state.HalfInstalled entry
 
 -- the record at the end
 abbrev pub IsEnd : Package → Ended → Option Record → Type 0
 IsEnd p Committed entry = IsSomeRecord p flag.Ok state.Unpacked entry
-IsEnd p (Unwound fall owners) entry = UndoneEnd p owners entry
+IsEnd p (Unwound fall owners) entry = IsUnwoundEnd p (own_undo_failed p owners) entry
 
 -- the package's stored scripts at the end
 abbrev pub end_script : Package → Ended → Script → Option Node

@@ -49,6 +49,15 @@ pub record IsCleared (name : List ℕ) (old new : World) : Type 0 where
   pub gone : (file : OwnFile) → new (own_path name file) ≡ None
   pub rest : (q : Path) → ((file : OwnFile) → q ≢ own_path name file) → new q ≡ old q
 
+-- each of these files is what it was, or gone
+abbrev pub AreSameOrGone : List ℕ → World → World → Type 0
+AreSameOrGone name old now = (file : OwnFile) → (now (own_path name file) ≡ old (own_path name file)) ⊎ (now (own_path name file) ≡ None)
+
+-- at each moment of taking them away
+pub record IsClearing (name : List ℕ) (old now : World) : Type 0 where
+  pub own : AreSameOrGone name old now
+  pub rest : (q : Path) → ((file : OwnFile) → q ≢ own_path name file) → now q ≡ old q
+
 -- all but these files and their temporary names is as before
 abbrev pub KeepsBesideOwn : List ℕ → World → World → Type 0
 KeepsBesideOwn name old new = (q : Path) → ((file : OwnFile) → (q ≢ own_path name file) × (q ≢ temporary (own_path name file))) → new q ≡ old q
@@ -65,7 +74,7 @@ pub record IsInstalled (name : List ℕ) (scripts : Scripts) (old new : World) :
   pub spares : (file : OwnFile) → old (temporary (own_path name file)) ≡ None → new (temporary (own_path name file)) ≡ None
   pub rest : KeepsBesideOwn name old new
 
--- At each moment: each of these files is what it was, or gone, or whole what it is to be.
+-- At each moment of putting them there: each of these files is what it was, or gone, or whole what it is to be.
 pub data IsOwnMoment (node before now : Option Node) : Type 0 where
   same : now ≡ before → IsOwnMoment node before now
   gone : now ≡ None → IsOwnMoment node before now

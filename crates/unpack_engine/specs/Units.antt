@@ -1,14 +1,13 @@
 -- The parts of a unit, and the whole.
-use Rattle.std.specs.Prelude.{◌≡◌, List, [], ◌∷◌, ◌++◌}
+use Rattle.std.specs.Prelude.{◌≡◌, true, false, List, ◌++◌}
 use Rattle.host_core.specs.Paths.{Path}
 use Rattle.host_core.specs.World.{World, KeepsBut}
 use Rattle.host_core.specs.Host.{Ran, State}
 use Rattle.administration.specs.Places.{tmp_path, is_within}
 use Rattle.unwind_stack.specs.Transcript.{Ended, Committed as AllSucceeded, Unwound, Tells}
 use Rattle.unwind_stack.specs.declared.rows.Called.{Called}
-use Rattle.unwind_stack.specs.declared.rows.Owner.{Owner}
 use Rattle.package_tree.specs.declared.package.Package.{Package}
-use Rattle.unpack_engine.specs.OwnFiles.{IsCleared, IsInstalled, IsChanging, IsOwnReady}
+use Rattle.unpack_engine.specs.OwnFiles.{IsCleared, IsClearing, IsInstalled, IsChanging, IsOwnReady}
 use Rattle.unpack_engine.specs.Incoming.{AreLaidOut, IsLaying}
 use Rattle.status_db.specs.declared.record.Record.{Record}
 use Rattle.status_db.specs.declared.words.Flag.TheVariants as flag
@@ -17,6 +16,7 @@ use Rattle.status_db.specs.Records.{drop_record}
 use Rattle.status_db.specs.Status.{IsNoted, IsNoting}
 use Rattle.unpack_engine.specs.declared.rows.Turn.{Turn}
 use Rattle.unpack_engine.specs.declared.rows.Turn.TheVariants.{Committed, Undone, UndoFailed}
+use Rattle.unpack_engine.specs.EndStates.{own_undo_failed}
 use Rattle.unpack_engine.specs.Unpack.{Unpacks}
 use Rattle.unpack_engine.specs.Stages.{IsPutAs, IsNotingAs}
 
@@ -36,9 +36,9 @@ pub record HasBegun (p : Package) (before after : List Record) (honest : Type 0)
 
 -- at each moment of the beginning
 pub data IsBeginning (p : Package) (before : List Record) (old now : World) : Type 0 where
-  clearing : IsChanging p.name p.scripts old now → IsBeginning p before old now
-  laying : (cleared : World) → IsChanging p.name p.scripts old cleared → IsLaying cleared now → IsBeginning p before old now
-  noting : (cleared laid : World) → IsChanging p.name p.scripts old cleared → IsLaying cleared laid → IsNotingAs p flag.Reinstreq state.HalfInstalled before laid now → IsBeginning p before old now
+  clearing : IsClearing p.name old now → IsBeginning p before old now
+  laying : (cleared : World) → IsCleared p.name old cleared → IsLaying cleared now → IsBeginning p before old now
+  noting : (cleared laid : World) → IsCleared p.name old cleared → IsLaying cleared laid → IsNotingAs p flag.Reinstreq state.HalfInstalled before laid now → IsBeginning p before old now
 
 -- how the unit is finished, by the turn that its rows took
 abbrev pub FinishedWorlds : Package → Turn → List Record → World → World → Type 0
@@ -57,24 +57,24 @@ pub record HasFinished (p : Package) (turn : Turn) (before after : List Record) 
 
 pub data IsFinishing (p : Package) (turn : Turn) (before : List Record) (old now : World) : Type 0 where
   storing : turn ≡ Committed → IsChanging p.name p.scripts old now → IsFinishing p turn before old now
-  unpacked : turn ≡ Committed → (stored : World) → IsChanging p.name p.scripts old stored → IsNotingAs p flag.Ok state.Unpacked before stored now → IsFinishing p turn before old now
+  unpacked : turn ≡ Committed → (stored : World) → IsInstalled p.name p.scripts old stored → IsOwnReady p.name stored → IsNotingAs p flag.Ok state.Unpacked before stored now → IsFinishing p turn before old now
   forgetting : turn ≡ Undone → IsNoting (drop_record p.name before) old now → IsFinishing p turn before old now
   left : turn ≡ UndoFailed → now ≡ old → IsFinishing p turn before old now
 
 -- how the rows ended, as the turn tells it
-abbrev pub EndsAs : Turn → Ended → Type 0
-EndsAs Committed AllSucceeded = Unit {0}
-EndsAs Committed (Unwound fall owners) = ⊥
-EndsAs Undone AllSucceeded = ⊥
-EndsAs Undone (Unwound fall owners) = owners ≡ []
-EndsAs UndoFailed AllSucceeded = ⊥
-EndsAs UndoFailed (Unwound fall owners) = (owner : Owner) × (rest : List Owner) × (owners ≡ owner ∷ rest)
+abbrev pub EndsAs : Package → Turn → Ended → Type 0
+EndsAs p Committed AllSucceeded = Unit {0}
+EndsAs p Committed (Unwound fall owners) = ⊥
+EndsAs p Undone AllSucceeded = ⊥
+EndsAs p Undone (Unwound fall owners) = own_undo_failed p owners ≡ false
+EndsAs p UndoFailed AllSucceeded = ⊥
+EndsAs p UndoFailed (Unwound fall owners) = own_undo_failed p owners ≡ true
 
 -- the whole unit, with the calls that were told
 pub record HasUnpacked (p : Package) (places : List Path) (turn : Turn) (before after : List Record) (old new : State) (told now : List Called) : Type 0 where
   pub ended : Ended
   pub ts : List Ran
-  pub is_end : EndsAs turn ended
+  pub is_end : EndsAs p turn ended
   pub calls : new.calls ≡ old.calls ++ ts
   pub tells : Tells ts told now
   pub unit : Unpacks p places before after ended ts old new

@@ -6,6 +6,7 @@ use Rattle.host_core.specs.Paths.{Path}
 use Rattle.host_core.specs.World.{World, IsDirectory, Avoids, changed, is_kept}
 use Rattle.host_core.specs.Host.{Ran, State, Silent, Calls, IsLater, scripts_change}
 use Rattle.host_core.specs.Tree.{has_slash}
+use Rattle.host_core.specs.declared.node.Node.{Node}
 use Rattle.host_core.specs.declared.call.Script.{Script}
 use Rattle.administration.specs.Places.{home_path, info_path, status_path, tmp_path, tmp_script_path, temporary, is_within}
 use Rattle.administration.specs.Files.{NoDirectory}
@@ -14,7 +15,7 @@ use Rattle.unwind_stack.specs.Transcript.{Ended, Legal}
 use Rattle.package_tree.specs.declared.package.Package.{Package}
 use Rattle.unpack_engine.specs.Incoming.{IsIncoming}
 use Rattle.file_lists.specs.Lists.{NamesNothing}
-use Rattle.unpack_engine.specs.OwnFiles.{OwnFile, own_path, IsOwnMoment}
+use Rattle.unpack_engine.specs.OwnFiles.{OwnFile, own_path, AreSameOrGone}
 use Rattle.status_db.specs.declared.record.Record.{Record}
 use Rattle.status_db.specs.Records.{record_in, put_record, drop_record, standing}
 use Rattle.status_db.specs.Status.{HasRecords}
@@ -83,22 +84,41 @@ pub record Unpacks (p : Package) (places : List Path) (before after : List Recor
   pub made : MadeCalls (is_kept places) p before ts old new
   pub leaves : IsTrue old.honest → IsLeft p places before after ended ts old.world new.world
 
--- Which records stand at some moment: those of before; with the package half-installed; then unpacked, or gone.
-pub data IsStage (p : Package) (before : List Record) : List Record → Type 0 where
-  as_before : IsStage p before before
-  half : (r : Record) → IsRecordOf p flag.Reinstreq state.HalfInstalled r → IsStage p before (put_record r before)
-  unpacked : (r s : Record) → IsRecordOf p flag.Reinstreq state.HalfInstalled r → IsRecordOf p flag.Ok state.Unpacked s → IsStage p before (put_record s (put_record r before))
-  forgotten : (r : Record) → IsRecordOf p flag.Reinstreq state.HalfInstalled r → IsStage p before (drop_record p.name (put_record r before))
+-- this script is stored as the tree has it
+abbrev pub IsStored : Package → Script → Option Node → Type 0
+IsStored p script node = node ≡ file_of (script_of p.scripts script)
 
--- At each moment of it: the records are those of a stage, the package's files are whole, nothing is in the way of the next
+-- this script isn't stored
+abbrev pub IsNotStored : Package → Script → Option Node → Type 0
+IsNotStored p script node = node ≡ None
+
+-- this script is stored whole, or not at all
+abbrev pub MayBeStored : Package → Script → Option Node → Type 0
+MayBeStored p script node = IsNotStored p script node ⊎ IsStored p script node
+
+-- the package's list names nothing, and each of its scripts is stored as is said
+pub record HasOwn (scripts_are : Package → Script → Option Node → Type 0) (p : Package) (w : World) : Type 0 where
+  pub list : NamesNothing (w (own_path p.name None))
+  pub scripts : (script : Script) → scripts_are p script (w (own_path p.name (Some script)))
+
+-- How far the package is at some moment (Policy 6.6): the records that stand, and its own files with them.
+pub data IsStage (p : Package) (before : List Record) (old now : World) : List Record → Type 0 where
+  -- not recorded yet: what stood under its name may still be there
+  as_before : AreSameOrGone p.name old now → IsStage p before old now before
+  -- half-installed: of what stood there nothing is left; scripts of the tree may be stored
+  half : (r : Record) → IsRecordOf p flag.Reinstreq state.HalfInstalled r → HasOwn MayBeStored p now → IsStage p before old now (put_record r before)
+  -- unpacked: each script of the tree is stored
+  unpacked : (r s : Record) → IsRecordOf p flag.Reinstreq state.HalfInstalled r → IsRecordOf p flag.Ok state.Unpacked s → HasOwn IsStored p now → IsStage p before old now (put_record s (put_record r before))
+  -- not recorded any more: nothing is stored
+  forgotten : (r : Record) → IsRecordOf p flag.Reinstreq state.HalfInstalled r → HasOwn IsNotStored p now → IsStage p before old now (drop_record p.name (put_record r before))
+
+-- At each moment of it: the records and the package's files are those of a stage, nothing is in the way of the next
 -- opening, all kept places are as before.
 pub record IsAmid (p : Package) (places : List Path) (before : List Record) (old now : World) : Type 0 where
   pub stage : List Record
-  pub is_stage : IsStage p before stage
+  pub is_stage : IsStage p before old now stage
   pub records : HasRecords now stage
   pub status_spare : NoDirectory (now (temporary status_path))
-  pub list : (now (own_path p.name None) ≡ old (own_path p.name None)) ⊎ NamesNothing (now (own_path p.name None))
-  pub scripts : (script : Script) → IsOwnMoment (file_of (script_of p.scripts script)) (old (own_path p.name (Some script))) (now (own_path p.name (Some script)))
   pub spares : (file : OwnFile) → NoDirectory (now (temporary (own_path p.name file)))
   pub incoming : IsIncoming now
   pub rest : (q : Path) → IsOutside p.name q → is_kept places q ≡ true → now q ≡ old q

@@ -4,22 +4,17 @@ ghost use Rattle.host_core.specs.World.{IsDirectory};
 ghost use Rattle.host_core.specs.Host.{HasCause, Silent, Since};
 ghost use Rattle.administration.specs.Places.{info_path};
 ghost use Rattle.administration.specs.Files.{IsDropped};
-ghost use Rattle.unpack_engine.specs.OwnFiles.{own_path, own_node, root_list, HasDroppedScripts, HasPutScripts, IsPut, IsCleared, IsInstalled, IsChanging, IsOwnReady};
+ghost use Rattle.unpack_engine.specs.OwnFiles.{own_path, own_node, root_list, HasDroppedScripts, HasPutScripts, IsPut, IsCleared, IsClearing, IsInstalled, IsChanging, IsOwnReady};
 
 use administration::{Scripts, discard, list_path, replace, script_path};
 use host_core::{Host, HostFault, Node, Script};
 use std::alloc::{AllocError, Global};
 use texts::{Bytes, Text};
 
-fn drop_list<H: Host>(
-    alloc: Global,
-    host: &mut H,
-    name: &Text,
-    scripts: &Scripts,
-) -> Result<(), HostFault>
+fn drop_list<H: Host>(alloc: Global, host: &mut H, name: &Text) -> Result<(), HostFault>
     requires { IsTrue (H.state host.old).honest → IsOwnReady name.now (H.state host.old).world }
     ensures dropped { IsTrue (H.state host.old).honest → OnOk result (IsDropped (own_path name.now None) (H.state host.old).world (H.state host.new).world) }
-    ensures any_moment { IsTrue (H.state host.old).honest → Since (IsChanging name.now scripts.now (H.state host.old).world) (H.state host.old) (H.state host.new) }
+    ensures any_moment { IsTrue (H.state host.old).honest → Since (IsClearing name.now (H.state host.old).world) (H.state host.old) (H.state host.new) }
     ensures silent { Silent (H.state host.old) (H.state host.new) }
     ensures cause { HasCause (H.state host.old) (H.state host.new) result }
 {
@@ -31,12 +26,11 @@ fn drop_script<H: Host>(
     alloc: Global,
     host: &mut H,
     name: &Text,
-    scripts: &Scripts,
     script: Script,
 ) -> Result<(), HostFault>
     requires { IsTrue (H.state host.old).honest → IsOwnReady name.now (H.state host.old).world }
     ensures dropped { IsTrue (H.state host.old).honest → OnOk result (IsDropped (own_path name.now (Some script)) (H.state host.old).world (H.state host.new).world) }
-    ensures any_moment { IsTrue (H.state host.old).honest → Since (IsChanging name.now scripts.now (H.state host.old).world) (H.state host.old) (H.state host.new) }
+    ensures any_moment { IsTrue (H.state host.old).honest → Since (IsClearing name.now (H.state host.old).world) (H.state host.old) (H.state host.new) }
     ensures silent { Silent (H.state host.old) (H.state host.new) }
     ensures cause { HasCause (H.state host.old) (H.state host.new) result }
 {
@@ -45,22 +39,17 @@ fn drop_script<H: Host>(
 }
 
 // Removes the four stored scripts.
-fn drop_scripts<H: Host>(
-    alloc: Global,
-    host: &mut H,
-    name: &Text,
-    scripts: &Scripts,
-) -> Result<(), HostFault>
+fn drop_scripts<H: Host>(alloc: Global, host: &mut H, name: &Text) -> Result<(), HostFault>
     requires { IsTrue (H.state host.old).honest → IsOwnReady name.now (H.state host.old).world }
     ensures dropped { IsTrue (H.state host.old).honest → OnOk result (HasDroppedScripts name.now (H.state host.old).world (H.state host.new).world) }
-    ensures any_moment { IsTrue (H.state host.old).honest → Since (IsChanging name.now scripts.now (H.state host.old).world) (H.state host.old) (H.state host.new) }
+    ensures any_moment { IsTrue (H.state host.old).honest → Since (IsClearing name.now (H.state host.old).world) (H.state host.old) (H.state host.new) }
     ensures silent { Silent (H.state host.old) (H.state host.new) }
     ensures cause { HasCause (H.state host.old) (H.state host.new) result }
 {
-    drop_script(alloc, host, name, scripts, Script::Preinst)?;
-    drop_script(alloc, host, name, scripts, Script::Postinst)?;
-    drop_script(alloc, host, name, scripts, Script::Prerm)?;
-    drop_script(alloc, host, name, scripts, Script::Postrm)
+    drop_script(alloc, host, name, Script::Preinst)?;
+    drop_script(alloc, host, name, Script::Postinst)?;
+    drop_script(alloc, host, name, Script::Prerm)?;
+    drop_script(alloc, host, name, Script::Postrm)
 }
 
 /// Removes a list and scripts that stand under a package's name.
@@ -68,16 +57,15 @@ pub(crate) fn discard_own<H: Host>(
     alloc: Global,
     host: &mut H,
     name: &Text,
-    scripts: &Scripts,
 ) -> Result<(), HostFault>
     requires { IsTrue (H.state host.old).honest → IsOwnReady name.now (H.state host.old).world }
     ensures cleared { IsTrue (H.state host.old).honest → OnOk result (IsCleared name.now (H.state host.old).world (H.state host.new).world) }
-    ensures any_moment { IsTrue (H.state host.old).honest → Since (IsChanging name.now scripts.now (H.state host.old).world) (H.state host.old) (H.state host.new) }
+    ensures any_moment { IsTrue (H.state host.old).honest → Since (IsClearing name.now (H.state host.old).world) (H.state host.old) (H.state host.new) }
     ensures silent { Silent (H.state host.old) (H.state host.new) }
     ensures cause { HasCause (H.state host.old) (H.state host.new) result }
 {
-    drop_list(alloc, host, name, scripts)?;
-    drop_scripts(alloc, host, name, scripts)
+    drop_list(alloc, host, name)?;
+    drop_scripts(alloc, host, name)
 }
 
 fn root_list(alloc: Global) -> Result<Node, AllocError>

@@ -33,7 +33,7 @@ fn begin<H: Host>(
     ensures silent { Silent (H.state host.old) (H.state host.new) }
     ensures cause { HasCause (H.state host.old) (H.state host.new) result }
 {
-    discard_own(alloc, host, &incoming.name, &incoming.scripts)?;
+    discard_own(alloc, host, &incoming.name)?;
     lay_out(alloc, host, &incoming.scripts)?;
     note_as(
         alloc,

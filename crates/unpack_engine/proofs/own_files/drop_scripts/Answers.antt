@@ -1,36 +1,36 @@
 use Rattle.std.proofs.Common.{sym, subst, IsTrue}
 use Rattle.std.proofs.lemmas.Result.{on_ok_weaker}
-use Rattle.unpack_engine.proofs.Changes.{goes_one, goes_then, goes_ready, dropped_four}
+use Rattle.unpack_engine.proofs.Changes.{clears_one, clears_then, clears_ready, dropped_four}
 use Rattle.unpack_engine.proofs.own_files.drop_scripts.Goals as goal
 
 pub drop_script-requires-2 : goal.drop_script-requires-2
 drop_script-requires-2 g c =
-    let one = goes_one c.args.name.now c.args.scripts.now _ _ c.drop_script.ensures.silent c.drop_script.ensures.any_moment in
-    goes_ready c.args.name.now c.args.scripts.now _ _ c.requires one
+    let one = clears_one c.args.name.now _ _ c.drop_script.ensures.silent c.drop_script.ensures.any_moment in
+    clears_ready c.args.name.now _ _ c.requires one
 
 pub returns-in_err-drop_script-2-clause-any_moment : goal.returns-in_err-drop_script-2-clause-any_moment
 returns-in_err-drop_script-2-clause-any_moment g c =
-    let one = goes_one c.args.name.now c.args.scripts.now _ _ c.drop_script.ensures.silent c.drop_script.ensures.any_moment in
-    (goes_then c.args.name.now c.args.scripts.now _ _ _ one c.drop_script-2.ensures.silent c.drop_script-2.ensures.any_moment).moments
+    let one = clears_one c.args.name.now _ _ c.drop_script.ensures.silent c.drop_script.ensures.any_moment in
+    (clears_then c.args.name.now _ _ _ one c.drop_script-2.ensures.silent c.drop_script-2.ensures.any_moment).moments
 
 pub drop_script-requires-3 : goal.drop_script-requires-3
 drop_script-requires-3 g c =
-    let one = goes_one c.args.name.now c.args.scripts.now _ _ c.drop_script.ensures.silent c.drop_script.ensures.any_moment in
-    let two = goes_then c.args.name.now c.args.scripts.now _ _ _ one c.drop_script-2.ensures.silent c.drop_script-2.ensures.any_moment in
-    goes_ready c.args.name.now c.args.scripts.now _ _ c.requires two
+    let one = clears_one c.args.name.now _ _ c.drop_script.ensures.silent c.drop_script.ensures.any_moment in
+    let two = clears_then c.args.name.now _ _ _ one c.drop_script-2.ensures.silent c.drop_script-2.ensures.any_moment in
+    clears_ready c.args.name.now _ _ c.requires two
 
 pub returns-in_err-drop_script-3-clause-any_moment : goal.returns-in_err-drop_script-3-clause-any_moment
 returns-in_err-drop_script-3-clause-any_moment g c =
-    let one = goes_one c.args.name.now c.args.scripts.now _ _ c.drop_script.ensures.silent c.drop_script.ensures.any_moment in
-    let two = goes_then c.args.name.now c.args.scripts.now _ _ _ one c.drop_script-2.ensures.silent c.drop_script-2.ensures.any_moment in
-    (goes_then c.args.name.now c.args.scripts.now _ _ _ two c.drop_script-3.ensures.silent c.drop_script-3.ensures.any_moment).moments
+    let one = clears_one c.args.name.now _ _ c.drop_script.ensures.silent c.drop_script.ensures.any_moment in
+    let two = clears_then c.args.name.now _ _ _ one c.drop_script-2.ensures.silent c.drop_script-2.ensures.any_moment in
+    (clears_then c.args.name.now _ _ _ two c.drop_script-3.ensures.silent c.drop_script-3.ensures.any_moment).moments
 
 pub drop_script-requires-4 : goal.drop_script-requires-4
 drop_script-requires-4 g c =
-    let one = goes_one c.args.name.now c.args.scripts.now _ _ c.drop_script.ensures.silent c.drop_script.ensures.any_moment in
-    let two = goes_then c.args.name.now c.args.scripts.now _ _ _ one c.drop_script-2.ensures.silent c.drop_script-2.ensures.any_moment in
-    let three = goes_then c.args.name.now c.args.scripts.now _ _ _ two c.drop_script-3.ensures.silent c.drop_script-3.ensures.any_moment in
-    goes_ready c.args.name.now c.args.scripts.now _ _ c.requires three
+    let one = clears_one c.args.name.now _ _ c.drop_script.ensures.silent c.drop_script.ensures.any_moment in
+    let two = clears_then c.args.name.now _ _ _ one c.drop_script-2.ensures.silent c.drop_script-2.ensures.any_moment in
+    let three = clears_then c.args.name.now _ _ _ two c.drop_script-3.ensures.silent c.drop_script-3.ensures.any_moment in
+    clears_ready c.args.name.now _ _ c.requires three
 
 pub returns-clause-dropped : goal.returns-clause-dropped
 returns-clause-dropped g c = λ h.
@@ -41,7 +41,7 @@ returns-clause-dropped g c = λ h.
 
 pub returns-clause-any_moment : goal.returns-clause-any_moment
 returns-clause-any_moment g c =
-    let one = goes_one c.args.name.now c.args.scripts.now _ _ c.drop_script.ensures.silent c.drop_script.ensures.any_moment in
-    let two = goes_then c.args.name.now c.args.scripts.now _ _ _ one c.drop_script-2.ensures.silent c.drop_script-2.ensures.any_moment in
-    let three = goes_then c.args.name.now c.args.scripts.now _ _ _ two c.drop_script-3.ensures.silent c.drop_script-3.ensures.any_moment in
-    (goes_then c.args.name.now c.args.scripts.now _ _ _ three c.drop_script-4.ensures.silent c.drop_script-4.ensures.any_moment).moments
+    let one = clears_one c.args.name.now _ _ c.drop_script.ensures.silent c.drop_script.ensures.any_moment in
+    let two = clears_then c.args.name.now _ _ _ one c.drop_script-2.ensures.silent c.drop_script-2.ensures.any_moment in
+    let three = clears_then c.args.name.now _ _ _ two c.drop_script-3.ensures.silent c.drop_script-3.ensures.any_moment in
+    (clears_then c.args.name.now _ _ _ three c.drop_script-4.ensures.silent c.drop_script-4.ensures.any_moment).moments

@@ -1,6 +1,6 @@
 use Rattle.std.proofs.Common.{sym, subst, IsTrue}
 use Rattle.host_core.specs.Moments.{since_then, since_weaker, since_now}
-use Rattle.unpack_engine.proofs.Changes.{changing_ready, own_nodes}
+use Rattle.unpack_engine.proofs.Changes.{clearing_ready}
 use Rattle.unpack_engine.specs.Units.{IsBeginning}
 use Rattle.unpack_engine.specs.Units.IsBeginning.{clearing, laying, noting}
 use Rattle.unpack_engine.proofs.Noting.{noted_earlier}
@@ -31,7 +31,7 @@ returns-in_err-lay_out-clause-any_moment g c = λ h.
     let h1 = subst IsTrue (sym c.discard_own.ensures.silent.honest) h in
     let own = c.discard_own.ensures.any_moment h in
     since_then _ _ _ _ (since_weaker _ (IsBeginning p table old) _ _ (λ w is. clearing is) own)
-    (since_weaker _ (IsBeginning p table old) _ _ (λ w is. laying _ (since_now _ _ _ own) is) (c.lay_out.ensures.any_moment h1))
+    (since_weaker _ (IsBeginning p table old) _ _ (λ w is. laying _ (c.in_ok-discard_own.ensures.cleared h) is) (c.lay_out.ensures.any_moment h1))
 
 pub note_as-requires : goal.note_as-requires
 note_as-requires g c = λ h2.
@@ -49,8 +49,8 @@ returns-clause-any_moment g c = λ h.
     let own = c.discard_own.ensures.any_moment h in
     let tmp = c.lay_out.ensures.any_moment h1 in
     since_then _ _ _ _
-    (since_then _ _ _ _ (since_weaker _ (IsBeginning p table old) _ _ (λ w is. clearing is) own) (since_weaker _ (IsBeginning p table old) _ _ (λ w is. laying _ (since_now _ _ _ own) is) tmp))
-    (since_weaker _ (IsBeginning p table old) _ _ (λ w is. noting _ _ (since_now _ _ _ own) (since_now _ _ _ tmp) is) (c.note_as.ensures.any_moment h2))
+    (since_then _ _ _ _ (since_weaker _ (IsBeginning p table old) _ _ (λ w is. clearing is) own) (since_weaker _ (IsBeginning p table old) _ _ (λ w is. laying _ (c.in_ok-discard_own.ensures.cleared h) is) tmp))
+    (since_weaker _ (IsBeginning p table old) _ _ (λ w is. noting _ _ (c.in_ok-discard_own.ensures.cleared h) (since_now _ _ _ tmp) is) (c.note_as.ensures.any_moment h2))
 
 pub returns-clause-begun : goal.returns-clause-begun
 returns-clause-begun g c =
@@ -60,7 +60,7 @@ returns-clause-begun g c =
     let honest1 = λ (h : IsTrue (state c.args.host.now).honest). subst IsTrue (sym c.discard_own.ensures.silent.honest) h in
     begun_by p c.args.database.now _ (IsTrue (state c.args.host.now).honest) old (state c.discard_own.new.host).world (state c.lay_out.new.host).world _ c.note_as.result
     (λ h. c.in_ok-discard_own.ensures.cleared h)
-    (λ h. changing_ready p.name p.scripts old (state c.discard_own.new.host).world (own_nodes p.scripts) (own_in_order p.name old p.named (c.requires h)) (since_now _ _ _ (c.discard_own.ensures.any_moment h)))
+    (λ h. clearing_ready p.name old (state c.discard_own.new.host).world (own_in_order p.name old p.named (c.requires h)) (since_now _ _ _ (c.discard_own.ensures.any_moment h)))
     (λ h. c.in_ok-lay_out.ensures.laid (honest1 h))
     (λ h. (since_now _ _ _ (c.lay_out.ensures.any_moment (honest1 h))).rest)
     (noted_earlier p _ _ c.args.database.now _ _ _ _ _ c.note_as.result (λ (h : IsTrue (state c.args.host.now).honest). subst IsTrue (sym c.lay_out.ensures.silent.honest) (honest1 h)) c.note_as.ensures.noted)

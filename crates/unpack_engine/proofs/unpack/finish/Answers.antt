@@ -17,9 +17,11 @@ returns-in-Committed-clause-any_moment g c = λ h.
     let table = c.args.database.now in
     let old = (g.H.Host.state c.args.host.now).world in
     let h1 = subst IsTrue (sym c.store_own.ensures.silent.honest) h in
+    let stored = (g.H.Host.state c.store_own.new.host).world in
     let own = c.store_own.ensures.any_moment h in
+    let ready = changing_ready p.name p.scripts old stored (own_nodes p.scripts) (c.requires.own h) (since_now _ _ _ own) in
     since_then _ _ _ _ (since_weaker _ (IsFinishing p c.args.turn table old) _ _ (λ w is. storing c.in-Committed.is is) own)
-    (since_weaker _ (IsFinishing p c.args.turn table old) _ _ (λ w is. unpacked c.in-Committed.is _ (since_now _ _ _ own) is) (c.note_as.ensures.any_moment h1))
+    (since_weaker _ (IsFinishing p c.args.turn table old) _ _ (λ w is. unpacked c.in-Committed.is stored (c.in_ok-store_own-in-Committed.ensures.installed h) ready is) (c.note_as.ensures.any_moment h1))
 
 pub returns-in-Committed-clause-finished : goal.returns-in-Committed-clause-finished
 returns-in-Committed-clause-finished g c =

@@ -47,7 +47,10 @@ returns-in_err-finish-clause-any_moment g c = λ h.
     let h2 = subst IsTrue (sym c.run_rows.ensures.honest) h1 in
     let m1 = since_weaker _ (IsAmid p places table s0.world) s0 s1 (λ w is. amid_beginning p places table s0.world w (c.requires.order h) (incoming_absent s0.world (g.H.Host.tree c.args.host.now h) (c.requires.order h).tmp) (c.requires.records h) is) (c.begin.ensures.any_moment h) in
     let m2 = since_amid p places table _ s0 s1 s2 (λ w is amid. amid_scripts p places table s0.world s1.world w amid is) m1 (c.run_rows.ensures.any_moment h1) in
-    let m3 = since_amid p places table _ s0 s2 s3 (λ w is amid. amid_finishing p places table c.in_ok-turn.turn c.begin.new.database s0.world s2.world w (c.in_ok-begin.ensures.begun).put amid is) m2 (c.finish.ensures.any_moment h2) in
+    let one = begun_stands p places table c.begin.new.database s0.world s1.world (c.requires.order h) (c.requires.records h) ((c.in_ok-begin.ensures.begun).worlds h) in
+    let made = c.in_ok-turn.ensures.calls in
+    let two = stands_scripts p places [] made.0 c.begin.new.database (λ file. None) s0.world s1 s2 h1 one made.1 in
+    let m3 = since_amid p places table _ s0 s2 s3 (λ w is amid. amid_finishing p places table c.in_ok-turn.turn made.0 c.begin.new.database s0.world s2.world w (c.in_ok-begin.ensures.begun).put two amid is) m2 (c.finish.ensures.any_moment h2) in
     m3
 
 pub returns-in_err-clear_away-clause-any_moment : goal.returns-in_err-clear_away-clause-any_moment
@@ -64,7 +67,10 @@ returns-in_err-clear_away-clause-any_moment g c = λ h.
     let h3 = subst IsTrue (sym c.finish.ensures.silent.honest) h2 in
     let m1 = since_weaker _ (IsAmid p places table s0.world) s0 s1 (λ w is. amid_beginning p places table s0.world w (c.requires.order h) (incoming_absent s0.world (g.H.Host.tree c.args.host.now h) (c.requires.order h).tmp) (c.requires.records h) is) (c.begin.ensures.any_moment h) in
     let m2 = since_amid p places table _ s0 s1 s2 (λ w is amid. amid_scripts p places table s0.world s1.world w amid is) m1 (c.run_rows.ensures.any_moment h1) in
-    let m3 = since_amid p places table _ s0 s2 s3 (λ w is amid. amid_finishing p places table c.in_ok-turn.turn c.begin.new.database s0.world s2.world w (c.in_ok-begin.ensures.begun).put amid is) m2 (c.finish.ensures.any_moment h2) in
+    let one = begun_stands p places table c.begin.new.database s0.world s1.world (c.requires.order h) (c.requires.records h) ((c.in_ok-begin.ensures.begun).worlds h) in
+    let made = c.in_ok-turn.ensures.calls in
+    let two = stands_scripts p places [] made.0 c.begin.new.database (λ file. None) s0.world s1 s2 h1 one made.1 in
+    let m3 = since_amid p places table _ s0 s2 s3 (λ w is amid. amid_finishing p places table c.in_ok-turn.turn made.0 c.begin.new.database s0.world s2.world w (c.in_ok-begin.ensures.begun).put two amid is) m2 (c.finish.ensures.any_moment h2) in
     since_amid p places table _ s0 s3 (g.H.Host.state c.clear_away.new.host) (λ w is amid. amid_tmp p places table s0.world s3.world w amid is) m3 (c.clear_away.ensures.any_moment h3)
 
 pub returns-clause-any_moment : goal.returns-clause-any_moment
@@ -81,7 +87,10 @@ returns-clause-any_moment g c = λ h.
     let h3 = subst IsTrue (sym c.finish.ensures.silent.honest) h2 in
     let m1 = since_weaker _ (IsAmid p places table s0.world) s0 s1 (λ w is. amid_beginning p places table s0.world w (c.requires.order h) (incoming_absent s0.world (g.H.Host.tree c.args.host.now h) (c.requires.order h).tmp) (c.requires.records h) is) (c.begin.ensures.any_moment h) in
     let m2 = since_amid p places table _ s0 s1 s2 (λ w is amid. amid_scripts p places table s0.world s1.world w amid is) m1 (c.run_rows.ensures.any_moment h1) in
-    let m3 = since_amid p places table _ s0 s2 s3 (λ w is amid. amid_finishing p places table c.in_ok-turn.turn c.begin.new.database s0.world s2.world w (c.in_ok-begin.ensures.begun).put amid is) m2 (c.finish.ensures.any_moment h2) in
+    let one = begun_stands p places table c.begin.new.database s0.world s1.world (c.requires.order h) (c.requires.records h) ((c.in_ok-begin.ensures.begun).worlds h) in
+    let made = c.in_ok-turn.ensures.calls in
+    let two = stands_scripts p places [] made.0 c.begin.new.database (λ file. None) s0.world s1 s2 h1 one made.1 in
+    let m3 = since_amid p places table _ s0 s2 s3 (λ w is amid. amid_finishing p places table c.in_ok-turn.turn made.0 c.begin.new.database s0.world s2.world w (c.in_ok-begin.ensures.begun).put two amid is) m2 (c.finish.ensures.any_moment h2) in
     since_amid p places table _ s0 s3 (g.H.Host.state c.clear_away.new.host) (λ w is amid. amid_tmp p places table s0.world s3.world w amid is) m3 (c.clear_away.ensures.any_moment h3)
 
 pub finish-requires-clause-home : goal.finish-requires-clause-home
