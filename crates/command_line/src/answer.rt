@@ -1,5 +1,5 @@
 // What the words ask for, carried out, and what is to be written for it.
-ghost use Rattle.std.specs.Prelude.{◌≡◌, ◌<◌, ◌≤◌, ◌⊎◌, IfOk, Result, map, string_bytes, true, [], codes};
+ghost use Rattle.std.specs.Prelude.{◌≡◌, ◌<◌, ◌≤◌, ◌⊎◌, IfOk, Result, map, string_bytes, true, []};
 ghost use Rattle.command_words.specs.Commands.{asked_of};
 ghost use Rattle.administration.specs.declared.fault.AdministrationFault.{AdministrationFault as AFault};
 ghost use Rattle.dpkg_session.specs.declared.report.Report.{Report as AReport};

@@ -18,7 +18,8 @@ fn write_some<'a, W: Write>(writer: &mut W, text: &'a [u8]) -> Option<&'a [u8]>
     }
 }
 
-// Whether all of a text could be written.
+// Whether all of a text could be written. Each turn writes a byte or more, but for a write that was
+// interrupted: the bound on the turns is there for a writer that is interrupted for ever.
 fn write_whole<W: Write>(writer: &mut W, text: &[u8]) -> bool
     ensures written { MatchBool result (Appends (W.contents writer.old) (W.contents writer.new) text.now) (AppendsPart (W.contents writer.old) (W.contents writer.new) text.now) }
     ensures idle { text.now ≡ [] → writer.new ≡ writer.old }
@@ -59,7 +60,7 @@ pub(crate) fn give<O: Write, E: Write>(answer: &Answer, out: &mut O, err: &mut E
     FAILED
 }
 
-/// The same where memory was wanting for the answer.
+/// Writes to standard error that memory was wanting for the answer, and gives status 2.
 pub(crate) fn give_want_of_memory<E: Write>(err: &mut E) -> u8
     ensures given { (held : Option (List ℕ)) → IsGiven memory_answer held held (E.contents err.old) (E.contents err.new) result }
     ensures status { result ≡ 2 }

@@ -70,7 +70,7 @@ IsUnitOf label (Ok p) places before after u s t = IsUnitByWord p (word_of p befo
 abbrev pub IsUnit : Candidate → List Path → List Record → List Record → AUnit → State → State → Type 0
 IsUnit c places before after u s t = IsUnitOf c.label c.tree places before after u s t
 
--- a unit that was broken off
+-- the answer of a unit that was broken off
 abbrev pub IsBroken : Reply → Type 0
 IsBroken (Broken breakage) = Unit {0}
 IsBroken Done = ⊥

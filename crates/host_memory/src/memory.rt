@@ -180,7 +180,7 @@ impl Host for MemoryHost {
     ghost use Rattle.host_core.specs.World.{Write, Move, Take, MakeDir, RemoveDir, IsBare, IsFile, is_kept};
     ghost use Rattle.host_core.specs.Host.{Runs, HasCause};
     ghost use Rattle.host_core.specs.Tree.{IsListing};
-    ghost use Rattle.host_memory.specs.Memory.{memory_state, memory_tree, planned_of, HasEnded, IsUnchanged, MakesStep};
+    ghost use Rattle.host_memory.specs.Memory.{memory_state, memory_tree, HasEnded, IsUnchanged, MakesStep};
 
     ghost state = { memory_state };
 
@@ -274,7 +274,7 @@ impl Host for MemoryHost {
         ensures faults { (memory_state self.old).faults ≤ (memory_state self.new).faults }
         ensures cause { HasCause (memory_state self.old) (memory_state self.new) result }
         ensures ended { IfOk result (λ outcome. HasEnded (is_kept keep.now) call.now outcome self.old self.new) }
-        ensures planned { OnErr result (planned_of self.new ≡ planned_of self.old) }
+        ensures unchanged { OnErr result (IsUnchanged self.old self.new) }
     {
         Ok(self.end_call(call, keep)?)
     }

@@ -13,7 +13,7 @@ use Rattle.host_core.specs.declared.call.Script.{Script}
 use Rattle.file_lists.specs.Lists.{NamesNothing}
 use Rattle.file_lists.proofs.Kept.{missing_names_nothing, root_names_nothing}
 use Rattle.unpack_engine.specs.OwnFiles.{OwnFile, own_path, own_node, root_list, KeepsBesideOwn, IsOwnMoment, IsChanging, IsClearing, IsInstalled}
-use Rattle.unpack_engine.specs.OwnFiles.IsOwnMoment.{same, gone, whole}
+use Rattle.unpack_engine.specs.OwnFiles.IsOwnMoment.{same, whole}
 use Rattle.unpack_engine.proofs.Endings.{own_lasting}
 use Rattle.status_db.specs.declared.record.Record.{Record}
 use Rattle.status_db.specs.Status.{HasRecords, IsNoting}
@@ -29,12 +29,10 @@ use Rattle.unpack_engine.proofs.Standing.{moved_records}
 
 names_nothing_put : (old now : Option Node) → old ≡ None → IsOwnMoment (Some root_list) old now → NamesNothing now
 names_nothing_put old now none (same e) = subst NamesNothing (sym (e ∙ none)) missing_names_nothing
-names_nothing_put old now none (gone e) = subst NamesNothing (sym e) missing_names_nothing
 names_nothing_put old now none (whole e) = subst NamesNothing (sym e) (root_names_nothing 0o644)
 
 some_put : (stored old now : Option Node) → old ≡ None → IsOwnMoment stored old now → (now ≡ None) ⊎ (now ≡ stored)
 some_put stored old now none (same e) = inl (e ∙ none)
-some_put stored old now none (gone e) = inl e
 some_put stored old now none (whole e) = inr e
 
 module _ (p : Package) where

@@ -19,7 +19,7 @@ use Rattle.administration.specs.declared.scripts.Scripts.{Scripts}
 use Rattle.administration.proofs.WholeFiles.{no_directory_none, no_directory_at, no_directory_file, no_slash}
 use Rattle.administration.proofs.Emptying.{dropped_either, none_then, less_then}
 use Rattle.unpack_engine.specs.OwnFiles.{OwnFile, ending, own_path, own_node, root_list, HasDroppedScripts, HasPutScripts, IsPut, IsCleared, IsClearing, IsInstalled, IsOwnMoment, IsChanging, IsOwnReady}
-use Rattle.unpack_engine.specs.OwnFiles.IsOwnMoment.{same, gone, whole}
+use Rattle.unpack_engine.specs.OwnFiles.IsOwnMoment.{same, whole}
 use Rattle.unpack_engine.proofs.Endings.{own_lasting, own_same, own_apart, info_apart, info_lasting, mark}
 
 module _ (name : List ℕ) (scripts : Scripts) where
@@ -27,10 +27,8 @@ module _ (name : List ℕ) (scripts : Scripts) where
   changing_start w ready = record { own = λ f. same refl; spares = ready.spares; rest = λ q out. refl }
 
   pub moment_then : (node a b c : Option Node) → IsOwnMoment node a b → IsOwnMoment node b c → IsOwnMoment node a c
-  moment_then n a b c first (gone e) = gone e
   moment_then n a b c first (whole e) = whole e
   moment_then n a b c (same e) (same f) = same (f ∙ e)
-  moment_then n a b c (gone e) (same f) = gone (f ∙ e)
   moment_then n a b c (whole e) (same f) = whole (f ∙ e)
 
   pub changing_then : (u v w : World) → IsChanging name scripts u v → IsChanging name scripts v w → IsChanging name scripts u w
@@ -60,7 +58,6 @@ module _ (name : List ℕ) (scripts : Scripts) where
 
 own_loose : (name : List ℕ) (scripts : Scripts) (file : OwnFile) (m now : Option Node) → NoDirectory m → NoDirectory (own_node scripts file) → IsOwnMoment (own_node scripts file) m now → NoDirectory now
 own_loose name scripts file m now free stands (same e) = no_directory_at now m e free
-own_loose name scripts file m now free stands (gone e) = no_directory_at now None e no_directory_none
 own_loose name scripts file m now free stands (whole e) = no_directory_at now (own_node scripts file) e stands
 
 -- still no directory is in the way

@@ -345,6 +345,7 @@ unit_by p places turn before mid after ts s a b c d told now turned first made t
             entry = half.entry;
             half = half.is;
             records = subst (HasRecords a.world) half.table (begun h).noted.records;
+            own = (begun_stands p places before mid s.world a.world (order h) (has h) (begun h)).own;
           };
         };
         leaves = λ h.

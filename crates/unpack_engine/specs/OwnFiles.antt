@@ -74,10 +74,9 @@ pub record IsInstalled (name : List ℕ) (scripts : Scripts) (old new : World) :
   pub spares : (file : OwnFile) → old (temporary (own_path name file)) ≡ None → new (temporary (own_path name file)) ≡ None
   pub rest : KeepsBesideOwn name old new
 
--- At each moment of putting them there: each of these files is what it was, or gone, or whole what it is to be.
+-- At each moment of putting them there: each of these files is what it was, or whole what it is to be.
 pub data IsOwnMoment (node before now : Option Node) : Type 0 where
   same : now ≡ before → IsOwnMoment node before now
-  gone : now ≡ None → IsOwnMoment node before now
   whole : now ≡ node → IsOwnMoment node before now
 
 pub record IsChanging (name : List ℕ) (scripts : Scripts) (old now : World) : Type 0 where

@@ -44,12 +44,13 @@ pub record IsOutside (name : List ℕ) (q : Path) : Type 0 where
 abbrev pub HasChangedRecord : List ℕ → Option Record → List Record → List Record → Type 0
 HasChangedRecord name entry before after = (q : List ℕ) → record_in after q ≡ update bytes_eq (record_in before) name entry q
 
--- the tree's scripts lie where the calls name them, and the package is noted as half-installed
+-- the tree's scripts lie where the calls name them, the package is noted as half-installed, and of its own files none stands yet
 pub record IsReadyForCalls (p : Package) (before : List Record) (w : World) : Type 0 where
   pub scripts : (script : Script) → w (tmp_script_path script) ≡ file_of (script_of p.scripts script)
   pub entry : Record
   pub half : IsRecordOf p flag.Reinstreq state.HalfInstalled entry
   pub records : HasRecords w (put_record entry before)
+  pub own : (file : OwnFile) → w (own_path p.name file) ≡ None
 
 -- The script calls of a unit were made one after another between two moments of it, and no others; at the first of these
 -- moments all was ready for them.
@@ -103,7 +104,7 @@ pub record HasOwn (scripts_are : Package → Script → Option Node → Type 0) 
 
 -- How far the package is at some moment (Policy 6.6): the records that stand, and its own files with them.
 pub data IsStage (p : Package) (before : List Record) (old now : World) : List Record → Type 0 where
-  -- not recorded yet: what stood under its name may still be there
+  -- the records are those of before: what stood under its name may still be there
   as_before : AreSameOrGone p.name old now → IsStage p before old now before
   -- half-installed: of what stood there nothing is left; scripts of the tree may be stored
   half : (r : Record) → IsRecordOf p flag.Reinstreq state.HalfInstalled r → HasOwn MayBeStored p now → IsStage p before old now (put_record r before)

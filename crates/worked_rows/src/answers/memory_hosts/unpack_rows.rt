@@ -261,6 +261,10 @@ const DAMAGES: &[(&str, u64)] = &[
         4,
     ),
     (
+        "Package: alpha\nStatus: install ok unpacked\nVersion: 1\nConfig-Version: 1_0\n",
+        4,
+    ),
+    (
         "Package: alpha\nStatus: install ok unpacked\nVersion: 1\nRemoved-Since: no\n",
         4,
     ),
