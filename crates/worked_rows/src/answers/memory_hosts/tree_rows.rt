@@ -34,11 +34,16 @@ fn package_text(alloc: Global, package: &Package) -> Result<String, AllocError> 
     Ok(text)
 }
 
+fn copy_text(alloc: Global, package: &Package) -> Result<String, AllocError> {
+    let copy = package.copy()?;
+    package_text(alloc, &copy)
+}
+
 // A copy of what is read.
 fn copied(alloc: Global, host: &mut MemoryHost) -> Result<String, AllocError> {
     match read_tree(alloc, host) {
-        Ok(package) => package_text(alloc, &package.copy()?),
-        Err(fault) => format!(in alloc; "{fault:?}"),
+        Ok(package) => copy_text(alloc, &package),
+        Err(_) => String::from_str(alloc, "no package"),
     }
 }
 
