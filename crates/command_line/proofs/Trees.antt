@@ -48,7 +48,6 @@ run_within outer inner within trees done places table s end ran = record {
   read = labelled_within outer inner within ran.candidates ran.read;
   part = ran.part;
   whole = ran.whole;
-  last = ran.last;
   cause = ran.cause;
   told = ran.told;
   any_moment = ran.any_moment;

@@ -14,7 +14,7 @@ use Rattle.package_tree.specs.declared.fault.TreeFault.{TreeFault}
 use Rattle.package_tree.specs.declared.fault.TreeFault.TheVariants as tree_faults
 use Rattle.package_tree.specs.declared.package.Package.{Package}
 use Rattle.dpkg_session.specs.Run.{HasRun, IsAmidRun, IsRun}
-use Rattle.dpkg_session.specs.Units.{IsBrokenBy, IsBrokenOff, TellsCalls}
+use Rattle.dpkg_session.specs.Units.{IsBrokenBy, TellsCalls}
 use Rattle.dpkg_session.specs.declared.report.Breakage.TheVariants as breakages
 use Rattle.dpkg_session.specs.declared.report.Candidate.{Candidate}
 use Rattle.dpkg_session.specs.declared.report.Report.{Report}
@@ -77,9 +77,8 @@ pub record HasRunTrees (a : Around) (trees : List (List ℕ)) (done : Report) (p
   pub candidates : List Candidate
   pub labels : map (λ (c : Candidate). c.label) candidates ≡ trees
   pub read : All (IsLabelled a) candidates
-  pub part : HasRun candidates done.units.items places table s end
+  pub part : HasRun candidates done.units.items done.last places table s end
   pub whole : IsNone done.last → IsWholeRun candidates done places table s end
-  pub last : IfSome done.last (IsBrokenOff candidates done.units.items)
   pub cause : IfSome done.last (λ unit. IsBrokenBy breakages.Device unit.reply → s.faults < end.faults)
   pub told : TellsCalls s end done
   pub any_moment : IsTrue s.honest → Since (IsAmidRun candidates places table s) s end

@@ -2,6 +2,7 @@
 use Rattle.std.specs.Prelude.{MatchBool}
 use Rattle.std.proofs.lemmas.Bool.{true≢false}
 use Rattle.dpkg_session.specs.declared.report.Reply.{Reply}
+use Rattle.dpkg_session.specs.declared.report.Breakage.{Breakage}
 use Rattle.std.proofs.Common.{◌≡◌, ◌⊎◌, inl, inr, ℕ, Bool, true, false, List, [], ◌∷◌, ◌++◌, Option, Some, None, Result, Ok, Err, IsTrue, refl, sym, subst, ◌∙◌}
 use Rattle.host_core.specs.Paths.{Path}
 use Rattle.host_core.specs.Host.{State}
@@ -15,7 +16,7 @@ use Rattle.dpkg_session.specs.declared.refusal.Word.{Word}
 use Rattle.dpkg_session.specs.declared.report.Candidate.{Candidate}
 use Rattle.dpkg_session.specs.declared.report.Unit.{Unit as AUnit}
 use Rattle.dpkg_session.specs.Refusals.{word_of}
-use Rattle.dpkg_session.specs.Units.{IsUnit, IsUnitOf, IsUnitByWord, IsRefused, IsBroken}
+use Rattle.dpkg_session.specs.Units.{IsUnit, IsUnitOf, IsUnitByWord, IsRefused, IsBroken, IsBrokenBy}
 use Rattle.dpkg_session.specs.Run.{IsRun, RunsUnit}
 
 pub run_more : (cs : List Candidate) (us : List AUnit) (c : Candidate) (u : AUnit) (places : List Path) (before mid after : List Record) (s m t : State) → IsRun cs us places before mid s m → m.honest ≡ s.honest → RunsUnit c places mid after u m t → IsRun (cs ++ c ∷ []) (us ++ u ∷ []) places before after s t
@@ -53,3 +54,12 @@ pub not_broken : {Q : Type 0} (reply : Reply) (b : Bool) → b ≡ false → Mat
 not_broken reply true e is either = absurd (true≢false e)
 not_broken reply false e is (inl broken) = absurd (is broken)
 not_broken reply false e is (inr holds) = holds
+
+-- the answer of a unit that was broken off
+
+pub is_broken_off : (reply : Reply) (b : Bool) → b ≡ true → MatchBool b (IsBroken reply) (IsBroken reply → ⊥) → IsBroken reply
+is_broken_off reply true e broken = broken
+is_broken_off reply false e is = absurd (true≢false (sym e))
+
+pub broken_by : (breakage : Breakage) (reply : Reply) → IsBrokenBy breakage reply → IsBroken reply
+broken_by breakage reply is = subst IsBroken (sym is) tt

@@ -1,5 +1,5 @@
 -- A run of units, one after another.
-use Rattle.std.specs.Prelude.{◌≡◌, ◌⊎◌, List, [], ◌∷◌, ◌++◌, length, take, drop, IsTrue, Option, Some, None, Result, Ok, Err}
+use Rattle.std.specs.Prelude.{◌≡◌, ◌⊎◌, List, [], ◌∷◌, ◌++◌, length, take, drop, IsTrue, Option, Some, None, IfSome, Result, Ok, Err}
 use Rattle.host_core.specs.Paths.{Path}
 use Rattle.host_core.specs.Host.{State, Since}
 use Rattle.host_core.specs.World.{World}
@@ -11,7 +11,7 @@ use Rattle.dpkg_session.specs.Refusals.{word_of}
 use Rattle.status_db.specs.declared.record.Record.{Record}
 use Rattle.dpkg_session.specs.declared.report.Candidate.{Candidate}
 use Rattle.dpkg_session.specs.declared.report.Unit.{Unit as AUnit}
-use Rattle.dpkg_session.specs.Units.{IsUnit}
+use Rattle.dpkg_session.specs.Units.{IsBrokenOff, IsUnit}
 
 -- one unit more
 pub record AddsUnit (c : Candidate) (places : List Path) (before after : List Record) (s t : State) (old new : List AUnit) : Type 0 where
@@ -47,14 +47,20 @@ abbrev pub IsAmidNext : List Candidate → List Path → List Record → World �
 IsAmidNext [] places before old now = now ≡ old
 IsAmidNext (c ∷ cs) places before old now = IsAmidUnitOf c.tree places before old now
 
+-- the unit that was broken off is that of the next of these candidates
+abbrev pub IsBrokenNext : List Candidate → List Path → List Record → State → State → AUnit → Type 0
+IsBrokenNext [] places before s t u = ⊥
+IsBrokenNext (c ∷ cs) places before s t u = IsBrokenOff c places before u s t
+
 -- The units are a run of the first candidates up to a moment of the host, and since that moment only the unit of the next
 -- one was under way: so what they left stands, also where that one was broken off.
-pub record HasRun (cs : List Candidate) (us : List AUnit) (places : List Path) (before : List Record) (s t : State) : Type 0 where
+pub record HasRun (cs : List Candidate) (us : List AUnit) (last : Option AUnit) (places : List Path) (before : List Record) (s t : State) : Type 0 where
   pub after : List Record
   pub end : State
   pub run : IsRun (take (length us) cs) us places before after s end
   pub honest : end.honest ≡ s.honest
   pub since : IsTrue s.honest → Since (IsAmidNext (drop (length us) cs) places after end.world) end t
+  pub broken : IfSome last (IsBrokenNext (drop (length us) cs) places after end t)
 
 -- at each moment of a run: some units are done, and the next is under way
 abbrev pub IsAmidRun : List Candidate → List Path → List Record → State → World → Type 0

@@ -1,5 +1,5 @@
 -- Units and runs of them.
-use Rattle.std.specs.Prelude.{◌≡◌, ◌<◌, ℕ, length, List, [], ◌∷◌, ◌++◌, Option, Some, None, IsSomeAnd, Result, Ok, Err, codes}
+use Rattle.std.specs.Prelude.{◌≡◌, ℕ, List, [], ◌∷◌, ◌++◌, Option, Some, None, IsSomeAnd, Result, Ok, Err, codes}
 use Rattle.host_core.specs.Paths.{Path}
 use Rattle.host_core.specs.Host.{State}
 use Rattle.host_core.specs.declared.call.Script.TheVariants.{Preinst}
@@ -10,7 +10,7 @@ use Rattle.status_db.specs.Records.{record_in}
 use Rattle.unpack_engine.specs.declared.rows.Turn.{Turn}
 use Rattle.unpack_engine.specs.declared.rows.Turn.TheVariants.{Committed, Undone, UndoFailed}
 use Rattle.unpack_engine.specs.ForwardRows.{call_of}
-use Rattle.unpack_engine.specs.Units.{HasUnpacked}
+use Rattle.unpack_engine.specs.Units.{HasCalled, HasUnpacked}
 use Rattle.dpkg_session.specs.declared.refusal.Rule.{Rule}
 use Rattle.dpkg_session.specs.declared.refusal.Rule.TheVariants.{Tree, NotYet}
 use Rattle.dpkg_session.specs.declared.refusal.Word.{Word}
@@ -84,11 +84,26 @@ abbrev pub breakage_of : HostFault → Breakage
 breakage_of host.Device = Device
 breakage_of host.NoMemory = NoMemory
 
--- the unit of a command that was broken off: it tells no package, and is that of a tree behind those of the other units
-pub record IsBrokenOff (cs : List Candidate) (us : List AUnit) (u : AUnit) : Type 0 where
+-- no call was made
+pub record HasNoCalls (u : AUnit) (s t : State) : Type 0 where
+  pub calls : t.calls ≡ s.calls
+  pub told : u.calls.items ≡ []
+
+-- the calls of a unit, whatever its answer: none where the package is refused, else the first of those of its unpack
+abbrev pub HasCalledByWord : Package → Option Word → List Path → List Record → AUnit → State → State → Type 0
+HasCalledByWord p (Some word) places before u s t = HasNoCalls u s t
+HasCalledByWord p None places before u s t = HasCalled p places before s t [] u.calls.items
+
+-- none for a tree that can't be read
+abbrev pub HasCalledOf : Result Package TreeFault → List Path → List Record → AUnit → State → State → Type 0
+HasCalledOf (Err fault) places before u s t = HasNoCalls u s t
+HasCalledOf (Ok p) places before u s t = HasCalledByWord p (word_of p before) places before u s t
+
+-- the unit of a candidate that was broken off: it tells no package, and made the first of its calls alone
+pub record IsBrokenOff (c : Candidate) (places : List Path) (before : List Record) (u : AUnit) (s t : State) : Type 0 where
   pub broken : IsBroken u.reply
   pub untouched : u.touched.items ≡ []
-  pub within : length us < length cs
+  pub called : HasCalledOf c.tree places before u s t
 
 -- the unit tells these calls, and the answer to this turn
 pub record IsAnswered (p : Package) (after : List Record) (turn : Turn) (calls : List Called) (u : AUnit) : Type 0 where

@@ -7,7 +7,7 @@ ghost use Rattle.administration.specs.declared.fault.AdministrationFault.TheVari
 ghost use Rattle.dpkg_session.specs.declared.report.Breakage.TheVariants.{Device, Closed};
 ghost use Rattle.dpkg_session.specs.Run.{IsAmidRun, IsRun, HasRun};
 ghost use Rattle.dpkg_session.specs.Standing.{IsStanding};
-ghost use Rattle.dpkg_session.specs.Units.{IsBrokenBy, IsBrokenOff, IsClosedReport, TellsCalls};
+ghost use Rattle.dpkg_session.specs.Units.{IsBrokenBy, IsClosedReport, TellsCalls};
 
 use crate::report::{Breakage, Candidate, Report};
 use crate::units::{broken, run_units};
@@ -84,10 +84,9 @@ impl<H: Host> Session<H> {
     /// Runs a command: its units in order, up to one that is broken off, which closes the session.
     pub fn run(&mut self, command: &Command) -> Report
         ensures whole { self.old.closed ≡ false → IsNone result.last → IsRun (candidates_of command.now) result.units.items self.old.keep self.old.database self.new.database (H.state self.old.host) (H.state self.new.host) }
-        ensures part { self.old.closed ≡ false → HasRun (candidates_of command.now) result.units.items self.old.keep self.old.database (H.state self.old.host) (H.state self.new.host) }
+        ensures part { self.old.closed ≡ false → HasRun (candidates_of command.now) result.units.items result.last self.old.keep self.old.database (H.state self.old.host) (H.state self.new.host) }
         ensures told { TellsCalls (H.state self.old.host) (H.state self.new.host) result }
         ensures any_moment { self.old.closed ≡ false → IsTrue (H.state self.old.host).honest → Since (IsAmidRun (candidates_of command.now) self.old.keep self.old.database (H.state self.old.host)) (H.state self.old.host) (H.state self.new.host) }
-        ensures last { self.old.closed ≡ false → IfSome result.last (IsBrokenOff (candidates_of command.now) result.units.items) }
         ensures closes { self.new.closed ≡ is_some result.last }
         ensures refused { self.old.closed ≡ true → IsClosedReport result }
         ensures same { self.old.closed ≡ true → H.state self.new.host ≡ H.state self.old.host }

@@ -7,8 +7,9 @@ ghost use Rattle.host_core.specs.Host.{Since};
 ghost use Rattle.unwind_stack.specs.Transcript.{TellsAll};
 ghost use Rattle.status_db.specs.Status.{HasRecords};
 ghost use Rattle.unpack_engine.specs.Unpack.{IsAmid, IsInOrder};
+ghost use Rattle.unpack_engine.specs.Units.{HasCalled};
 ghost use Rattle.dpkg_session.specs.declared.report.Breakage.TheVariants.{Device, NoMemory, Closed};
-ghost use Rattle.dpkg_session.specs.Units.{IsAnswered, IsBroken, IsBrokenBy, IsBrokenOff, IsUnit, IsUnpacked, breakage_of, reply_to, touched_of, IsRefusedUnit, IsUnitByWord, TellsCalls, calls_of};
+ghost use Rattle.dpkg_session.specs.Units.{IsAnswered, IsBroken, IsBrokenBy, IsBrokenOff, HasCalledByWord, HasCalledOf, IsUnit, IsUnpacked, breakage_of, reply_to, touched_of, IsRefusedUnit, IsUnitByWord, TellsCalls, calls_of};
 ghost use Rattle.dpkg_session.specs.declared.refusal.Rule.TheVariants.{Tree};
 ghost use Rattle.dpkg_session.specs.Refusals.{word_of};
 ghost use Rattle.dpkg_session.specs.Run.{AddsUnit, IsAmidByWord, IsAmidRun, IsAmidUnitOf, IsRun, HasRun};
@@ -134,7 +135,7 @@ fn unpack_unit<H: Host>(
     requires records { IsTrue (H.state host.old).honest → HasRecords (H.state host.old).world database.old }
     ensures unit { IsBroken result.reply ⊎ IsUnpacked incoming.now keep.now database.old database.new result (H.state host.old) (H.state host.new) }
     ensures untouched { IsBroken result.reply → result.touched.items ≡ [] }
-    ensures told { TellsAll (H.state host.old) (H.state host.new) [] result.calls.items }
+    ensures told { HasCalled incoming.now keep.now database.old (H.state host.old) (H.state host.new) [] result.calls.items }
     ensures any_moment { IsTrue (H.state host.old).honest → Since (IsAmid incoming.now keep.now database.old (H.state host.old).world) (H.state host.old) (H.state host.new) }
     ensures honest { (H.state host.new).honest ≡ (H.state host.old).honest }
     ensures faults { (H.state host.old).faults ≤ (H.state host.new).faults }
@@ -187,7 +188,7 @@ fn unit_of_package<H: Host>(
     requires records { IsTrue (H.state host.old).honest → HasRecords (H.state host.old).world database.old }
     ensures unit { IsBroken result.reply ⊎ IsUnitByWord incoming.now (word_of incoming.now database.old) keep.now database.old database.new result (H.state host.old) (H.state host.new) }
     ensures untouched { IsBroken result.reply → result.touched.items ≡ [] }
-    ensures told { TellsAll (H.state host.old) (H.state host.new) [] result.calls.items }
+    ensures told { HasCalledByWord incoming.now (word_of incoming.now database.old) keep.now database.old result (H.state host.old) (H.state host.new) }
     ensures any_moment { IsTrue (H.state host.old).honest → Since (IsAmidByWord incoming.now (word_of incoming.now database.old) keep.now database.old (H.state host.old).world) (H.state host.old) (H.state host.new) }
     ensures honest { (H.state host.new).honest ≡ (H.state host.old).honest }
     ensures faults { (H.state host.old).faults ≤ (H.state host.new).faults }
@@ -216,7 +217,7 @@ fn unit_of<H: Host>(
     requires records { IsTrue (H.state host.old).honest → HasRecords (H.state host.old).world database.old }
     ensures unit { IsBroken result.reply ⊎ IsUnit candidate.now keep.now database.old database.new result (H.state host.old) (H.state host.new) }
     ensures untouched { IsBroken result.reply → result.touched.items ≡ [] }
-    ensures told { TellsAll (H.state host.old) (H.state host.new) [] result.calls.items }
+    ensures told { HasCalledOf candidate.now.tree keep.now database.old result (H.state host.old) (H.state host.new) }
     ensures any_moment { IsTrue (H.state host.old).honest → Since (IsAmidUnitOf candidate.now.tree keep.now database.old (H.state host.old).world) (H.state host.old) (H.state host.new) }
     ensures honest { (H.state host.new).honest ≡ (H.state host.old).honest }
     ensures faults { (H.state host.old).faults ≤ (H.state host.new).faults }
@@ -257,10 +258,8 @@ fn run_one<H: Host>(
     requires records { IsTrue (H.state host.old).honest → HasRecords (H.state host.old).world database.old }
     ensures ok { OnOk result (AddsUnit candidate.now keep.now database.old database.new (H.state host.old) (H.state host.new) units.old.items units.new.items) }
     ensures err { OnErr result (units.new.items ≡ units.old.items) }
-    ensures last { IfErr result (λ unit. IsBroken unit.reply) }
-    ensures untouched { IfErr result (λ unit. unit.touched.items ≡ []) }
+    ensures broken_off { IfErr result (λ unit. IsBrokenOff candidate.now keep.now database.old unit (H.state host.old) (H.state host.new)) }
     ensures told { OnOk result (TellsAll (H.state host.old) (H.state host.new) (calls_of units.old.items) (calls_of units.new.items)) }
-    ensures told_last { IfErr result (λ unit. TellsAll (H.state host.old) (H.state host.new) [] unit.calls.items) }
     ensures any_moment { IsTrue (H.state host.old).honest → Since (IsAmidUnitOf candidate.now.tree keep.now database.old (H.state host.old).world) (H.state host.old) (H.state host.new) }
     ensures honest { (H.state host.new).honest ≡ (H.state host.old).honest }
     ensures faults { (H.state host.old).faults ≤ (H.state host.new).faults }
@@ -289,10 +288,9 @@ pub(crate) fn run_units<H: Host>(
     requires order { IsTrue (H.state host.old).honest → IsInOrder (H.state host.old).world }
     requires records { IsTrue (H.state host.old).honest → HasRecords (H.state host.old).world database.old }
     ensures whole { IsNone result.last → IsRun candidates.now result.units.items keep.now database.old database.new (H.state host.old) (H.state host.new) }
-    ensures part { HasRun candidates.now result.units.items keep.now database.old (H.state host.old) (H.state host.new) }
+    ensures part { HasRun candidates.now result.units.items result.last keep.now database.old (H.state host.old) (H.state host.new) }
     ensures told { TellsCalls (H.state host.old) (H.state host.new) result }
     ensures any_moment { IsTrue (H.state host.old).honest → Since (IsAmidRun candidates.now keep.now database.old (H.state host.old)) (H.state host.old) (H.state host.new) }
-    ensures last { IfSome result.last (IsBrokenOff candidates.now result.units.items) }
     ensures cause { IfSome result.last (λ unit. IsBrokenBy Device unit.reply → (H.state host.old).faults < (H.state host.new).faults) }
     ensures not_closed { IfSome result.last (λ unit. IsBrokenBy Closed unit.reply → ⊥) }
     ensures order { IsNone result.last → IsTrue (H.state host.old).honest → IsInOrder (H.state host.new).world }

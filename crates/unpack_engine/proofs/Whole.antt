@@ -8,7 +8,7 @@ use Rattle.host_core.proofs.Paths.{decide}
 use Rattle.host_core.specs.Paths.{Path}
 use Rattle.host_core.specs.World.{World, is_kept, IsDirectory}
 use Rattle.host_core.specs.Host.{Ran, State, Silent, Calls, IsLater}
-use Rattle.host_core.specs.Moments.{silent_then}
+use Rattle.host_core.specs.Moments.{silent_then, since_then}
 use Rattle.host_core.specs.declared.node.Node.{Node}
 use Rattle.host_core.specs.declared.call.Script.{Script}
 use Rattle.file_lists.specs.Lists.{NamesNothing}
@@ -19,7 +19,7 @@ use Rattle.administration.specs.Files.{NoDirectory}
 use Rattle.administration.specs.Directories.{IsRemoved}
 use Rattle.administration.proofs.WholeFiles.{no_directory_at, no_directory_none}
 use Rattle.administration.proofs.Within.{directory_within, below_within}
-use Rattle.unwind_stack.specs.Transcript.{Ended, Committed as AllSucceeded, Unwound, Legal, Tells, Goes, Undid, UndoesRow, Tries}
+use Rattle.unwind_stack.specs.Transcript.{Begins, Ended, Committed as AllSucceeded, Unwound, Legal, Tells, Goes, Undid, UndoesRow, Tries}
 use Rattle.unwind_stack.specs.declared.rows.Called.{Called}
 use Rattle.unwind_stack.specs.declared.rows.Owner.{Owner}
 use Rattle.unwind_stack.specs.declared.rows.Owner.TheVariants.{Package as OfPackage, Files}
@@ -38,19 +38,20 @@ use Rattle.status_db.specs.Status.{HasRecords}
 use Rattle.status_db.proofs.Tables.{record_in-put_record, record_in-drop_record, covered}
 use Rattle.status_db.specs.declared.record.Record.{Record}
 use Rattle.unpack_engine.specs.ForwardRows.{preinst_row, file_row, rows_of, gives}
-use Rattle.unpack_engine.specs.Turns.{Falls, IsTurn}
+use Rattle.unpack_engine.specs.Turns.{Falls, IsTurn, TakesTurn}
 use Rattle.unpack_engine.specs.declared.rows.Turn.{Turn}
 use Rattle.unpack_engine.specs.declared.rows.Turn.TheVariants.{Committed, Undone, UndoFailed}
 use Rattle.unpack_engine.specs.EndStates.{IsRecordOf, IsUnwoundEnd, IsEnd, own_undo_failed, end_script}
-use Rattle.unpack_engine.specs.Unpack.{IsInOrder, IsOutside, HasChangedRecord, HasOwn, MayBeStored, IsStage, IsAmid}
+use Rattle.unpack_engine.specs.Unpack.{IsInOrder, IsReadyForCalls, IsOutside, HasChangedRecord, HasOwn, MayBeStored, IsStage, IsAmid}
 use Rattle.unpack_engine.specs.Stages.{Stands, IsPutAs, IsNotingAs}
-use Rattle.unpack_engine.specs.Units.{EndsAs, FinishedTable, FinishedWorlds, BegunWorlds, IsBeginning, IsFinishing, HasUnpacked}
+use Rattle.unpack_engine.specs.Units.{EndsAs, FinishedTable, FinishedWorlds, BegunWorlds, IsBeginning, IsFinishing, HasCalled, HasUnpacked}
 use Rattle.unpack_engine.specs.Units.IsBeginning.{clearing, laying, noting}
 use Rattle.unpack_engine.specs.Units.IsFinishing.{storing, unpacked, forgetting, left}
 use Rattle.unpack_engine.proofs.Standing.{moved_records, kept_outside, stands_start, stands_cleared, stands_tmp, stands_noted, stands_scripts, stands_installed, home_there, info_there}
 use Rattle.unpack_engine.proofs.Amid.{own_gone, own_none, own_putting, own_stored, some_stored, amid_own, amid_clearing, amid_tmp, amid_status, amid_noting}
 use Rattle.unpack_engine.proofs.Apart.{noted_within, installed_within}
 use Rattle.unpack_engine.proofs.Beginning.{own_in_order}
+use Rattle.unpack_engine.proofs.Falling.{some_turn}
 use Rattle.unpack_engine.proofs.Tables.{standing_put, standing_dropped}
 
 -- a turn is a legal transcript
@@ -317,6 +318,57 @@ module _ (p : Package) (places : List Path) (before : List Record) where
       amid_noting p places before old w now amid (drop_record p.name mid) (subst (λ l. IsStage p before old w (drop_record p.name l)) (sym half.table) (IsStage.forgotten half.entry half.is (own_gone p w stands.own))) is
   amid_finishing turn ts mid old w now half stands amid (left t e) = subst (IsAmid p places before old) (sym e) amid
 
+-- all is ready for the calls once the unit has begun
+
+ready_for_calls : (p : Package) (places : List Path) (before mid : List Record) (s a : State) → IsPutAs p flag.Reinstreq state.HalfInstalled before mid → IsInOrder s.world → HasRecords s.world before → BegunWorlds p mid s.world a.world → IsReadyForCalls p before a.world
+ready_for_calls p places before mid s a half order has begun = record {
+  scripts = (begun_laid p mid s.world a.world begun).files;
+  entry = half.entry;
+  half = half.is;
+  records = subst (HasRecords a.world) half.table begun.noted.records;
+  own = (begun_stands p places before mid s.world a.world order has begun).own;
+}
+
+-- no script was called
+pub called_none : (p : Package) (places : List Path) (before : List Record) (s a : State) (told now : List Called) → Silent s a → now ≡ told → HasCalled p places before s a told now
+called_none p places before s a told now silent same =
+    let turn = some_turn p in
+    record {
+      ended = (legal_turn p turn.1.0 turn.0 turn.1.1).ended;
+      ts = [];
+      more = turn.0;
+      legal = (legal_turn p turn.1.0 turn.0 turn.1.1).legal;
+      calls = silent.calls ∙ sym (append-nil s.calls);
+      tells = same ∙ sym (append-nil told);
+      made = inl refl;
+    }
+
+-- the rows were run, or broken off, and after them nothing was called
+pub called_by : (p : Package) (places : List Path) (before mid : List Record) (s a b d : State) (told now : List Called) → Silent s a → Begins (is_kept places) (TakesTurn (preinst_row p)) a b told now → Silent b d
+    → IsPutAs p flag.Reinstreq state.HalfInstalled before mid → (IsTrue s.honest → IsInOrder s.world) → (IsTrue s.honest → HasRecords s.world before) → (IsTrue s.honest → BegunWorlds p mid s.world a.world)
+    → (IsTrue s.honest → IsLater s a) → (IsTrue b.honest → IsLater b d) → HasCalled p places before s d told now
+called_by p places before mid s a b d told now first begins last half order has begun before_calls after_calls =
+    let legal = legal_turn p begins.first_of.0 (begins.ts ++ begins.more) begins.first_of.1 in
+    let honest_a = λ (h : IsTrue s.honest). subst IsTrue (sym first.honest) h in
+    let honest_b = λ (h : IsTrue s.honest). subst IsTrue (sym (begins.since.honest ∙ begins.made.honest)) (honest_a h) in
+    record {
+      ended = legal.ended;
+      ts = begins.ts;
+      more = begins.more;
+      legal = legal.legal;
+      calls = last.calls ∙ begins.since.calls ∙ begins.made.calls ∙ ap (λ l. l ++ begins.ts) first.calls;
+      tells = begins.tells;
+      made = inr (record {
+        begun = a;
+        ended = begins.last;
+        until = first;
+        made = begins.made;
+        since = silent_then begins.last b d begins.since last;
+        later = λ h. (before_calls h, since_then (λ w. Unit {0}) begins.last b d (begins.later (honest_a h)) (after_calls (honest_b h)));
+        ready = λ h. ready_for_calls p places before mid s a half (order h) (has h) (begun h);
+      });
+    }
+
 -- the whole
 
 pub unit_by : (p : Package) (places : List Path) (turn : Turn) (before mid after : List Record) (ts : List Ran) (s a b c d : State) (told now : List Called) → IsTurn (preinst_row p) turn ts → Silent s a → Calls (is_kept places) ts a b → Silent b c → Silent c d → Tells ts told now
@@ -340,13 +392,7 @@ unit_by p places turn before mid after ts s a b c d told now turned first made t
           made = made;
           since = silent_then b c d third fourth;
           later = later;
-          ready = λ h. record {
-            scripts = (begun_laid p mid s.world a.world (begun h)).files;
-            entry = half.entry;
-            half = half.is;
-            records = subst (HasRecords a.world) half.table (begun h).noted.records;
-            own = (begun_stands p places before mid s.world a.world (order h) (has h) (begun h)).own;
-          };
+          ready = λ h. ready_for_calls p places before mid s a half (order h) (has h) (begun h);
         };
         leaves = λ h.
             let h1 = subst IsTrue (sym first.honest) h in

@@ -19,3 +19,7 @@ abbrev pub IsTurn : Row → Turn → List Ran → Type 0
 IsTurn row Committed ts = Tries row ts true
 IsTurn row Undone ts = Falls row [] ts
 IsTurn row UndoFailed ts = (owner : Owner) × (owners : List Owner) × Falls row (owner ∷ owners) ts
+
+-- the calls of a row and of its undo, whatever turn they take
+abbrev pub TakesTurn : Row → List Ran → Type 0
+TakesTurn row ts = (turn : Turn) × IsTurn row turn ts

@@ -1,10 +1,10 @@
 -- The parts of a unit, and the whole.
-use Rattle.std.specs.Prelude.{◌≡◌, true, false, List, ◌++◌}
+use Rattle.std.specs.Prelude.{◌≡◌, ◌⊎◌, true, false, List, [], ◌++◌}
 use Rattle.host_core.specs.Paths.{Path}
-use Rattle.host_core.specs.World.{World, KeepsBut}
+use Rattle.host_core.specs.World.{World, KeepsBut, is_kept}
 use Rattle.host_core.specs.Host.{Ran, State}
 use Rattle.administration.specs.Places.{tmp_path, is_within}
-use Rattle.unwind_stack.specs.Transcript.{Ended, Committed as AllSucceeded, Unwound, Tells}
+use Rattle.unwind_stack.specs.Transcript.{Ended, Committed as AllSucceeded, Unwound, Legal, Tells}
 use Rattle.unwind_stack.specs.declared.rows.Called.{Called}
 use Rattle.package_tree.specs.declared.package.Package.{Package}
 use Rattle.unpack_engine.specs.OwnFiles.{IsCleared, IsClearing, IsInstalled, IsChanging, IsOwnReady}
@@ -17,7 +17,8 @@ use Rattle.status_db.specs.Status.{IsNoted, IsNoting}
 use Rattle.unpack_engine.specs.declared.rows.Turn.{Turn}
 use Rattle.unpack_engine.specs.declared.rows.Turn.TheVariants.{Committed, Undone, UndoFailed}
 use Rattle.unpack_engine.specs.EndStates.{own_undo_failed}
-use Rattle.unpack_engine.specs.Unpack.{Unpacks}
+use Rattle.unpack_engine.specs.ForwardRows.{rows_of, gives}
+use Rattle.unpack_engine.specs.Unpack.{MadeCalls, Unpacks}
 use Rattle.unpack_engine.specs.Stages.{IsPutAs, IsNotingAs}
 
 -- What stands once the unit has begun, by the worlds after each of its three parts.
@@ -78,3 +79,14 @@ pub record HasUnpacked (p : Package) (places : List Path) (turn : Turn) (before 
   pub calls : new.calls ≡ old.calls ++ ts
   pub tells : Tells ts told now
   pub unit : Unpacks p places before after ended ts old new
+
+-- The calls of a unit, whatever its answer: the first of some that are legal for its rows. They were made one after another,
+-- none before all was ready for them, and they are told.
+pub record HasCalled (p : Package) (places : List Path) (before : List Record) (old new : State) (told now : List Called) : Type 0 where
+  pub ended : Ended
+  pub ts : List Ran
+  pub more : List Ran
+  pub legal : Legal gives [] ended (rows_of p) (ts ++ more)
+  pub calls : new.calls ≡ old.calls ++ ts
+  pub tells : Tells ts told now
+  pub made : (ts ≡ []) ⊎ MadeCalls (is_kept places) p before ts old new

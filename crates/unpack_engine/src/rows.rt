@@ -2,10 +2,10 @@
 ghost use Rattle.std.specs.Prelude.{◌≡◌, ◌≤◌, IfOk, IsTrue, codes};
 ghost use Rattle.host_core.specs.World.{SameOn, is_kept};
 ghost use Rattle.host_core.specs.Host.{HasCause, Since};
-ghost use Rattle.unwind_stack.specs.Transcript.{Makes, TellsAll};
+ghost use Rattle.unwind_stack.specs.Transcript.{Begins, Makes};
 ghost use Rattle.host_core.specs.declared.call.Script.TheVariants.{Preinst};
 ghost use Rattle.unpack_engine.specs.ForwardRows.{call_of, if_there, preinst_row};
-ghost use Rattle.unpack_engine.specs.Turns.{IsTurn};
+ghost use Rattle.unpack_engine.specs.Turns.{IsTurn, TakesTurn};
 
 use administration::{ScriptFile, tmp_script_path};
 use host_core::{Call, Host, HostFault, Keep, Script, Side};
@@ -97,7 +97,7 @@ fn run_row<H: Host>(
     told: &mut Vec<Called>,
 ) -> Result<Turn, HostFault>
     ensures calls { IfOk result (λ turn. Makes (is_kept keep.now) (IsTurn row.now turn) (H.state host.old) (H.state host.new) told.old.items told.new.items) }
-    ensures told { TellsAll (H.state host.old) (H.state host.new) told.old.items told.new.items }
+    ensures told { Begins (is_kept keep.now) (TakesTurn row.now) (H.state host.old) (H.state host.new) told.old.items told.new.items }
     ensures any_moment { IsTrue (H.state host.old).honest → Since (SameOn (is_kept keep.now) (H.state host.old).world) (H.state host.old) (H.state host.new) }
     ensures honest { (H.state host.new).honest ≡ (H.state host.old).honest }
     ensures faults { (H.state host.old).faults ≤ (H.state host.new).faults }
@@ -123,7 +123,7 @@ pub(crate) fn run_rows<H: Host>(
     told: &mut Vec<Called>,
 ) -> Result<Turn, HostFault>
     ensures calls { IfOk result (λ turn. Makes (is_kept keep.now) (IsTurn (preinst_row incoming.now) turn) (H.state host.old) (H.state host.new) told.old.items told.new.items) }
-    ensures told { TellsAll (H.state host.old) (H.state host.new) told.old.items told.new.items }
+    ensures told { Begins (is_kept keep.now) (TakesTurn (preinst_row incoming.now)) (H.state host.old) (H.state host.new) told.old.items told.new.items }
     ensures any_moment { IsTrue (H.state host.old).honest → Since (SameOn (is_kept keep.now) (H.state host.old).world) (H.state host.old) (H.state host.new) }
     ensures honest { (H.state host.new).honest ≡ (H.state host.old).honest }
     ensures faults { (H.state host.old).faults ≤ (H.state host.new).faults }

@@ -5,9 +5,8 @@ ghost use Rattle.host_core.specs.Host.{HasCause, Silent, Since};
 ghost use Rattle.administration.specs.Places.{home_path, info_path};
 ghost use Rattle.status_db.specs.Status.{HasRecords, IsStatusReady};
 ghost use Rattle.unpack_engine.specs.OwnFiles.{IsOwnReady};
-ghost use Rattle.unwind_stack.specs.Transcript.{TellsAll};
 ghost use Rattle.unpack_engine.specs.Unpack.{IsAmid, IsInOrder};
-ghost use Rattle.unpack_engine.specs.Units.{HasBegun, IsBeginning, HasFinished, IsFinishing, HasUnpacked};
+ghost use Rattle.unpack_engine.specs.Units.{HasBegun, IsBeginning, HasFinished, IsFinishing, HasCalled, HasUnpacked};
 
 use crate::incoming::{clear_away, lay_out};
 use crate::notes::note_as;
@@ -88,7 +87,7 @@ pub fn unpack_package<H: Host>(
     requires order { IsTrue (H.state host.old).honest → IsInOrder (H.state host.old).world }
     requires records { IsTrue (H.state host.old).honest → HasRecords (H.state host.old).world database.old }
     ensures unit { IfOk result (λ turn. HasUnpacked incoming.now keep.now turn database.old database.new (H.state host.old) (H.state host.new) told.old.items told.new.items) }
-    ensures told { TellsAll (H.state host.old) (H.state host.new) told.old.items told.new.items }
+    ensures told { HasCalled incoming.now keep.now database.old (H.state host.old) (H.state host.new) told.old.items told.new.items }
     ensures any_moment { IsTrue (H.state host.old).honest → Since (IsAmid incoming.now keep.now database.old (H.state host.old).world) (H.state host.old) (H.state host.new) }
     ensures honest { (H.state host.new).honest ≡ (H.state host.old).honest }
     ensures faults { (H.state host.old).faults ≤ (H.state host.new).faults }

@@ -1,17 +1,18 @@
 -- How lists of calls that were made go on.
-use Rattle.std.proofs.Common.{◌≡◌, Bool, IsTrue, List, [], ◌∷◌, ◌++◌, map, Result, Ok, Err, OnOk, IsErrAnd, refl, sym, ap, subst, ◌∙◌, append_assoc}
+use Rattle.std.proofs.Common.{◌≡◌, ◌≤◌, Bool, IsTrue, List, [], ◌∷◌, ◌++◌, map, Result, Ok, Err, OnOk, IsErrAnd, refl, sym, ap, subst, ◌∙◌, append_assoc, arith}
 use Rattle.std.proofs.lemmas.List.{append-nil, map-append}
 use Rattle.host_core.specs.Paths.{Path}
 use Rattle.host_core.specs.World.{SameOn}
-use Rattle.host_core.specs.Host.{HasCause, Ran, Runs, State, Since}
-use Rattle.host_core.specs.Moments.{since_start}
-use Rattle.host_core.specs.Scripts.{calls_none, calls_one, calls_then, since_kept}
+use Rattle.host_core.specs.Host.{HasCause, Ran, Runs, Silent, IsLater, State, Since}
+use Rattle.host_core.specs.Moments.{since_start, since_weaker}
+use Rattle.host_core.specs.Scripts.{calls_none, calls_one, calls_then, since_kept, since_runs}
 use Rattle.host_core.specs.declared.call.Call.{Call}
 use Rattle.host_core.specs.declared.call.Outcome.{Outcome}
+use Rattle.host_core.specs.declared.call.Outcome.TheVariants.{Killed}
 use Rattle.host_core.specs.declared.fault.HostFault.{HostFault}
 use Rattle.host_core.specs.declared.fault.HostFault.TheVariants.{Device, NoMemory}
 use Rattle.unwind_stack.specs.declared.rows.Called.{Called}
-use Rattle.unwind_stack.specs.Transcript.{told_of, IsOne, Makes, TellsAll}
+use Rattle.unwind_stack.specs.Transcript.{told_of, Begins, IsCall, IsOne, Makes, TellsAll}
 
 pub makes_none : (kept : Path → Bool) (P : List Ran → Type 0) (a : State) (told : List Called) → P [] → Makes kept P a a told told
 makes_none kept P a told here = ([], calls_none kept a, (here, sym (append-nil told)))
@@ -47,20 +48,93 @@ moments_then kept a b c first same second h = since_kept kept a b c (first h) (s
 pub moments_none : (kept : Path → Bool) (a : State) → IsTrue a.honest → Since (SameOn kept a.world) a a
 moments_none kept a h = since_start (SameOn kept a.world) a (λ q is. refl)
 
-pub tells_failed : (kept : Path → Bool) (call : Call) (fault : HostFault) (a b : State) (told now : List Called) → Runs kept call a b (Err fault) → now ≡ told → TellsAll a b told now
-tells_failed kept call Device a b told now runs same = tells_none a b told now runs.0 same
-tells_failed kept call NoMemory a b told now runs same = tells_none a b told now runs.0 same
+-- the first of some calls, whatever the answer
+
+-- nothing is called from a moment on
+pub silent_start : (a : State) → Silent a a
+silent_start a = record { honest = refl; calls = refl; faults = omega arith }
+
+pub later_start : (a : State) → IsLater a a
+later_start a = since_start (λ w. Unit {0}) a tt
+
+module _ (kept : Path → Bool) (P : List Ran → Type 0) where
+  pub begins_silent : (a b : State) (told now : List Called) (more : List Ran) → now ≡ told → P more → Silent a b → (IsTrue a.honest → IsLater a b) → Begins kept P a b told now
+  begins_silent a b told now more same here silent later = record { ts = []; more = more; first_of = here; last = a; made = calls_none kept a; since = silent; later = later; tells = same ∙ sym (append-nil told) }
+
+  pub begins_none : (a : State) (told now : List Called) (more : List Ran) → now ≡ told → P more → Begins kept P a a told now
+  begins_none a told now more same here = begins_silent a a told now more same here (silent_start a) (λ h. later_start a)
+
+  pub begins_whole : (a b : State) (told now : List Called) → Makes kept P a b told now → Begins kept P a b told now
+  begins_whole a b told now made = record {
+    ts = made.0;
+    more = [];
+    first_of = subst P (sym (append-nil made.0)) made.2.0;
+    last = b;
+    made = made.1;
+    since = silent_start b;
+    later = λ h. later_start b;
+    tells = made.2.1;
+  }
+
+  pub begins_tells : (a b : State) (told now : List Called) → Begins kept P a b told now → TellsAll a b told now
+  begins_tells a b told now begun = (begun.ts, begun.since.calls ∙ begun.made.calls, begun.tells)
+
+  pub begins_weaker : (Q : List Ran → Type 0) (a b : State) (told now : List Called) → ((ts : List Ran) → P ts → Q ts) → Begins kept P a b told now → Begins kept Q a b told now
+  begins_weaker Q a b told now so begun = record { ts = begun.ts; more = begun.more; first_of = so (begun.ts ++ begun.more) begun.first_of; last = begun.last; made = begun.made; since = begun.since; later = begun.later; tells = begun.tells }
+
+  -- where such calls can go on to be others
+  pub begins_more : (Q : List Ran → Type 0) (a b : State) (told now : List Called) → ((ts : List Ran) → P ts → (more : List Ran) × Q (ts ++ more)) → Begins kept P a b told now → Begins kept Q a b told now
+  begins_more Q a b told now so begun =
+      let goes = so (begun.ts ++ begun.more) begun.first_of in
+      record {
+        ts = begun.ts;
+        more = begun.more ++ goes.0;
+        first_of = subst Q (append_assoc begun.ts begun.more goes.0) goes.1;
+        last = begun.last;
+        made = begun.made;
+        since = begun.since;
+        later = begun.later;
+        tells = begun.tells;
+      }
+
+pub begins_then : (kept : Path → Bool) (P Q R : List Ran → Type 0) (a b c : State) (told more now : List Called) → ((x y : List Ran) → P x → Q y → R (x ++ y)) → Makes kept P a b told more → Begins kept Q b c more now → Begins kept R a c told now
+begins_then kept P Q R a b c told more now both first second = record {
+  ts = first.0 ++ second.ts;
+  more = second.more;
+  first_of = subst R (sym (append_assoc first.0 second.ts second.more)) (both first.0 (second.ts ++ second.more) first.2.0 second.first_of);
+  last = second.last;
+  made = calls_then kept first.0 second.ts a b second.last first.1 second.made;
+  since = second.since;
+  later = λ h. second.later (subst IsTrue (sym first.1.honest) h);
+  tells = second.tells ∙ ap (λ (l : List Called). l ++ map told_of second.ts) first.2.1 ∙ append_assoc told (map told_of first.0) (map told_of second.ts) ∙ ap (λ (l : List Called). told ++ l) (sym (map-append told_of first.0 second.ts));
+}
+
+-- a call of which no outcome was told
+calls_failed : (kept : Path → Bool) (call : Call) (fault : HostFault) (a b : State) → Runs kept call a b (Err fault) → b.calls ≡ a.calls
+calls_failed kept call Device a b runs = runs.0
+calls_failed kept call NoMemory a b runs = runs.0
+
+abbrev pub killed : Call → Ran
+killed call = record { call = call; outcome = Killed; change = [] }
+
+pub some_call : (call : Call) → IsCall call (killed call ∷ [])
+some_call call = (Killed, (killed call, refl, refl, refl))
+
+pub begins_failed : (kept : Path → Bool) (call : Call) (fault : HostFault) (a b : State) (told now : List Called) → b.honest ≡ a.honest → a.faults ≤ b.faults → Runs kept call a b (Err fault) → now ≡ told → Begins kept (IsCall call) a b told now
+begins_failed kept call fault a b told now honest faults runs same =
+    begins_silent kept (IsCall call) a b told now (killed call ∷ []) same (some_call call) (record { honest = honest; calls = calls_failed kept call fault a b runs; faults = faults })
+    (λ h. since_weaker (SameOn kept a.world) (λ w. Unit {0}) a b (λ w is. tt) (since_runs kept call a b (Err fault) h runs))
 
 -- one call
 
 module _ (kept : Path → Bool) (call : Call) (outcome : Outcome) (a b : State) (told now : List Called) where
-  pub tells_one : Runs kept call a b (Ok outcome) → now ≡ told ++ record { call = call; outcome = outcome } ∷ [] → TellsAll a b told now
-  tells_one runs grown = (record { call = call; outcome = outcome; change = runs.0 } ∷ [], runs.1, grown)
-
   pub makes_one : b.honest ≡ a.honest → Runs kept call a b (Ok outcome) → now ≡ told ++ record { call = call; outcome = outcome } ∷ [] → Makes kept (IsOne call outcome) a b told now
   makes_one same runs grown =
       let one = calls_one kept call outcome a b same runs in
       (one.0 ∷ [], one.3, ((one.0, refl, one.1, one.2), grown ∙ ap (λ c. told ++ record { call = c; outcome = outcome } ∷ []) (sym one.1) ∙ ap (λ o. told ++ record { call = one.0.call; outcome = o } ∷ []) (sym one.2)))
+
+  pub begins_call : b.honest ≡ a.honest → Runs kept call a b (Ok outcome) → now ≡ told ++ record { call = call; outcome = outcome } ∷ [] → Begins kept (IsCall call) a b told now
+  begins_call same runs grown = begins_weaker kept (IsOne call outcome) (IsCall call) a b told now (λ ts one. (outcome, one)) (begins_whole kept (IsOne call outcome) a b told now (makes_one same runs grown))
 
 -- the answer after a `?`
 

@@ -1,7 +1,7 @@
-use Rattle.std.proofs.Common.{◌≡◌, [], ◌∷◌, ◌++◌, rules}
+use Rattle.std.proofs.Common.{◌≡◌, [], ◌∷◌, ◌++◌, ◌∙◌, rules}
 use Rattle.dpkg_session.proofs.Amid.{since_unit_start}
-use Rattle.dpkg_session.proofs.Runs.{not_broken}
-use Rattle.dpkg_session.proofs.Told.{tells_unit}
+use Rattle.dpkg_session.proofs.Runs.{broken_by, is_broken_off, not_broken}
+use Rattle.dpkg_session.proofs.Told.{called_tells, not_begun, tells_unit}
 use Rattle.dpkg_session.proofs.units.run_one.Goals as goal
 
 pub returns-clause-ok : goal.returns-clause-ok
@@ -14,7 +14,19 @@ pub returns-clause-told : goal.returns-clause-told
 returns-clause-told g c =
     let unit = c.unit_of-unit.result in
     let grown : c.push.new.self.items ≡ c.args.units.now.items ++ unit ∷ [] = search rules in
-    tells_unit (g.H.Host.state c.args.host.now) (g.H.Host.state c.unit_of-unit.new.host) c.args.units.now.items c.push.new.self.items unit grown c.unit_of-unit.ensures.told
+    tells_unit (g.H.Host.state c.args.host.now) (g.H.Host.state c.unit_of-unit.new.host) c.args.units.now.items c.push.new.self.items unit grown (called_tells c.args.candidate.now.tree c.args.keep.now c.args.database.now unit (g.H.Host.state c.args.host.now) (g.H.Host.state c.unit_of-unit.new.host) c.unit_of-unit.ensures.told)
 
 pub returns-then-is_err-clause-any_moment : goal.returns-then-is_err-clause-any_moment
 returns-then-is_err-clause-any_moment g c = λ h. since_unit_start _ _ _ _ (record { order = c.requires.order h; tree = g.H.Host.tree c.args.host.now h; records = c.requires.records h })
+
+pub returns-then-is_err-clause-broken_off : goal.returns-then-is_err-clause-broken_off
+returns-then-is_err-clause-broken_off g c = record {
+  broken = broken_by _ c.broken.result.reply c.broken.ensures.reply;
+  untouched = c.broken.ensures.touched;
+  called = not_begun c.args.candidate.now.tree c.args.keep.now c.args.database.now c.broken.result (g.H.Host.state c.args.host.now) (c.broken.ensures.told ∙ c.new.ensures.items);
+}
+
+pub returns-then-is_broken-clause-broken_off : goal.returns-then-is_broken-clause-broken_off
+returns-then-is_broken-clause-broken_off g c =
+    let broken = is_broken_off c.unit_of-unit.result.reply c.is_broken.result c.if-is_broken.true c.is_broken.ensures in
+    record { broken = broken; untouched = c.unit_of-unit.ensures.untouched broken; called = c.unit_of-unit.ensures.told }

@@ -6,10 +6,10 @@ use Rattle.unwind_stack.specs.Transcript.{TellsAll}
 use Rattle.unwind_stack.proofs.Makes.{tells_none, tells_then}
 use Rattle.dpkg_session.specs.declared.report.Unit.{Unit as AUnit}
 use Rattle.dpkg_session.specs.Units.{calls_of}
-use Rattle.dpkg_session.specs.Run.{IsAmidNext, IsRun}
+use Rattle.dpkg_session.specs.Run.{IsAmidNext, IsBrokenNext, IsRun}
 use Rattle.dpkg_session.proofs.Amid.{since_next, since_next_start, since_run_start}
 use Rattle.dpkg_session.proofs.Runs.{run_more, ready_after}
-use Rattle.dpkg_session.proofs.Told.{tells_last, tells_whole}
+use Rattle.dpkg_session.proofs.Told.{called_tells, tells_last, tells_whole}
 use Rattle.dpkg_session.proofs.units.run_units.Goals as goal
 
 pub loop-candidate-preserved : goal.loop-candidate-preserved
@@ -83,6 +83,7 @@ returns-in-Err-clause-part g c =
           (subst (λ us. IsRun (take i candidates) us places c.args.database.now mid (g.H.Host.state c.args.host.now) now) (sym {A = List AUnit} same) inv.so_far);
       honest = inv.honest;
       since = λ h. subst (λ cs. Since (IsAmidNext cs places mid now.world) now new) (sym (ap (λ n. drop n candidates) count ∙ rest)) (c.run_one.ensures.any_moment (subst IsTrue (sym inv.honest) h));
+      broken = subst (λ cs. IsBrokenNext cs places mid now new c.in-Err.unit) (sym (ap (λ n. drop n candidates) count ∙ rest)) c.in-Err.ensures.broken_off;
     }
 
 pub returns-clause-part : goal.returns-clause-part
@@ -101,6 +102,7 @@ returns-clause-part g c =
       since = λ h.
           let h1 = subst IsTrue (sym inv.honest) h in
           since_next_start (drop (length c.loop-candidate.units.items) candidates) places mid now (record { order = inv.ready.order h1; tree = g.H.Host.tree c.loop-candidate.host h1; records = inv.ready.records h1 });
+      broken = tt;
     }
 
 pub returns-in-Err-clause-told : goal.returns-in-Err-clause-told
@@ -109,7 +111,7 @@ returns-in-Err-clause-told g c =
     let new = g.H.Host.state c.run_one.new.host in
     let unit = c.in-Err.unit in
     subst (λ us. TellsAll old new [] (calls_of us ++ unit.calls.items)) (sym {A = List AUnit} c.in-Err.ensures.err)
-    (tells_last old (g.H.Host.state c.loop-candidate.host) new c.loop-candidate.units.items unit c.loop-candidate.invariant.told c.in-Err.ensures.told_last)
+    (tells_last old (g.H.Host.state c.loop-candidate.host) new c.loop-candidate.units.items unit c.loop-candidate.invariant.told (called_tells c.candidate-item.result.tree c.args.keep.now c.loop-candidate.database unit (g.H.Host.state c.loop-candidate.host) new c.in-Err.ensures.broken_off.called))
 
 pub returns-clause-told : goal.returns-clause-told
 returns-clause-told g c = tells_whole (g.H.Host.state c.args.host.now) (g.H.Host.state c.loop-candidate.host) c.loop-candidate.units.items c.loop-candidate.invariant.told

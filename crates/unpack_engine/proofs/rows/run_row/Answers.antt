@@ -1,8 +1,8 @@
-use Rattle.unwind_stack.specs.Transcript.{Tries, UndoesRow}
-use Rattle.unwind_stack.proofs.Makes.{makes_then, moments_then, tells_then}
-use Rattle.unpack_engine.specs.Turns.{IsTurn}
+use Rattle.unwind_stack.specs.Transcript.{Tries, TriesRow, UndoesAny, UndoesRow}
+use Rattle.unwind_stack.proofs.Makes.{begins_more, begins_then, makes_then, moments_then}
+use Rattle.unpack_engine.specs.Turns.{IsTurn, TakesTurn}
 use Rattle.unpack_engine.specs.declared.rows.Turn.TheVariants.{Undone, UndoFailed}
-use Rattle.unpack_engine.proofs.Falling.{falls_undone, falls_failed}
+use Rattle.unpack_engine.proofs.Falling.{falls_undone, falls_failed, turn_falls, turn_goes_on}
 use Rattle.unpack_engine.proofs.rows.run_row.Goals as goal
 
 pub returns-in_err-undo_row-clause-any_moment : goal.returns-in_err-undo_row-clause-any_moment
@@ -30,11 +30,26 @@ returns-clause-calls g c =
     (λ x y p q. falls_failed row owners.items c.new-owners.result.items _ c.is_empty.result c.in_ok-try_row.field-0 x y owners.ok.0 c.is_empty.ensures c.if-is_empty.false c.if-branch.false c.new-owners.ensures.items p q)
     c.in_ok-try_row.ensures.calls c.in_ok-undo_row.ensures.calls
 
+pub returns-in_err-try_row-clause-told : goal.returns-in_err-try_row-clause-told
+returns-in_err-try_row-clause-told g c = begins_more _ (TriesRow c.args.row.now) (TakesTurn c.args.row.now) (g.H.Host.state c.args.host.now) (g.H.Host.state c.try_row.new.host) _ _ (turn_goes_on c.args.row.now) c.try_row.ensures.told
+
+pub returns-then-branch-clause-told : goal.returns-then-branch-clause-told
+returns-then-branch-clause-told g c = begins_more _ (TriesRow c.args.row.now) (TakesTurn c.args.row.now) (g.H.Host.state c.args.host.now) (g.H.Host.state c.try_row.new.host) _ _ (turn_goes_on c.args.row.now) c.try_row.ensures.told
+
 pub returns-in_err-undo_row-clause-told : goal.returns-in_err-undo_row-clause-told
-returns-in_err-undo_row-clause-told g c = tells_then (g.H.Host.state c.args.host.now) (g.H.Host.state c.try_row.new.host) (g.H.Host.state c.undo_row.new.host) _ _ _ c.try_row.ensures.told c.undo_row.ensures.told
+returns-in_err-undo_row-clause-told g c =
+    let row = c.args.row.now in
+    begins_then _ (λ ts. Tries row ts c.in_ok-try_row.field-0) (UndoesAny row c.new-owners.result.items) (TakesTurn row) (g.H.Host.state c.args.host.now) (g.H.Host.state c.try_row.new.host) (g.H.Host.state c.undo_row.new.host) _ _ _
+    (turn_falls row c.new-owners.result.items c.in_ok-try_row.field-0 c.if-branch.false c.new-owners.ensures.items) c.in_ok-try_row.ensures.calls c.undo_row.ensures.told
 
 pub returns-then-is_empty-clause-told : goal.returns-then-is_empty-clause-told
-returns-then-is_empty-clause-told g c = tells_then (g.H.Host.state c.args.host.now) (g.H.Host.state c.try_row.new.host) (g.H.Host.state c.undo_row.new.host) _ _ _ c.try_row.ensures.told c.undo_row.ensures.told
+returns-then-is_empty-clause-told g c =
+    let row = c.args.row.now in
+    begins_then _ (λ ts. Tries row ts c.in_ok-try_row.field-0) (UndoesAny row c.new-owners.result.items) (TakesTurn row) (g.H.Host.state c.args.host.now) (g.H.Host.state c.try_row.new.host) (g.H.Host.state c.undo_row.new.host) _ _ _
+    (turn_falls row c.new-owners.result.items c.in_ok-try_row.field-0 c.if-branch.false c.new-owners.ensures.items) c.in_ok-try_row.ensures.calls c.undo_row.ensures.told
 
 pub returns-clause-told : goal.returns-clause-told
-returns-clause-told g c = tells_then (g.H.Host.state c.args.host.now) (g.H.Host.state c.try_row.new.host) (g.H.Host.state c.undo_row.new.host) _ _ _ c.try_row.ensures.told c.undo_row.ensures.told
+returns-clause-told g c =
+    let row = c.args.row.now in
+    begins_then _ (λ ts. Tries row ts c.in_ok-try_row.field-0) (UndoesAny row c.new-owners.result.items) (TakesTurn row) (g.H.Host.state c.args.host.now) (g.H.Host.state c.try_row.new.host) (g.H.Host.state c.undo_row.new.host) _ _ _
+    (turn_falls row c.new-owners.result.items c.in_ok-try_row.field-0 c.if-branch.false c.new-owners.ensures.items) c.in_ok-try_row.ensures.calls c.undo_row.ensures.told

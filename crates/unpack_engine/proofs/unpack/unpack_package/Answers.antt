@@ -1,11 +1,12 @@
-use Rattle.std.proofs.Common.{[], IsTrue, None, sym, subst}
+use Rattle.std.proofs.Common.{[], IsTrue, None, refl, sym, subst}
 use Rattle.host_core.specs.World.{is_kept, SameOn}
-use Rattle.host_core.specs.Moments.{since_then, since_weaker}
+use Rattle.host_core.specs.Moments.{silent_then, since_then, since_weaker}
+use Rattle.unwind_stack.proofs.Makes.{later_start, silent_start}
 use Rattle.unpack_engine.specs.Unpack.{IsAmid}
 use Rattle.unpack_engine.proofs.LaidOut.{incoming_absent}
 use Rattle.unpack_engine.proofs.Amid.{amid_scripts, amid_tmp, since_amid}
 use Rattle.unpack_engine.proofs.Standing.{home_there, info_there, status_ready, own_ready, stands_scripts}
-use Rattle.unpack_engine.proofs.Whole.{amid_beginning, amid_finishing, begun_stands, begun_laid, laid_keeps, laid_finished, unit_by}
+use Rattle.unpack_engine.proofs.Whole.{amid_beginning, amid_finishing, begun_stands, begun_laid, laid_keeps, laid_finished, called_by, called_none, unit_by}
 use Rattle.unpack_engine.proofs.Apart.{scripts_within}
 use Rattle.administration.proofs.WholeFiles.{no_directory_none}
 use Rattle.host_core.specs.Scripts.{changed_kept}
@@ -190,3 +191,61 @@ returns-clause-unit g c =
       since_weaker _ (λ w. Unit {0}) s0 s1 (λ w is. tt) (c.begin.ensures.any_moment h),
       since_then _ s2 s3 (g.H.Host.state c.clear_away.new.host) (since_weaker _ (λ w. Unit {0}) s2 s3 (λ w is. tt) (c.finish.ensures.any_moment (to2 h))) (since_weaker _ (λ w. Unit {0}) s3 _ (λ w is. tt) (c.clear_away.ensures.any_moment (to3 h))),
     ))
+
+pub returns-in_err-begin-clause-told : goal.returns-in_err-begin-clause-told
+returns-in_err-begin-clause-told g c =
+    let p = c.args.incoming.now in
+    let places = c.args.keep.now in
+    let table = c.args.database.now in
+    let s0 = g.H.Host.state c.args.host.now in
+    let s1 = g.H.Host.state c.begin.new.host in
+    called_none p places table s0 s1 _ _ c.begin.ensures.silent refl
+
+pub returns-in_err-turn-clause-told : goal.returns-in_err-turn-clause-told
+returns-in_err-turn-clause-told g c =
+    let p = c.args.incoming.now in
+    let places = c.args.keep.now in
+    let table = c.args.database.now in
+    let s0 = g.H.Host.state c.args.host.now in
+    let s1 = g.H.Host.state c.begin.new.host in
+    let s2 = g.H.Host.state c.run_rows.new.host in
+    called_by p places table c.begin.new.database s0 s1 s2 s2 _ _ c.begin.ensures.silent c.run_rows.ensures.told (silent_start s2) (c.in_ok-begin.ensures.begun).put c.requires.order c.requires.records (c.in_ok-begin.ensures.begun).worlds
+    (λ h. since_weaker _ (λ w. Unit {0}) s0 s1 (λ w is. tt) (c.begin.ensures.any_moment h)) (λ h. later_start s2)
+
+pub returns-in_err-finish-clause-told : goal.returns-in_err-finish-clause-told
+returns-in_err-finish-clause-told g c =
+    let p = c.args.incoming.now in
+    let places = c.args.keep.now in
+    let table = c.args.database.now in
+    let s0 = g.H.Host.state c.args.host.now in
+    let s1 = g.H.Host.state c.begin.new.host in
+    let s2 = g.H.Host.state c.run_rows.new.host in
+    let s3 = g.H.Host.state c.finish.new.host in
+    called_by p places table c.begin.new.database s0 s1 s2 s3 _ _ c.begin.ensures.silent c.run_rows.ensures.told c.finish.ensures.silent (c.in_ok-begin.ensures.begun).put c.requires.order c.requires.records (c.in_ok-begin.ensures.begun).worlds
+    (λ h. since_weaker _ (λ w. Unit {0}) s0 s1 (λ w is. tt) (c.begin.ensures.any_moment h)) (λ h. since_weaker _ (λ w. Unit {0}) s2 s3 (λ w is. tt) (c.finish.ensures.any_moment h))
+
+pub returns-in_err-clear_away-clause-told : goal.returns-in_err-clear_away-clause-told
+returns-in_err-clear_away-clause-told g c =
+    let p = c.args.incoming.now in
+    let places = c.args.keep.now in
+    let table = c.args.database.now in
+    let s0 = g.H.Host.state c.args.host.now in
+    let s1 = g.H.Host.state c.begin.new.host in
+    let s2 = g.H.Host.state c.run_rows.new.host in
+    let s3 = g.H.Host.state c.finish.new.host in
+    let s4 = g.H.Host.state c.clear_away.new.host in
+    called_by p places table c.begin.new.database s0 s1 s2 s4 _ _ c.begin.ensures.silent c.run_rows.ensures.told (silent_then s2 s3 s4 c.finish.ensures.silent c.clear_away.ensures.silent) (c.in_ok-begin.ensures.begun).put c.requires.order c.requires.records (c.in_ok-begin.ensures.begun).worlds
+    (λ h. since_weaker _ (λ w. Unit {0}) s0 s1 (λ w is. tt) (c.begin.ensures.any_moment h)) (λ h. since_then _ s2 s3 s4 (since_weaker _ (λ w. Unit {0}) s2 s3 (λ w is. tt) (c.finish.ensures.any_moment h)) (since_weaker _ (λ w. Unit {0}) s3 s4 (λ w is. tt) (c.clear_away.ensures.any_moment (subst IsTrue (sym c.finish.ensures.silent.honest) h))))
+
+pub returns-clause-told : goal.returns-clause-told
+returns-clause-told g c =
+    let p = c.args.incoming.now in
+    let places = c.args.keep.now in
+    let table = c.args.database.now in
+    let s0 = g.H.Host.state c.args.host.now in
+    let s1 = g.H.Host.state c.begin.new.host in
+    let s2 = g.H.Host.state c.run_rows.new.host in
+    let s3 = g.H.Host.state c.finish.new.host in
+    let s4 = g.H.Host.state c.clear_away.new.host in
+    called_by p places table c.begin.new.database s0 s1 s2 s4 _ _ c.begin.ensures.silent c.run_rows.ensures.told (silent_then s2 s3 s4 c.finish.ensures.silent c.clear_away.ensures.silent) (c.in_ok-begin.ensures.begun).put c.requires.order c.requires.records (c.in_ok-begin.ensures.begun).worlds
+    (λ h. since_weaker _ (λ w. Unit {0}) s0 s1 (λ w is. tt) (c.begin.ensures.any_moment h)) (λ h. since_then _ s2 s3 s4 (since_weaker _ (λ w. Unit {0}) s2 s3 (λ w is. tt) (c.finish.ensures.any_moment h)) (since_weaker _ (λ w. Unit {0}) s3 s4 (λ w is. tt) (c.clear_away.ensures.any_moment (subst IsTrue (sym c.finish.ensures.silent.honest) h))))
