@@ -76,9 +76,6 @@ module _ (kept : Path → Bool) (P : List Ran → Type 0) where
     tells = made.2.1;
   }
 
-  pub begins_tells : (a b : State) (told now : List Called) → Begins kept P a b told now → TellsAll a b told now
-  begins_tells a b told now begun = (begun.ts, begun.since.calls ∙ begun.made.calls, begun.tells)
-
   pub begins_weaker : (Q : List Ran → Type 0) (a b : State) (told now : List Called) → ((ts : List Ran) → P ts → Q ts) → Begins kept P a b told now → Begins kept Q a b told now
   begins_weaker Q a b told now so begun = record { ts = begun.ts; more = begun.more; first_of = so (begun.ts ++ begun.more) begun.first_of; last = begun.last; made = begun.made; since = begun.since; later = begun.later; tells = begun.tells }
 
