@@ -10,4 +10,5 @@ pub mod Amid
 pub mod Beginning
 pub mod Finishing
 pub mod Whole
+pub mod Moments
 pub mod Tables

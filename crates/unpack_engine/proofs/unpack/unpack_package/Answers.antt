@@ -1,12 +1,10 @@
-use Rattle.std.proofs.Common.{[], IsTrue, None, refl, sym, subst}
+use Rattle.std.proofs.Common.{None, IsTrue, refl, sym, subst}
 use Rattle.host_core.specs.World.{is_kept, SameOn}
-use Rattle.host_core.specs.Moments.{silent_then, since_then, since_weaker}
-use Rattle.unwind_stack.proofs.Makes.{later_start, silent_start}
-use Rattle.unpack_engine.specs.Unpack.{IsAmid}
-use Rattle.unpack_engine.proofs.LaidOut.{incoming_absent}
-use Rattle.unpack_engine.proofs.Amid.{amid_scripts, amid_tmp, since_amid}
-use Rattle.unpack_engine.proofs.Standing.{home_there, info_there, status_ready, own_ready, stands_scripts}
-use Rattle.unpack_engine.proofs.Whole.{amid_beginning, amid_finishing, begun_stands, begun_laid, laid_keeps, laid_finished, called_by, called_none, unit_by}
+use Rattle.host_core.specs.Moments.{silent_then}
+use Rattle.unwind_stack.proofs.Makes.{later_by, later_start, silent_start}
+use Rattle.unpack_engine.proofs.Standing.{home_there, info_there, status_ready, own_ready}
+use Rattle.unpack_engine.proofs.Whole.{begun_laid, laid_keeps, laid_finished, called_by, called_none, unit_by}
+use Rattle.unpack_engine.proofs.Moments.{later_then, amid_begun, amid_called, amid_finished, amid_cleared, stands_called}
 use Rattle.unpack_engine.proofs.Apart.{scripts_within}
 use Rattle.administration.proofs.WholeFiles.{no_directory_none}
 use Rattle.host_core.specs.Scripts.{changed_kept}
@@ -19,8 +17,7 @@ returns-in_err-begin-clause-any_moment g c = λ h.
     let table = c.args.database.now in
     let s0 = g.H.Host.state c.args.host.now in
     let s1 = g.H.Host.state c.begin.new.host in
-    let m1 = since_weaker _ (IsAmid p places table s0.world) s0 s1 (λ w is. amid_beginning p places table s0.world w (c.requires.order h) (incoming_absent s0.world (g.H.Host.tree c.args.host.now h) (c.requires.order h).tmp) (c.requires.records h) is) (c.begin.ensures.any_moment h) in
-    m1
+    amid_begun p places table s0 s1 (g.H.Host.tree c.args.host.now h) (c.requires.order h) (c.requires.records h) (c.begin.ensures.any_moment h)
 
 pub returns-in_err-turn-clause-any_moment : goal.returns-in_err-turn-clause-any_moment
 returns-in_err-turn-clause-any_moment g c = λ h.
@@ -31,9 +28,8 @@ returns-in_err-turn-clause-any_moment g c = λ h.
     let s1 = g.H.Host.state c.begin.new.host in
     let s2 = g.H.Host.state c.run_rows.new.host in
     let h1 = subst IsTrue (sym c.begin.ensures.silent.honest) h in
-    let m1 = since_weaker _ (IsAmid p places table s0.world) s0 s1 (λ w is. amid_beginning p places table s0.world w (c.requires.order h) (incoming_absent s0.world (g.H.Host.tree c.args.host.now h) (c.requires.order h).tmp) (c.requires.records h) is) (c.begin.ensures.any_moment h) in
-    let m2 = since_amid p places table _ s0 s1 s2 (λ w is amid. amid_scripts p places table s0.world s1.world w amid is) m1 (c.run_rows.ensures.any_moment h1) in
-    m2
+    let m1 = amid_begun p places table s0 s1 (g.H.Host.tree c.args.host.now h) (c.requires.order h) (c.requires.records h) (c.begin.ensures.any_moment h) in
+    amid_called p places table s0 s1 s2 m1 (c.run_rows.ensures.any_moment h1)
 
 pub returns-in_err-finish-clause-any_moment : goal.returns-in_err-finish-clause-any_moment
 returns-in_err-finish-clause-any_moment g c = λ h.
@@ -46,13 +42,11 @@ returns-in_err-finish-clause-any_moment g c = λ h.
     let s3 = g.H.Host.state c.finish.new.host in
     let h1 = subst IsTrue (sym c.begin.ensures.silent.honest) h in
     let h2 = subst IsTrue (sym c.run_rows.ensures.honest) h1 in
-    let m1 = since_weaker _ (IsAmid p places table s0.world) s0 s1 (λ w is. amid_beginning p places table s0.world w (c.requires.order h) (incoming_absent s0.world (g.H.Host.tree c.args.host.now h) (c.requires.order h).tmp) (c.requires.records h) is) (c.begin.ensures.any_moment h) in
-    let m2 = since_amid p places table _ s0 s1 s2 (λ w is amid. amid_scripts p places table s0.world s1.world w amid is) m1 (c.run_rows.ensures.any_moment h1) in
-    let one = begun_stands p places table c.begin.new.database s0.world s1.world (c.requires.order h) (c.requires.records h) ((c.in_ok-begin.ensures.begun).worlds h) in
+    let m1 = amid_begun p places table s0 s1 (g.H.Host.tree c.args.host.now h) (c.requires.order h) (c.requires.records h) (c.begin.ensures.any_moment h) in
+    let m2 = amid_called p places table s0 s1 s2 m1 (c.run_rows.ensures.any_moment h1) in
     let made = c.in_ok-turn.ensures.calls in
-    let two = stands_scripts p places [] made.0 c.begin.new.database (λ file. None) s0.world s1 s2 h1 one made.1 in
-    let m3 = since_amid p places table _ s0 s2 s3 (λ w is amid. amid_finishing p places table c.in_ok-turn.turn made.0 c.begin.new.database s0.world s2.world w (c.in_ok-begin.ensures.begun).put two amid is) m2 (c.finish.ensures.any_moment h2) in
-    m3
+    let stands = stands_called p places table made.0 c.begin.new.database s0 s1 s2 h1 (c.requires.order h) (c.requires.records h) ((c.in_ok-begin.ensures.begun).worlds h) made.1 in
+    amid_finished p places table c.in_ok-turn.turn made.0 c.begin.new.database s0 s2 s3 (c.in_ok-begin.ensures.begun).put stands m2 (c.finish.ensures.any_moment h2)
 
 pub returns-in_err-clear_away-clause-any_moment : goal.returns-in_err-clear_away-clause-any_moment
 returns-in_err-clear_away-clause-any_moment g c = λ h.
@@ -63,16 +57,16 @@ returns-in_err-clear_away-clause-any_moment g c = λ h.
     let s1 = g.H.Host.state c.begin.new.host in
     let s2 = g.H.Host.state c.run_rows.new.host in
     let s3 = g.H.Host.state c.finish.new.host in
+    let s4 = g.H.Host.state c.clear_away.new.host in
     let h1 = subst IsTrue (sym c.begin.ensures.silent.honest) h in
     let h2 = subst IsTrue (sym c.run_rows.ensures.honest) h1 in
     let h3 = subst IsTrue (sym c.finish.ensures.silent.honest) h2 in
-    let m1 = since_weaker _ (IsAmid p places table s0.world) s0 s1 (λ w is. amid_beginning p places table s0.world w (c.requires.order h) (incoming_absent s0.world (g.H.Host.tree c.args.host.now h) (c.requires.order h).tmp) (c.requires.records h) is) (c.begin.ensures.any_moment h) in
-    let m2 = since_amid p places table _ s0 s1 s2 (λ w is amid. amid_scripts p places table s0.world s1.world w amid is) m1 (c.run_rows.ensures.any_moment h1) in
-    let one = begun_stands p places table c.begin.new.database s0.world s1.world (c.requires.order h) (c.requires.records h) ((c.in_ok-begin.ensures.begun).worlds h) in
+    let m1 = amid_begun p places table s0 s1 (g.H.Host.tree c.args.host.now h) (c.requires.order h) (c.requires.records h) (c.begin.ensures.any_moment h) in
+    let m2 = amid_called p places table s0 s1 s2 m1 (c.run_rows.ensures.any_moment h1) in
     let made = c.in_ok-turn.ensures.calls in
-    let two = stands_scripts p places [] made.0 c.begin.new.database (λ file. None) s0.world s1 s2 h1 one made.1 in
-    let m3 = since_amid p places table _ s0 s2 s3 (λ w is amid. amid_finishing p places table c.in_ok-turn.turn made.0 c.begin.new.database s0.world s2.world w (c.in_ok-begin.ensures.begun).put two amid is) m2 (c.finish.ensures.any_moment h2) in
-    since_amid p places table _ s0 s3 (g.H.Host.state c.clear_away.new.host) (λ w is amid. amid_tmp p places table s0.world s3.world w amid is) m3 (c.clear_away.ensures.any_moment h3)
+    let stands = stands_called p places table made.0 c.begin.new.database s0 s1 s2 h1 (c.requires.order h) (c.requires.records h) ((c.in_ok-begin.ensures.begun).worlds h) made.1 in
+    let m3 = amid_finished p places table c.in_ok-turn.turn made.0 c.begin.new.database s0 s2 s3 (c.in_ok-begin.ensures.begun).put stands m2 (c.finish.ensures.any_moment h2) in
+    amid_cleared p places table s0 s3 s4 m3 (c.clear_away.ensures.any_moment h3)
 
 pub returns-clause-any_moment : goal.returns-clause-any_moment
 returns-clause-any_moment g c = λ h.
@@ -83,16 +77,16 @@ returns-clause-any_moment g c = λ h.
     let s1 = g.H.Host.state c.begin.new.host in
     let s2 = g.H.Host.state c.run_rows.new.host in
     let s3 = g.H.Host.state c.finish.new.host in
+    let s4 = g.H.Host.state c.clear_away.new.host in
     let h1 = subst IsTrue (sym c.begin.ensures.silent.honest) h in
     let h2 = subst IsTrue (sym c.run_rows.ensures.honest) h1 in
     let h3 = subst IsTrue (sym c.finish.ensures.silent.honest) h2 in
-    let m1 = since_weaker _ (IsAmid p places table s0.world) s0 s1 (λ w is. amid_beginning p places table s0.world w (c.requires.order h) (incoming_absent s0.world (g.H.Host.tree c.args.host.now h) (c.requires.order h).tmp) (c.requires.records h) is) (c.begin.ensures.any_moment h) in
-    let m2 = since_amid p places table _ s0 s1 s2 (λ w is amid. amid_scripts p places table s0.world s1.world w amid is) m1 (c.run_rows.ensures.any_moment h1) in
-    let one = begun_stands p places table c.begin.new.database s0.world s1.world (c.requires.order h) (c.requires.records h) ((c.in_ok-begin.ensures.begun).worlds h) in
+    let m1 = amid_begun p places table s0 s1 (g.H.Host.tree c.args.host.now h) (c.requires.order h) (c.requires.records h) (c.begin.ensures.any_moment h) in
+    let m2 = amid_called p places table s0 s1 s2 m1 (c.run_rows.ensures.any_moment h1) in
     let made = c.in_ok-turn.ensures.calls in
-    let two = stands_scripts p places [] made.0 c.begin.new.database (λ file. None) s0.world s1 s2 h1 one made.1 in
-    let m3 = since_amid p places table _ s0 s2 s3 (λ w is amid. amid_finishing p places table c.in_ok-turn.turn made.0 c.begin.new.database s0.world s2.world w (c.in_ok-begin.ensures.begun).put two amid is) m2 (c.finish.ensures.any_moment h2) in
-    since_amid p places table _ s0 s3 (g.H.Host.state c.clear_away.new.host) (λ w is amid. amid_tmp p places table s0.world s3.world w amid is) m3 (c.clear_away.ensures.any_moment h3)
+    let stands = stands_called p places table made.0 c.begin.new.database s0 s1 s2 h1 (c.requires.order h) (c.requires.records h) ((c.in_ok-begin.ensures.begun).worlds h) made.1 in
+    let m3 = amid_finished p places table c.in_ok-turn.turn made.0 c.begin.new.database s0 s2 s3 (c.in_ok-begin.ensures.begun).put stands m2 (c.finish.ensures.any_moment h2) in
+    amid_cleared p places table s0 s3 s4 m3 (c.clear_away.ensures.any_moment h3)
 
 pub finish-requires-clause-home : goal.finish-requires-clause-home
 finish-requires-clause-home g c = λ h2.
@@ -104,10 +98,9 @@ finish-requires-clause-home g c = λ h2.
     let s2 = g.H.Host.state c.run_rows.new.host in
     let h1 = subst IsTrue c.run_rows.ensures.honest h2 in
     let h = subst IsTrue c.begin.ensures.silent.honest h1 in
-    let one = begun_stands p places table c.begin.new.database s0.world s1.world (c.requires.order h) (c.requires.records h) ((c.in_ok-begin.ensures.begun).worlds h) in
     let made = c.in_ok-turn.ensures.calls in
-    let two = stands_scripts p places [] made.0 c.begin.new.database (λ file. None) s0.world s1 s2 h1 one made.1 in
-    home_there p places made.0 c.begin.new.database (λ file. None) s0.world s2.world two (c.requires.order h).home
+    let stands = stands_called p places table made.0 c.begin.new.database s0 s1 s2 h1 (c.requires.order h) (c.requires.records h) ((c.in_ok-begin.ensures.begun).worlds h) made.1 in
+    home_there p places made.0 c.begin.new.database (λ file. None) s0.world s2.world stands (c.requires.order h).home
 
 pub finish-requires-clause-info : goal.finish-requires-clause-info
 finish-requires-clause-info g c = λ h2.
@@ -119,10 +112,9 @@ finish-requires-clause-info g c = λ h2.
     let s2 = g.H.Host.state c.run_rows.new.host in
     let h1 = subst IsTrue c.run_rows.ensures.honest h2 in
     let h = subst IsTrue c.begin.ensures.silent.honest h1 in
-    let one = begun_stands p places table c.begin.new.database s0.world s1.world (c.requires.order h) (c.requires.records h) ((c.in_ok-begin.ensures.begun).worlds h) in
     let made = c.in_ok-turn.ensures.calls in
-    let two = stands_scripts p places [] made.0 c.begin.new.database (λ file. None) s0.world s1 s2 h1 one made.1 in
-    info_there p places made.0 c.begin.new.database (λ file. None) s0.world s2.world two (c.requires.order h).info
+    let stands = stands_called p places table made.0 c.begin.new.database s0 s1 s2 h1 (c.requires.order h) (c.requires.records h) ((c.in_ok-begin.ensures.begun).worlds h) made.1 in
+    info_there p places made.0 c.begin.new.database (λ file. None) s0.world s2.world stands (c.requires.order h).info
 
 pub finish-requires-clause-status : goal.finish-requires-clause-status
 finish-requires-clause-status g c = λ h2.
@@ -134,10 +126,9 @@ finish-requires-clause-status g c = λ h2.
     let s2 = g.H.Host.state c.run_rows.new.host in
     let h1 = subst IsTrue c.run_rows.ensures.honest h2 in
     let h = subst IsTrue c.begin.ensures.silent.honest h1 in
-    let one = begun_stands p places table c.begin.new.database s0.world s1.world (c.requires.order h) (c.requires.records h) ((c.in_ok-begin.ensures.begun).worlds h) in
     let made = c.in_ok-turn.ensures.calls in
-    let two = stands_scripts p places [] made.0 c.begin.new.database (λ file. None) s0.world s1 s2 h1 one made.1 in
-    status_ready p places made.0 c.begin.new.database (λ file. None) s0.world s2.world two (c.requires.order h).home
+    let stands = stands_called p places table made.0 c.begin.new.database s0 s1 s2 h1 (c.requires.order h) (c.requires.records h) ((c.in_ok-begin.ensures.begun).worlds h) made.1 in
+    status_ready p places made.0 c.begin.new.database (λ file. None) s0.world s2.world stands (c.requires.order h).home
 
 pub finish-requires-clause-own : goal.finish-requires-clause-own
 finish-requires-clause-own g c = λ h2.
@@ -149,16 +140,14 @@ finish-requires-clause-own g c = λ h2.
     let s2 = g.H.Host.state c.run_rows.new.host in
     let h1 = subst IsTrue c.run_rows.ensures.honest h2 in
     let h = subst IsTrue c.begin.ensures.silent.honest h1 in
-    let one = begun_stands p places table c.begin.new.database s0.world s1.world (c.requires.order h) (c.requires.records h) ((c.in_ok-begin.ensures.begun).worlds h) in
     let made = c.in_ok-turn.ensures.calls in
-    let two = stands_scripts p places [] made.0 c.begin.new.database (λ file. None) s0.world s1 s2 h1 one made.1 in
-    own_ready p places made.0 c.begin.new.database (λ file. None) s0.world s2.world (λ f. no_directory_none) two
+    let stands = stands_called p places table made.0 c.begin.new.database s0 s1 s2 h1 (c.requires.order h) (c.requires.records h) ((c.in_ok-begin.ensures.begun).worlds h) made.1 in
+    own_ready p places made.0 c.begin.new.database (λ file. None) s0.world s2.world (λ f. no_directory_none) stands
 
 pub clear_away-requires : goal.clear_away-requires
 clear_away-requires g c = λ h3.
     let p = c.args.incoming.now in
     let places = c.args.keep.now in
-    let table = c.args.database.now in
     let s0 = g.H.Host.state c.args.host.now in
     let s1 = g.H.Host.state c.begin.new.host in
     let s2 = g.H.Host.state c.run_rows.new.host in
@@ -181,16 +170,14 @@ returns-clause-unit g c =
     let s1 = g.H.Host.state c.begin.new.host in
     let s2 = g.H.Host.state c.run_rows.new.host in
     let s3 = g.H.Host.state c.finish.new.host in
+    let s4 = g.H.Host.state c.clear_away.new.host in
     let made = c.in_ok-turn.ensures.calls in
     let to1 = λ (h : IsTrue s0.honest). subst IsTrue (sym c.begin.ensures.silent.honest) h in
     let to2 = λ (h : IsTrue s0.honest). subst IsTrue (sym c.run_rows.ensures.honest) (to1 h) in
     let to3 = λ (h : IsTrue s0.honest). subst IsTrue (sym c.finish.ensures.silent.honest) (to2 h) in
-    unit_by p places c.in_ok-turn.turn table c.begin.new.database c.finish.new.database made.0 s0 s1 s2 s3 (g.H.Host.state c.clear_away.new.host) _ _ made.2.0 c.begin.ensures.silent made.1 c.finish.ensures.silent c.clear_away.ensures.silent made.2.1
+    unit_by p places c.in_ok-turn.turn table c.begin.new.database c.finish.new.database made.0 s0 s1 s2 s3 s4 _ _ made.2.0 c.begin.ensures.silent made.1 c.finish.ensures.silent c.clear_away.ensures.silent made.2.1
     (c.in_ok-begin.ensures.begun).put (c.in_ok-finish.ensures.finished).table c.requires.order c.requires.records (c.in_ok-begin.ensures.begun).worlds (λ h. (c.in_ok-finish.ensures.finished).worlds (to2 h)) (λ h. c.in_ok-clear_away.ensures.removed (to3 h))
-    (λ h. (
-      since_weaker _ (λ w. Unit {0}) s0 s1 (λ w is. tt) (c.begin.ensures.any_moment h),
-      since_then _ s2 s3 (g.H.Host.state c.clear_away.new.host) (since_weaker _ (λ w. Unit {0}) s2 s3 (λ w is. tt) (c.finish.ensures.any_moment (to2 h))) (since_weaker _ (λ w. Unit {0}) s3 _ (λ w is. tt) (c.clear_away.ensures.any_moment (to3 h))),
-    ))
+    (λ h. (later_by _ s0 s1 (c.begin.ensures.any_moment h), later_then _ _ s2 s3 s4 c.finish.ensures.silent c.finish.ensures.any_moment c.clear_away.ensures.any_moment (to2 h)))
 
 pub returns-in_err-begin-clause-told : goal.returns-in_err-begin-clause-told
 returns-in_err-begin-clause-told g c =
@@ -210,7 +197,7 @@ returns-in_err-turn-clause-told g c =
     let s1 = g.H.Host.state c.begin.new.host in
     let s2 = g.H.Host.state c.run_rows.new.host in
     called_by p places table c.begin.new.database s0 s1 s2 s2 _ _ c.begin.ensures.silent c.run_rows.ensures.told (silent_start s2) (c.in_ok-begin.ensures.begun).put c.requires.order c.requires.records (c.in_ok-begin.ensures.begun).worlds
-    (λ h. since_weaker _ (λ w. Unit {0}) s0 s1 (λ w is. tt) (c.begin.ensures.any_moment h)) (λ h. later_start s2)
+    (λ h. later_by _ s0 s1 (c.begin.ensures.any_moment h)) (λ h. later_start s2)
 
 pub returns-in_err-finish-clause-told : goal.returns-in_err-finish-clause-told
 returns-in_err-finish-clause-told g c =
@@ -222,7 +209,7 @@ returns-in_err-finish-clause-told g c =
     let s2 = g.H.Host.state c.run_rows.new.host in
     let s3 = g.H.Host.state c.finish.new.host in
     called_by p places table c.begin.new.database s0 s1 s2 s3 _ _ c.begin.ensures.silent c.run_rows.ensures.told c.finish.ensures.silent (c.in_ok-begin.ensures.begun).put c.requires.order c.requires.records (c.in_ok-begin.ensures.begun).worlds
-    (λ h. since_weaker _ (λ w. Unit {0}) s0 s1 (λ w is. tt) (c.begin.ensures.any_moment h)) (λ h. since_weaker _ (λ w. Unit {0}) s2 s3 (λ w is. tt) (c.finish.ensures.any_moment h))
+    (λ h. later_by _ s0 s1 (c.begin.ensures.any_moment h)) (λ h. later_by _ s2 s3 (c.finish.ensures.any_moment h))
 
 pub returns-in_err-clear_away-clause-told : goal.returns-in_err-clear_away-clause-told
 returns-in_err-clear_away-clause-told g c =
@@ -235,7 +222,7 @@ returns-in_err-clear_away-clause-told g c =
     let s3 = g.H.Host.state c.finish.new.host in
     let s4 = g.H.Host.state c.clear_away.new.host in
     called_by p places table c.begin.new.database s0 s1 s2 s4 _ _ c.begin.ensures.silent c.run_rows.ensures.told (silent_then s2 s3 s4 c.finish.ensures.silent c.clear_away.ensures.silent) (c.in_ok-begin.ensures.begun).put c.requires.order c.requires.records (c.in_ok-begin.ensures.begun).worlds
-    (λ h. since_weaker _ (λ w. Unit {0}) s0 s1 (λ w is. tt) (c.begin.ensures.any_moment h)) (λ h. since_then _ s2 s3 s4 (since_weaker _ (λ w. Unit {0}) s2 s3 (λ w is. tt) (c.finish.ensures.any_moment h)) (since_weaker _ (λ w. Unit {0}) s3 s4 (λ w is. tt) (c.clear_away.ensures.any_moment (subst IsTrue (sym c.finish.ensures.silent.honest) h))))
+    (λ h. later_by _ s0 s1 (c.begin.ensures.any_moment h)) (later_then _ _ s2 s3 s4 c.finish.ensures.silent c.finish.ensures.any_moment c.clear_away.ensures.any_moment)
 
 pub returns-clause-told : goal.returns-clause-told
 returns-clause-told g c =
@@ -248,4 +235,4 @@ returns-clause-told g c =
     let s3 = g.H.Host.state c.finish.new.host in
     let s4 = g.H.Host.state c.clear_away.new.host in
     called_by p places table c.begin.new.database s0 s1 s2 s4 _ _ c.begin.ensures.silent c.run_rows.ensures.told (silent_then s2 s3 s4 c.finish.ensures.silent c.clear_away.ensures.silent) (c.in_ok-begin.ensures.begun).put c.requires.order c.requires.records (c.in_ok-begin.ensures.begun).worlds
-    (λ h. since_weaker _ (λ w. Unit {0}) s0 s1 (λ w is. tt) (c.begin.ensures.any_moment h)) (λ h. since_then _ s2 s3 s4 (since_weaker _ (λ w. Unit {0}) s2 s3 (λ w is. tt) (c.finish.ensures.any_moment h)) (since_weaker _ (λ w. Unit {0}) s3 s4 (λ w is. tt) (c.clear_away.ensures.any_moment (subst IsTrue (sym c.finish.ensures.silent.honest) h))))
+    (λ h. later_by _ s0 s1 (c.begin.ensures.any_moment h)) (later_then _ _ s2 s3 s4 c.finish.ensures.silent c.finish.ensures.any_moment c.clear_away.ensures.any_moment)
