@@ -21,12 +21,12 @@ pub read_within : (outer inner : Around) → Within outer inner → (word : List
 read_within outer inner within word read (inl r) = inl (record {
   state = r.state;
   behind = within.tree word r.state r.behind;
-  reads = r.reads;
   end = r.end;
+  read_as = r.read_as;
   silent = r.silent;
-  same = r.same;
+  reads = r.reads;
   given = within.seen r.end r.given;
-  cause = r.cause;
+  counts = r.counts;
 })
 read_within outer inner within word read (inr (inl failed)) = inr (inl (failed.0, within.failed failed.1))
 read_within outer inner within word read (inr (inr memory)) = inr (inr memory)
@@ -48,7 +48,7 @@ run_within outer inner within trees done places table s end ran = record {
   read = labelled_within outer inner within ran.candidates ran.read;
   part = ran.part;
   whole = ran.whole;
-  cause = ran.cause;
+  counts = ran.counts;
   told = ran.told;
   any_moment = ran.any_moment;
 }
@@ -61,6 +61,7 @@ unpacked_within outer inner within left begun trees done u = record {
   state = u.state;
   silent = u.silent;
   opens = u.opens;
+  opening = u.opening;
   opened = u.opened;
   end = u.end;
   given = left u.end u.given;

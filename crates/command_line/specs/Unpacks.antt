@@ -1,21 +1,22 @@
 -- What the report on an unpack has to do with the words for the root and the trees.
-use Rattle.std.specs.Prelude.{◌≡◌, ◌⊎◌, ◌<◌, ℕ, List, map, IsTrue, IsNone, IfSome, Some, None, Result, Ok, Err}
+use Rattle.std.specs.Prelude.{◌≡◌, ◌⊎◌, ℕ, List, map, IsTrue, IsNone, Some, None, Result, Ok, Err}
 use Rattle.std.specs.List.{All}
-use Rattle.host_core.specs.Host.{Same, Silent, Since, State}
+use Rattle.host_core.specs.Host.{AtEachMoment, Needs, Reads, Silent, Since, State}
 use Rattle.host_core.specs.Paths.{Path}
 use Rattle.host_core.specs.World.{World}
 use Rattle.administration.specs.declared.fault.AdministrationFault.{AdministrationFault}
 use Rattle.administration.specs.declared.fault.AdministrationFault.TheVariants as opening_faults
 use Rattle.opening.specs.Opened.{IsOpened}
-use Rattle.opening.specs.Parts.{Opens, parts}
+use Rattle.opening.specs.Leaving.{IsOpening}
 use Rattle.status_db.specs.declared.record.Record.{Record}
-use Rattle.package_tree.specs.Tree.{IsTreeFault, IsTreeOf}
+use Rattle.package_tree.specs.Fault.{CountsTree}
+use Rattle.package_tree.specs.Tree.{IsReadingFault, IsTreeOf}
 use Rattle.package_tree.specs.declared.fault.TreeFault.{TreeFault}
 use Rattle.package_tree.specs.declared.fault.TreeFault.TheVariants as tree_faults
 use Rattle.package_tree.specs.declared.package.Package.{Package}
 use Rattle.dpkg_session.specs.Run.{HasRun, IsAmidRun, IsRun}
-use Rattle.dpkg_session.specs.Units.{IsBrokenBy, TellsCalls}
-use Rattle.dpkg_session.specs.declared.report.Breakage.TheVariants as breakages
+use Rattle.dpkg_session.specs.Standing.{CountsRefusal, OpensAll}
+use Rattle.dpkg_session.specs.Units.{CountsLast, TellsCalls}
 use Rattle.dpkg_session.specs.declared.report.Candidate.{Candidate}
 use Rattle.dpkg_session.specs.declared.report.Report.{Report}
 use Rattle.command_words.specs.declared.words.Unpacking.{Unpacking}
@@ -41,22 +42,22 @@ pub record Around : Type 1 where
 abbrev pub around : Behind → Behind → Given → Given → Type 0 → Type 0 → Around
 around root tree left seen failed unopened = record { root = root; tree = tree; left = left; seen = seen; failed = failed; unopened = unopened }
 
--- what a tree reads as: its package, or its first fault
-abbrev pub Reads : World → Result Package TreeFault → Type 0
-Reads w (Ok read) = IsTreeOf w read
-Reads w (Err fault) = IsTreeFault w fault
+-- what a tree reads as: its package, its first fault, or one of the host
+abbrev pub IsReadAs : World → Result Package TreeFault → Type 0
+IsReadAs w (Ok read) = IsTreeOf w read
+IsReadAs w (Err fault) = IsReadingFault w fault
 
 -- the tree behind a word reads so, on a host on which no script was called and nothing changed, and which was given back; a
--- fault of the device is one that this host counts
+-- fault of the device is told exactly where this host counts one
 pub record IsReading (a : Around) (word : List ℕ) (read : Result Package TreeFault) : Type 0 where
   pub state : State
   pub behind : a.tree word state
-  pub reads : IsTrue state.honest → Reads state.world read
   pub end : State
+  pub read_as : IsTrue end.honest → IsReadAs state.world read
   pub silent : Silent state end
-  pub same : IsTrue state.honest → Same state end
+  pub reads : Reads state end
   pub given : a.seen end
-  pub cause : read ≡ Err tree_faults.Device → state.faults < end.faults
+  pub counts : CountsTree state end read
 
 -- what is read for a word, unless no host could be opened for it: the device failed, or memory was wanting
 abbrev pub IsReadFor : Around → List ℕ → Result Package TreeFault → Type 0
@@ -79,9 +80,9 @@ pub record HasRunTrees (a : Around) (trees : List (List ℕ)) (done : Report) (p
   pub read : All (IsLabelled a) candidates
   pub part : HasRun candidates done.units.items done.last places table s end
   pub whole : IsNone done.last → IsWholeRun candidates done places table s end
-  pub cause : IfSome done.last (λ unit. IsBrokenBy breakages.Device unit.reply → s.faults < end.faults)
+  pub counts : CountsLast s end done.last
   pub told : TellsCalls s end done
-  pub any_moment : IsTrue s.honest → Since (IsAmidRun candidates places table s) s end
+  pub any_moment : Since (IsAmidRun candidates places table s) s end
 
 -- the same, from the records and kept places of the administration that was opened on a host, to the state in which
 -- this host was given back
@@ -90,8 +91,9 @@ pub record IsUnpackedOn (a : Around) (begun : State) (trees : List (List ℕ)) (
   pub table : List Record
   pub state : State
   pub silent : Silent begun state
-  pub opens : IsTrue begun.honest → Opens parts None begun state
-  pub opened : IsTrue begun.honest → IsOpened table places state.world
+  pub opens : OpensAll None begun state
+  pub opening : AtEachMoment IsOpening begun state
+  pub opened : Needs state (IsOpened table places)
   pub end : State
   pub given : a.left end
   pub ran : HasRunTrees a trees done places table state end
@@ -105,15 +107,17 @@ pub record IsRefusedOn (left : Given) (begun : State) (fault : AdministrationFau
   pub end : State
   pub given : left end
   pub silent : Silent begun end
-  pub opens : IsTrue begun.honest → Opens parts (Some fault) begun end
-  pub cause : fault ≡ opening_faults.Device → begun.faults < end.faults
+  pub opens : OpensAll (Some fault) begun end
+  pub opening : AtEachMoment IsOpening begun end
+  pub counts : CountsRefusal fault begun end
 
 -- the administration of a host was opened, and the host given back for want of memory to read the trees
 pub record IsStoppedOn (left : Given) (begun : State) : Type 0 where
   pub end : State
   pub given : left end
   pub silent : Silent begun end
-  pub opens : IsTrue begun.honest → Opens parts None begun end
+  pub opens : OpensAll None begun end
+  pub opening : AtEachMoment IsOpening begun end
 
 -- so it went on a host behind the root's word, unless none could be opened: the device failed, or memory was wanting
 abbrev pub IsRootFault : Around → List ℕ → AdministrationFault → Type 0

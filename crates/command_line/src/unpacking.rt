@@ -59,7 +59,7 @@ fn run_trees<S: Hosts>(
     trees: &[Text],
 ) -> Result<Report, AllocError>
     requires { session.old.closed ≡ false }
-    ensures done { IfOk result (λ done. HasRunTrees (around (S.root hosts.old) (S.tree hosts.old) (S.left hosts.new) (S.seen hosts.new) (S.faults hosts.old < S.faults hosts.new) (S.unopened hosts.old hosts.new)) trees.now done session.old.keep session.old.database (S.Opened.state session.old.host) (S.Opened.state session.new.host)) }
+    ensures done { IfOk result (λ done. HasRunTrees (around (S.root hosts.old) (S.tree hosts.old) (S.left hosts.new) (S.seen hosts.new) (S.faults hosts.old < S.faults hosts.new) (S.unopened hosts.old hosts.new)) trees.now done session.old.places session.old.database (S.Opened.state session.old.host) (S.Opened.state session.new.host)) }
     ensures unread { OnErr result (S.Opened.state session.new.host ≡ S.Opened.state session.old.host) }
     ensures seen { (s : State) → S.seen hosts.old s → S.seen hosts.new s }
     ensures faults { S.faults hosts.old ≤ S.faults hosts.new }

@@ -1,5 +1,5 @@
 -- Fields under their names in lower case.
-use Rattle.std.proofs.Common.{◌≡◌, ℕ, Bool, true, false, cond, ◌||◌, if◌then◌else◌, List, [], ◌∷◌, ◌++◌, map, Option, Some, None, refl, sym, ap, subst, ◌∙◌, append_assoc, Bor}
+use Rattle.std.proofs.Common.{◌≡◌, ℕ, zero, suc, ◌-◌, ◌<◌, length, slice_get, Bool, true, false, cond, ◌||◌, if◌then◌else◌, List, [], ◌∷◌, ◌++◌, map, Option, Some, None, refl, sym, ap, subst, ◌∙◌, append_assoc, Bor}
 use Rattle.std.specs.Prelude.{option_copied, IfSome, IfNone}
 use Rattle.std.specs.Str.{bytes_eq}
 use Rattle.std.specs.List.{AllByRecursion}
@@ -7,7 +7,8 @@ use Rattle.std.specs.Map.{lookup}
 use Rattle.std.proofs.lemmas.Bool.{or_from, false_from_ne_true, false≢true, or_right}
 use Rattle.std.proofs.lemmas.List.{append-nil, map-append}
 use Rattle.std.proofs.lemmas.Slice.Eq.{bytes_eq-Decides}
-use Rattle.indexmap.specs.IndexMap.{insert_entry}
+use Rattle.indexmap.specs.IndexMap.{insert_entry, set_value_at}
+use Rattle.indexmap.proofs.EntryLemmas.{last_parts}
 use Rattle.control_fields.specs.Names.{lower, is_called, stands, AreNew, fields_of, IsKeyed, IsFieldCalled}
 use Rattle.control_fields.specs.declared.field.Field.{Field}
 
@@ -85,6 +86,36 @@ popped key es front k f keyed e =
     let n = front_new [] (fields_of front) f (subst (AreNew []) (fields_last front k f) is.new) in
     let m = front_keyed key front k f is.keyed in
     (record { keyed = m.0; new = n.0 }, m.1, n.1)
+
+-- the last field written, its name kept
+
+value_entry : {K : Type 0} (es : List (K × Field)) (i : ℕ) (f : Field) → slice_get (fields_of es) i ≡ Some f → (k : K) × (slice_get es i ≡ Some (k, f))
+value_entry [] i f at = absurd (cc at)
+value_entry (e ∷ es) zero f at = let same : e.1 ≡ f = cc at in (e.0, ap (λ x. Some (e.0, x)) same)
+value_entry (e ∷ es) (suc i) f at = value_entry es i f at
+
+pub record IsLastWritten {K : Type 0} (key : K → List ℕ) (es new : List (K × Field)) (f w : Field) : Type 0 where
+  pub keyed : IsKeyed key new
+  pub front : List Field
+  pub before : fields_of es ≡ front ++ f ∷ []
+  pub after : fields_of new ≡ front ++ w ∷ []
+
+pub last_written : {K : Type 0} (key : K → List ℕ) (es : List (K × Field)) (f w : Field) → IsKeyed key es → 0 < length es → slice_get (fields_of es) (length es - 1) ≡ Some f → w.name ≡ f.name
+    → IsLastWritten key es (set_value_at es (length es - 1) w) f w
+last_written key es f w keyed some at named =
+    let entry = value_entry es (length es - 1) f at in
+    let parts = last_parts es entry.0 f w (length es - 1) refl some entry.1 in
+    let off = popped key es parts.0 entry.0 f keyed parts.1 in
+    let grown : IsKeyed key (parts.0 ++ (entry.0, w) ∷ []) = record {
+      keyed = add_keyed key parts.0 entry.0 w off.0.keyed (off.1 ∙ ap lower (sym named));
+      new = subst (AreNew []) (sym (fields_last parts.0 entry.0 w)) (add_new [] (fields_of parts.0) w off.0.new (ap (λ n. stands n (fields_of parts.0)) named ∙ off.2));
+    } in
+    record {
+      keyed = subst (IsKeyed key) (sym parts.2) grown;
+      front = fields_of parts.0;
+      before = ap fields_of parts.1 ∙ fields_last parts.0 entry.0 f;
+      after = ap fields_of parts.2 ∙ fields_last parts.0 entry.0 w;
+    }
 
 -- a field found by its key
 

@@ -10,3 +10,4 @@ pub mod OnlyOne
 pub mod Trims
 pub mod Written
 pub mod Placed
+pub mod LastLine

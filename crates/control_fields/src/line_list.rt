@@ -1,5 +1,5 @@
 // Lists of lines.
-ghost use Rattle.std.specs.Prelude.{◌≡◌, ℕ, List, IfOk, OnOk, ◌++◌, ◌∷◌, []};
+ghost use Rattle.std.specs.Prelude.{◌≡◌, ℕ, List, IfOk, OnOk, OnErr, ◌++◌, ◌∷◌, []};
 
 use std::alloc::{AllocError, Global};
 use std::marker::Model;
@@ -29,7 +29,8 @@ impl Lines {
     }
 
     pub(crate) fn push(&mut self, line: Bytes) -> Result<(), AllocError>
-        ensures { OnOk result (self.new ≡ self.old ++ line ∷ []) }
+        ensures ok { OnOk result (self.new ≡ self.old ++ line ∷ []) }
+        ensures err { OnErr result (self.new ≡ self.old) }
     {
         self.items.push(line)?;
         Ok(())

@@ -1,5 +1,5 @@
 // Paragraphs with the lines where they stand.
-ghost use Rattle.std.specs.Prelude.{◌≡◌, OnOk, [], ◌++◌, ◌∷◌, false, ◌<◌, ◌^◌};
+ghost use Rattle.std.specs.Prelude.{◌≡◌, OnOk, OnErr, [], ◌++◌, ◌∷◌, false, ◌<◌, ◌^◌};
 ghost use Rattle.control_fields.specs.Names.{stands, begin_line, line_of_field};
 
 use crate::fault::ControlFault;
@@ -48,11 +48,16 @@ impl Located {
         requires { stands field.name self.old.paragraph ≡ false }
         ensures line { OnOk result (self.new.line ≡ begin_line self.old.paragraph self.old.line number) }
         ensures paragraph { OnOk result (self.new.paragraph ≡ self.old.paragraph ++ field ∷ []) }
+        ensures err { OnErr result (self.new ≡ self.old) }
     {
-        if self.paragraph.is_empty() {
-            self.line = number;
-        }
-        self.paragraph.push(field)
+        let line = if self.paragraph.is_empty() {
+            number
+        } else {
+            self.line
+        };
+        self.paragraph.push(field)?;
+        self.line = line;
+        Ok(())
     }
 }
 

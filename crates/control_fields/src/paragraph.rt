@@ -1,5 +1,5 @@
 // Paragraphs.
-ghost use Rattle.std.specs.Prelude.{◌≡◌, List, IfOk, OnOk, IfSome, IfNone, ◌++◌, ◌∷◌, [], ◌==◌, false, length, ◌<◌, ◌^◌};
+ghost use Rattle.std.specs.Prelude.{◌≡◌, List, IfOk, OnOk, OnErr, IfSome, IfNone, ◌++◌, ◌∷◌, [], ◌==◌, false, length, ◌<◌, ◌^◌};
 ghost use Rattle.std.specs.Map.Iter.{ShowsInOrder, deref};
 ghost use Rattle.control_fields.specs.declared.field.Field.{Field as AField};
 ghost use Rattle.control_fields.specs.Names.{lower, is_called, stands, with_line, fields_of, IsKeyed, IsFieldCalled};
@@ -40,6 +40,7 @@ fn add(fields: &mut IndexMap<Vec<u8>, Field>, key: Vec<u8>, field: Field) -> Res
     requires new { stands field.name (fields_of fields.old.entries) ≡ false }
     ensures keyed { IsKeyed (λ k. k.items) fields.new.entries }
     ensures ok { OnOk result (fields_of fields.new.entries ≡ fields_of fields.old.entries ++ field ∷ []) }
+    ensures err { OnErr result (fields_of fields.new.entries ≡ fields_of fields.old.entries) }
 {
     fields.insert(key, field)?;
     Ok(())
@@ -93,7 +94,8 @@ impl Paragraph {
     /// Adds a field at the end; `has` tells whether its name already stands.
     pub fn push(&mut self, field: Field) -> Result<(), AllocError>
         requires { stands field.name self.old ≡ false }
-        ensures { OnOk result (self.new ≡ self.old ++ field ∷ []) }
+        ensures ok { OnOk result (self.new ≡ self.old ++ field ∷ []) }
+        ensures err { OnErr result (self.new ≡ self.old) }
     {
         let key = key_of(self.alloc, field.name.as_slice())?;
         add(&mut self.fields, key, field)
@@ -101,13 +103,13 @@ impl Paragraph {
 
     /// Goes on with the last field.
     pub(crate) fn push_line(&mut self, text: Bytes) -> Result<(), AllocError>
-        ensures { OnOk result ((front : List AField) (last : AField) → self.old ≡ front ++ last ∷ [] → self.new ≡ front ++ with_line last text ∷ []) }
+        ensures ok { OnOk result ((front : List AField) (last : AField) → self.old ≡ front ++ last ∷ [] → self.new ≡ front ++ with_line last text ∷ []) }
+        ensures err { OnErr result (self.new ≡ self.old) }
     {
-        if let Some((key, mut field)) = self.fields.pop() {
-            field.more.push(text)?;
-            add(&mut self.fields, key, field)?;
-        }
-        Ok(())
+        let Some(last) = self.fields.last_mut() else {
+            return Ok(());
+        };
+        last.more.push(text)
     }
 
     pub fn copy(&self) -> Result<Paragraph, AllocError>

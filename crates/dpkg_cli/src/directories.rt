@@ -1,10 +1,10 @@
 // The directories of the real file system as hosts.
-ghost use Rattle.std.specs.Prelude.{◌≤◌, ◌<◌, ⊤, IsErrOf};
+ghost use Rattle.std.specs.Prelude.{◌≡◌, ◌≤◌, ◌<◌, [], ⊤, IfOk, IsErrOf};
 ghost use Rattle.host_core.specs.declared.fault.HostFault.TheVariants.{Device};
 
 use command_line::Hosts;
 use host_core::HostFault;
-use host_files::FilesHost;
+use host_files::{FilesHost, Unknown};
 
 /// Opens directories; a tree's path begins at the working directory.
 #[derive(Drop)]
@@ -15,8 +15,11 @@ pub(crate) struct Directories {
 }
 
 impl Directories {
+    ghost use Rattle.host_files.specs.Replay.{replay, unknown};
+
     // Opens a directory, and counts a fault of the device. With a full count nothing is opened any more.
-    fn open(&mut self, directory: &str) -> Result<FilesHost, HostFault>
+    fn open(&mut self, directory: &str) -> Result<FilesHost<Unknown>, HostFault>
+        ensures fresh { IfOk result (λ host. (replay unknown host.told.log.notes).events ≡ []) }
         ensures faults { self.old.faults ≤ self.new.faults }
         ensures cause { IsErrOf result Device → self.old.faults < self.new.faults }
     {
@@ -35,14 +38,16 @@ impl Directories {
 }
 
 impl Hosts for Directories {
-    type Opened = FilesHost;
+    ghost use Rattle.std.specs.Prelude.{◌≡◌, [], ⊤};
+
+    type Opened = FilesHost<Unknown>;
 
     ghost faults = { λ d. d.faults };
 
-    // of what stands on the disk nothing is claimed
-    ghost root = { λ _ _ _. ⊤ };
+    // of what stands on the disk nothing is claimed; a host that was just opened has done nothing
+    ghost root = { λ _ _ state. state.events ≡ [] };
 
-    ghost tree = { λ _ _ _. ⊤ };
+    ghost tree = { λ _ _ state. state.events ≡ [] };
 
     ghost left = { λ _ _. ⊤ };
 
@@ -50,19 +55,19 @@ impl Hosts for Directories {
 
     ghost unopened = { λ _ _. ⊤ };
 
-    fn open_root(&mut self, directory: &str) -> Result<FilesHost, HostFault> {
+    fn open_root(&mut self, directory: &str) -> Result<FilesHost<Unknown>, HostFault> {
         self.open(directory)
     }
 
-    fn open_tree(&mut self, tree: &str) -> Result<FilesHost, HostFault> {
+    fn open_tree(&mut self, tree: &str) -> Result<FilesHost<Unknown>, HostFault> {
         self.open(tree)
     }
 
-    fn close_root(&mut self, host: FilesHost) {
+    fn close_root(&mut self, host: FilesHost<Unknown>) {
         let _ = host;
     }
 
-    fn close_tree(&mut self, host: FilesHost) {
+    fn close_tree(&mut self, host: FilesHost<Unknown>) {
         let _ = host;
     }
 }

@@ -1,7 +1,7 @@
 -- What commands leave is what a further command can open.
 use Rattle.std.specs.Prelude.{IsSome}
 use Rattle.std.proofs.Common.{List, [], ◌∷◌, ◌++◌, IsTrue, refl, sym, subst, ◌∙◌}
-use Rattle.host_core.specs.Paths.{Path, is_administration}
+use Rattle.host_core.specs.Paths.{Path, is_own}
 use Rattle.host_core.specs.World.{World, SameOn, IsDirectory}
 use Rattle.host_core.specs.Host.{State}
 use Rattle.administration.specs.Places.{home_path, info_path, status_path, tmp_path, list_path, updates_path, diversions_path, temporary}
@@ -22,7 +22,7 @@ use Rattle.dpkg_session.proofs.Readable.{IsReadableBeside, readable_run}
 use Rattle.dpkg_session.proofs.Runs.{Ready, ready_after}
 
 -- the administration is read from its own paths alone
-opened_outside : (table : List Record) (places : List Path) (old new : World) → SameOn is_administration old new → IsOpened table places old → IsOpened table places new
+opened_outside : (table : List Record) (places : List Path) (old new : World) → SameOn is_own old new → IsOpened table places old → IsOpened table places new
 opened_outside table places old new same opened = record {
   home = subst IsDirectory (sym (same home_path refl)) opened.home;
   info = subst IsDirectory (sym (same info_path refl)) opened.info;
@@ -45,13 +45,7 @@ ready_run : (cs : List Candidate) (us : List AUnit) (places : List Path) (before
 ready_run [] [] places before after s t run ready = subst (λ x. Ready x t) (sym run.1) (subst (Ready before) (sym run.0) ready)
 ready_run [] (u ∷ us) places before after s t run ready = absurd run
 ready_run (c ∷ cs) [] places before after s t run ready = absurd run
-ready_run (c ∷ cs) (u ∷ us) places before after s t run ready = ready_run cs us places run.1 after run.0 t run.3 (ready_after c places before run.1 u s run.0 run.2.honest ready run.2.is)
-
-honest_run : (cs : List Candidate) (us : List AUnit) (places : List Path) (before after : List Record) (s t : State) → IsRun cs us places before after s t → IsTrue s.honest → IsTrue t.honest
-honest_run [] [] places before after s t run h = subst (λ x. IsTrue x.honest) (sym run.0) h
-honest_run [] (u ∷ us) places before after s t run h = absurd run
-honest_run (c ∷ cs) [] places before after s t run h = absurd run
-honest_run (c ∷ cs) (u ∷ us) places before after s t run h = honest_run cs us places run.1 after run.0 t run.3 (subst IsTrue (sym run.2.honest) h)
+ready_run (c ∷ cs) (u ∷ us) places before after s t run ready = ready_run cs us places run.1 after run.0 t run.3 (ready_after c places before run.1 u s run.0 ready run.2.is)
 
 readable_opened : (table : List Record) (places : List Path) (w : World) → IsOpened table places w → IsReadableBeside w table
 readable_opened table places w opened = record {
@@ -69,27 +63,26 @@ ready_opened table places s opened = record {
   records = λ h. opened.records;
 }
 
-opened_run : (cs : List Candidate) (us : List AUnit) (places : List Path) (before after : List Record) (s t : State) → IsRun cs us places before after s t → IsTrue s.honest → IsOpened before places s.world → IsOpened after places t.world
+opened_run : (cs : List Candidate) (us : List AUnit) (places : List Path) (before after : List Record) (s t : State) → IsRun cs us places before after s t → IsTrue t.honest → IsOpened before places s.world → IsOpened after places t.world
 opened_run cs us places before after s t run h opened =
     let ready = ready_run cs us places before after s t run (ready_opened before places s opened) in
-    let h1 = honest_run cs us places before after s t run h in
     let beside = readable_run places cs us before after s t run h (readable_opened before places s.world opened) in
     record {
-      home = (ready.order h1).home;
-      info = (ready.order h1).info;
+      home = (ready.order h).home;
+      info = (ready.order h).info;
       updates = beside.updates;
       empty = beside.empty;
       text = beside.text;
-      status = stands_file (t.world status_path) after (ready.records h1);
-      status_spare = (ready.order h1).status_spare;
+      status = stands_file (t.world status_path) after (ready.records h);
+      status_spare = (ready.order h).status_spare;
       diversions = beside.diversions;
-      tmp = (ready.order h1).tmp;
-      records = ready.records h1;
+      tmp = (ready.order h).tmp;
+      records = ready.records h;
       standing = beside.standing;
       listed = record { sound = beside.sound; places = listed_run places cs us before after s t run h opened.listed.places };
     }
 
-pub stands_outside : (table : List Record) (old new : World) → SameOn is_administration old new → Stands table old → Stands table new
+pub stands_outside : (table : List Record) (old new : World) → SameOn is_own old new → Stands table old → Stands table new
 stands_outside table old new same stands = (stands.0, opened_outside table stands.0 old new same stands.1)
 
 stands_command : (ran : Ran) (before after : List Record) (old new : World) → IsCommand ran before after old new → Stands after new

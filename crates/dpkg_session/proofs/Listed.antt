@@ -1,6 +1,6 @@
 -- The places that recorded packages list stay those over units.
 use Rattle.std.proofs.Common.{◌≡◌, ◌≢◌, ◌⊎◌, ◌↔◌, inl, inr, ℕ, Bool, true, false, cond, List, [], ◌∷◌, ◌++◌, Option, Some, None, is_some, Result, Ok, Err, IsTrue, Contains, codes, arith, get_or, refl, sym, ap, subst, ◌∙◌, ◌||◌}
-use Rattle.std.proofs.lemmas.Bool.{true≢false, false_from_ne_true, cond-true, cond-false}
+use Rattle.std.proofs.lemmas.Bool.{true≢false, false_from_ne_true, cond-true, cond-false, or_parts}
 use Rattle.std.proofs.lemmas.List.{append_cancel_left, append_cancel_right}
 use Rattle.std.proofs.lemmas.Map.Views.{Contains-from_any, list_any-from_Contains}
 use Rattle.std.proofs.lemmas.Slice.Eq.{bytes_eq-Decides}
@@ -13,7 +13,8 @@ use Rattle.unpack_engine.proofs.Changes.{script_mark}
 use Rattle.host_core.proofs.Paths.{decide}
 use Rattle.host_core.specs.Paths.{Path}
 use Rattle.host_core.specs.World.{World, is_kept}
-use Rattle.host_core.specs.Host.{Ran, State, scripts_change}
+use Rattle.host_core.specs.Events.{Ran}
+use Rattle.host_core.specs.Host.{State}
 use Rattle.host_core.specs.Scripts.{changed_kept}
 use Rattle.administration.specs.Places.{home_path, info_path, list_path, status_path, temporary}
 use Rattle.file_lists.specs.Lists.{HasPlaces}
@@ -28,15 +29,16 @@ use Rattle.status_db.specs.Status.{HasRecords}
 use Rattle.status_db.proofs.StatusNode.{file_no_directory}
 use Rattle.status_db.specs.declared.record.Record.{Record}
 use Rattle.status_db.specs.Records.{record_in}
-use Rattle.unpack_engine.specs.Unpack.{HasChangedRecord, IsInOrder, IsLeft, IsOutside}
+use Rattle.unpack_engine.specs.Unpack.{HasChangedRecord, HasEnded, IsInOrder, IsLeft, IsOutside, changes_by}
 use Rattle.dpkg_session.specs.declared.refusal.Word.{Word}
-use Rattle.dpkg_session.specs.declared.refusal.Word.TheVariants.{Files, Record as ItsRecord}
+use Rattle.dpkg_session.specs.declared.refusal.Word.TheVariants.{Files, Record as ItsRecord, Conffiles}
 use Rattle.dpkg_session.specs.declared.report.Candidate.{Candidate}
 use Rattle.dpkg_session.specs.declared.report.Unit.{Unit as AUnit}
-use Rattle.dpkg_session.specs.Refusals.{word_of}
+use Rattle.dpkg_session.specs.Refusals.{any_has, word_of}
 use Rattle.dpkg_session.specs.Run.{IsRun}
 use Rattle.dpkg_session.specs.Standing.{IsStanding}
 use Rattle.dpkg_session.specs.Units.{IsUnitByWord, IsUnitOf}
+use Rattle.dpkg_session.proofs.Runs.{falls_run}
 use Rattle.unpack_engine.specs.EndStates.{IsEnd, IsUnwoundEnd, own_undo_failed}
 use Rattle.unwind_stack.specs.Transcript.{Ended, Committed, Unwound}
 
@@ -121,30 +123,30 @@ list_outside n name ne = record {
 
 -- a unit that was carried out leaves the places
 
-module _ (p : Package) (places : List Path) (before after : List Record) (ended : Ended) (ts : List Ran) (old new : World) (left : IsLeft p places before after ended ts old new) (new_name : is_some (record_in before p.name) ≡ false) where
+module _ (p : Package) (places : List Path) (before after : List Record) (ended : Ended) (ts : List Ran) (old new : World) (records : HasEnded p before after ended) (left : IsLeft p places after ended ts old new) (new_name : is_some (record_in before p.name) ≡ false) where
   list_stays : (n : List ℕ) → Contains (names_of before) n → new (list_path n) ≡ old (list_path n)
   list_stays n has =
       left.rest (list_path n) (list_outside n p.name (λ same. true≢false (sym (subst (λ x. is_some (record_in before x) ≡ true) same (has_record before n has)) ∙ new_name)))
-      ∙ changed_kept (is_kept places) (scripts_change ts) old left.avoids (list_path n) refl
+      ∙ changed_kept (is_kept places) (changes_by ts) old left.avoids (list_path n) refl
 
-  listed_grown : (entry : Record) → left.entry ≡ Some entry → HasPlaces old (names_of before) places → HasPlaces new (names_of after) places
+  listed_grown : (entry : Record) → records.entry ≡ Some entry → HasPlaces old (names_of before) places → HasPlaces new (names_of after) places
   listed_grown entry is has = has_places_grown old new (names_of before) (names_of after) p.name places
-      (names_grown p.name before after new_name entry (subst (λ e. HasChangedRecord p.name e before after) is left.table)) list_stays left.list has
+      (names_grown p.name before after new_name entry (subst (λ e. HasChangedRecord p.name e before after) is records.table)) list_stays left.list has
 
-  listed_less : left.entry ≡ None → HasPlaces old (names_of before) places → HasPlaces new (names_of after) places
+  listed_less : records.entry ≡ None → HasPlaces old (names_of before) places → HasPlaces new (names_of after) places
   listed_less is has = has_places_left old new (names_of before) (names_of after) places
-      (names_left p.name before after new_name (subst (λ e. HasChangedRecord p.name e before after) is left.table)) list_stays has
+      (names_left p.name before after new_name (subst (λ e. HasChangedRecord p.name e before after) is records.table)) list_stays has
 
-  by_unwound : (failed : Bool) → IsUnwoundEnd p failed left.entry → HasPlaces old (names_of before) places → HasPlaces new (names_of after) places
+  by_unwound : (failed : Bool) → IsUnwoundEnd p failed records.entry → HasPlaces old (names_of before) places → HasPlaces new (names_of after) places
   by_unwound false end has = listed_less end has
   by_unwound true end has = listed_grown end.0 end.1 has
 
-  by_end : (e : Ended) → IsEnd p e left.entry → HasPlaces old (names_of before) places → HasPlaces new (names_of after) places
+  by_end : (e : Ended) → IsEnd p e records.entry → HasPlaces old (names_of before) places → HasPlaces new (names_of after) places
   by_end Committed end has = listed_grown end.0 end.1 has
   by_end (Unwound fall owners) end has = by_unwound (own_undo_failed p owners) end has
 
   pub listed_left : HasPlaces old (names_of before) places → HasPlaces new (names_of after) places
-  listed_left has = by_end ended left.end has
+  listed_left has = by_end ended records.end has
 
 -- what is carried out has no record before
 
@@ -155,24 +157,41 @@ cond_none false x rest e = (refl, e)
 pub no_record : (p : Package) (before : List Record) → word_of p before ≡ None → is_some (record_in before p.name) ≡ false
 no_record p before e = (cond_none (is_some (record_in before p.name)) ItsRecord _ (cond_none p.ships Files _ e).1).0
 
+-- so it is new, bare and without conffiles
+
+none_of : {T : Type 0} (o : Option T) → is_some o ≡ false → o ≡ None
+none_of None e = refl
+none_of (Some x) e = absurd (true≢false e)
+
+pub carried_new : (p : Package) (before : List Record) → word_of p before ≡ None → record_in before p.name ≡ None
+carried_new p before e = none_of (record_in before p.name) (no_record p before e)
+
+pub carried_bare : (p : Package) (before : List Record) → word_of p before ≡ None → p.ships ≡ false
+carried_bare p before e = (cond_none p.ships Files _ e).0
+
+pub carried_conffiles : (p : Package) (before : List Record) → word_of p before ≡ None → p.has_conffiles ≡ false
+carried_conffiles p before e =
+    let rest = (cond_none (is_some (record_in before p.name)) ItsRecord _ (cond_none p.ships Files _ e).1).1 in
+    (or_parts p.has_conffiles _ (cond_none (p.has_conffiles || (any_has before (codes "Conffiles") || any_has before (codes "New-Conffiles"))) Conffiles _ rest).0).0
+
 -- the places after a run
 
 module _ (places : List Path) where
-  listed_word : (p : Package) (word : Option Word) (before after : List Record) (u : AUnit) (s t : State) → word_of p before ≡ word → IsUnitByWord p word places before after u s t → IsTrue s.honest → HasPlaces s.world (names_of before) places → HasPlaces t.world (names_of after) places
-  listed_word p (Some word) before after u s t e unit h has = subst (λ x. HasPlaces t.world (names_of x) places) (sym unit.table) (subst (λ x. HasPlaces x.world (names_of before) places) (sym unit.state) has)
+  listed_word : (p : Package) (word : Option Word) (before after : List Record) (u : AUnit) (s t : State) → word_of p before ≡ word → IsUnitByWord p word places before after u s t → IsTrue t.honest → HasPlaces s.world (names_of before) places → HasPlaces t.world (names_of after) places
+  listed_word p (Some word) before after u s t e unit h has = subst (λ x. HasPlaces t.world (names_of x) places) (sym unit.table) (subst (λ w. HasPlaces w (names_of before) places) (sym unit.state.world) has)
   listed_word p None before after u s t e unit h has =
-      listed_left p places before after unit.unpacked.ended unit.unpacked.ts s.world t.world (unit.unpacked.unit.leaves h) (no_record p before e) has
+      listed_left p places before after unit.unpacked.ended unit.unpacked.ts s.world t.world unit.unpacked.unit.records (unit.unpacked.unit.leaves h) (no_record p before e) has
 
-  listed_unit : (label : List ℕ) (tree : Result Package TreeFault) (before after : List Record) (u : AUnit) (s t : State) → IsUnitOf label tree places before after u s t → IsTrue s.honest → HasPlaces s.world (names_of before) places → HasPlaces t.world (names_of after) places
-  listed_unit label (Err fault) before after u s t unit h has = subst (λ x. HasPlaces t.world (names_of x) places) (sym unit.table) (subst (λ x. HasPlaces x.world (names_of before) places) (sym unit.state) has)
+  listed_unit : (label : List ℕ) (tree : Result Package TreeFault) (before after : List Record) (u : AUnit) (s t : State) → IsUnitOf label tree places before after u s t → IsTrue t.honest → HasPlaces s.world (names_of before) places → HasPlaces t.world (names_of after) places
+  listed_unit label (Err fault) before after u s t unit h has = subst (λ x. HasPlaces t.world (names_of x) places) (sym unit.table) (subst (λ w. HasPlaces w (names_of before) places) (sym unit.state.world) has)
   listed_unit label (Ok p) before after u s t unit h has = listed_word p (word_of p before) before after u s t refl unit h has
 
-  pub listed_run : (cs : List Candidate) (us : List AUnit) (before after : List Record) (s t : State) → IsRun cs us places before after s t → IsTrue s.honest → HasPlaces s.world (names_of before) places → HasPlaces t.world (names_of after) places
+  pub listed_run : (cs : List Candidate) (us : List AUnit) (before after : List Record) (s t : State) → IsRun cs us places before after s t → IsTrue t.honest → HasPlaces s.world (names_of before) places → HasPlaces t.world (names_of after) places
   listed_run [] [] before after s t run h has = subst (λ x. HasPlaces t.world (names_of x) places) (sym run.1) (subst (λ x. HasPlaces x.world (names_of before) places) (sym run.0) has)
   listed_run [] (u ∷ us) before after s t run h has = absurd run
   listed_run (c ∷ cs) [] before after s t run h has = absurd run
   listed_run (c ∷ cs) (u ∷ us) before after s t run h has =
-      listed_run cs us run.1 after run.0 t run.3 (subst IsTrue (sym run.2.honest) h) (listed_unit c.label c.tree before run.1 u s run.0 run.2.is h has)
+      listed_run cs us run.1 after run.0 t run.3 h (listed_unit c.label c.tree before run.1 u s run.0 run.2.is (falls_run cs us places run.1 after run.0 t run.3 h) has)
 
 -- what a session keeps
 
@@ -188,7 +207,7 @@ standing_opened table places w opened = (
   ∣ opened.listed.places ∣₁,
 )
 
-pub standing_run : (cs : List Candidate) (us : List AUnit) (places : List Path) (before after : List Record) (s t : State) → IsRun cs us places before after s t → IsTrue s.honest → IsInOrder t.world → HasRecords t.world after → IsStanding before places s.world → IsStanding after places t.world
+pub standing_run : (cs : List Candidate) (us : List AUnit) (places : List Path) (before after : List Record) (s t : State) → IsRun cs us places before after s t → IsTrue t.honest → IsInOrder t.world → HasRecords t.world after → IsStanding before places s.world → IsStanding after places t.world
 standing_run cs us places before after s t run h order records standing = (
   directory_is (t.world home_path) order.home,
   directory_is (t.world info_path) order.info,

@@ -8,10 +8,11 @@ use Rattle.std.proofs.lemmas.Bool.{true≢false}
 use Rattle.std.proofs.lemmas.List.Folds.{list_all-append}
 use Rattle.std.proofs.lemmas.Str.{IsUtf8-from_ascii}
 use Rattle.host_core.proofs.Paths.{decide}
-use Rattle.host_core.specs.Paths.{Path}
-use Rattle.host_core.specs.Tree.{has_slash}
+use Rattle.host_core.specs.Paths.{Path, is_path}
+use Rattle.host_core.specs.Tree.{has_slash, IsOdd}
 use Rattle.host_core.specs.World.{World, IsDirectory, is_file, is_kept}
-use Rattle.host_core.specs.Host.{Ran, State, scripts_change}
+use Rattle.host_core.specs.Events.{Ran}
+use Rattle.host_core.specs.Host.{State}
 use Rattle.host_core.specs.Scripts.{changed_kept}
 use Rattle.host_core.specs.declared.call.Script.{Script}
 use Rattle.host_core.specs.declared.call.Script.TheVariants.{Preinst, Postinst, Prerm, Postrm}
@@ -31,10 +32,11 @@ use Rattle.status_db.specs.declared.record.Record.{Record}
 use Rattle.status_db.specs.Records.{standing}
 use Rattle.unpack_engine.specs.OwnFiles.{OwnFile, ending, own_path}
 use Rattle.unpack_engine.specs.EndStates.{end_script}
-use Rattle.unpack_engine.specs.Unpack.{IsLeft, IsOutside}
+use Rattle.unpack_engine.specs.Unpack.{HasEnded, IsLeft, IsOutside, changes_by}
 use Rattle.unpack_engine.proofs.Beginning.{signs_without}
 use Rattle.unpack_engine.proofs.Changes.{script_mark}
 use Rattle.unpack_engine.proofs.Endings.{own_apart, own_lasting}
+use Rattle.unpack_engine.proofs.OwnPaths.{own_is_path, own_spare_is_path}
 use Rattle.unpack_engine.proofs.Whole.{own_or_not, spare_or_not, entry_outside}
 use Rattle.unwind_stack.specs.Transcript.{Ended, Committed, Unwound}
 use Rattle.dpkg_session.specs.declared.refusal.Word.{Word}
@@ -44,6 +46,7 @@ use Rattle.dpkg_session.specs.Refusals.{word_of}
 use Rattle.dpkg_session.specs.Run.{IsRun}
 use Rattle.dpkg_session.specs.Units.{IsUnitByWord, IsUnitOf}
 use Rattle.dpkg_session.proofs.Listed.{at_other, has_record, is_named}
+use Rattle.dpkg_session.proofs.Runs.{falls_run}
 
 -- what a further opening reads, apart from the status file and the places
 
@@ -78,6 +81,10 @@ own_signs name file named = both_signs name (ending file) (signs_of_name name na
 
 spare_signs : (name : List ℕ) (file : OwnFile) → is_package_name name ≡ true → list_all is_name_sign (temporary (name ++ ending file)) ≡ true
 spare_signs name file named = both_signs (name ++ ending file) (codes ".dpkg-inst") (own_signs name file named) refl
+
+not_odd : (path name : Path) → IsUtf8 name → is_path (path ++ 47 ∷ name) ≡ true → IsOdd path name → ⊥
+not_odd path name text fits (inl no_text) = no_text text
+not_odd path name text fits (inr no_path) = true≢false (sym fits ∙ no_path)
 
 -- what stands there at the end is no link
 
@@ -120,14 +127,14 @@ diversions_outside name = elsewhere name diversions_path (λ e. absurd (omega (a
 
 -- a unit that was carried out
 
-module _ (p : Package) (places : List Path) (before after : List Record) (ended : Ended) (ts : List Ran) (old new : World) (left : IsLeft p places before after ended ts old new) where
+module _ (p : Package) (places : List Path) (before after : List Record) (ended : Ended) (ts : List Ran) (old new : World) (records : HasEnded p before after ended) (left : IsLeft p places after ended ts old new) where
   stays : (q : Path) → IsOutside p.name q → is_kept places q ≡ true → new q ≡ old q
-  stays q out kept = left.rest q out ∙ changed_kept (is_kept places) (scripts_change ts) old left.avoids q kept
+  stays q out kept = left.rest q out ∙ changed_kept (is_kept places) (changes_by ts) old left.avoids q kept
 
   known : (n : List ℕ) → Contains (names_of after) n → Contains (names_of before) n ⊎ (n ≡ p.name)
   known n has = elim (decide n p.name) [
     | inl same ↦ inr same
-    | inr ne ↦ inl (is_named before n (ap is_some (sym (at_other p.name n left.entry before after ne left.table)) ∙ has_record after n has))
+    | inr ne ↦ inl (is_named before n (ap is_some (sym (at_other p.name n records.entry before after ne records.table)) ∙ has_record after n has))
   ]
 
   own_list : (file : OwnFile) (entry : Path) → entry_path entry ≡ own_path p.name file → IsListOf (names_of after) entry → IsReadable (new (own_path p.name file))
@@ -179,9 +186,9 @@ module _ (p : Package) (places : List Path) (before after : List Record) (ended 
 
   text_left : (HasBadName old info_path → ⊥) → HasBadName new info_path → ⊥
   text_left text bad = elim (own_or_not p.name (entry_path bad.0)) [
-    | inl own ↦ bad.2 (subst IsUtf8 (sym (ap (drop 19) own.1)) (signs_text _ (own_signs p.name own.0 p.named)))
+    | inl own ↦ not_odd info_path bad.0 (subst IsUtf8 (sym (ap (drop 19) own.1)) (signs_text _ (own_signs p.name own.0 p.named))) (ap is_path own.1 ∙ own_is_path p.name own.0 p.named) bad.2
     | inr no_own ↦ elim (spare_or_not p.name (entry_path bad.0)) [
-      | inl spare ↦ bad.2 (subst IsUtf8 (sym (ap (drop 19) spare.1)) (signs_text _ (spare_signs p.name spare.0 p.named)))
+      | inl spare ↦ not_odd info_path bad.0 (subst IsUtf8 (sym (ap (drop 19) spare.1)) (signs_text _ (spare_signs p.name spare.0 p.named))) (ap is_path spare.1 ∙ own_spare_is_path p.name spare.0 p.named) bad.2
       | inr no_spare ↦ text (bad.0, bad.1, bad.2, subst IsSome (stays (entry_path bad.0) (entry_outside p.name bad.0 no_own no_spare) refl) bad.3)
     ]
   ]
@@ -193,23 +200,23 @@ module _ (p : Package) (places : List Path) (before after : List Record) (ended 
     diversions = subst IsWithoutDiversions (sym (stays diversions_path (diversions_outside p.name) refl)) was.diversions;
     text = text_left was.text;
     sound = sound_left was.sound;
-    standing = left.standing was.standing;
+    standing = records.standing was.standing;
   }
 
 -- units, and a run of them
 
 module _ (places : List Path) where
-  readable_word : (p : Package) (word : Option Word) (before after : List Record) (u : AUnit) (s t : State) → IsUnitByWord p word places before after u s t → IsTrue s.honest → IsReadableBeside s.world before → IsReadableBeside t.world after
-  readable_word p (Some word) before after u s t unit h was = subst (IsReadableBeside t.world) (sym unit.table) (subst (λ x. IsReadableBeside x.world before) (sym unit.state) was)
-  readable_word p None before after u s t unit h was = readable_left p places before after unit.unpacked.ended unit.unpacked.ts s.world t.world (unit.unpacked.unit.leaves h) was
+  readable_word : (p : Package) (word : Option Word) (before after : List Record) (u : AUnit) (s t : State) → IsUnitByWord p word places before after u s t → IsTrue t.honest → IsReadableBeside s.world before → IsReadableBeside t.world after
+  readable_word p (Some word) before after u s t unit h was = subst (IsReadableBeside t.world) (sym unit.table) (subst (λ w. IsReadableBeside w before) (sym unit.state.world) was)
+  readable_word p None before after u s t unit h was = readable_left p places before after unit.unpacked.ended unit.unpacked.ts s.world t.world unit.unpacked.unit.records (unit.unpacked.unit.leaves h) was
 
-  readable_unit : (label : List ℕ) (tree : Result Package TreeFault) (before after : List Record) (u : AUnit) (s t : State) → IsUnitOf label tree places before after u s t → IsTrue s.honest → IsReadableBeside s.world before → IsReadableBeside t.world after
-  readable_unit label (Err fault) before after u s t unit h was = subst (IsReadableBeside t.world) (sym unit.table) (subst (λ x. IsReadableBeside x.world before) (sym unit.state) was)
+  readable_unit : (label : List ℕ) (tree : Result Package TreeFault) (before after : List Record) (u : AUnit) (s t : State) → IsUnitOf label tree places before after u s t → IsTrue t.honest → IsReadableBeside s.world before → IsReadableBeside t.world after
+  readable_unit label (Err fault) before after u s t unit h was = subst (IsReadableBeside t.world) (sym unit.table) (subst (λ w. IsReadableBeside w before) (sym unit.state.world) was)
   readable_unit label (Ok p) before after u s t unit h was = readable_word p (word_of p before) before after u s t unit h was
 
-  pub readable_run : (cs : List Candidate) (us : List AUnit) (before after : List Record) (s t : State) → IsRun cs us places before after s t → IsTrue s.honest → IsReadableBeside s.world before → IsReadableBeside t.world after
+  pub readable_run : (cs : List Candidate) (us : List AUnit) (before after : List Record) (s t : State) → IsRun cs us places before after s t → IsTrue t.honest → IsReadableBeside s.world before → IsReadableBeside t.world after
   readable_run [] [] before after s t run h was = subst (IsReadableBeside t.world) (sym run.1) (subst (λ x. IsReadableBeside x.world before) (sym run.0) was)
   readable_run [] (u ∷ us) before after s t run h was = absurd run
   readable_run (c ∷ cs) [] before after s t run h was = absurd run
   readable_run (c ∷ cs) (u ∷ us) before after s t run h was =
-      readable_run cs us run.1 after run.0 t run.3 (subst IsTrue (sym run.2.honest) h) (readable_unit c.label c.tree before run.1 u s run.0 run.2.is h was)
+      readable_run cs us run.1 after run.0 t run.3 h (readable_unit c.label c.tree before run.1 u s run.0 run.2.is (falls_run cs us places run.1 after run.0 t run.3 h) was)

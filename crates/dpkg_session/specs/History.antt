@@ -1,6 +1,6 @@
 -- Commands given one after another.
-use Rattle.std.specs.Prelude.{◌≡◌, true, List, [], ◌∷◌}
-use Rattle.host_core.specs.Paths.{Path, is_administration}
+use Rattle.std.specs.Prelude.{◌≡◌, IsTrue, List, [], ◌∷◌}
+use Rattle.host_core.specs.Paths.{Path, is_own}
 use Rattle.host_core.specs.World.{World, SameOn}
 use Rattle.host_core.specs.Host.{State}
 use Rattle.opening.specs.Opened.{IsOpened}
@@ -19,18 +19,18 @@ pub record IsCommand (ran : Ran) (before after : List Record) (old new : World) 
   pub start : State
   pub end : State
   pub places : List Path
-  pub honest : start.honest ≡ true
+  pub honest : IsTrue end.honest
   pub from : start.world ≡ old
   pub to : end.world ≡ new
   pub opened : IsOpened before places old
   pub run : IsRun ran.candidates ran.units places before after start end
 
--- each command finds the records that the one before it left; between two of them any path outside the administration
--- may have changed
+-- each command finds the records that the one before it left; between two of them any path but the program's
+-- own may have changed
 abbrev pub IsHistory : List Ran → List Record → List Record → World → World → Type 0
-IsHistory [] before after old new = (after ≡ before) × SameOn is_administration old new
+IsHistory [] before after old new = (after ≡ before) × SameOn is_own old new
 IsHistory (ran ∷ rest) before after old new =
-    (found : World) × (mid : List Record) × (left : World) × SameOn is_administration old found × IsCommand ran before mid found left × IsHistory rest mid after left new
+    (found : World) × (mid : List Record) × (left : World) × SameOn is_own old found × IsCommand ran before mid found left × IsHistory rest mid after left new
 
 -- the administration stands for this table
 abbrev pub Stands : List Record → World → Type 0

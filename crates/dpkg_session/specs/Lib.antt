@@ -4,3 +4,4 @@ pub mod Units
 pub mod Run
 pub mod Commands
 pub mod History
+pub mod PowerLoss

@@ -1,12 +1,15 @@
 -- What a session knows of its host's administration.
-use Rattle.std.specs.Prelude.{◌≡◌, true, List, None}
+use Rattle.std.specs.Prelude.{◌≡◌, true, IsTrue, List, Option, None, Err}
 use Rattle.host_core.specs.Paths.{Path}
 use Rattle.host_core.specs.World.{World, is_directory}
+use Rattle.host_core.specs.Host.{State}
+use Rattle.administration.specs.Fault.{CountsAdministration}
+use Rattle.administration.specs.declared.fault.AdministrationFault.{AdministrationFault}
 use Rattle.administration.specs.Places.{home_path, info_path, status_path, tmp_path, temporary}
 use Rattle.administration.specs.Files.{NoDirectory}
 use Rattle.file_lists.specs.Info.{AreLoose}
 use Rattle.file_lists.specs.Lists.{HasPlaces}
-use Rattle.opening.specs.Parts.{names_of}
+use Rattle.opening.specs.Parts.{names_of, Opens, parts}
 use Rattle.status_db.specs.declared.record.Record.{Record}
 use Rattle.status_db.specs.Status.{HasRecords}
 
@@ -22,3 +25,11 @@ IsStanding table places w =
     × (w tmp_path ≡ None)
     × HasRecords w table
     × ∥ HasPlaces w (names_of table) places ∥₁
+
+-- all parts of it were opened up to this fault, so far as the host was honest
+abbrev pub OpensAll : Option AdministrationFault → State → State → Type 0
+OpensAll fault old new = IsTrue new.honest → Opens parts fault old.world new.world
+
+-- it is refused for a device fault exactly where the device failed
+abbrev pub CountsRefusal : AdministrationFault → State → State → Type 0
+CountsRefusal fault old new = CountsAdministration {T = Unit {0}} old new (Err fault)

@@ -1,7 +1,7 @@
 -- Units and runs of them.
 use Rattle.std.specs.Prelude.{◌≡◌, ℕ, List, [], ◌∷◌, ◌++◌, Option, Some, None, IsSomeAnd, Result, Ok, Err, codes}
 use Rattle.host_core.specs.Paths.{Path}
-use Rattle.host_core.specs.Host.{State}
+use Rattle.host_core.specs.Host.{State, Same, Silent, HasFailed, faults}
 use Rattle.host_core.specs.declared.call.Script.TheVariants.{Preinst}
 use Rattle.package_tree.specs.declared.package.Package.{Package}
 use Rattle.package_tree.specs.declared.fault.TreeFault.{TreeFault}
@@ -55,7 +55,7 @@ pub record IsRefusedUnit (rule : Rule) (name : List ℕ) (u : AUnit) : Type 0 wh
 pub record IsRefused (rule : Rule) (name : List ℕ) (before after : List Record) (u : AUnit) (s t : State) : Type 0 where
   pub refused : IsRefusedUnit rule name u
   pub table : after ≡ before
-  pub state : t ≡ s
+  pub state : Same s t
 
 -- a package is refused by the first condition that holds, else unpacked
 abbrev pub IsUnitByWord : Package → Option Word → List Path → List Record → List Record → AUnit → State → State → Type 0
@@ -84,9 +84,23 @@ abbrev pub breakage_of : HostFault → Breakage
 breakage_of host.Device = Device
 breakage_of host.NoMemory = NoMemory
 
+-- a unit is broken off for a device fault exactly where the device failed
+abbrev pub CountsReply : State → State → Reply → Type 0
+CountsReply old new (Broken Device) = HasFailed old new
+CountsReply old new (Broken NoMemory) = faults new ≡ faults old
+CountsReply old new (Broken Closed) = faults new ≡ faults old
+CountsReply old new Done = faults new ≡ faults old
+CountsReply old new (Refused refusal) = faults new ≡ faults old
+CountsReply old new (Failed failure) = faults new ≡ faults old
+
+-- the same of the units of a command, of which the last may be broken off
+abbrev pub CountsLast : State → State → Option AUnit → Type 0
+CountsLast old new None = faults new ≡ faults old
+CountsLast old new (Some unit) = CountsReply old new unit.reply
+
 -- no call was made
 pub record HasNoCalls (u : AUnit) (s t : State) : Type 0 where
-  pub calls : t.calls ≡ s.calls
+  pub silent : Silent s t
   pub told : u.calls.items ≡ []
 
 -- the calls of a unit, whatever its answer: none where the package is refused, else the first of those of its unpack
@@ -106,7 +120,7 @@ pub record IsBrokenOff (c : Candidate) (places : List Path) (before : List Recor
   pub called : HasCalledOf c.tree places before u s t
 
 -- the unit tells these calls, and the answer to this turn
-pub record IsAnswered (p : Package) (after : List Record) (turn : Turn) (calls : List Called) (u : AUnit) : Type 0 where
+pub record AnswersTurn (p : Package) (after : List Record) (turn : Turn) (calls : List Called) (u : AUnit) : Type 0 where
   pub told : u.calls.items ≡ calls
   pub replied : u.reply ≡ reply_to p turn
   pub touched : u.touched.items ≡ touched_of p after

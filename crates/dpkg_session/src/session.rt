@@ -1,18 +1,21 @@
 // A session over one host.
-ghost use Rattle.std.specs.Prelude.{◌≡◌, ◌≤◌, ◌<◌, true, false, IsTrue, IsNone, IfOk, IfErr, IfSome, is_some, Some, None};
-ghost use Rattle.host_core.specs.Host.{Silent, Since};
+ghost use Rattle.std.specs.Prelude.{◌≡◌, true, false, IsTrue, IsNone, OnOk, IfOk, IfErr, IfSome, is_some, Some, None};
+ghost use Rattle.host_core.specs.Host.{AtEachMoment, Falls, Gives, Needs, Silent, Since, faults};
+ghost use Rattle.host_core.specs.Loss.{IsOnDisk};
+ghost use Rattle.administration.specs.Fault.{CountsAdministration};
+ghost use Rattle.opening.specs.Leaving.{IsOpening};
 ghost use Rattle.opening.specs.Opened.{IsOpened};
-ghost use Rattle.opening.specs.Parts.{Opens, parts};
-ghost use Rattle.administration.specs.declared.fault.AdministrationFault.TheVariants.{Device as DeviceFault};
-ghost use Rattle.dpkg_session.specs.declared.report.Breakage.TheVariants.{Device, Closed};
+ghost use Rattle.opening.specs.Parts.{Opens, fault_in, parts};
+ghost use Rattle.dpkg_session.specs.declared.report.Breakage.TheVariants.{Closed};
+ghost use Rattle.dpkg_session.specs.PowerLoss.{LosesLikeAStop, StandsOnceAnswered};
 ghost use Rattle.dpkg_session.specs.Run.{IsAmidRun, IsRun, HasRun};
-ghost use Rattle.dpkg_session.specs.Standing.{IsStanding};
-ghost use Rattle.dpkg_session.specs.Units.{IsBrokenBy, IsClosedReport, TellsCalls};
+ghost use Rattle.dpkg_session.specs.Standing.{CountsRefusal, IsStanding, OpensAll};
+ghost use Rattle.dpkg_session.specs.Units.{CountsLast, IsBrokenBy, IsClosedReport, TellsCalls};
 
 use crate::report::{Breakage, Candidate, Report};
 use crate::units::{broken, run_units};
 use administration::AdministrationFault;
-use host_core::{Host, Keep};
+use host_core::{Host, Keep, Places};
 use opening::open_administration;
 use status_db::Database;
 use std::alloc::Global;
@@ -40,9 +43,30 @@ pub struct Session<H: Host> {
     alloc: Global,
     host: H,
     database: Database,
-    keep: Keep,
+    places: Places,
     closed: bool,
-    pub ghost ready: { closed ≡ false → IsTrue (H.state host).honest → IsStanding database keep (H.state host).world },
+    pub ghost ready: { closed ≡ false → Needs (H.state host) (IsStanding database places) },
+}
+
+// Opens the administration, and brings all that was done to the disk.
+fn open_to_disk<H: Host>(
+    alloc: Global,
+    host: &mut H,
+) -> Result<(Database, Places), AdministrationFault>
+    ensures opens { IsTrue (H.state host.new).honest → Opens parts (fault_in result) (H.state host.old).world (H.state host.new).world }
+    ensures opened { Gives result (λ opened old new. IsOpened opened.0 opened.1 new) (H.state host.old) (H.state host.new) }
+    ensures on_disk { OnOk result (IsOnDisk (H.state host.new).events) }
+    ensures any_moment { AtEachMoment IsOpening (H.state host.old) (H.state host.new) }
+    ensures silent { Silent (H.state host.old) (H.state host.new) }
+    ensures counts { CountsAdministration (H.state host.old) (H.state host.new) result }
+{
+    match open_administration(alloc, host) {
+        Ok(opened) => match host.barrier() {
+            Ok(()) => Ok(opened),
+            Err(fault) => Err(AdministrationFault::from(fault)),
+        },
+        Err(fault) => Err(fault),
+    }
 }
 
 // The answer of a session that is closed.
@@ -61,20 +85,26 @@ impl<H: Host> Session<H> {
     /// Opens the administration of a host. A refusal hands the host back; it and what was changed
     /// then are told by `refused`.
     pub fn open(alloc: Global, mut host: H) -> Result<Session<H>, (H, AdministrationFault)>
-        ensures opened { IfOk result (λ s. IsTrue (H.state host).honest → IsOpened s.database s.keep (H.state s.host).world) }
-        ensures opens { IfOk result (λ s. IsTrue (H.state host).honest → Opens parts None (H.state host) (H.state s.host)) }
-        ensures refused { IfErr result (λ e. IsTrue (H.state host).honest → Opens parts (Some e.1) (H.state host) (H.state e.0)) }
+        ensures opened { IfOk result (λ s. Needs (H.state s.host) (IsOpened s.database s.places)) }
+        ensures opens { IfOk result (λ s. OpensAll None (H.state host) (H.state s.host)) }
+        ensures refused { IfErr result (λ e. OpensAll (Some e.1) (H.state host) (H.state e.0)) }
+        ensures any_moment { IfOk result (λ s. AtEachMoment IsOpening (H.state host) (H.state s.host)) }
+        ensures any_moment_refused { IfErr result (λ e. AtEachMoment IsOpening (H.state host) (H.state e.0)) }
+        ensures loss { IfOk result (λ s. LosesLikeAStop (λ so_far. IsOpening (H.state host).world) (H.state host) (H.state s.host)) }
+        ensures loss_refused { IfErr result (λ e. LosesLikeAStop (λ so_far. IsOpening (H.state host).world) (H.state host) (H.state e.0)) }
         ensures silent { IfOk result (λ s. Silent (H.state host) (H.state s.host)) }
         ensures silent_refused { IfErr result (λ e. Silent (H.state host) (H.state e.0)) }
-        ensures cause { IfErr result (λ e. e.1 ≡ DeviceFault → (H.state host).faults < (H.state e.0).faults) }
+        ensures no_fault { IfOk result (λ s. faults (H.state s.host) ≡ faults (H.state host)) }
+        ensures counts { IfErr result (λ e. CountsRefusal e.1 (H.state host) (H.state e.0)) }
         ensures closed { IfOk result (λ s. s.closed ≡ false) }
+        ensures on_disk { IfOk result (λ s. IsOnDisk (H.state s.host).events) }
     {
-        match open_administration(alloc, &mut host) {
-            Ok((database, keep)) => Ok(Session {
+        match open_to_disk(alloc, &mut host) {
+            Ok((database, places)) => Ok(Session {
                 alloc,
                 host,
                 database,
-                keep,
+                places,
                 closed: false,
             }),
             Err(fault) => Err((host, fault)),
@@ -83,27 +113,31 @@ impl<H: Host> Session<H> {
 
     /// Runs a command: its units in order, up to one that is broken off, which closes the session.
     pub fn run(&mut self, command: &Command) -> Report
-        ensures whole { self.old.closed ≡ false → IsNone result.last → IsRun (candidates_of command.now) result.units.items self.old.keep self.old.database self.new.database (H.state self.old.host) (H.state self.new.host) }
-        ensures part { self.old.closed ≡ false → HasRun (candidates_of command.now) result.units.items result.last self.old.keep self.old.database (H.state self.old.host) (H.state self.new.host) }
+        ensures whole { self.old.closed ≡ false → IsNone result.last → IsRun (candidates_of command.now) result.units.items self.old.places self.old.database self.new.database (H.state self.old.host) (H.state self.new.host) }
+        ensures part { self.old.closed ≡ false → HasRun (candidates_of command.now) result.units.items result.last self.old.places self.old.database (H.state self.old.host) (H.state self.new.host) }
         ensures told { TellsCalls (H.state self.old.host) (H.state self.new.host) result }
-        ensures any_moment { self.old.closed ≡ false → IsTrue (H.state self.old.host).honest → Since (IsAmidRun (candidates_of command.now) self.old.keep self.old.database (H.state self.old.host)) (H.state self.old.host) (H.state self.new.host) }
+        ensures any_moment { self.old.closed ≡ false → Since (IsAmidRun (candidates_of command.now) self.old.places self.old.database (H.state self.old.host)) (H.state self.old.host) (H.state self.new.host) }
+        ensures loss { self.old.closed ≡ false → LosesLikeAStop (IsAmidRun (candidates_of command.now) self.old.places self.old.database (H.state self.old.host)) (H.state self.old.host) (H.state self.new.host) }
+        ensures stands { self.old.closed ≡ false → IsNone result.last → StandsOnceAnswered (H.state self.old.host) (H.state self.new.host) }
         ensures closes { self.new.closed ≡ is_some result.last }
         ensures refused { self.old.closed ≡ true → IsClosedReport result }
         ensures same { self.old.closed ≡ true → H.state self.new.host ≡ H.state self.old.host }
-        ensures places { self.new.keep ≡ self.old.keep }
-        ensures honest { (H.state self.new.host).honest ≡ (H.state self.old.host).honest }
-        ensures faults { (H.state self.old.host).faults ≤ (H.state self.new.host).faults }
-        ensures cause { self.old.closed ≡ false → IfSome result.last (λ unit. IsBrokenBy Device unit.reply → (H.state self.old.host).faults < (H.state self.new.host).faults) }
+        ensures places { self.new.places ≡ self.old.places }
+        ensures honest { Falls (H.state self.old.host) (H.state self.new.host) }
+        ensures counts { self.old.closed ≡ false → CountsLast (H.state self.old.host) (H.state self.new.host) result.last }
         ensures not_closed { self.old.closed ≡ false → IfSome result.last (λ unit. IsBrokenBy Closed unit.reply → ⊥) }
     {
         if self.closed {
             return closed_report(self.alloc);
         }
+        let keep = Keep {
+            places: &self.places,
+        };
         let report = run_units(
             self.alloc,
             &mut self.host,
             &mut self.database,
-            &self.keep,
+            &keep,
             command.candidates(),
         );
         self.closed = report.last.is_some();
@@ -117,7 +151,7 @@ impl<H: Host> Session<H> {
         let Session {
             host,
             database: _database,
-            keep: _keep,
+            places: _places,
             alloc: _,
             closed: _,
         } = self;

@@ -1,15 +1,16 @@
 // The units of a command, one after another.
-ghost use Rattle.std.specs.Prelude.{◌≡◌, ◌≤◌, ◌<◌, ◌⊎◌, IsTrue, IfOk, [], codes, IfErr, OnOk, OnErr, IfSome, IsNone, MatchBool};
+ghost use Rattle.std.specs.Prelude.{◌≡◌, ◌⊎◌, None, IfOk, [], codes, IfErr, OnOk, OnErr, IfSome, IsNone, MatchBool};
 ghost use Rattle.host_core.specs.declared.call.Script.TheVariants.{Preinst};
 ghost use Rattle.status_db.specs.Records.{record_in};
 ghost use Rattle.unpack_engine.specs.ForwardRows.{call_of};
-ghost use Rattle.host_core.specs.Host.{Since};
+ghost use Rattle.host_core.specs.Host.{AtEachMomentOf, Counts, Needs, Since, faults};
+ghost use Rattle.host_core.specs.Loss.{IsAnswered, IsOnDisk};
 ghost use Rattle.unwind_stack.specs.Transcript.{TellsAll};
 ghost use Rattle.status_db.specs.Status.{HasRecords};
 ghost use Rattle.unpack_engine.specs.Unpack.{IsAmid, IsInOrder};
-ghost use Rattle.unpack_engine.specs.Units.{HasCalled};
+ghost use Rattle.unpack_engine.specs.Units.{HasCalled, HasUnpacked};
 ghost use Rattle.dpkg_session.specs.declared.report.Breakage.TheVariants.{Device, NoMemory, Closed};
-ghost use Rattle.dpkg_session.specs.Units.{IsAnswered, IsBroken, IsBrokenBy, IsBrokenOff, HasCalledByWord, HasCalledOf, IsUnit, IsUnpacked, breakage_of, reply_to, touched_of, IsRefusedUnit, IsUnitByWord, TellsCalls, calls_of};
+ghost use Rattle.dpkg_session.specs.Units.{CountsLast, CountsReply, AnswersTurn, IsBroken, IsBrokenBy, IsBrokenOff, HasCalledByWord, HasCalledOf, IsUnit, IsUnpacked, breakage_of, reply_to, touched_of, IsRefusedUnit, IsUnitByWord, TellsCalls, calls_of};
 ghost use Rattle.dpkg_session.specs.declared.refusal.Rule.TheVariants.{Tree};
 ghost use Rattle.dpkg_session.specs.Refusals.{word_of};
 ghost use Rattle.dpkg_session.specs.Run.{AddsUnit, IsAmidByWord, IsAmidRun, IsAmidUnitOf, IsRun, HasRun};
@@ -100,7 +101,7 @@ fn answered(
     turn: Turn,
     calls: Vec<Called>,
 ) -> Unit
-    ensures answer { IsBrokenBy NoMemory result.reply ⊎ IsAnswered incoming.now database.now turn calls.items result }
+    ensures answer { IsBrokenBy NoMemory result.reply ⊎ AnswersTurn incoming.now database.now turn calls.items result }
     ensures told { result.calls.items ≡ calls.items }
     ensures untouched { IsBroken result.reply → result.touched.items ≡ [] }
 {
@@ -123,27 +124,50 @@ fn breakage_of(fault: HostFault) -> Breakage
     }
 }
 
-// Unpacks a package that isn't refused.
+// Unpacks a package that isn't refused, and brings all that was done to the disk.
+fn unpack_to_disk<H: Host>(
+    alloc: Global,
+    host: &mut H,
+    database: &mut Database,
+    keep: &Keep<'_>,
+    incoming: &Package,
+    told: &mut Vec<Called>,
+) -> Result<Turn, HostFault>
+    requires carried_out { word_of incoming.now database.old ≡ None }
+    requires order { Needs (H.state host.old) IsInOrder }
+    requires records { Needs (H.state host.old) (λ w. HasRecords w database.old) }
+    ensures unit { IfOk result (λ turn. HasUnpacked incoming.now keep.now turn database.old database.new (H.state host.old) (H.state host.new) told.old.items told.new.items) }
+    ensures on_disk { OnOk result (IsOnDisk (H.state host.new).events) }
+    ensures told { HasCalled incoming.now keep.now database.old (H.state host.old) (H.state host.new) told.old.items told.new.items }
+    ensures any_moment { AtEachMomentOf (IsAmid incoming.now keep.now database.old) (H.state host.old) (H.state host.new) }
+    ensures counts { Counts (H.state host.old) (H.state host.new) result }
+{
+    let turn = unpack_package(alloc, host, database, keep, incoming, told)?;
+    host.barrier()?;
+    Ok(turn)
+}
+
+// The unit of a package that isn't refused.
 fn unpack_unit<H: Host>(
     alloc: Global,
     host: &mut H,
     database: &mut Database,
-    keep: &Keep,
+    keep: &Keep<'_>,
     incoming: &Package,
 ) -> Unit
-    requires order { IsTrue (H.state host.old).honest → IsInOrder (H.state host.old).world }
-    requires records { IsTrue (H.state host.old).honest → HasRecords (H.state host.old).world database.old }
+    requires carried_out { word_of incoming.now database.old ≡ None }
+    requires order { Needs (H.state host.old) IsInOrder }
+    requires records { Needs (H.state host.old) (λ w. HasRecords w database.old) }
     ensures unit { IsBroken result.reply ⊎ IsUnpacked incoming.now keep.now database.old database.new result (H.state host.old) (H.state host.new) }
+    ensures on_disk { IsBroken result.reply ⊎ IsOnDisk (H.state host.new).events }
     ensures untouched { IsBroken result.reply → result.touched.items ≡ [] }
     ensures told { HasCalled incoming.now keep.now database.old (H.state host.old) (H.state host.new) [] result.calls.items }
-    ensures any_moment { IsTrue (H.state host.old).honest → Since (IsAmid incoming.now keep.now database.old (H.state host.old).world) (H.state host.old) (H.state host.new) }
-    ensures honest { (H.state host.new).honest ≡ (H.state host.old).honest }
-    ensures faults { (H.state host.old).faults ≤ (H.state host.new).faults }
-    ensures cause { IsBrokenBy Device result.reply → (H.state host.old).faults < (H.state host.new).faults }
+    ensures any_moment { AtEachMomentOf (IsAmid incoming.now keep.now database.old) (H.state host.old) (H.state host.new) }
+    ensures counts { CountsReply (H.state host.old) (H.state host.new) result.reply }
     ensures not_closed { IsBrokenBy Closed result.reply → ⊥ }
 {
     let mut calls = Vec::new(alloc);
-    match unpack_package(alloc, host, database, keep, incoming, &mut calls) {
+    match unpack_to_disk(alloc, host, database, keep, incoming, &mut calls) {
         Ok(turn) => answered(alloc, incoming, database, turn, calls),
         Err(fault) => broken(alloc, calls, breakage_of(fault)),
     }
@@ -181,18 +205,17 @@ fn unit_of_package<H: Host>(
     alloc: Global,
     host: &mut H,
     database: &mut Database,
-    keep: &Keep,
+    keep: &Keep<'_>,
     incoming: &Package,
 ) -> Unit
-    requires order { IsTrue (H.state host.old).honest → IsInOrder (H.state host.old).world }
-    requires records { IsTrue (H.state host.old).honest → HasRecords (H.state host.old).world database.old }
+    requires order { Needs (H.state host.old) IsInOrder }
+    requires records { Needs (H.state host.old) (λ w. HasRecords w database.old) }
     ensures unit { IsBroken result.reply ⊎ IsUnitByWord incoming.now (word_of incoming.now database.old) keep.now database.old database.new result (H.state host.old) (H.state host.new) }
+    ensures answered { IsBroken result.reply ⊎ IsAnswered (H.state host.old) (H.state host.new) }
     ensures untouched { IsBroken result.reply → result.touched.items ≡ [] }
     ensures told { HasCalledByWord incoming.now (word_of incoming.now database.old) keep.now database.old result (H.state host.old) (H.state host.new) }
-    ensures any_moment { IsTrue (H.state host.old).honest → Since (IsAmidByWord incoming.now (word_of incoming.now database.old) keep.now database.old (H.state host.old).world) (H.state host.old) (H.state host.new) }
-    ensures honest { (H.state host.new).honest ≡ (H.state host.old).honest }
-    ensures faults { (H.state host.old).faults ≤ (H.state host.new).faults }
-    ensures cause { IsBrokenBy Device result.reply → (H.state host.old).faults < (H.state host.new).faults }
+    ensures any_moment { AtEachMomentOf (IsAmidByWord incoming.now (word_of incoming.now database.old) keep.now database.old) (H.state host.old) (H.state host.new) }
+    ensures counts { CountsReply (H.state host.old) (H.state host.new) result.reply }
     ensures not_closed { IsBrokenBy Closed result.reply → ⊥ }
 {
     match word_of(incoming, database) {
@@ -210,18 +233,17 @@ fn unit_of<H: Host>(
     alloc: Global,
     host: &mut H,
     database: &mut Database,
-    keep: &Keep,
+    keep: &Keep<'_>,
     candidate: &Candidate,
 ) -> Unit
-    requires order { IsTrue (H.state host.old).honest → IsInOrder (H.state host.old).world }
-    requires records { IsTrue (H.state host.old).honest → HasRecords (H.state host.old).world database.old }
+    requires order { Needs (H.state host.old) IsInOrder }
+    requires records { Needs (H.state host.old) (λ w. HasRecords w database.old) }
     ensures unit { IsBroken result.reply ⊎ IsUnit candidate.now keep.now database.old database.new result (H.state host.old) (H.state host.new) }
+    ensures answered { IsBroken result.reply ⊎ IsAnswered (H.state host.old) (H.state host.new) }
     ensures untouched { IsBroken result.reply → result.touched.items ≡ [] }
     ensures told { HasCalledOf candidate.now.tree keep.now database.old result (H.state host.old) (H.state host.new) }
-    ensures any_moment { IsTrue (H.state host.old).honest → Since (IsAmidUnitOf candidate.now.tree keep.now database.old (H.state host.old).world) (H.state host.old) (H.state host.new) }
-    ensures honest { (H.state host.new).honest ≡ (H.state host.old).honest }
-    ensures faults { (H.state host.old).faults ≤ (H.state host.new).faults }
-    ensures cause { IsBrokenBy Device result.reply → (H.state host.old).faults < (H.state host.new).faults }
+    ensures any_moment { AtEachMomentOf (IsAmidUnitOf candidate.now.tree keep.now database.old) (H.state host.old) (H.state host.new) }
+    ensures counts { CountsReply (H.state host.old) (H.state host.new) result.reply }
     ensures not_closed { IsBrokenBy Closed result.reply → ⊥ }
 {
     match &candidate.tree {
@@ -250,20 +272,20 @@ fn run_one<H: Host>(
     alloc: Global,
     host: &mut H,
     database: &mut Database,
-    keep: &Keep,
+    keep: &Keep<'_>,
     candidate: &Candidate,
     units: &mut Vec<Unit>,
 ) -> Result<(), Unit>
-    requires order { IsTrue (H.state host.old).honest → IsInOrder (H.state host.old).world }
-    requires records { IsTrue (H.state host.old).honest → HasRecords (H.state host.old).world database.old }
+    requires order { Needs (H.state host.old) IsInOrder }
+    requires records { Needs (H.state host.old) (λ w. HasRecords w database.old) }
     ensures ok { OnOk result (AddsUnit candidate.now keep.now database.old database.new (H.state host.old) (H.state host.new) units.old.items units.new.items) }
+    ensures answered { OnOk result (IsAnswered (H.state host.old) (H.state host.new)) }
     ensures err { OnErr result (units.new.items ≡ units.old.items) }
     ensures broken_off { IfErr result (λ unit. IsBrokenOff candidate.now keep.now database.old unit (H.state host.old) (H.state host.new)) }
     ensures told { OnOk result (TellsAll (H.state host.old) (H.state host.new) (calls_of units.old.items) (calls_of units.new.items)) }
-    ensures any_moment { IsTrue (H.state host.old).honest → Since (IsAmidUnitOf candidate.now.tree keep.now database.old (H.state host.old).world) (H.state host.old) (H.state host.new) }
-    ensures honest { (H.state host.new).honest ≡ (H.state host.old).honest }
-    ensures faults { (H.state host.old).faults ≤ (H.state host.new).faults }
-    ensures cause { IfErr result (λ unit. IsBrokenBy Device unit.reply → (H.state host.old).faults < (H.state host.new).faults) }
+    ensures any_moment { AtEachMomentOf (IsAmidUnitOf candidate.now.tree keep.now database.old) (H.state host.old) (H.state host.new) }
+    ensures no_fault { OnOk result (faults (H.state host.new) ≡ faults (H.state host.old)) }
+    ensures counts { IfErr result (λ unit. CountsReply (H.state host.old) (H.state host.new) unit.reply) }
     ensures not_closed { IfErr result (λ unit. IsBrokenBy Closed unit.reply → ⊥) }
 {
     if units.reserve(1).is_err() {
@@ -282,21 +304,19 @@ pub(crate) fn run_units<H: Host>(
     alloc: Global,
     host: &mut H,
     database: &mut Database,
-    keep: &Keep,
+    keep: &Keep<'_>,
     candidates: &[Candidate],
 ) -> Report
-    requires order { IsTrue (H.state host.old).honest → IsInOrder (H.state host.old).world }
-    requires records { IsTrue (H.state host.old).honest → HasRecords (H.state host.old).world database.old }
+    requires order { Needs (H.state host.old) IsInOrder }
+    requires records { Needs (H.state host.old) (λ w. HasRecords w database.old) }
     ensures whole { IsNone result.last → IsRun candidates.now result.units.items keep.now database.old database.new (H.state host.old) (H.state host.new) }
     ensures part { HasRun candidates.now result.units.items result.last keep.now database.old (H.state host.old) (H.state host.new) }
     ensures told { TellsCalls (H.state host.old) (H.state host.new) result }
-    ensures any_moment { IsTrue (H.state host.old).honest → Since (IsAmidRun candidates.now keep.now database.old (H.state host.old)) (H.state host.old) (H.state host.new) }
-    ensures cause { IfSome result.last (λ unit. IsBrokenBy Device unit.reply → (H.state host.old).faults < (H.state host.new).faults) }
+    ensures any_moment { Since (IsAmidRun candidates.now keep.now database.old (H.state host.old)) (H.state host.old) (H.state host.new) }
+    ensures counts { CountsLast (H.state host.old) (H.state host.new) result.last }
     ensures not_closed { IfSome result.last (λ unit. IsBrokenBy Closed unit.reply → ⊥) }
-    ensures order { IsNone result.last → IsTrue (H.state host.old).honest → IsInOrder (H.state host.new).world }
-    ensures records { IsNone result.last → IsTrue (H.state host.old).honest → HasRecords (H.state host.new).world database.new }
-    ensures honest { (H.state host.new).honest ≡ (H.state host.old).honest }
-    ensures faults { (H.state host.old).faults ≤ (H.state host.new).faults }
+    ensures order { IsNone result.last → Needs (H.state host.new) IsInOrder }
+    ensures records { IsNone result.last → Needs (H.state host.new) (λ w. HasRecords w database.new) }
 {
     let mut units = Vec::new(alloc);
     for candidate in candidates {

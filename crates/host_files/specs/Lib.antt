@@ -1,5 +1,10 @@
 pub mod Faults
 pub mod Entries
 pub mod Places
+pub mod Directories
 pub mod Commands
+pub mod SystemCalls
+pub mod Notes
+pub mod Shown
+pub mod Replay
 pub mod FilesState

@@ -1,163 +1,70 @@
 // The host over a real directory.
-ghost use Rattle.std.specs.Prelude.{◌≡◌, IfErr, OnOk};
-ghost use Rattle.std.specs.IoError.{raw_os_error};
-ghost use Rattle.std.specs.Process.{exit_code};
-ghost use Rattle.host_files.specs.Commands.{outcome_of, is_start_error};
-ghost use Rattle.host_files.specs.Entries.{permissions_of, IsAbsence};
-ghost use Rattle.host_files.specs.Faults.{IsFaultOf};
+ghost use Rattle.std.specs.Prelude.{◌≡◌, IsTrue};
+ghost use Rattle.host_core.specs.Unsynced.{IsSettled};
+ghost use Rattle.host_files.specs.Replay.{replay};
 
-use crate::command::command_of;
-use crate::disk::{is_directory, mode_of, stat};
-use crate::looking::{listing_at, node_at};
+use crate::changed::Changed;
+use crate::disk::fault_of;
+use crate::disk_model::Disk;
+use crate::looking::{kind_at, listing_at, node_at};
+use crate::record::{Asks, Note};
 use crate::root::Root;
-use host_core::{Call, Host, HostFault, Keep, Listing, Node, Outcome, RootPath};
-use std::fs::{DirBuilder, Metadata, OpenFile, OpenOptions, Permissions};
-use std::io::{Error, ErrorKind, Write};
-use std::os::unix::fs::{DirBuilderExt, OpenOptionsExt, PermissionsExt};
-use std::process::{Command, ExitStatus, Stdio};
-use std::{fs, io};
+use crate::scripts::run_script;
+use crate::steps::{
+    flush, flush_all, hard_link, make_directory, move_over, symlink, unlink, unlink_directory,
+    write_file,
+};
+use crate::system::System;
+use crate::told::{Made, Told};
+use host_core::{
+    Access, Call, Host, HostFault, Keep, Kind, Listing, Node, Outcome, Places, RootPath,
+};
+use std::fs;
+use std::marker::PhantomData;
+use texts::Text;
 
-/// A call that was made, and how it ended.
+/// A root directory of the real file system. Its state is what its calls and their answers make of
+/// a directory that is supposed.
 #[derive(Drop)]
-pub struct Made {
-    pub call: Call,
-    pub outcome: Outcome,
-}
-
-/// A root directory of the real file system. It promises nothing of what the files hold.
-#[derive(Drop)]
-pub struct FilesHost {
-    rt: HostRuntime,
+pub struct FilesHost<D: Disk> {
+    system: System,
     root: Root,
-    calls: Vec<Made>,
-    faults: u64,
+    changed: Changed,
+    told: Told,
+    disk: PhantomData<D>,
+    ghost settled: { IsTrue (replay D.Disk.model told.log.notes).honest → IsSettled (replay D.Disk.model told.log.notes).events },
 }
 
 // the longest directory that leaves room for every path below it
 const MAX_DIRECTORY: usize = 3000;
 
-// the system's numbers for a file that can't be started
-const ENOENT: i32 = 2;
+// Whether owners can be set, and are told.
+fn is_superuser() -> bool {
+    libc::geteuid() == 0
+}
 
-const ENOEXEC: i32 = 8;
-
-const EACCES: i32 = 13;
-
-const ENOTDIR: i32 = 20;
-
-const ETXTBSY: i32 = 26;
-
-const ELOOP: i32 = 40;
-
-// Want of this process's own memory has no number of the system's; the system's own is a fault of
-// the device.
-fn fault_of(error: &Error) -> HostFault
-    ensures { IsFaultOf error.now result }
+// The kept places, lent.
+fn places_of<'a>(keep: &'a Keep<'_>) -> &'a Places
+    ensures { result.now ≡ keep.now }
 {
-    if error.kind() == ErrorKind::OutOfMemory && error.raw_os_error().is_none() {
-        HostFault::NoMemory
-    } else {
-        HostFault::Device
-    }
+    keep.places
 }
 
-// Links may lead to the directory.
-fn check_directory(rt: &HostRuntime, directory: &str) -> io::Result<()> {
-    if fs::metadata(rt, directory)?.is_dir() {
-        Ok(())
-    } else {
-        Err(Error::from(ErrorKind::NotADirectory))
-    }
-}
-
-// The system leaves out the bit for the group where the user isn't of that group.
-fn check_mode(found: &Metadata, mode: u16) -> io::Result<()>
-    ensures { OnOk result (permissions_of found.now ≡ mode) }
-{
-    if mode_of(found) == mode {
-        Ok(())
-    } else {
-        Err(Error::from(ErrorKind::PermissionDenied))
-    }
-}
-
-// Whether a file stands at the place.
-fn is_file(rt: &HostRuntime, place: &str) -> io::Result<bool>
-    ensures { IfErr result (λ error. IsAbsence error → ⊥) }
-{
-    match stat(rt, place)? {
-        Some(found) => Ok(found.is_file()),
-        None => Ok(false),
-    }
-}
-
-// The mode is set last: the umask narrows it at first, and a write takes bits away.
-fn write_bytes(rt: &HostRuntime, place: &str, bytes: &[u8], mode: u16) -> io::Result<()> {
-    let mut file = OpenOptions::new()
-        .write(true)
-        .create_new(true)
-        .mode(0o600)
-        .open(rt, place)?;
-    file.write_all(bytes)?;
-    file.set_permissions(Permissions::from_mode(u32::from(mode)))?;
-    check_mode(&file.metadata()?, mode)
-}
-
-// The mode is set last, as that of a file.
-fn create_directory(rt: &HostRuntime, place: &str, mode: u16) -> io::Result<()> {
-    DirBuilder::new().mode(0o700).create(rt, place)?;
-    fs::set_permissions(rt, place, Permissions::from_mode(u32::from(mode)))?;
-    check_mode(&fs::symlink_metadata(rt, place)?, mode)
-}
-
-// Renames what is no directory.
-fn rename_file(rt: &HostRuntime, from: &str, to: &str) -> io::Result<()> {
-    if is_directory(rt, from)? {
-        Err(Error::from(ErrorKind::IsADirectory))
-    } else {
-        fs::rename(rt, from, to)
-    }
-}
-
-// Whether the script is one that can't be started, or is missing.
-fn is_start_error(error: &Error) -> bool
-    ensures { result ≡ is_start_error (raw_os_error error.now) }
-{
-    matches!(
-        error.raw_os_error(),
-        Some(ENOENT | ENOEXEC | EACCES | ENOTDIR | ETXTBSY | ELOOP)
-    )
-}
-
-// How a script ended that was started.
-fn outcome_of(status: &ExitStatus) -> Outcome
-    ensures { result ≡ outcome_of (exit_code status.now) }
-{
-    match status.code() {
-        Some(code) => Outcome::Exit(code),
-        None => Outcome::Killed,
-    }
-}
-
-// Starts the script of a command and waits for its end.
-fn spawn(rt: &HostRuntime, command: &mut Command) -> io::Result<Outcome> {
-    match command.spawn(rt) {
-        Ok(mut child) => Ok(outcome_of(&child.wait()?)),
-        Err(error) if is_start_error(&error) => Ok(Outcome::NotStarted),
-        Err(error) => Err(error),
-    }
-}
-
-impl FilesHost {
-    ghost use Rattle.std.specs.Prelude.{◌≡◌, ◌<◌, ◌≤◌, ◌^◌, ◌-◌, ◌+◌, ◌++◌, ◌∷◌, [], vec_len, vec_capacity, OnErr, Ok, Err, OnOk, IfOk, IfErr, IsErrAnd, IsErrOf, map, length};
+impl<D: Disk> FilesHost<D> {
+    ghost use Rattle.std.specs.Prelude.{◌≡◌, ◌∷◌, [], ◌<◌, ◌^◌, ◌-◌, map, vec_len, vec_capacity, Err, OnOk, IfOk, length, string_bytes};
     ghost use Rattle.host_core.specs.declared.fault.HostFault.TheVariants.{Device, NoMemory};
-    ghost use Rattle.host_files.specs.Faults.{IsFaultOf};
-    ghost use Rattle.host_files.specs.FilesState.{ran_of, files_state, fresh_state, directory_of};
+    ghost use Rattle.host_files.specs.FilesState.{directory_of};
+    ghost use Rattle.host_files.specs.Notes.{noted, asked_by, told_of, calls_in, faults_in, IsPlain, IsNotedFault};
+    ghost use Rattle.host_files.specs.Shown.{IsBrought, IsEndedBy, IsRemembered, IsShownBy, IsStepBy};
+    ghost use Rattle.host_files.specs.SystemCalls.{changes_in};
+    ghost use Rattle.host_files.specs.declared.record.Noted.TheVariants.{Done, Undone, Ended};
+    ghost use Rattle.host_core.specs.Unsynced.{KeepsSettled};
+    ghost use Rattle.host_files.specs.Replay.{IsOwed, step_of};
 
     /// Links may lead to the directory. Device where there is none, or its path has more than 3,000
     /// bytes.
-    pub fn open(rt: HostRuntime, directory: &str) -> Result<FilesHost, HostFault>
-        ensures state { IfOk result (λ host. files_state host ≡ fresh_state) }
+    pub fn open(rt: HostRuntime, directory: &str) -> Result<FilesHost<D>, HostFault>
+        ensures fresh { IfOk result (λ host. host.told.log.notes ≡ []) }
         ensures directory { IfOk result (λ host. directory_of host ≡ directory.now) }
         ensures long { 3000 < length directory.now → result ≡ Err Device }
     {
@@ -165,229 +72,222 @@ impl FilesHost {
             return Err(HostFault::Device);
         }
         let alloc = rt.alloc();
-        let root = Root::new(alloc, directory)?;
-        match check_directory(&rt, directory) {
-            Ok(()) => Ok(FilesHost {
-                rt,
+        let root = Root::new(alloc, directory, is_superuser())?;
+        match fs::metadata(&rt, directory) {
+            Ok(found) if found.is_dir() => Ok(FilesHost {
+                system: System::new(rt),
                 root,
-                calls: Vec::new(alloc),
-                faults: 0,
+                changed: Changed::new(alloc),
+                told: Told::new(alloc),
+                disk: PhantomData,
             }),
+            Ok(_) => Err(HostFault::Device),
             Err(error) => Err(fault_of(&error)),
         }
     }
 
     /// All calls so far.
     pub fn calls(&self) -> &[Made]
-        ensures { map ran_of result.now ≡ (files_state self.now).calls }
+        ensures { map told_of result.now ≡ calls_in self.now.told.log.notes }
     {
-        self.calls.as_slice()
+        self.told.calls.as_slice()
     }
 
     /// How often the device has failed.
     pub fn faults(&self) -> u64
-        ensures { result ≡ (files_state self.now).faults }
+        ensures { result ≡ faults_in self.now.told.log.notes }
     {
-        self.faults
+        self.told.faults
     }
 
-    // A host whose count is full makes no call any more.
-    fn guard(&self) -> Result<(), HostFault>
-        ensures ok { OnOk result (self.now.faults < 2 ^ 64 - 1) }
-        ensures err { IfErr result (λ e. e ≡ NoMemory) }
+    // Notes a call that was answered by looking.
+    fn note(&mut self, note: &Note<'_>)
+        requires plain { IsPlain (noted note.now) }
+        requires shown { IsShownBy (string_bytes self.old.root.directory) (string_bytes self.old.root.front) self.old.root.owners (noted note.now) self.old.system.trace.calls }
+        requires owed { IsTrue (replay D.Disk.model self.old.told.log.notes).honest → IsOwed (replay D.Disk.model self.old.told.log.notes).events (noted note.now) }
+        ensures notes { self.new.told.log.notes ≡ noted note.now ∷ self.old.told.log.notes }
     {
-        if self.faults == u64::MAX {
-            Err(HostFault::NoMemory)
-        } else {
-            Ok(())
+        self.told.note(note);
+    }
+
+    // Notes a call that failed with Device; want of memory is no event.
+    fn fail(&mut self, fault: HostFault, note: &Note<'_>) -> HostFault
+        requires fault { IsNotedFault (noted note.now) }
+        requires shown { fault ≡ Device → IsShownBy (string_bytes self.old.root.directory) (string_bytes self.old.root.front) self.old.root.owners (noted note.now) self.old.system.trace.calls }
+        requires unchanged { fault ≡ NoMemory → changes_in self.old.system.trace.calls ≡ [] }
+        requires owed { IsTrue (replay D.Disk.model self.old.told.log.notes).honest → IsOwed (replay D.Disk.model self.old.told.log.notes).events (noted note.now) }
+        requires countable { self.old.told.faults < 2 ^ 64 - 1 }
+        ensures device { result ≡ Device → self.new.told.log.notes ≡ noted note.now ∷ self.old.told.log.notes }
+        ensures memory { result ≡ NoMemory → self.new.told.log.notes ≡ self.old.told.log.notes }
+    {
+        match fault {
+            HostFault::Device => {
+                self.told.fail(note);
+                HostFault::Device
+            }
+            HostFault::NoMemory => HostFault::NoMemory,
         }
     }
 
-    // Counts a fault of the device.
-    fn settle<T: Drop>(&mut self, ended: io::Result<T>) -> Result<T, HostFault>
-        requires { self.old.faults < 2 ^ 64 - 1 }
-        ensures ok { IfOk ended (λ value. result ≡ Ok value) }
-        ensures err { IfErr ended (λ error. IsErrAnd result (IsFaultOf error)) }
-        ensures device { IsErrOf result Device → self.new.faults ≡ self.old.faults + 1 }
-        ensures kept { (IsErrOf result Device → ⊥) → self.new.faults ≡ self.old.faults }
-        ensures calls { self.new.calls ≡ self.old.calls }
+    // Notes how a step ended.
+    fn settle(&mut self, asked: Asks<'_>, ended: Result<(), HostFault>) -> Result<(), HostFault>
+        requires shown { IsStepBy (string_bytes self.old.root.front) self.old.root.owners (asked_by asked) self.old.system.trace.calls ended }
+        requires remembered { IsRemembered self.old.changed.directories (asked_by asked) }
+        requires brought { OnOk ended (IsBrought (string_bytes self.old.root.front) self.old.root.owners self.old.changed.directories (asked_by asked) self.old.system.trace.calls) }
+        requires owed { IsTrue (replay D.Disk.model self.old.told.log.notes).honest → KeepsSettled (replay D.Disk.model self.old.told.log.notes).events (step_of (asked_by asked)) }
+        requires countable { self.old.told.faults < 2 ^ 64 - 1 }
+        ensures done { OnOk result (self.new.told.log.notes ≡ Done (asked_by asked.entry) ∷ self.old.told.log.notes) }
+        ensures device { result ≡ Err Device → self.new.told.log.notes ≡ Undone (asked_by asked.entry) ∷ self.old.told.log.notes }
+        ensures memory { result ≡ Err NoMemory → self.new.told.log.notes ≡ self.old.told.log.notes }
     {
         match ended {
-            Ok(value) => Ok(value),
-            Err(error) => {
-                let fault = fault_of(&error);
-                if let HostFault::Device = fault {
-                    self.faults += 1;
-                }
-                Err(fault)
+            Ok(()) => {
+                self.note(&Note::Done(asked));
+                Ok(())
             }
+            Err(fault) => Err(self.fail(fault, &Note::Undone(asked))),
         }
     }
 
-    // Lists a call that ended, for which there is room.
-    fn note(&mut self, called: Call, ended: io::Result<Outcome>) -> Result<Outcome, HostFault>
-        requires room { vec_len self.old.calls < vec_capacity self.old.calls }
-        requires countable { self.old.faults < 2 ^ 64 - 1 }
-        ensures ended { IfOk ended (λ outcome. result ≡ Ok outcome) }
-        ensures listed { IfOk result (λ outcome. self.new.calls.items ≡ self.old.calls.items ++ record { call = called; outcome = outcome } ∷ []) }
-        ensures err { OnErr result (self.new.calls.items ≡ self.old.calls.items) }
-        ensures rises { self.old.faults ≤ self.new.faults }
-        ensures cause { IsErrOf result Device → self.old.faults < self.new.faults }
+    // Notes a script that ended.
+    fn end(&mut self, called: Call, call: &Call, kept: &Places, outcome: Outcome)
+        requires room { vec_len self.old.told.calls < vec_capacity self.old.told.calls }
+        requires copied { called ≡ call.now }
+        requires shown { IsEndedBy (string_bytes self.old.root.directory) (string_bytes self.old.root.front) call.now outcome self.old.system.trace.calls }
+        ensures notes { self.new.told.log.notes ≡ Ended call.now kept.now outcome ∷ self.old.told.log.notes }
     {
-        let outcome = self.settle(ended)?;
-        self.calls.push_reserved(Made {
-            call: called,
-            outcome,
-        });
-        Ok(outcome)
+        self.told.end(called, call, kept, outcome);
     }
 }
 
-// The steps of the device, and the start of a script. All memory that one takes is taken before its change.
-impl FilesHost {
-    ghost use Rattle.std.specs.Prelude.{◌≡◌, IfOk, OnOk, string_bytes};
-    ghost use Rattle.host_core.specs.World.{IsFile};
-    ghost use Rattle.host_files.specs.Places.{place_of};
+impl<D: Disk> Host for FilesHost<D> {
+    ghost state = { λ h. replay D.Disk.model h.told.log.notes };
 
-    // The place of a step: the names above it are those of directories, and of no link.
-    fn place_of_step(&self, path: &RootPath) -> io::Result<String>
-        ensures { IfOk result (λ place. string_bytes place ≡ place_of (string_bytes self.now.root.front) path.now) }
-    {
-        if self.root.reaches(&self.rt, path)? {
-            Ok(self.root.place(path)?)
-        } else {
-            Err(Error::from(ErrorKind::NotADirectory))
-        }
-    }
+    ghost tree = { λ h. D.Disk.sound.tree h.told.log.notes };
 
-    // Writes a file where nothing stands.
-    fn write_file(&self, path: &RootPath, node: &Node) -> io::Result<()>
-        ensures { OnOk result (IsFile node.now) }
-    {
-        let Node::File { bytes, mode } = node else {
-            return Err(Error::from(ErrorKind::InvalidInput));
-        };
-        let place = self.place_of_step(path)?;
-        write_bytes(&self.rt, place.as_str(), bytes.as_slice(), *mode)
-    }
-
-    // Makes a directory where nothing stands.
-    fn make_directory(&self, path: &RootPath, mode: u16) -> io::Result<()> {
-        let place = self.place_of_step(path)?;
-        create_directory(&self.rt, place.as_str(), mode)
-    }
-
-    // Moves a file or link over a file, a link or nothing.
-    fn move_over(&self, from: &RootPath, to: &RootPath) -> io::Result<()> {
-        let from = self.place_of_step(from)?;
-        let to = self.place_of_step(to)?;
-        rename_file(&self.rt, from.as_str(), to.as_str())
-    }
-
-    // Removes a file or link.
-    fn unlink(&self, path: &RootPath) -> io::Result<()> {
-        let place = self.place_of_step(path)?;
-        fs::remove_file(&self.rt, place.as_str())
-    }
-
-    // Removes a directory that has no entries.
-    fn unlink_directory(&self, path: &RootPath) -> io::Result<()> {
-        let place = self.place_of_step(path)?;
-        fs::remove_dir(&self.rt, place.as_str())
-    }
-
-    // The directory can be worked in: a start that fails for want of it would read as one for want of the
-    // script.
-    fn check_working_directory(&self) -> io::Result<()> {
-        let directory = RootPath::from_str(self.rt.alloc(), "/.")?;
-        let place = self.root.place(&directory)?;
-        check_directory(&self.rt, place.as_str())
-    }
-
-    // Whether a file stands at the path, and the directory can be worked in.
-    fn can_start(&self, at: &RootPath) -> io::Result<bool> {
-        self.check_working_directory()?;
-        if !self.root.reaches(&self.rt, at)? {
-            return Ok(false);
-        }
-        let place = self.root.place(at)?;
-        is_file(&self.rt, place.as_str())
-    }
-
-    // Starts the command of the script at the path and waits for its end. The empty input is opened here:
-    // that it is missing would read as a missing script.
-    fn wait_for(&self, at: &RootPath, command: &mut Command) -> io::Result<Outcome> {
-        if !self.can_start(at)? {
-            return Ok(Outcome::NotStarted);
-        }
-        command.stdin(Stdio::from(fs::open(&self.rt, "/dev/null")?));
-        command.stdout(Stdio::inherit());
-        command.stderr(Stdio::inherit());
-        spawn(&self.rt, command)
-    }
-
-    // Starts the script of a call and waits for its end.
-    fn start(&self, call: &Call) -> io::Result<Outcome> {
-        let mut command = command_of(self.rt.alloc(), &self.root, call)?;
-        self.wait_for(&call.at, &mut command)
-    }
-}
-
-impl Host for FilesHost {
-    ghost use Rattle.host_files.specs.FilesState.{files_state, files_tree};
-
-    ghost state = { files_state };
-
-    ghost tree = { files_tree };
+    ghost settled = { λ h. h.settled };
 
     fn node(&mut self, path: &RootPath) -> Result<Option<Node>, HostFault> {
-        self.guard()?;
-        let node = node_at(&self.rt, &self.root, path);
-        self.settle(node)
+        self.told.guard()?;
+        self.system.begin();
+        match node_at(&mut self.system, &self.root, path) {
+            Ok(node) => {
+                self.note(&Note::Looked(path, &node));
+                Ok(node)
+            }
+            Err(fault) => Err(self.fail(fault, &Note::Missed)),
+        }
+    }
+
+    fn kind(&mut self, path: &RootPath) -> Result<Option<Kind>, HostFault> {
+        self.told.guard()?;
+        self.system.begin();
+        match kind_at(&mut self.system, &self.root, path) {
+            Ok(kind) => {
+                self.note(&Note::Seen(path, kind));
+                Ok(kind)
+            }
+            Err(fault) => Err(self.fail(fault, &Note::Missed)),
+        }
     }
 
     fn list(&mut self, path: &RootPath) -> Result<Listing, HostFault> {
-        self.guard()?;
-        let listing = listing_at(&self.rt, &self.root, path);
-        self.settle(listing)
+        self.told.guard()?;
+        self.system.begin();
+        match listing_at(&self.system.rt, &self.root, path) {
+            Ok(listing) => {
+                self.note(&Note::Listed(path, &listing));
+                Ok(listing)
+            }
+            Err(error) => Err(self.fail(fault_of(&error), &Note::Missed)),
+        }
     }
 
     fn write_new(&mut self, path: &RootPath, node: &Node) -> Result<(), HostFault> {
-        self.guard()?;
-        let written = self.write_file(path, node);
-        self.settle(written)
+        self.told.guard()?;
+        self.system.begin();
+        self.changed.add(path)?;
+        let written = write_file(&mut self.system, &self.root, path, node);
+        self.settle(Asks::Write(path, node), written)
     }
 
-    fn make_dir(&mut self, path: &RootPath, mode: u16) -> Result<(), HostFault> {
-        self.guard()?;
-        let made = self.make_directory(path, mode);
-        self.settle(made)
+    fn make_dir(&mut self, path: &RootPath, access: Access) -> Result<(), HostFault> {
+        self.told.guard()?;
+        self.system.begin();
+        self.changed.add(path)?;
+        let made = make_directory(&mut self.system, &self.root, path, access);
+        self.settle(Asks::MakeDir(path, access), made)
+    }
+
+    fn make_link(&mut self, path: &RootPath, target: &Text) -> Result<(), HostFault> {
+        self.told.guard()?;
+        self.system.begin();
+        self.changed.add(path)?;
+        let made = symlink(&mut self.system, &self.root, path, target);
+        self.settle(Asks::MakeLink(path, target), made)
+    }
+
+    fn link(&mut self, from: &RootPath, to: &RootPath) -> Result<(), HostFault> {
+        self.told.guard()?;
+        self.system.begin();
+        self.changed.add(to)?;
+        let linked = hard_link(&mut self.system, &self.root, from, to);
+        self.settle(Asks::HardLink(from, to), linked)
+    }
+
+    fn sync(&mut self, path: &RootPath) -> Result<(), HostFault> {
+        self.told.guard()?;
+        self.system.begin();
+        let flushed = flush(&mut self.system, &self.root, path);
+        self.settle(Asks::Sync(path), flushed)
+    }
+
+    fn barrier(&mut self) -> Result<(), HostFault> {
+        self.told.guard()?;
+        self.system.begin();
+        let flushed = flush_all(&mut self.system, &self.root, &self.changed);
+        let settled = self.settle(Asks::Barrier, flushed);
+        self.changed.clear_after(&settled);
+        settled
     }
 
     fn rename(&mut self, from: &RootPath, to: &RootPath) -> Result<(), HostFault> {
-        self.guard()?;
-        let renamed = self.move_over(from, to);
-        self.settle(renamed)
+        self.told.guard()?;
+        self.system.begin();
+        self.changed.add(from)?;
+        self.changed.add(to)?;
+        let moved = move_over(&mut self.system, &self.root, from, to);
+        self.settle(Asks::Move(from, to), moved)
     }
 
     fn remove(&mut self, path: &RootPath) -> Result<(), HostFault> {
-        self.guard()?;
-        let removed = self.unlink(path);
-        self.settle(removed)
+        self.told.guard()?;
+        self.system.begin();
+        self.changed.add(path)?;
+        let removed = unlink(&mut self.system, &self.root, path);
+        self.settle(Asks::Take(path), removed)
     }
 
     fn remove_dir(&mut self, path: &RootPath) -> Result<(), HostFault> {
-        self.guard()?;
-        let removed_directory = self.unlink_directory(path);
-        self.settle(removed_directory)
+        self.told.guard()?;
+        self.system.begin();
+        self.changed.add(path)?;
+        let removed = unlink_directory(&mut self.system, &self.root, path);
+        self.settle(Asks::RemoveDir(path), removed)
     }
 
-    // Room for the entry is made before the start, so that want of memory starts nothing.
-    fn run(&mut self, call: &Call, _keep: &Keep) -> Result<Outcome, HostFault> {
-        self.guard()?;
+    fn run(&mut self, call: &Call, keep: &Keep<'_>) -> Result<Outcome, HostFault> {
+        self.told.guard()?;
+        self.system.begin();
+        let kept = places_of(keep);
         let called = call.copy()?;
-        self.calls.reserve(1)?;
-        let ended = self.start(call);
-        self.note(called, ended)
+        self.told.reserve()?;
+        match run_script(&mut self.system, &self.root, call) {
+            Ok(outcome) => {
+                self.end(called, call, kept, outcome);
+                Ok(outcome)
+            }
+            Err(fault) => Err(self.fail(fault, &Note::Broke(call, kept))),
+        }
     }
 }

@@ -1,10 +1,21 @@
 //! A root directory of the real file system, whose scripts are started as child processes.
 #![tactic(auto)]
 
+mod changed;
 mod command;
 mod disk;
+mod disk_model;
 mod files_host;
 mod looking;
+mod record;
 mod root;
+mod scripts;
+mod steps;
+mod system;
+mod told;
+mod trace;
 
-pub use files_host::{FilesHost, Made};
+pub use disk_model::{Disk, Unknown};
+pub use files_host::FilesHost;
+pub use record::{Asked, Noted};
+pub use told::Made;

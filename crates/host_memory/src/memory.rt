@@ -1,15 +1,18 @@
 // The host in memory.
-ghost use Rattle.std.specs.Prelude.{◌≡◌, OnOk, OnErr};
+ghost use Rattle.std.specs.Prelude.{◌≡◌, None, map, OnOk, OnErr};
 ghost use Rattle.std.specs.BTreeMap.{get_by_text};
-ghost use Rattle.host_core.specs.World.{moved, HasParent, IsDirectory, IsLoose};
+ghost use Rattle.host_core.specs.World.{moved, put, HasParent, IsDirectory, IsLoose};
+ghost use Rattle.host_core.specs.Unsynced.{IsSettled};
+ghost use Rattle.host_memory.specs.Doings.{event_of};
 ghost use Rattle.host_memory.specs.Endings.{next_outcome, next_change};
 
 use crate::change::{Entry, Planned, carry_out};
 use crate::files::Files;
 use crate::placing::place;
-use host_core::{Call, Host, HostFault, Keep, Listing, Node, Outcome, RootPath};
+use host_core::{Access, Call, Host, HostFault, Keep, Kind, Listing, Node, Outcome, RootPath};
 use std::alloc::{AllocError, Global};
 use std::collections::VecDeque;
+use texts::Text;
 
 /// A call that was made, with what it changed.
 #[derive(Drop)]
@@ -19,15 +22,19 @@ pub struct Made {
     pub change: Vec<Entry>,
 }
 
-/// A step of the device that was made, or what a script changed.
+/// What was done: a step of the device, or a script call.
 #[derive(Drop)]
 pub enum Done {
     Wrote(RootPath, Node),
     Moved(RootPath, RootPath),
     Took(RootPath),
-    MadeDir(RootPath, u16),
+    MadeDir(RootPath, Access),
     RemovedDir(RootPath),
-    Scripted(Vec<Entry>),
+    Linked(RootPath, RootPath),
+    MadeLink(RootPath, Text),
+    Synced(RootPath),
+    Flushed,
+    Ran(Made),
 }
 
 // What the first plan says, lent.
@@ -71,10 +78,33 @@ fn move_node(
         Some(node) => node,
         None => unreachable!(),
     };
+    to.law();
     files.put(alloc, to.as_str(), node)?;
     if !from.is(to) {
         files.take(from.as_str());
     }
+    Ok(())
+}
+
+// The node is copied to its second name.
+fn link_node(
+    alloc: Global,
+    files: &mut Files,
+    from: &RootPath,
+    to: &RootPath,
+) -> Result<(), AllocError>
+    requires there { IsLoose (get_by_text files.old.nodes from.now) }
+    requires absent { get_by_text files.old.nodes to.now ≡ None }
+    requires parent { HasParent (get_by_text files.old.nodes) to.now }
+    ensures ok { OnOk result (get_by_text files.new.nodes ≡ put (get_by_text files.old.nodes) to.now (get_by_text files.old.nodes from.now)) }
+    ensures err { OnErr result (get_by_text files.new.nodes ≡ get_by_text files.old.nodes) }
+{
+    let node = match files.copy_at(from)? {
+        Some(node) => node,
+        None => unreachable!(),
+    };
+    to.law();
+    files.put(alloc, to.as_str(), node)?;
     Ok(())
 }
 
@@ -85,29 +115,26 @@ pub struct MemoryHost {
     alloc: Global,
     files: Files,
     pending: VecDeque<Planned>,
-    calls: Vec<Made>,
-    steps: Vec<Done>,
-    faults: u64,
+    events: Vec<Done>,
+    ghost settled: { IsSettled (map event_of events.items) },
 }
 
 impl MemoryHost {
     ghost use Rattle.std.specs.Prelude.{◌≡◌, ◌++◌, ◌∷◌, [], Some, true, map, IfOk, OnOk, OnErr, MatchBool};
     ghost use Rattle.host_core.specs.World.{put, is_kept};
     ghost use Rattle.host_memory.specs.Trees.{CanPlace, HasPartWay, IsPlaced, new_directory, nothing};
-    ghost use Rattle.host_memory.specs.Memory.{memory_state, planned_of, ran_of, step_of, HasEnded, TouchesFilesAlone};
+    ghost use Rattle.host_memory.specs.Memory.{memory_state, planned_of, HasEnded, TouchesFilesAlone};
 
     /// A root directory and nothing else.
     pub fn new(alloc: Global) -> Result<MemoryHost, AllocError>
-        ensures state { IfOk result (λ host. memory_state host ≡ record { honest = true; world = put nothing [] (Some new_directory); steps = []; calls = []; faults = 0 }) }
+        ensures state { IfOk result (λ host. memory_state host ≡ record { honest = true; world = put nothing [] (Some new_directory); events = [] }) }
         ensures planned { IfOk result (λ host. planned_of host ≡ []) }
     {
         Ok(MemoryHost {
             alloc,
             files: Files::new(alloc)?,
             pending: VecDeque::new(alloc),
-            calls: Vec::new(alloc),
-            steps: Vec::new(alloc),
-            faults: 0,
+            events: Vec::new(alloc),
         })
     }
 
@@ -119,6 +146,7 @@ impl MemoryHost {
         ensures err { OnErr result (HasPartWay (memory_state self.old).world (memory_state self.new).world path.now) }
         ensures alone { TouchesFilesAlone self.old self.new }
     {
+        path.law();
         place(self.alloc, &mut self.files, path.as_str(), node)
     }
 
@@ -133,71 +161,69 @@ impl MemoryHost {
     }
 
     // Ends a call as the first plan says, which is then used up.
-    fn end_call(&mut self, call: &Call, keep: &Keep) -> Result<Outcome, AllocError>
+    fn end_call(&mut self, call: &Call, keep: &Keep<'_>) -> Result<Outcome, AllocError>
         ensures ended { IfOk result (λ outcome. HasEnded (is_kept keep.now) call.now outcome self.old self.new) }
         ensures err { OnErr result ((memory_state self.new ≡ memory_state self.old) × (planned_of self.new ≡ planned_of self.old)) }
     {
-        self.steps.reserve(1)?;
-        self.calls.reserve(1)?;
+        self.events.reserve(1)?;
         let called = call.copy()?;
         let ending = ending_of(&self.pending);
         let carried = carry_out(self.alloc, &mut self.files, keep, ending.change)?;
         let outcome = ending.outcome;
         self.pending.pop_front();
-        self.steps.push_reserved(Done::Scripted(carried.step));
-        self.calls.push_reserved(Made {
+        self.events.push_reserved(Done::Ran(Made {
             call: called,
             outcome,
-            change: carried.told,
-        });
+            change: carried,
+        }));
         Ok(outcome)
     }
 
-    /// All calls so far.
-    pub fn calls(&self) -> &[Made]
-        ensures { map ran_of result.now ≡ (memory_state self.now).calls }
+    /// All that was done so far.
+    pub fn events(&self) -> &[Done]
+        ensures { map event_of result.now ≡ (memory_state self.now).events }
     {
-        self.calls.as_slice()
-    }
-
-    /// All steps so far, also what scripts changed.
-    pub fn steps(&self) -> &[Done]
-        ensures { map step_of result.now ≡ (memory_state self.now).steps }
-    {
-        self.steps.as_slice()
-    }
-
-    /// How often the device has failed.
-    pub fn faults(&self) -> u64
-        ensures { result ≡ (memory_state self.now).faults }
-    {
-        self.faults
+        self.events.as_slice()
     }
 }
 
 impl Host for MemoryHost {
-    ghost use Rattle.std.specs.Prelude.{◌≡◌, ◌≤◌, None, IfOk, OnErr};
-    ghost use Rattle.host_core.specs.World.{Write, Move, Take, MakeDir, RemoveDir, IsBare, IsFile, is_kept};
-    ghost use Rattle.host_core.specs.Host.{Runs, HasCause};
+    ghost use Rattle.std.specs.Prelude.{◌≡◌, ◌≤◌, None, true, false, IfOk, OnOk, OnErr};
+    ghost use Rattle.host_core.specs.World.{Write, Move, Take, MakeDir, RemoveDir, HardLink, MakeLink, Sync, Barrier, kind_of, IsBare, IsFile, is_kept};
+    ghost use Rattle.host_core.specs.Host.{Runs, Counts, Falls};
     ghost use Rattle.host_core.specs.Tree.{IsListing};
-    ghost use Rattle.host_memory.specs.Memory.{memory_state, memory_tree, HasEnded, IsUnchanged, MakesStep};
+    ghost use Rattle.host_core.specs.Unsynced.{is_temporary, unsynced};
+    ghost use Rattle.host_memory.specs.Memory.{memory_state, memory_tree, memory_settled, HasEnded, IsUnchanged, MakesStep};
 
     ghost state = { memory_state };
 
     ghost tree = { memory_tree };
 
+    ghost settled = { memory_settled };
+
     fn node(&mut self, path: &RootPath) -> Result<Option<Node>, HostFault>
         ensures found { IfOk result (λ node. node ≡ (memory_state self.old).world path.now) }
         ensures unchanged { IsUnchanged self.old self.new }
-        ensures cause { HasCause (memory_state self.old) (memory_state self.new) result }
+        ensures counts { Counts (memory_state self.old) (memory_state self.new) result }
     {
         Ok(self.files.copy_at(path)?)
+    }
+
+    fn kind(&mut self, path: &RootPath) -> Result<Option<Kind>, HostFault>
+        ensures found { IfOk result (λ kind. kind ≡ kind_of ((memory_state self.old).world path.now)) }
+        ensures unchanged { IsUnchanged self.old self.new }
+        ensures counts { Counts (memory_state self.old) (memory_state self.new) result }
+    {
+        match self.files.get(path.as_str()) {
+            Some(node) => Ok(Some(node.kind())),
+            None => Ok(None),
+        }
     }
 
     fn list(&mut self, path: &RootPath) -> Result<Listing, HostFault>
         ensures listed { IfOk result (λ listing. IsListing (memory_state self.old).world path.now listing.names listing.bad) }
         ensures unchanged { IsUnchanged self.old self.new }
-        ensures cause { HasCause (memory_state self.old) (memory_state self.new) result }
+        ensures counts { Counts (memory_state self.old) (memory_state self.new) result }
     {
         let names = self.files.names_in(self.alloc, path)?;
         Ok(Listing { names, bad: false })
@@ -205,42 +231,97 @@ impl Host for MemoryHost {
 
     fn write_new(&mut self, path: &RootPath, node: &Node) -> Result<(), HostFault>
         requires file { IsFile node.now }
+        requires temporary { is_temporary path.now ≡ true }
         requires absent { (memory_state self.old).world path.now ≡ None }
         requires parent { HasParent (memory_state self.old).world path.now }
         ensures { MakesStep (Write path.now node.now) self.old self.new result }
     {
-        self.steps.reserve(1)?;
+        self.events.reserve(1)?;
         let at = path.copy()?;
         let written = node.copy()?;
+        path.law();
         self.files.put(self.alloc, path.as_str(), node.copy()?)?;
-        self.steps.push_reserved(Done::Wrote(at, written));
+        self.events.push_reserved(Done::Wrote(at, written));
         Ok(())
     }
 
-    fn make_dir(&mut self, path: &RootPath, mode: u16) -> Result<(), HostFault>
+    fn make_dir(&mut self, path: &RootPath, access: Access) -> Result<(), HostFault>
         requires absent { (memory_state self.old).world path.now ≡ None }
         requires parent { HasParent (memory_state self.old).world path.now }
-        ensures { MakesStep (MakeDir path.now mode) self.old self.new result }
+        ensures { MakesStep (MakeDir path.now access) self.old self.new result }
     {
-        self.steps.reserve(1)?;
+        self.events.reserve(1)?;
         let at = path.copy()?;
+        path.law();
         self.files
-            .put(self.alloc, path.as_str(), Node::Dir { mode })?;
-        self.steps.push_reserved(Done::MadeDir(at, mode));
+            .put(self.alloc, path.as_str(), Node::Dir { access })?;
+        self.events.push_reserved(Done::MadeDir(at, access));
+        Ok(())
+    }
+
+    fn make_link(&mut self, path: &RootPath, target: &Text) -> Result<(), HostFault>
+        requires absent { (memory_state self.old).world path.now ≡ None }
+        requires parent { HasParent (memory_state self.old).world path.now }
+        ensures makes { MakesStep (MakeLink path.now target.now) self.old self.new result }
+        ensures synced { OnOk result (unsynced (memory_state self.new).events path.now ≡ false) }
+    {
+        self.events.reserve(1)?;
+        let at = path.copy()?;
+        let told = target.copy()?;
+        let stored = target.copy()?;
+        path.law();
+        self.files
+            .put(self.alloc, path.as_str(), Node::Link { target: stored })?;
+        self.events.push_reserved(Done::MadeLink(at, told));
+        Ok(())
+    }
+
+    fn link(&mut self, from: &RootPath, to: &RootPath) -> Result<(), HostFault>
+        requires there { IsLoose ((memory_state self.old).world from.now) }
+        requires synced { unsynced (memory_state self.old).events from.now ≡ false }
+        requires absent { (memory_state self.old).world to.now ≡ None }
+        requires parent { HasParent (memory_state self.old).world to.now }
+        ensures { MakesStep (HardLink from.now to.now) self.old self.new result }
+    {
+        self.events.reserve(1)?;
+        let first = from.copy()?;
+        let second = to.copy()?;
+        link_node(self.alloc, &mut self.files, from, to)?;
+        self.events.push_reserved(Done::Linked(first, second));
+        Ok(())
+    }
+
+    fn sync(&mut self, path: &RootPath) -> Result<(), HostFault>
+        requires { IsLoose ((memory_state self.old).world path.now) }
+        ensures makes { MakesStep (Sync path.now) self.old self.new result }
+        ensures synced { OnOk result (unsynced (memory_state self.new).events path.now ≡ false) }
+    {
+        self.events.reserve(1)?;
+        let at = path.copy()?;
+        self.events.push_reserved(Done::Synced(at));
+        Ok(())
+    }
+
+    fn barrier(&mut self) -> Result<(), HostFault>
+        ensures { MakesStep Barrier self.old self.new result }
+    {
+        self.events.reserve(1)?;
+        self.events.push_reserved(Done::Flushed);
         Ok(())
     }
 
     fn rename(&mut self, from: &RootPath, to: &RootPath) -> Result<(), HostFault>
+        requires synced { unsynced (memory_state self.old).events from.now ≡ false }
         requires there { IsLoose ((memory_state self.old).world from.now) }
         requires over { IsDirectory ((memory_state self.old).world to.now) → ⊥ }
         requires parent { HasParent (memory_state self.old).world to.now }
         ensures { MakesStep (Move from.now to.now) self.old self.new result }
     {
-        self.steps.reserve(1)?;
+        self.events.reserve(1)?;
         let left = from.copy()?;
         let reached = to.copy()?;
         move_node(self.alloc, &mut self.files, from, to)?;
-        self.steps.push_reserved(Done::Moved(left, reached));
+        self.events.push_reserved(Done::Moved(left, reached));
         Ok(())
     }
 
@@ -248,10 +329,10 @@ impl Host for MemoryHost {
         requires { IsLoose ((memory_state self.old).world path.now) }
         ensures { MakesStep (Take path.now) self.old self.new result }
     {
-        self.steps.reserve(1)?;
+        self.events.reserve(1)?;
         let at = path.copy()?;
         self.files.take(path.as_str());
-        self.steps.push_reserved(Done::Took(at));
+        self.events.push_reserved(Done::Took(at));
         Ok(())
     }
 
@@ -260,19 +341,18 @@ impl Host for MemoryHost {
         requires bare { IsBare (memory_state self.old).world path.now }
         ensures { MakesStep (RemoveDir path.now) self.old self.new result }
     {
-        self.steps.reserve(1)?;
+        self.events.reserve(1)?;
         let at = path.copy()?;
         self.files.take(path.as_str());
-        self.steps.push_reserved(Done::RemovedDir(at));
+        self.events.push_reserved(Done::RemovedDir(at));
         Ok(())
     }
 
     /// The call ends as the first plan says, which is then used up.
-    fn run(&mut self, call: &Call, keep: &Keep) -> Result<Outcome, HostFault>
+    fn run(&mut self, call: &Call, keep: &Keep<'_>) -> Result<Outcome, HostFault>
         ensures runs { Runs (is_kept keep.now) call.now (memory_state self.old) (memory_state self.new) result }
-        ensures honest { (memory_state self.new).honest ≡ (memory_state self.old).honest }
-        ensures faults { (memory_state self.old).faults ≤ (memory_state self.new).faults }
-        ensures cause { HasCause (memory_state self.old) (memory_state self.new) result }
+        ensures honest { Falls (memory_state self.old) (memory_state self.new) }
+        ensures counts { Counts (memory_state self.old) (memory_state self.new) result }
         ensures ended { IfOk result (λ outcome. HasEnded (is_kept keep.now) call.now outcome self.old self.new) }
         ensures unchanged { OnErr result (IsUnchanged self.old self.new) }
     {

@@ -28,8 +28,8 @@ not_whole names entry found sound (inr (inr link)) = elim link.0 [ inl list ↦ 
 
 no_bad_line : (node : Option Node) (line : ℕ) → IsReadable node → HasBadLine node line → ⊥
 no_bad_line None line good bad = bad
-no_bad_line (Some (File bytes mode)) line good bad = bad.faulty (all_at _ _ bad.front bad.rest bad.bad bad.is good)
-no_bad_line (Some (Dir mode)) line good bad = bad
+no_bad_line (Some (File bytes access)) line good bad = bad.faulty (all_at _ _ bad.front bad.rest bad.bad bad.is good)
+no_bad_line (Some (Dir access)) line good bad = bad
 no_bad_line (Some (Link target)) line good bad = bad
 
 sound_entry : (names : List (List ℕ)) (entry : Path) (node : Option Node) (line : ℕ) → IsSound names entry node → HasFault names entry node line → ⊥
@@ -53,8 +53,8 @@ empty_updates w file empty (inr entry) = none_stands (w (updates_path ++ 47 ∷ 
 
 no_diversions : (node : Option Node) (line : ℕ) → IsWithoutDiversions node → IsDiversionsFault node line → ⊥
 no_diversions None line without fault = fault
-no_diversions (Some (File bytes mode)) line without fault = fault.0 without
-no_diversions (Some (Dir mode)) line without fault = without
+no_diversions (Some (File bytes access)) line without fault = fault.0 without
+no_diversions (Some (Dir access)) line without fault = without
 no_diversions (Some (Link target)) line without fault = without
 
 -- below what isn't there nothing stands

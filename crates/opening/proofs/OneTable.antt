@@ -113,12 +113,12 @@ one_text text a b first second =
 
 pub not_damaged : (node : Option Node) (rs : List Record) (line : ℕ) → IsFileOrNothing node → StandsFor node rs → IsDamageAt node line → ⊥
 not_damaged None rs line file stands damage = ∥∥₁_elim stands (hlevel props) (λ is. whole_text [] rs line is damage)
-not_damaged (Some (File bytes mode)) rs line file stands damage = ∥∥₁_elim stands (hlevel props) (λ is. whole_text bytes rs line is damage)
-not_damaged (Some (Dir mode)) rs line file stands damage = file
+not_damaged (Some (File bytes access)) rs line file stands damage = ∥∥₁_elim stands (hlevel props) (λ is. whole_text bytes rs line is damage)
+not_damaged (Some (Dir access)) rs line file stands damage = file
 not_damaged (Some (Link target)) rs line file stands damage = file
 
 pub one_table : (node : Option Node) (a b : List Record) → IsFileOrNothing node → StandsFor node a → StandsFor node b → (names_of (standing a) ≡ names_of (standing b) → ⊥) → ⊥
 one_table None a b file first second apart = ∥∥₁_elim first (hlevel props) (λ is. ∥∥₁_elim second (hlevel props) (λ also. apart (one_text [] a b is also)))
-one_table (Some (File bytes mode)) a b file first second apart = ∥∥₁_elim first (hlevel props) (λ is. ∥∥₁_elim second (hlevel props) (λ also. apart (one_text bytes a b is also)))
-one_table (Some (Dir mode)) a b file first second apart = file
+one_table (Some (File bytes access)) a b file first second apart = ∥∥₁_elim first (hlevel props) (λ is. ∥∥₁_elim second (hlevel props) (λ also. apart (one_text bytes a b is also)))
+one_table (Some (Dir access)) a b file first second apart = file
 one_table (Some (Link target)) a b file first second apart = file

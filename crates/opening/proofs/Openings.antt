@@ -1,5 +1,5 @@
 -- How the opening of one part goes on to the next.
-use Rattle.std.proofs.Common.{◌≡◌, ◌⊎◌, ◌||◌, inl, inr, zero, suc, arith, Contains, ℕ, Bool, true, false, List, [], ◌∷◌, ◌++◌, Option, Some, None, IsSome, nat_eq, Result, Ok, Err, IfOk, IfErr, IsErrAnd, refl, sym, ap, subst, ◌∙◌}
+use Rattle.std.proofs.Common.{◌≡◌, ◌≢◌, ◌⊎◌, ◌||◌, codes, inl, inr, zero, suc, arith, Contains, ℕ, Bool, true, false, List, [], ◌∷◌, ◌++◌, Option, Some, None, IsSome, nat_eq, Result, Ok, Err, IfOk, IfErr, IsErrAnd, refl, sym, ap, subst, ◌∙◌}
 use Rattle.std.specs.List.{AllByRecursion, list_any}
 use Rattle.std.specs.Str.{bytes_eq}
 use Rattle.std.proofs.lemmas.Slice.Eq.{bytes_eq-Decides}
@@ -7,18 +7,19 @@ use Rattle.std.proofs.lemmas.Bool.{true≢false}
 use Rattle.std.proofs.lemmas.Cmp.{nat_eq_equiv}
 use Rattle.std.proofs.lemmas.Map.Views.{Contains-from_any, list_any-from_Contains}
 use Rattle.host_core.proofs.Nodes.{none_stands, none_there}
-use Rattle.host_core.specs.Paths.{Path}
+use Rattle.host_core.specs.Paths.{Path, is_path}
 use Rattle.host_core.specs.Tree.{has_slash, IsListing}
 use Rattle.host_core.specs.World.{World, HasParent, IsDirectory, IsLoose, SameOn}
-use Rattle.host_core.specs.Host.{State, Same, Since}
-use Rattle.host_core.specs.Moments.{since_same, since_then, since_weaker, since_now}
+use Rattle.host_core.specs.Host.{State, Reads, Since}
+use Rattle.host_core.specs.Moments.{since_reads, since_then, since_weaker, since_weaker_if, since_now}
 use Rattle.host_core.specs.declared.fault.HostFault.{HostFault}
 use Rattle.host_core.specs.declared.fault.HostFault.TheVariants as host
 use Rattle.host_core.specs.declared.node.Node.{Node}
+use Rattle.host_core.specs.Nodes.{own_access}
 use Rattle.administration.specs.Places.{home_path, info_path, status_path, diversions_path, updates_path, tmp_path, list_path, temporary, is_within}
 use Rattle.administration.specs.Directories.{new_directory, HasBadName, IsMade, IsMaking, IsRemoved, IsTaking}
 use Rattle.administration.specs.Fault.{fault_of}
-use Rattle.administration.specs.Files.{NoDirectory}
+use Rattle.administration.specs.Files.{NoDirectory, KeepsBeside}
 use Rattle.administration.specs.Least.{IsLeast, IsLeastIn}
 use Rattle.administration.specs.declared.fault.AdministrationFault.{AdministrationFault}
 use Rattle.administration.specs.declared.fault.AdministrationFault.TheVariants.{Damaged, Device, NoMemory}
@@ -30,15 +31,15 @@ use Rattle.file_lists.proofs.Kept.{has_places_kept}
 use Rattle.status_db.specs.declared.record.Record.{Record}
 use Rattle.status_db.specs.Status.{IsFileOrNothing, IsStatusDamage, StandsFor}
 use Rattle.opening.specs.Opened.{IsListed, IsOpened}
-use Rattle.opening.specs.Leaving.{IsOpening, IsNewWay, is_way, root_path, ways}
-use Rattle.opening.specs.Parts.{Part, Root, Way, is_leftovers, IsDamaged, IsFaulty, IsTable, SparesLeftovers, Status, Spare, Updates, Info, Diversions, Leftovers, IsFine, IsFirstFault, IsDamage, IsWithoutDiversions, IsDiversionsFault, IsLeftoversFault, Finds, Opens, fault_in, names_of, parts}
+use Rattle.opening.specs.Leaving.{IsOpening, HasMadeWays, IsNewWay, is_way, root_path, ways}
+use Rattle.opening.specs.Parts.{Part, Root, Way, is_leftovers, IsDamaged, IsTable, SparesLeftovers, Status, Spare, Updates, Info, Diversions, Leftovers, IsFine, IsFirstFault, IsDamage, IsWithoutDiversions, IsDiversionsFault, IsLeftoversFault, Finds, Opens, fault_in, names_of, parts}
 
 pub opening_start : (w : World) → IsOpening w w
 opening_start w = record { rest = λ q out. inl refl; left = λ q within. inl refl }
 
 after_new : (q : Path) (u v w : World) → IsNewWay q u v → (w q ≡ v q) ⊎ IsNewWay q v w → (w q ≡ u q) ⊎ IsNewWay q u w
-after_new q u v w new (inl same) = inr (record { way = new.way; missing = new.missing; made = same ∙ new.made })
-after_new q u v w new (inr again) = absurd (no_directory_none (subst IsDirectory again.missing (0o755, new.made)))
+after_new q u v w new (inl same) = inr (record { way = new.way; missing = new.missing; made = subst IsDirectory (sym same) new.made })
+after_new q u v w new (inr again) = absurd (no_directory_none (subst IsDirectory again.missing new.made))
 
 after_same : (q : Path) (u v w : World) → v q ≡ u q → (w q ≡ v q) ⊎ IsNewWay q v w → (w q ≡ u q) ⊎ IsNewWay q u w
 after_same q u v w same (inl more) = inl (more ∙ same)
@@ -54,39 +55,48 @@ opening_then u v w first second = record {
   left = λ q within. less_then (w q) (v q) (u q) (first.left q within) (second.left q within);
 }
 
-pub moments_then : (a b c : State) → Since (IsOpening a.world) a b → Since (IsOpening b.world) b c → Since (IsOpening a.world) a c
-moments_then a b c first second = since_then (IsOpening a.world) a b c first
-    (since_weaker (IsOpening b.world) (IsOpening a.world) b c (λ w later. opening_then a.world b.world w (since_now (IsOpening a.world) a b first) later) second)
+opening_same : (u v : World) → v ≡ u → IsOpening u v
+opening_same u v same = subst (IsOpening u) (sym same) (opening_start u)
 
-pub moments_same : (a b : State) → Same a b → Since (IsOpening a.world) a b
-moments_same a b same = since_same (IsOpening a.world) a b same (opening_start a.world)
+pub moments_then : (a b c : State) → Since (λ so_far. IsOpening a.world) a b → Since (λ so_far. IsOpening b.world) b c → Since (λ so_far. IsOpening a.world) a c
+moments_then a b c first second = since_then (λ so_far. IsOpening a.world) a b c first
+    (since_weaker_if (λ so_far. IsOpening b.world) (λ so_far. IsOpening a.world) b c (λ h so_far w later. opening_then a.world b.world w (since_now (λ so_far. IsOpening a.world) a b first (second.honest h)) later) second)
+
+pub moments_read : (a b : State) → Reads a b → Since (λ so_far. IsOpening a.world) a b
+moments_read a b reads = since_reads (λ so_far. IsOpening a.world) a b reads (λ fs all. opening_start a.world)
+
+apart_from : (p q : Path) → bytes_eq p q ≡ false → q ≢ p
+apart_from p q e same = absurd (true≢false (sym ((bytes_eq-Decides p q).1 (sym same)) ∙ e))
 
 making_at : (p q : Path) (b : Bool) → bytes_eq p q ≡ b → (old now : World) → is_way p ≡ true → IsMaking p old now → (now q ≡ old q) ⊎ IsNewWay q old now
-making_at p q false e old now way making = inl (making.rest q (λ same. absurd (no_true p q e same)))
-  where
-    no_true : (p q : Path) → bytes_eq p q ≡ false → q ≡ p → ⊥
-    no_true p q e same = absurd (true≢false (sym ((bytes_eq-Decides p q).1 (sym same)) ∙ e))
+making_at p q false e old now way making = inl (making.rest q (apart_from p q e))
 making_at p q true e old now way making = subst (λ r. (now r ≡ old r) ⊎ IsNewWay r old now) ((bytes_eq-Decides p q).0 e) (here making.target)
   where
-    here : (now p ≡ old p) ⊎ ((old p ≡ None) × (now p ≡ new_directory)) → (now p ≡ old p) ⊎ IsNewWay p old now
+    here : (now p ≡ old p) ⊎ ((old p ≡ None) × IsDirectory (now p)) → (now p ≡ old p) ⊎ IsNewWay p old now
     here (inl same) = inl same
     here (inr new) = inr (record { way = way; missing = new.0; made = new.1 })
 
--- none of the directories lies within `tmp.ci`
-way_outside : (p : Path) → Contains ways p → is_within tmp_path p ≡ false
-way_outside p (zero, lt, e) = ap (is_within tmp_path) (sym e)
-way_outside p (suc zero, lt, e) = ap (is_within tmp_path) (sym e)
-way_outside p (suc (suc zero), lt, e) = ap (is_within tmp_path) (sym e)
-way_outside p (suc (suc (suc zero)), lt, e) = ap (is_within tmp_path) (sym e)
-way_outside p (suc (suc (suc (suc zero))), lt, e) = ap (is_within tmp_path) (sym e)
-way_outside p (suc (suc (suc (suc (suc k)))), lt, e) = absurd (omega (arith, lt))
+-- each of the directories is a path, and none of them lies within `tmp.ci`
 
-making_spares : (p : Path) (old now : World) → is_way p ≡ true → IsMaking p old now → SameOn (is_within tmp_path) old now
-making_spares p old now way making q within =
-    making.rest q (λ same. true≢false (sym within ∙ ap (is_within tmp_path) same ∙ way_outside p (Contains-from_any (λ x y e. (bytes_eq-Decides x y).0 e) p ways way)))
+among_ways : (P : Path → Type 0) → P (codes "/var") → P (codes "/var/lib") → P home_path → P updates_path → P info_path → (p : Path) → Contains ways p → P p
+among_ways P var lib home updates info p (zero, lt, e) = subst P e var
+among_ways P var lib home updates info p (suc zero, lt, e) = subst P e lib
+among_ways P var lib home updates info p (suc (suc zero), lt, e) = subst P e home
+among_ways P var lib home updates info p (suc (suc (suc zero)), lt, e) = subst P e updates
+among_ways P var lib home updates info p (suc (suc (suc (suc zero))), lt, e) = subst P e info
+among_ways P var lib home updates info p (suc (suc (suc (suc (suc k)))), lt, e) = absurd (omega (arith, lt))
 
-pub since_making_spares : (p : Path) (s t : State) → is_way p ≡ true → Since (IsMaking p s.world) s t → SameOn (is_within tmp_path) s.world t.world
-since_making_spares p s t way since = making_spares p s.world t.world way (since_now (IsMaking p s.world) s t since)
+is_among : (p : Path) → is_way p ≡ true → Contains ways p
+is_among p way = Contains-from_any (λ x y e. (bytes_eq-Decides x y).0 e) p ways way
+
+way_outside : (p : Path) → is_way p ≡ true → is_within tmp_path p ≡ false
+way_outside p way = among_ways (λ q. is_within tmp_path q ≡ false) refl refl refl refl refl p (is_among p way)
+
+pub way_is_path : (p : Path) → is_way p ≡ true → is_path p ≡ true
+way_is_path p way = among_ways (λ q. is_path q ≡ true) refl refl refl refl refl p (is_among p way)
+
+pub making_spares : (p : Path) (old now : World) → is_way p ≡ true → IsMaking p old now → SameOn (is_within tmp_path) old now
+making_spares p old now way making q within = making.rest q (λ same. true≢false (sym within ∙ ap (is_within tmp_path) same ∙ way_outside p way))
 
 pub opening_making : (p : Path) (old now : World) → is_way p ≡ true → IsMaking p old now → IsOpening old now
 opening_making p old now way making = record {
@@ -94,17 +104,43 @@ opening_making p old now way making = record {
   left = λ q within. inl (making_spares p old now way making q within);
 }
 
-pub moments_making : (p : Path) (a b : State) → is_way p ≡ true → Since (IsMaking p a.world) a b → Since (IsOpening a.world) a b
-moments_making p a b way since = since_weaker (IsMaking p a.world) (IsOpening a.world) a b (λ w making. opening_making p a.world w way making) since
+pub moments_making : (p : Path) (a b : State) → is_way p ≡ true → Since (λ so_far. IsMaking p a.world) a b → Since (λ so_far. IsOpening a.world) a b
+moments_making p a b way since = since_weaker _ (λ so_far. IsOpening a.world) a b (λ so_far w making. opening_making p a.world w way making) since
 
-pub moments_clearing : (a b : State) → Since (IsTaking tmp_path a.world) a b → Since (IsOpening a.world) a b
-moments_clearing a b since = since_weaker (IsTaking tmp_path a.world) (IsOpening a.world) a b (λ w is. record { rest = λ q out. inl (is.rest q out); left = λ q within. is.less q }) since
+opening_clearing : (old now : World) → IsTaking tmp_path old now → IsOpening old now
+opening_clearing old now is = record { rest = λ q out. inl (is.rest q out); left = λ q within. is.less q }
+
+-- reading, then removing `tmp.ci`
+pub moments_clearing : (p : Path) (a b c : State) → p ≡ tmp_path → Reads a b → Since (λ so_far. IsTaking p b.world) b c → Since (λ so_far. IsOpening a.world) a c
+moments_clearing p a b c e reads since = moments_then a b c (moments_read a b reads)
+    (since_weaker _ (λ so_far. IsOpening b.world) b c (λ so_far w is. opening_clearing b.world w is) (subst (λ q. Since (λ so_far. IsTaking q b.world) b c) e since))
+
+-- the directories that were made
+
+made_same : (u v : World) → v ≡ u → HasMadeWays u v
+made_same u v same q way = inl (ap (λ w. w q) same)
+
+made_then : (u v w : World) → HasMadeWays u v → HasMadeWays v w → HasMadeWays u w
+made_then u v w first second q way = elim (first q way) [
+  | inl same ↦ elim (second q way) [ inl more ↦ inl (more ∙ same) | inr new ↦ inr (sym same ∙ new.0, new.1) ]
+  | inr new ↦ elim (second q way) [ inl more ↦ inr (new.0, more ∙ new.1) | inr again ↦ absurd (no_directory_none (own_access 0o755, sym again.0 ∙ new.1)) ]
+]
+
+made_at : (p : Path) (u v : World) → KeepsBeside p u v → (v p ≡ u p) ⊎ ((u p ≡ None) × (v p ≡ new_directory)) → HasMadeWays u v
+made_at p u v rest here q way = at (bytes_eq p q) refl
+  where
+    at : (b : Bool) → bytes_eq p q ≡ b → (v q ≡ u q) ⊎ ((u q ≡ None) × (v q ≡ new_directory))
+    at false e = inl (rest q (apart_from p q e))
+    at true e = subst (λ r. (v r ≡ u r) ⊎ ((u r ≡ None) × (v r ≡ new_directory))) ((bytes_eq-Decides p q).0 e) here
+
+made_clearing : (u v : World) → IsTaking tmp_path u v → HasMadeWays u v
+made_clearing u v is q way = inl (is.rest q (way_outside q way))
 
 -- what is fine stays so while later parts are opened
 
 directory_kept : (q : Path) (u v : World) → (v q ≡ u q) ⊎ IsNewWay q u v → IsDirectory (u q) → IsDirectory (v q)
 directory_kept q u v (inl same) is = subst IsDirectory (sym same) is
-directory_kept q u v (inr new) is = (0o755, new.made)
+directory_kept q u v (inr new) is = new.made
 
 pub plain_kept : (q : Path) (u v : World) → is_way q ≡ false → (v q ≡ u q) ⊎ IsNewWay q u v → v q ≡ u q
 plain_kept q u v plain (inl same) = same
@@ -171,11 +207,6 @@ damage_before a b w (Damaged file line) finds = fault_before a b w file line fin
 damage_before a b w Device finds = tt
 damage_before a b w NoMemory finds = tt
 
--- what is left in `tmp.ci` stays
-
-same_spares : (s t : State) → Same s t → SameOn (is_within tmp_path) s.world t.world
-same_spares s t same q within = ap (λ w. w q) same.world
-
 either_false : (x y : Bool) → (x || y) ≡ false → (x ≡ false) × (y ≡ false)
 either_false true y e = absurd (true≢false e)
 either_false false y e = (refl, e)
@@ -210,31 +241,39 @@ spared_behind a b fault (inl none) = inl (none_of_both a b none).1
 spared_behind a b fault (inr damaged) = inr damaged
 
 -- the parts after fine ones
-pub opens_then : (a b : List Part) (fault : Option AdministrationFault) (s t u : State) → AllByRecursion IsEarly a → Opens a None s t → Opens b fault t u → Opens (a ++ b) fault s u
-opens_then a b fault s t u early first second = record {
-  moments = moments_then s t u first.moments second.moments;
-  finds = finds_behind a b u.world fault (all_kept a t.world u.world early (since_now (IsOpening t.world) t u second.moments) first.finds) second.finds;
+pub opens_then : (a b : List Part) (fault : Option AdministrationFault) (u v w : World) → AllByRecursion IsEarly a → Opens a None u v → Opens b fault v w → Opens (a ++ b) fault u w
+opens_then a b fault u v w early first second = record {
+  changes = opening_then u v w first.changes second.changes;
+  finds = finds_behind a b w fault (all_kept a v w early second.changes first.finds) second.finds;
+  made = λ told. made_then u v w (first.made (λ e. cc e)) (second.made told);
   left = λ spared q within. second.left (spared_behind a b fault spared) q within ∙ first.left (inl (early_spares a early)) q within;
 }
 
 -- a fault ends the opening
-pub opens_stop : (a b : List Part) (fault : AdministrationFault) (s t : State) → Opens a (Some fault) s t → Opens (a ++ b) (Some fault) s t
-opens_stop a b fault s t first = record {
-  moments = first.moments;
-  finds = damage_before a b t.world fault first.finds;
+pub opens_stop : (a b : List Part) (fault : AdministrationFault) (u v : World) → Opens a (Some fault) u v → Opens (a ++ b) (Some fault) u v
+opens_stop a b fault u v first = record {
+  changes = first.changes;
+  finds = damage_before a b v fault first.finds;
+  made = first.made;
   left = λ spared. first.left (spared_before a b (Some fault) spared);
 }
+
+-- what reading alone found
+pub opens_read : (among : List Part) (fault : Option AdministrationFault) (u v : World) → v ≡ u → Finds among u fault → Opens among fault u v
+opens_read among fault u v same finds = record {
+  changes = opening_same u v same;
+  finds = subst (λ w. Finds among w fault) (sym same) finds;
+  made = λ told. made_same u v same;
+  left = λ spared q within. ap (λ w. w q) same;
+}
+
+-- the same parts, after looking alone
+pub opens_after : (among : List Part) (fault : Option AdministrationFault) (u v w : World) → v ≡ u → Opens among fault v w → Opens among fault u w
+opens_after among fault u v w same later = subst (λ x. Opens among fault x w) same later
 
 -- want of memory, or a fault of the host
 memory_damage : (among : List Part) (w : World) (fault : AdministrationFault) → fault ≡ NoMemory → IsDamage among w fault
 memory_damage among w fault is = subst (IsDamage among w) (sym is) tt
-
-pub opens_memory : (among : List Part) (fault : AdministrationFault) (s : State) → fault ≡ NoMemory → Opens among (Some fault) s s
-opens_memory among fault s is = record {
-  moments = moments_same s s (record { world = refl; steps = refl });
-  finds = memory_damage among s.world fault is;
-  left = λ spared q within. refl;
-}
 
 host_damage : (among : List Part) (w : World) (h : HostFault) (fault : AdministrationFault) → fault ≡ fault_of h → IsDamage among w fault
 host_damage among w host.Device fault is = subst (IsDamage among w) (sym is) tt
@@ -244,135 +283,118 @@ host_spared : (h : HostFault) (fault : AdministrationFault) → fault ≡ fault_
 host_spared host.Device fault is damaged = subst (λ f. IsDamaged (Some f)) is damaged
 host_spared host.NoMemory fault is damaged = subst (λ f. IsDamaged (Some f)) is damaged
 
-pub opens_host : (among : List Part) (h : HostFault) (fault : AdministrationFault) (s t : State) → fault ≡ fault_of h → Since (IsOpening s.world) s t → (list_any is_leftovers among ≡ false → SameOn (is_within tmp_path) s.world t.world) → Opens among (Some fault) s t
-opens_host among h fault s t is moments left = record {
-  moments = moments;
-  finds = host_damage among t.world h fault is;
-  left = λ spared. elim spared [ inl none ↦ left none | inr damaged ↦ absurd (host_spared h fault is damaged) ];
-}
-
 -- the answer after a `?`
 
-pub stopped_host : {T : Type 0} (among : List Part) (h : HostFault) (result : Result T AdministrationFault) (s t : State) → IsErrAnd result (λ e. e ≡ fault_of h) → Since (IsOpening s.world) s t → (list_any is_leftovers among ≡ false → SameOn (is_within tmp_path) s.world t.world) → Opens among (fault_in result) s t
-stopped_host among h (Ok x) s t told moments left = absurd told
-stopped_host among h (Err fault) s t is moments left = opens_host among h fault s t is moments left
+pub stopped_read : {T : Type 0} (among : List Part) (h : HostFault) (result : Result T AdministrationFault) (u v : World) → IsErrAnd result (λ e. e ≡ fault_of h) → v ≡ u → Opens among (fault_in result) u v
+stopped_read among h (Ok x) u v told same = absurd told
+stopped_read among h (Err fault) u v is same = opens_read among (Some fault) u v same (host_damage among u h fault is)
 
-pub stopped_same : {T : Type 0} (among : List Part) (h : HostFault) (result : Result T AdministrationFault) (s t : State) → IsErrAnd result (λ e. e ≡ fault_of h) → Same s t → Opens among (fault_in result) s t
-stopped_same among h result s t told same = stopped_host among h result s t told (moments_same s t same) (λ none. same_spares s t same)
+pub stopped_memory : {T : Type 0} (among : List Part) (result : Result T AdministrationFault) (u : World) → IsErrAnd result (λ e. e ≡ NoMemory) → Opens among (fault_in result) u u
+stopped_memory among (Ok x) u told = absurd told
+stopped_memory among (Err fault) u is = opens_read among (Some fault) u u refl (memory_damage among u fault is)
 
-pub stopped_memory : {T : Type 0} (among : List Part) (result : Result T AdministrationFault) (s : State) → IsErrAnd result (λ e. e ≡ NoMemory) → Opens among (fault_in result) s s
-stopped_memory among (Ok x) s told = absurd told
-stopped_memory among (Err fault) s is = opens_memory among fault s is
-
-pub stopped_before : {T : Type 0} (a b : List Part) (given : AdministrationFault) (result : Result T AdministrationFault) (s t : State) → IsErrAnd result (λ e. e ≡ given) → Opens a (Some given) s t → Opens (a ++ b) (fault_in result) s t
-stopped_before a b given (Ok x) s t told first = absurd told
-stopped_before a b given (Err fault) s t is first = subst (λ f. Opens (a ++ b) (Some f) s t) (sym is) (opens_stop a b given s t first)
+pub stopped_before : {T : Type 0} (a b : List Part) (given : AdministrationFault) (result : Result T AdministrationFault) (u v : World) → IsErrAnd result (λ e. e ≡ given) → Opens a (Some given) u v → Opens (a ++ b) (fault_in result) u v
+stopped_before a b given (Ok x) u v told first = absurd told
+stopped_before a b given (Err fault) u v is first = subst (λ f. Opens (a ++ b) (Some f) u v) (sym is) (opens_stop a b given u v first)
 
 -- a directory that was made, or can't be
-pub way_made : (p q : Path) (s t : State) → p ≡ q → is_way q ≡ true → Since (IsMaking p s.world) s t → IsMade p s.world t.world → Opens (Way q ∷ []) None s t
-way_made p q s t e way since made = subst (λ r. Opens (Way r ∷ []) None s t) e
-    (record { moments = moments_making p s t (ap is_way e ∙ way) since; finds = (made.target, tt); left = λ spared. since_making_spares p s t (ap is_way e ∙ way) since })
 
-loose_kept : (p : Path) (old now : World) → IsMaking p old now → IsLoose (old p) → IsLoose (now p)
-loose_kept p old now making loose = elim making.target [ inl same ↦ subst IsLoose (sym same) loose | inr new ↦ absurd (none_stands (old p) new.0 loose.0) ]
+pub way_made : (p q : Path) (u v : World) → p ≡ q → is_way q ≡ true → IsMaking p u v → IsMade p u v → Opens (Way q ∷ []) None u v
+way_made p q u v e way making made = subst (λ r. Opens (Way r ∷ []) None u v) e record {
+  changes = opening_making p u v (ap is_way e ∙ way) making;
+  finds = (made.target, tt);
+  made = λ told. made_at p u v made.rest made.before;
+  left = λ spared. making_spares p u v (ap is_way e ∙ way) making;
+}
 
-pub way_loose : (p q : Path) (fault : AdministrationFault) (s t : State) → p ≡ q → is_way q ≡ true → fault ≡ Damaged p 0 → Since (IsMaking p s.world) s t → IsLoose (s.world p) → Opens (Way q ∷ []) (Some fault) s t
-way_loose p q fault s t e way is since loose = subst (λ r. Opens (Way r ∷ []) (Some fault) s t) e (record {
-  moments = moments_making p s t (ap is_way e ∙ way) since;
-  finds = subst (IsDamage (Way p ∷ []) t.world) (sym is) (inl (refl, refl, loose_kept p s.world t.world (since_now (IsMaking p s.world) s t since) loose));
-  left = λ spared. since_making_spares p s t (ap is_way e ∙ way) since;
-})
+left_loose : (p : Path) (old now : World) → IsMaking p old now → IsLoose (old p) → now p ≡ old p
+left_loose p old now making loose = elim making.target [ inl same ↦ same | inr new ↦ absurd (none_stands (old p) new.0 loose.0) ]
+
+pub way_loose : (p q : Path) (fault : AdministrationFault) (u v : World) → p ≡ q → is_way q ≡ true → fault ≡ Damaged p 0 → IsMaking p u v → IsLoose (u p) → Opens (Way q ∷ []) (Some fault) u v
+way_loose p q fault u v e way is making loose = subst (λ r. Opens (Way r ∷ []) (Some fault) u v) e record {
+  changes = opening_making p u v (ap is_way e ∙ way) making;
+  finds = subst (IsDamage (Way p ∷ []) v) (sym is) (inl (refl, refl, subst IsLoose (sym (left_loose p u v making loose)) loose));
+  made = λ told. made_at p u v making.rest (inl (left_loose p u v making loose));
+  left = λ spared. making_spares p u v (ap is_way e ∙ way) making;
+}
+
+made_unless : (h : HostFault) (fault : AdministrationFault) (u v : World) → fault ≡ fault_of h → (h ≡ host.NoMemory → v ≡ u) → (Some fault ≡ Some Device → ⊥) → HasMadeWays u v
+made_unless host.Device fault u v is memory told = absurd (told (ap (λ f. Some f) is))
+made_unless host.NoMemory fault u v is memory told = made_same u v (memory refl)
+
+-- the device failed while a directory was made, or memory was refused
+pub way_stopped : {T : Type 0} (p q : Path) (h : HostFault) (result : Result T AdministrationFault) (u v : World) → p ≡ q → is_way q ≡ true → IsErrAnd result (λ e. e ≡ fault_of h) → IsMaking p u v → (h ≡ host.NoMemory → v ≡ u) → Opens (Way q ∷ []) (fault_in result) u v
+way_stopped p q h (Ok x) u v e way told making memory = absurd told
+way_stopped p q h (Err fault) u v e way is making memory = record {
+  changes = opening_making p u v (ap is_way e ∙ way) making;
+  finds = host_damage (Way q ∷ []) v h fault is;
+  made = made_unless h fault u v is memory;
+  left = λ spared. making_spares p u v (ap is_way e ∙ way) making;
+}
 
 -- the root
 
-pub root_found : (p : Path) (s t : State) → p ≡ root_path → Same s t → IsDirectory (s.world p) → Opens (Root ∷ []) None s t
-root_found p s t e same there = record {
-  moments = moments_same s t same;
-  finds = (subst IsDirectory (ap s.world e ∙ ap (λ w. w root_path) (sym same.world)) there, tt);
-  left = λ spared. same_spares s t same;
-}
+pub root_found : (p : Path) (u v : World) → p ≡ root_path → v ≡ u → IsDirectory (u p) → Opens (Root ∷ []) None u v
+root_found p u v e same there = opens_read (Root ∷ []) None u v same (subst IsDirectory (ap u e) there, tt)
 
-pub root_lacking : (p : Path) (fault : AdministrationFault) (s t : State) → p ≡ root_path → fault ≡ Damaged p 0 → Same s t → NoDirectory (s.world p) → Opens (Root ∷ []) (Some fault) s t
-root_lacking p fault s t e is same lacks = record {
-  moments = moments_same s t same;
-  finds = subst (IsDamage (Root ∷ []) t.world) (sym is) (inl (e, refl, no_directory_at (t.world root_path) (s.world p) (ap (λ w. w root_path) same.world ∙ ap s.world (sym e)) lacks));
-  left = λ spared. same_spares s t same;
-}
+pub root_lacking : (p : Path) (fault : AdministrationFault) (u v : World) → p ≡ root_path → fault ≡ Damaged p 0 → v ≡ u → NoDirectory (u p) → Opens (Root ∷ []) (Some fault) u v
+root_lacking p fault u v e is same lacks = opens_read (Root ∷ []) (Some fault) u v same
+    (subst (IsDamage (Root ∷ []) u) (sym is) (inl (e, refl, no_directory_at (u root_path) (u p) (ap u (sym e)) lacks)))
 
 -- nothing stands at the temporary name, or a file
-pub spare_fine : (p : Path) (s t : State) → p ≡ temporary status_path → Same s t → NoDirectory (s.world p) → Opens (Spare ∷ []) None s t
-spare_fine p s t e same loose = record {
-  moments = moments_same s t same;
-  finds = (no_directory_at (t.world (temporary status_path)) (s.world p) (ap (λ w. w (temporary status_path)) same.world ∙ ap s.world (sym e)) loose, tt);
-  left = λ spared. same_spares s t same;
-}
+pub spare_fine : (p : Path) (u v : World) → p ≡ temporary status_path → v ≡ u → NoDirectory (u p) → Opens (Spare ∷ []) None u v
+spare_fine p u v e same loose = opens_read (Spare ∷ []) None u v same (no_directory_at (u (temporary status_path)) (u p) (ap u (sym e)) loose, tt)
 
-pub spare_taken : (p : Path) (fault : AdministrationFault) (s t : State) → p ≡ temporary status_path → fault ≡ Damaged p 0 → Same s t → IsDirectory (s.world p) → Opens (Spare ∷ []) (Some fault) s t
-spare_taken p fault s t e is same there = record {
-  moments = moments_same s t same;
-  finds = subst (IsDamage (Spare ∷ []) t.world) (sym is) (inl (e, refl, subst IsDirectory (ap (λ w. w p) (sym same.world)) there));
-  left = λ spared. same_spares s t same;
-}
+pub spare_taken : (p : Path) (fault : AdministrationFault) (u v : World) → p ≡ temporary status_path → fault ≡ Damaged p 0 → v ≡ u → IsDirectory (u p) → Opens (Spare ∷ []) (Some fault) u v
+spare_taken p fault u v e is same there = opens_read (Spare ∷ []) (Some fault) u v same (subst (IsDamage (Spare ∷ []) u) (sym is) (inl (e, refl, there)))
 
 -- `tmp.ci`
 
-pub leftovers_same : (fault : AdministrationFault) (file : Path) (s t : State) → fault ≡ Damaged file 0 → Same s t → IsLeftoversFault s.world file → Opens (Leftovers ∷ []) (Some fault) s t
-leftovers_same fault file s t is same faulty = record {
-  moments = moments_same s t same;
-  finds = subst (IsDamage (Leftovers ∷ []) t.world) (sym is) (inl (refl, subst (λ w. IsLeftoversFault w file) (sym same.world) faulty));
-  left = λ spared. same_spares s t same;
-}
+leftovers_told : (fault : AdministrationFault) (file : Path) (u v : World) → fault ≡ Damaged file 0 → v ≡ u → IsLeftoversFault u file → Opens (Leftovers ∷ []) (Some fault) u v
+leftovers_told fault file u v is same faulty = opens_read (Leftovers ∷ []) (Some fault) u v same (subst (IsDamage (Leftovers ∷ []) u) (sym is) (inl (refl, faulty)))
 
-pub leftovers_bad : (fault : AdministrationFault) (p : Path) (s t : State) → p ≡ tmp_path → fault ≡ Damaged p 0 → Same s t → HasBadName s.world p → Opens (Leftovers ∷ []) (Some fault) s t
-leftovers_bad fault p s t e is same bad = leftovers_same fault tmp_path s t (is ∙ ap (λ q. Damaged q 0) e) same (inl (refl, inr (subst (HasBadName s.world) e bad)))
+pub leftovers_bad : (fault : AdministrationFault) (p : Path) (u v : World) → p ≡ tmp_path → fault ≡ Damaged p 0 → v ≡ u → HasBadName u p → Opens (Leftovers ∷ []) (Some fault) u v
+leftovers_bad fault p u v e is same bad = leftovers_told fault tmp_path u v (is ∙ ap (λ q. Damaged q 0) e) same (inl (refl, inr (subst (HasBadName u) e bad)))
 
-pub leftovers_removed : (p : Path) (a b c : State) → p ≡ tmp_path → Same a b → Since (IsTaking p b.world) b c → IsRemoved p b.world c.world → Opens (Leftovers ∷ []) None a c
-leftovers_removed p a b c e same since removed = record {
-  moments = moments_then a b c (moments_same a b same) (moments_clearing b c (subst (λ q. Since (IsTaking q b.world) b c) e since));
-  finds = ((subst (λ q. IsRemoved q b.world c.world) e removed).inside tmp_path refl, tt);
-  left = λ spared. elim spared [ inl none ↦ absurd (true≢false none) | inr damaged ↦ absurd damaged ];
-}
+pub leftovers_loose : (p : Path) (fault : AdministrationFault) (u v : World) → p ≡ tmp_path → fault ≡ Damaged p 0 → v ≡ u → IsLoose (u p) → Opens (Leftovers ∷ []) (Some fault) u v
+leftovers_loose p fault u v e is same loose = leftovers_told fault tmp_path u v (is ∙ ap (λ q. Damaged q 0) e) same (inl (refl, inl (subst (λ q. IsLoose (u q)) e loose)))
 
-pub moments_removing : (p : Path) (a b c : State) → p ≡ tmp_path → Same a b → Since (IsTaking p b.world) b c → Since (IsOpening a.world) a c
-moments_removing p a b c e same since = moments_then a b c (moments_same a b same) (moments_clearing b c (subst (λ q. Since (IsTaking q b.world) b c) e since))
+pub leftovers_none : (p : Path) (u v : World) → p ≡ tmp_path → v ≡ u → u p ≡ None → Opens (Leftovers ∷ []) None u v
+leftovers_none p u v e same none = opens_read (Leftovers ∷ []) None u v same (ap u (sym e) ∙ none, tt)
 
-pub leftovers_loose : (p : Path) (fault : AdministrationFault) (s t : State) → p ≡ tmp_path → fault ≡ Damaged p 0 → Same s t → IsLoose (s.world p) → Opens (Leftovers ∷ []) (Some fault) s t
-leftovers_loose p fault s t e is same loose = leftovers_same fault tmp_path s t (is ∙ ap (λ q. Damaged q 0) e) same (inl (refl, inl (subst (λ q. IsLoose (s.world q)) e loose)))
+pub leftovers_held : (p file name : Path) (fault : AdministrationFault) (u v : World) → p ≡ tmp_path → fault ≡ Damaged file 0 → v ≡ u → (HasBadName u p → ⊥) → file ≡ p ++ 47 ∷ name → IsLeastIn IsDirectory u p name → Opens (Leftovers ∷ []) (Some fault) u v
+leftovers_held p file name fault u v e is same good at least =
+    leftovers_told fault file u v is same (inr (subst (λ q. HasBadName u q → ⊥) e good, (name, at ∙ ap (λ q. q ++ 47 ∷ name) e, subst (λ q. IsLeastIn IsDirectory u q name) e least)))
 
-pub leftovers_none : (p : Path) (s t : State) → p ≡ tmp_path → Same s t → s.world p ≡ None → Opens (Leftovers ∷ []) None s t
-leftovers_none p s t e same none = record {
-  moments = moments_same s t same;
-  finds = (ap (λ w. w tmp_path) same.world ∙ ap s.world (sym e) ∙ none, tt);
-  left = λ spared. same_spares s t same;
-}
+pub leftovers_removed : (p : Path) (u v w : World) → p ≡ tmp_path → v ≡ u → IsTaking p v w → IsRemoved p v w → Opens (Leftovers ∷ []) None u w
+leftovers_removed p u v w e same taking removed =
+    let there = subst (λ q. IsTaking q v w) e taking in
+    opens_after (Leftovers ∷ []) None u v w same record {
+      changes = opening_clearing v w there;
+      finds = ((subst (λ q. IsRemoved q v w) e removed).inside tmp_path refl, tt);
+      made = λ told. made_clearing v w there;
+      left = λ spared. elim spared [ inl none ↦ absurd (true≢false none) | inr damaged ↦ absurd damaged ];
+    }
 
-pub leftovers_held : (p file name : Path) (fault : AdministrationFault) (s t : State) → p ≡ tmp_path → fault ≡ Damaged file 0 → Same s t → (HasBadName s.world p → ⊥) → file ≡ p ++ 47 ∷ name → IsLeastIn IsDirectory s.world p name → Opens (Leftovers ∷ []) (Some fault) s t
-leftovers_held p file name fault s t e is same good at least =
-    leftovers_same fault file s t is same (inr (subst (λ q. HasBadName s.world q → ⊥) e good, (name, at ∙ ap (λ q. q ++ 47 ∷ name) e, subst (λ q. IsLeastIn IsDirectory s.world q name) e least)))
-
--- the same parts, after looking alone
-pub opens_after : (among : List Part) (fault : Option AdministrationFault) (s t u : State) → Same s t → Opens among fault t u → Opens among fault s u
-opens_after among fault s t u same later = record { moments = moments_then s t u (moments_same s t same) later.moments; finds = later.finds; left = λ spared q within. later.left spared q within ∙ ap (λ w. w q) same.world }
-
--- what reading alone found
-pub opens_read : (among : List Part) (fault : Option AdministrationFault) (s t : State) → Same s t → Finds among s.world fault → Opens among fault s t
-opens_read among fault s t same finds = record { moments = moments_same s t same; finds = subst (λ w. Finds among w fault) (sym same.world) finds; left = λ spared. same_spares s t same }
+pub leftovers_stopped : {T : Type 0} (p : Path) (h : HostFault) (result : Result T AdministrationFault) (u v w : World) → p ≡ tmp_path → IsErrAnd result (λ e. e ≡ fault_of h) → v ≡ u → IsTaking p v w → Opens (Leftovers ∷ []) (fault_in result) u w
+leftovers_stopped p h (Ok x) u v w e told same taking = absurd told
+leftovers_stopped p h (Err fault) u v w e is same taking =
+    let there = subst (λ q. IsTaking q v w) e taking in
+    opens_after (Leftovers ∷ []) (Some fault) u v w same record {
+      changes = opening_clearing v w there;
+      finds = host_damage (Leftovers ∷ []) w h fault is;
+      made = λ told. made_clearing v w there;
+      left = λ spared. elim spared [ inl none ↦ absurd (true≢false none) | inr damaged ↦ absurd (host_spared h fault is damaged) ];
+    }
 
 -- the diversions
 
-pub diversions_read : (p : Path) (n : Option Node) (s t : State) → p ≡ diversions_path → n ≡ s.world p → Same s t → IsWithoutDiversions n → Opens (Diversions ∷ []) None s t
-diversions_read p n s t e is same without = record {
-  moments = moments_same s t same;
-  finds = (subst IsWithoutDiversions (is ∙ ap s.world e ∙ ap (λ w. w diversions_path) (sym same.world)) without, tt);
-  left = λ spared. same_spares s t same;
-}
+pub diversions_read : (p : Path) (n : Option Node) (u v : World) → p ≡ diversions_path → n ≡ u p → v ≡ u → IsWithoutDiversions n → Opens (Diversions ∷ []) None u v
+diversions_read p n u v e is same without = opens_read (Diversions ∷ []) None u v same (subst IsWithoutDiversions (is ∙ ap u e) without, tt)
 
-pub diversions_faulty : (p : Path) (line : ℕ) (n : Option Node) (fault : AdministrationFault) (s t : State) → p ≡ diversions_path → fault ≡ Damaged p line → n ≡ s.world p → Same s t → IsDiversionsFault n line → Opens (Diversions ∷ []) (Some fault) s t
-diversions_faulty p line n fault s t e told is same faulty = record {
-  moments = moments_same s t same;
-  finds = subst (IsDamage (Diversions ∷ []) t.world) (sym told) (inl (e, subst (λ m. IsDiversionsFault m line) (is ∙ ap s.world e ∙ ap (λ w. w diversions_path) (sym same.world)) faulty));
-  left = λ spared. same_spares s t same;
-}
+pub diversions_faulty : (p : Path) (line : ℕ) (n : Option Node) (fault : AdministrationFault) (u v : World) → p ≡ diversions_path → fault ≡ Damaged p line → n ≡ u p → v ≡ u → IsDiversionsFault n line → Opens (Diversions ∷ []) (Some fault) u v
+diversions_faulty p line n fault u v e told is same faulty = opens_read (Diversions ∷ []) (Some fault) u v same
+    (subst (IsDamage (Diversions ∷ []) u) (sym told) (inl (e, subst (λ m. IsDiversionsFault m line) (is ∙ ap u e) faulty)))
 
 -- a directory's entry has it as its parent
 pub child_parent : (w : World) (front name : Path) → list_any (nat_eq 47) name ≡ false → IsDirectory (w front) → HasParent w (front ++ 47 ∷ name)
@@ -386,61 +408,59 @@ no_entry w directory names bad e listing none name plain = none_there (w (direct
   | inr odd ↦ true≢false (sym odd.1 ∙ e)
 ])
 
+-- each name of a listing makes a path
+pub names_a_path : (w : World) (directory : Path) (names : List Path) (bad : Bool) (name : Path) → directory ≡ updates_path → IsListing w updates_path names bad → IsLeast (λ n. Unit {0}) names (Some name) → is_path (directory ++ 47 ∷ name) ≡ false → ⊥
+names_a_path w directory names bad name place listing least none =
+    true≢false (sym (listing.fits name least.among) ∙ ap (λ d. is_path (d ++ 47 ∷ name)) (sym place) ∙ none)
+
 pub entry_damage : (w : World) (directory file : Path) (name : Path) (fault : AdministrationFault) → directory ≡ updates_path → file ≡ directory ++ 47 ∷ name → fault ≡ Damaged file 0 → (HasBadName w updates_path → ⊥) → IsLeastIn IsSome w updates_path name → IsDamage (Updates ∷ []) w fault
 entry_damage w directory file name fault place path is good least = subst (IsDamage (Updates ∷ []) w) (sym is) (inl (refl, inr (good, (name, path ∙ ap (λ d. d ++ 47 ∷ name) place, least))))
 
 -- what is known before later parts are opened stays
 
-pub home_kept : {among : List Part} {fault : Option AdministrationFault} (a b : State) → Opens among fault a b → IsDirectory (a.world home_path) → IsDirectory (b.world home_path)
-home_kept a b opens is = directory_kept home_path a.world b.world ((since_now (IsOpening a.world) a b opens.moments).rest home_path refl) is
+pub home_kept : {among : List Part} {fault : Option AdministrationFault} (u v : World) → Opens among fault u v → IsDirectory (u home_path) → IsDirectory (v home_path)
+home_kept u v opens is = directory_kept home_path u v (opens.changes.rest home_path refl) is
 
-pub table_opens : {among : List Part} {fault : Option AdministrationFault} (table : List Record) (a b : State) → Opens among fault a b → IsTable a.world table → IsTable b.world table
-table_opens table a b opens is = table_kept table a.world b.world (plain_kept status_path a.world b.world refl ((since_now (IsOpening a.world) a b opens.moments).rest status_path refl)) is
+pub table_opens : {among : List Part} {fault : Option AdministrationFault} (table : List Record) (u v : World) → Opens among fault u v → IsTable u table → IsTable v table
+table_opens table u v opens is = table_kept table u v (plain_kept status_path u v refl (opens.changes.rest status_path refl)) is
 
-pub listed_kept : {among : List Part} {fault : Option AdministrationFault} (names : List (List ℕ)) (places : List Path) (a b : State) → Opens among fault a b → IsListed a.world names places → IsListed b.world names places
-listed_kept names places a b opens has =
-    let opening = since_now (IsOpening a.world) a b opens.moments in
-    record {
-      sound = λ entry plain. subst (IsSound names entry) (sym (plain_kept (info_path ++ 47 ∷ entry) a.world b.world refl (opening.rest (info_path ++ 47 ∷ entry) refl))) (has.sound entry plain);
-      places = has_places_kept a.world b.world names places (λ name known. plain_kept (list_path name) a.world b.world refl (opening.rest (list_path name) refl)) has.places;
-    }
+pub listed_kept : {among : List Part} {fault : Option AdministrationFault} (names : List (List ℕ)) (places : List Path) (u v : World) → Opens among fault u v → IsListed u names places → IsListed v names places
+listed_kept names places u v opens has = record {
+  sound = λ entry plain. subst (IsSound names entry) (sym (plain_kept (info_path ++ 47 ∷ entry) u v refl (opens.changes.rest (info_path ++ 47 ∷ entry) refl))) (has.sound entry plain);
+  places = has_places_kept u v names places (λ name known. plain_kept (list_path name) u v refl (opens.changes.rest (list_path name) refl)) has.places;
+}
 
 -- reading alone
 
-found_info : {T : Type 0} (table : List Record) (v w : World) (result : Result T AdministrationFault) → w ≡ v → IsTable v table → IfOk result (λ k. HasBadName v info_path → ⊥) → IfOk result (λ k. AreSound v (names_of table)) → IfErr result (IsInfoDamage v (names_of table))
+found_info : {T : Type 0} (table : List Record) (w : World) (result : Result T AdministrationFault) → IsTable w table → IfOk result (λ k. HasBadName w info_path → ⊥) → IfOk result (λ k. AreSound w (names_of table)) → IfErr result (IsInfoDamage w (names_of table))
     → Finds (Info ∷ []) w (fault_in result)
-found_info table v w (Ok k) same is text sound damage = (subst (λ u. IsFine u Info) (sym same) (record { table = table; is_table = is; text = text; sound = sound }), tt)
-found_info table v w (Err (Damaged file line)) same is text sound damage = inl (subst (λ u. IsFaulty u Info file line) (sym same) (table, is, damage))
-found_info table v w (Err Device) same is text sound damage = tt
-found_info table v w (Err NoMemory) same is text sound damage = tt
+found_info table w (Ok k) is text sound damage = (record { table = table; is_table = is; text = text; sound = sound }, tt)
+found_info table w (Err (Damaged file line)) is text sound damage = inl (table, is, damage)
+found_info table w (Err Device) is text sound damage = tt
+found_info table w (Err NoMemory) is text sound damage = tt
 
-pub info_read : {T : Type 0} (result : Result T AdministrationFault) (table : List Record) (a b c : State) → Opens (Way info_path ∷ []) None a b → IsTable b.world table → Same b c → IfOk result (λ k. HasBadName b.world info_path → ⊥) → IfOk result (λ k. AreSound b.world (names_of table)) → IfErr result (IsInfoDamage b.world (names_of table))
-    → Opens (Way info_path ∷ Info ∷ []) (fault_in result) a c
-info_read result table a b c first is same text sound damage =
-    opens_then (Way info_path ∷ []) (Info ∷ []) (fault_in result) a b c (refl, tt) first
-    (record { moments = moments_same b c same; finds = found_info table b.world c.world result same.world is text sound damage; left = λ spared. same_spares b c same })
+pub info_read : {T : Type 0} (result : Result T AdministrationFault) (table : List Record) (u v w : World) → Opens (Way info_path ∷ []) None u v → IsTable v table → w ≡ v → IfOk result (λ k. HasBadName v info_path → ⊥) → IfOk result (λ k. AreSound v (names_of table)) → IfErr result (IsInfoDamage v (names_of table))
+    → Opens (Way info_path ∷ Info ∷ []) (fault_in result) u w
+info_read result table u v w first is same text sound damage =
+    opens_then (Way info_path ∷ []) (Info ∷ []) (fault_in result) u v w (refl, tt) first (opens_read (Info ∷ []) (fault_in result) v w same (found_info table v result is text sound damage))
 
-pub listed_read : (result : Result (List Path) AdministrationFault) (table : List Record) (b c : State) → Same b c → IfOk result (λ k. AreSound b.world (names_of table)) → IfOk result (HasPlaces b.world (names_of table)) → IfOk result (IsListed c.world (names_of table))
-listed_read (Ok places) table b c same sound has = subst (λ w. IsListed w (names_of table) places) (sym same.world) (record { sound = sound; places = has })
-listed_read (Err fault) table b c same sound has = tt
+pub listed_read : (result : Result (List Path) AdministrationFault) (table : List Record) (v w : World) → w ≡ v → IfOk result (λ k. AreSound v (names_of table)) → IfOk result (HasPlaces v (names_of table)) → IfOk result (IsListed w (names_of table))
+listed_read (Ok places) table v w same sound has = subst (λ x. IsListed x (names_of table) places) (sym same) (record { sound = sound; places = has })
+listed_read (Err fault) table v w same sound has = tt
 
-status_fault : (v w : World) (fault : AdministrationFault) → w ≡ v → IsStatusDamage v fault → IsDamage (Status ∷ []) w fault
-status_fault v w (Damaged file line) same damage = inl (subst (λ u. IsStatusDamage u (Damaged file line)) (sym same) damage)
-status_fault v w Device same damage = tt
-status_fault v w NoMemory same damage = tt
+status_fault : (w : World) (fault : AdministrationFault) → IsStatusDamage w fault → IsDamage (Status ∷ []) w fault
+status_fault w (Damaged file line) damage = inl damage
+status_fault w Device damage = tt
+status_fault w NoMemory damage = tt
 
-pub status_damaged : (fault : AdministrationFault) (a b : State) → Same a b → IsStatusDamage a.world fault → Opens (Status ∷ []) (Some fault) a b
-status_damaged fault a b same damage = record { moments = moments_same a b same; finds = status_fault a.world b.world fault same.world damage; left = λ spared. same_spares a b same }
+pub status_damaged : (fault : AdministrationFault) (u v : World) → v ≡ u → IsStatusDamage u fault → Opens (Status ∷ []) (Some fault) u v
+status_damaged fault u v same damage = opens_read (Status ∷ []) (Some fault) u v same (status_fault u fault damage)
 
-pub status_read : (table : List Record) (a b : State) → Same a b → IsFileOrNothing (a.world status_path) → IsTable a.world table → Opens (Status ∷ []) None a b
-status_read table a b same file is = record {
-  moments = moments_same a b same;
-  finds = (subst (λ u. IsFine u Status) (sym same.world) (file, (table, is)), tt);
-  left = λ spared. same_spares a b same;
-}
+pub status_read : (table : List Record) (u v : World) → v ≡ u → IsFileOrNothing (u status_path) → IsTable u table → Opens (Status ∷ []) None u v
+status_read table u v same file is = opens_read (Status ∷ []) None u v same ((file, (table, is)), tt)
 
-pub opened_of : (table : List Record) (places : List Path) (a b : State) → Opens parts None a b → IsTable b.world table → IsListed b.world (names_of table) places → IsOpened table places b.world
-opened_of table places a b opens is listed = record {
+pub opened_of : (table : List Record) (places : List Path) (u v : World) → Opens parts None u v → IsTable v table → IsListed v (names_of table) places → IsOpened table places v
+opened_of table places u v opens is listed = record {
   home = opens.finds.1.1.1.0;
   info = opens.finds.1.1.1.1.1.1.1.1.0;
   updates = opens.finds.1.1.1.1.1.1.0;
@@ -455,10 +475,10 @@ opened_of table places a b opens is listed = record {
   listed = listed;
 }
 
-pub listed_through : {among : List Part} {fault : Option AdministrationFault} (result : Result (List Path) AdministrationFault) (names : List (List ℕ)) (places : List Path) (a b : State) → Opens among fault a b → IfOk result (λ kept. kept ≡ places) → IsListed a.world names places → IfOk result (IsListed b.world names)
-listed_through (Ok kept) names places a b opens is has = subst (IsListed b.world names) (sym is) (listed_kept names places a b opens has)
-listed_through (Err fault) names places a b opens is has = tt
+pub listed_through : {among : List Part} {fault : Option AdministrationFault} (result : Result (List Path) AdministrationFault) (names : List (List ℕ)) (places : List Path) (u v : World) → Opens among fault u v → IfOk result (λ kept. kept ≡ places) → IsListed u names places → IfOk result (IsListed v names)
+listed_through (Ok kept) names places u v opens is has = subst (IsListed v names) (sym is) (listed_kept names places u v opens has)
+listed_through (Err fault) names places u v opens is has = tt
 
-pub opened_ok : (result : Result (List Record × List Path) AdministrationFault) (table : List Record) (a b : State) → Opens parts (fault_in result) a b → IfOk result (λ o. o.0 ≡ table) → IsTable b.world table → IfOk result (λ o. IsListed b.world (names_of o.0) o.1) → IfOk result (λ o. IsOpened o.0 o.1 b.world)
-opened_ok (Ok o) table a b opens is table_is listed = opened_of o.0 o.1 a b opens (subst (IsTable b.world) (sym is) table_is) listed
-opened_ok (Err fault) table a b opens is table_is listed = tt
+pub opened_ok : (result : Result (List Record × List Path) AdministrationFault) (table : List Record) (u v : World) → Opens parts (fault_in result) u v → IfOk result (λ o. o.0 ≡ table) → IsTable v table → IfOk result (λ o. IsListed v (names_of o.0) o.1) → IfOk result (λ o. IsOpened o.0 o.1 v)
+opened_ok (Ok o) table u v opens is table_is listed = opened_of o.0 o.1 u v opens (subst (IsTable v) (sym is) table_is) listed
+opened_ok (Err fault) table u v opens is table_is listed = tt

@@ -3,7 +3,7 @@ use Rattle.std.specs.Prelude.{◌≡◌, ◌⊎◌, Bool, true, false, List, [],
 use Rattle.std.specs.List.{list_any}
 use Rattle.std.specs.Str.{bytes_eq}
 use Rattle.host_core.specs.Paths.{Path}
-use Rattle.host_core.specs.World.{World}
+use Rattle.host_core.specs.World.{World, IsDirectory}
 use Rattle.administration.specs.Directories.{new_directory}
 use Rattle.administration.specs.Places.{home_path, info_path, updates_path, tmp_path, is_within}
 
@@ -23,11 +23,15 @@ ways = var_path ∷ lib_path ∷ home_path ∷ updates_path ∷ info_path ∷ []
 abbrev pub is_way : Path → Bool
 is_way q = list_any (bytes_eq q) ways
 
--- one of them that was missing, made with mode 755
+-- one of them that was missing, and is there now; its access is set last
 pub record IsNewWay (q : Path) (old now : World) : Type 0 where
   pub way : is_way q ≡ true
   pub missing : old q ≡ None
-  pub made : now q ≡ new_directory
+  pub made : IsDirectory (now q)
+
+-- those of them that were made have mode 755
+abbrev pub HasMadeWays : World → World → Type 0
+HasMadeWays old new = (q : Path) → is_way q ≡ true → (new q ≡ old q) ⊎ ((old q ≡ None) × (new q ≡ new_directory))
 
 -- At each moment: missing directories of the administration were made, of what a unit had left in `tmp.ci` some may be
 -- gone, and nothing else has changed.

@@ -2,7 +2,6 @@
 use Rattle.std.specs.Prelude.{◌≡◌, ◌⊎◌, ℕ, Bool, true, false, List, [], ◌∷◌, ◌++◌, Option, Some, None, IsSome, map, Result, Ok, Err}
 use Rattle.std.specs.List.{AllByRecursion, list_any}
 use Rattle.host_core.specs.Paths.{Path}
-use Rattle.host_core.specs.Host.{State, Since}
 use Rattle.host_core.specs.Tree.{has_slash}
 use Rattle.host_core.specs.World.{World, IsDirectory, IsLoose, SameOn}
 use Rattle.host_core.specs.declared.node.Node.{Node}
@@ -17,7 +16,7 @@ use Rattle.file_lists.specs.Info.{IsInfoDamage, AreSound}
 use Rattle.status_db.specs.declared.record.Record.{Record}
 use Rattle.status_db.specs.Records.{standing}
 use Rattle.status_db.specs.Status.{HasRecords, IsFileOrNothing, IsStatusDamage}
-use Rattle.opening.specs.Leaving.{IsOpening, root_path, var_path, lib_path}
+use Rattle.opening.specs.Leaving.{IsOpening, HasMadeWays, root_path, var_path, lib_path}
 
 -- the names of packages that have a record
 abbrev pub names_of : List Record → List (List ℕ)
@@ -48,8 +47,8 @@ IsEmptyIn w directory = (name : Path) → has_slash name ≡ false → w (direct
 -- no diversion stands there: no file, or an empty one
 abbrev pub IsWithoutDiversions : Option Node → Type 0
 IsWithoutDiversions None = Unit {0}
-IsWithoutDiversions (Some (File bytes mode)) = bytes ≡ []
-IsWithoutDiversions (Some (Dir mode)) = ⊥
+IsWithoutDiversions (Some (File bytes access)) = bytes ≡ []
+IsWithoutDiversions (Some (Dir access)) = ⊥
 IsWithoutDiversions (Some (Link target)) = ⊥
 
 -- the status file stands for these records, each of a package that isn't gone
@@ -82,8 +81,8 @@ IsEntryFault w directory file = ((file ≡ directory) × HasBadName w directory)
 -- diversions aren't carried out yet: the first line of a file that isn't empty; line 0 where it is no file
 abbrev pub IsDiversionsFault : Option Node → ℕ → Type 0
 IsDiversionsFault None line = ⊥
-IsDiversionsFault (Some (File bytes mode)) line = (bytes ≡ [] → ⊥) × (line ≡ 1)
-IsDiversionsFault (Some (Dir mode)) line = line ≡ 0
+IsDiversionsFault (Some (File bytes access)) line = (bytes ≡ [] → ⊥) × (line ≡ 1)
+IsDiversionsFault (Some (Dir access)) line = line ≡ 0
 IsDiversionsFault (Some (Link target)) line = line ≡ 0
 
 -- `tmp.ci` is no directory or has a name in it that isn't text; else the first directory in it
@@ -143,7 +142,8 @@ abbrev pub SparesLeftovers : List Part → Option AdministrationFault → Type 0
 SparesLeftovers among fault = (list_any is_leftovers among ≡ false) ⊎ IsDamaged fault
 
 -- these parts were opened up to this fault
-pub record Opens (among : List Part) (fault : Option AdministrationFault) (old new : State) : Type 0 where
-  pub moments : Since (IsOpening old.world) old new
-  pub finds : Finds among new.world fault
-  pub left : SparesLeftovers among fault → SameOn (is_within tmp_path) old.world new.world
+pub record Opens (among : List Part) (fault : Option AdministrationFault) (old new : World) : Type 0 where
+  pub changes : IsOpening old new
+  pub finds : Finds among new fault
+  pub made : (fault ≡ Some Device → ⊥) → HasMadeWays old new
+  pub left : SparesLeftovers among fault → SameOn (is_within tmp_path) old new

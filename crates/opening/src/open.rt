@@ -1,12 +1,12 @@
 // The administration as a whole, part by part in the order in which they are opened.
 ghost use Rattle.std.specs.Prelude.{◌≡◌, ◌∷◌, [], true, IsTrue, Some, option_copied, IfOk, MatchBool, MatchOption};
-ghost use Rattle.host_core.specs.Host.{HasCause, Same, Silent};
+ghost use Rattle.host_core.specs.Host.{AtEachMoment, Counts, Gives, Needs, Reads, Silent, Tells};
 ghost use Rattle.host_core.specs.World.{HasParent, World, IsDirectory};
-ghost use Rattle.administration.specs.Fault.{HasAdministrationCause};
+ghost use Rattle.administration.specs.Fault.{CountsAdministration};
 ghost use Rattle.administration.specs.Files.{NoDirectory};
 ghost use Rattle.administration.specs.Places.{home_path, updates_path, info_path, tmp_path};
 ghost use Rattle.administration.specs.declared.fault.AdministrationFault.TheVariants.{Damaged, Device};
-ghost use Rattle.opening.specs.Leaving.{is_way, var_path, lib_path};
+ghost use Rattle.opening.specs.Leaving.{is_way, IsOpening, var_path, lib_path};
 ghost use Rattle.opening.specs.Parts.{Root, Way, IsTable, Opens, fault_in, Spare, Updates, Finds, Info, names_of, Diversions, IsDiversionsFault, IsWithoutDiversions, Leftovers, parts};
 ghost use Rattle.host_core.specs.Tree.{IsListing};
 ghost use Rattle.administration.specs.Least.{IsLeast};
@@ -17,7 +17,7 @@ use administration::{
     lesser, look, make_directory, remove_flat,
 };
 use file_lists::read_places;
-use host_core::{Host, HostFault, Keep, Listing, Node, RootPath};
+use host_core::{Host, HostFault, Listing, Node, Places, RootPath};
 use status_db::{Database, Record};
 use std::alloc::{AllocError, Global};
 use texts::{Text, Texts};
@@ -33,11 +33,12 @@ fn damaged(file: RootPath, line: u64) -> AdministrationFault
 
 // Makes a directory where nothing stands; what else stands there must be one.
 fn make_way<H: Host>(alloc: Global, host: &mut H, place: &str) -> Result<(), AdministrationFault>
-    requires parent { IsTrue (H.state host.old).honest → HasParent (H.state host.old).world place.now }
+    requires parent { Needs (H.state host.old) (λ w. HasParent w place.now) }
     requires way { is_way place.now ≡ true }
-    ensures opens { IsTrue (H.state host.old).honest → Opens (Way place.now ∷ []) (fault_in result) (H.state host.old) (H.state host.new) }
+    ensures opens { IsTrue (H.state host.new).honest → Opens (Way place.now ∷ []) (fault_in result) (H.state host.old).world (H.state host.new).world }
+    ensures any_moment { AtEachMoment IsOpening (H.state host.old) (H.state host.new) }
     ensures silent { Silent (H.state host.old) (H.state host.new) }
-    ensures cause { HasAdministrationCause (H.state host.old) (H.state host.new) result }
+    ensures counts { CountsAdministration (H.state host.old) (H.state host.new) result }
 {
     let path = RootPath::from_str(alloc, place)?;
     if make_directory(host, &path)? {
@@ -48,10 +49,10 @@ fn make_way<H: Host>(alloc: Global, host: &mut H, place: &str) -> Result<(), Adm
 
 // Whether a directory stands there.
 fn is_directory<H: Host>(host: &mut H, path: &RootPath) -> Result<bool, HostFault>
-    ensures found { IsTrue (H.state host.old).honest → IfOk result (λ there. MatchBool there (IsDirectory ((H.state host.old).world path.now)) (NoDirectory ((H.state host.old).world path.now))) }
-    ensures same { IsTrue (H.state host.old).honest → Same (H.state host.old) (H.state host.new) }
+    ensures found { Tells result (λ there w. MatchBool there (IsDirectory (w path.now)) (NoDirectory (w path.now))) (H.state host.old) (H.state host.new) }
+    ensures reads { Reads (H.state host.old) (H.state host.new) }
     ensures silent { Silent (H.state host.old) (H.state host.new) }
-    ensures cause { HasCause (H.state host.old) (H.state host.new) result }
+    ensures counts { Counts (H.state host.old) (H.state host.new) result }
 {
     match look(host, path)? {
         Standing::Directory => Ok(true),
@@ -61,9 +62,10 @@ fn is_directory<H: Host>(host: &mut H, path: &RootPath) -> Result<bool, HostFaul
 
 // The root has to be a directory.
 fn check_root<H: Host>(alloc: Global, host: &mut H) -> Result<(), AdministrationFault>
-    ensures opens { IsTrue (H.state host.old).honest → Opens (Root ∷ []) (fault_in result) (H.state host.old) (H.state host.new) }
+    ensures opens { IsTrue (H.state host.new).honest → Opens (Root ∷ []) (fault_in result) (H.state host.old).world (H.state host.new).world }
+    ensures reads { Reads (H.state host.old) (H.state host.new) }
     ensures silent { Silent (H.state host.old) (H.state host.new) }
-    ensures cause { HasAdministrationCause (H.state host.old) (H.state host.new) result }
+    ensures counts { CountsAdministration (H.state host.old) (H.state host.new) result }
 {
     let path = RootPath::from_str(alloc, "")?;
     if is_directory(host, &path)? {
@@ -74,9 +76,10 @@ fn check_root<H: Host>(alloc: Global, host: &mut H) -> Result<(), Administration
 
 // The root, and the directories from it to the administration.
 fn open_ways<H: Host>(alloc: Global, host: &mut H) -> Result<(), AdministrationFault>
-    ensures opens { IsTrue (H.state host.old).honest → Opens (Root ∷ Way var_path ∷ Way lib_path ∷ Way home_path ∷ []) (fault_in result) (H.state host.old) (H.state host.new) }
+    ensures opens { IsTrue (H.state host.new).honest → Opens (Root ∷ Way var_path ∷ Way lib_path ∷ Way home_path ∷ []) (fault_in result) (H.state host.old).world (H.state host.new).world }
+    ensures any_moment { AtEachMoment IsOpening (H.state host.old) (H.state host.new) }
     ensures silent { Silent (H.state host.old) (H.state host.new) }
-    ensures cause { HasAdministrationCause (H.state host.old) (H.state host.new) result }
+    ensures counts { CountsAdministration (H.state host.old) (H.state host.new) result }
 {
     check_root(alloc, host)?;
     make_way(alloc, host, "/var")?;
@@ -85,9 +88,10 @@ fn open_ways<H: Host>(alloc: Global, host: &mut H) -> Result<(), AdministrationF
 }
 
 fn check_spare<H: Host>(alloc: Global, host: &mut H) -> Result<(), AdministrationFault>
-    ensures opens { IsTrue (H.state host.old).honest → Opens (Spare ∷ []) (fault_in result) (H.state host.old) (H.state host.new) }
+    ensures opens { IsTrue (H.state host.new).honest → Opens (Spare ∷ []) (fault_in result) (H.state host.old).world (H.state host.new).world }
+    ensures reads { Reads (H.state host.old) (H.state host.new) }
     ensures silent { Silent (H.state host.old) (H.state host.new) }
-    ensures cause { HasAdministrationCause (H.state host.old) (H.state host.new) result }
+    ensures counts { CountsAdministration (H.state host.old) (H.state host.new) result }
 {
     let spare = RootPath::from_str(alloc, STATUS_SPARE)?;
     if is_directory(host, &spare)? {
@@ -116,16 +120,20 @@ fn check_listing(directory: RootPath, listing: &Listing) -> Result<(), Administr
     if listing.bad {
         return Err(damaged(directory, 0));
     }
-    match least(listing.names.as_slice()) {
-        None => Ok(()),
-        Some(name) => Err(damaged(directory.child(name)?, 0)),
+    let Some(name) = least(listing.names.as_slice()) else {
+        return Ok(());
+    };
+    match directory.child(name)? {
+        Some(entry) => Err(damaged(entry, 0)),
+        None => Err(damaged(directory, 0)),
     }
 }
 
 fn check_updates<H: Host>(alloc: Global, host: &mut H) -> Result<(), AdministrationFault>
-    ensures opens { IsTrue (H.state host.old).honest → Opens (Updates ∷ []) (fault_in result) (H.state host.old) (H.state host.new) }
+    ensures opens { IsTrue (H.state host.new).honest → Opens (Updates ∷ []) (fault_in result) (H.state host.old).world (H.state host.new).world }
+    ensures reads { Reads (H.state host.old) (H.state host.new) }
     ensures silent { Silent (H.state host.old) (H.state host.new) }
-    ensures cause { HasAdministrationCause (H.state host.old) (H.state host.new) result }
+    ensures counts { CountsAdministration (H.state host.old) (H.state host.new) result }
 {
     let directory = RootPath::from_str(alloc, UPDATES)?;
     let listing = host.list(&directory)?;
@@ -134,10 +142,11 @@ fn check_updates<H: Host>(alloc: Global, host: &mut H) -> Result<(), Administrat
 
 // The directory of noted records, which has to be empty.
 fn open_updates<H: Host>(alloc: Global, host: &mut H) -> Result<(), AdministrationFault>
-    requires { IsTrue (H.state host.old).honest → IsDirectory ((H.state host.old).world home_path) }
-    ensures opens { IsTrue (H.state host.old).honest → Opens (Way updates_path ∷ Updates ∷ []) (fault_in result) (H.state host.old) (H.state host.new) }
+    requires { Needs (H.state host.old) (λ w. IsDirectory (w home_path)) }
+    ensures opens { IsTrue (H.state host.new).honest → Opens (Way updates_path ∷ Updates ∷ []) (fault_in result) (H.state host.old).world (H.state host.new).world }
+    ensures any_moment { AtEachMoment IsOpening (H.state host.old) (H.state host.new) }
     ensures silent { Silent (H.state host.old) (H.state host.new) }
-    ensures cause { HasAdministrationCause (H.state host.old) (H.state host.new) result }
+    ensures counts { CountsAdministration (H.state host.old) (H.state host.new) result }
 {
     make_way(alloc, host, UPDATES)?;
     check_updates(alloc, host)
@@ -159,13 +168,14 @@ fn open_info<H: Host>(
     alloc: Global,
     host: &mut H,
     database: &Database,
-) -> Result<Keep, AdministrationFault>
-    requires home { IsTrue (H.state host.old).honest → IsDirectory ((H.state host.old).world home_path) }
-    requires table { IsTrue (H.state host.old).honest → IsTable (H.state host.old).world database.now }
-    ensures opens { IsTrue (H.state host.old).honest → Opens (Way info_path ∷ Info ∷ []) (fault_in result) (H.state host.old) (H.state host.new) }
-    ensures listed { IsTrue (H.state host.old).honest → IfOk result (IsListed (H.state host.new).world (names_of database.now)) }
+) -> Result<Places, AdministrationFault>
+    requires home { Needs (H.state host.old) (λ w. IsDirectory (w home_path)) }
+    requires table { Needs (H.state host.old) (λ w. IsTable w database.now) }
+    ensures opens { IsTrue (H.state host.new).honest → Opens (Way info_path ∷ Info ∷ []) (fault_in result) (H.state host.old).world (H.state host.new).world }
+    ensures listed { Gives result (λ places old new. IsListed new (names_of database.now) places) (H.state host.old) (H.state host.new) }
+    ensures any_moment { AtEachMoment IsOpening (H.state host.old) (H.state host.new) }
     ensures silent { Silent (H.state host.old) (H.state host.new) }
-    ensures cause { HasAdministrationCause (H.state host.old) (H.state host.new) result }
+    ensures counts { CountsAdministration (H.state host.old) (H.state host.new) result }
 {
     let names = names_of(alloc, database.records())?;
     make_way(alloc, host, INFO)?;
@@ -190,9 +200,10 @@ fn faulty_line(node: Option<Node>) -> Option<u64>
 }
 
 fn check_diversions<H: Host>(alloc: Global, host: &mut H) -> Result<(), AdministrationFault>
-    ensures opens { IsTrue (H.state host.old).honest → Opens (Diversions ∷ []) (fault_in result) (H.state host.old) (H.state host.new) }
+    ensures opens { IsTrue (H.state host.new).honest → Opens (Diversions ∷ []) (fault_in result) (H.state host.old).world (H.state host.new).world }
+    ensures reads { Reads (H.state host.old) (H.state host.new) }
     ensures silent { Silent (H.state host.old) (H.state host.new) }
-    ensures cause { HasAdministrationCause (H.state host.old) (H.state host.new) result }
+    ensures counts { CountsAdministration (H.state host.old) (H.state host.new) result }
 {
     let path = RootPath::from_str(alloc, DIVERSIONS)?;
     match faulty_line(host.node(&path)?) {
@@ -208,10 +219,11 @@ fn check_diversions<H: Host>(alloc: Global, host: &mut H) -> Result<(), Administ
 // Removes the directory with the files in it.
 fn clear_directory<H: Host>(host: &mut H, path: RootPath) -> Result<(), AdministrationFault>
     requires place { path ≡ tmp_path }
-    requires there { IsTrue (H.state host.old).honest → IsDirectory ((H.state host.old).world tmp_path) }
-    ensures opens { IsTrue (H.state host.old).honest → Opens (Leftovers ∷ []) (fault_in result) (H.state host.old) (H.state host.new) }
+    requires there { Needs (H.state host.old) (λ w. IsDirectory (w tmp_path)) }
+    ensures opens { IsTrue (H.state host.new).honest → Opens (Leftovers ∷ []) (fault_in result) (H.state host.old).world (H.state host.new).world }
+    ensures any_moment { AtEachMoment IsOpening (H.state host.old) (H.state host.new) }
     ensures silent { Silent (H.state host.old) (H.state host.new) }
-    ensures cause { HasAdministrationCause (H.state host.old) (H.state host.new) result }
+    ensures counts { CountsAdministration (H.state host.old) (H.state host.new) result }
 {
     match inspect_flat(host, &path)? {
         Flatness::Flat(names) => {
@@ -228,9 +240,10 @@ fn clear_directory<H: Host>(host: &mut H, path: RootPath) -> Result<(), Administ
 }
 
 fn clear_leftovers<H: Host>(alloc: Global, host: &mut H) -> Result<(), AdministrationFault>
-    ensures opens { IsTrue (H.state host.old).honest → Opens (Leftovers ∷ []) (fault_in result) (H.state host.old) (H.state host.new) }
+    ensures opens { IsTrue (H.state host.new).honest → Opens (Leftovers ∷ []) (fault_in result) (H.state host.old).world (H.state host.new).world }
+    ensures any_moment { AtEachMoment IsOpening (H.state host.old) (H.state host.new) }
     ensures silent { Silent (H.state host.old) (H.state host.new) }
-    ensures cause { HasAdministrationCause (H.state host.old) (H.state host.new) result }
+    ensures counts { CountsAdministration (H.state host.old) (H.state host.new) result }
 {
     let path = RootPath::from_str(alloc, INCOMING)?;
     match look(host, &path)? {
@@ -247,9 +260,10 @@ fn clear_leftovers<H: Host>(alloc: Global, host: &mut H) -> Result<(), Administr
 }
 
 fn settle<H: Host>(alloc: Global, host: &mut H) -> Result<(), AdministrationFault>
-    ensures opens { IsTrue (H.state host.old).honest → Opens (Diversions ∷ Leftovers ∷ []) (fault_in result) (H.state host.old) (H.state host.new) }
+    ensures opens { IsTrue (H.state host.new).honest → Opens (Diversions ∷ Leftovers ∷ []) (fault_in result) (H.state host.old).world (H.state host.new).world }
+    ensures any_moment { AtEachMoment IsOpening (H.state host.old) (H.state host.new) }
     ensures silent { Silent (H.state host.old) (H.state host.new) }
-    ensures cause { HasAdministrationCause (H.state host.old) (H.state host.new) result }
+    ensures counts { CountsAdministration (H.state host.old) (H.state host.new) result }
 {
     check_diversions(alloc, host)?;
     clear_leftovers(alloc, host)
@@ -259,16 +273,17 @@ fn settle<H: Host>(alloc: Global, host: &mut H) -> Result<(), AdministrationFaul
 fn settle_with<H: Host>(
     alloc: Global,
     host: &mut H,
-    keep: Keep,
-) -> Result<Keep, AdministrationFault>
-    ensures opens { IsTrue (H.state host.old).honest → Opens (Diversions ∷ Leftovers ∷ []) (fault_in result) (H.state host.old) (H.state host.new) }
-    ensures places { IfOk result (λ kept. kept ≡ keep) }
+    places: Places,
+) -> Result<Places, AdministrationFault>
+    ensures opens { IsTrue (H.state host.new).honest → Opens (Diversions ∷ Leftovers ∷ []) (fault_in result) (H.state host.old).world (H.state host.new).world }
+    ensures places { IfOk result (λ kept. kept ≡ places) }
+    ensures any_moment { AtEachMoment IsOpening (H.state host.old) (H.state host.new) }
     ensures silent { Silent (H.state host.old) (H.state host.new) }
-    ensures cause { HasAdministrationCause (H.state host.old) (H.state host.new) result }
+    ensures counts { CountsAdministration (H.state host.old) (H.state host.new) result }
 {
     match settle(alloc, host) {
         Ok(()) => {
-            return Ok(keep);
+            return Ok(places);
         }
         Err(fault) => {
             return Err(fault);
@@ -281,36 +296,38 @@ fn open_rest<H: Host>(
     alloc: Global,
     host: &mut H,
     database: &Database,
-) -> Result<Keep, AdministrationFault>
-    requires home { IsTrue (H.state host.old).honest → IsDirectory ((H.state host.old).world home_path) }
-    requires table { IsTrue (H.state host.old).honest → IsTable (H.state host.old).world database.now }
-    ensures opens { IsTrue (H.state host.old).honest → Opens (Spare ∷ Way updates_path ∷ Updates ∷ Way info_path ∷ Info ∷ Diversions ∷ Leftovers ∷ []) (fault_in result) (H.state host.old) (H.state host.new) }
-    ensures listed { IsTrue (H.state host.old).honest → IfOk result (IsListed (H.state host.new).world (names_of database.now)) }
+) -> Result<Places, AdministrationFault>
+    requires home { Needs (H.state host.old) (λ w. IsDirectory (w home_path)) }
+    requires table { Needs (H.state host.old) (λ w. IsTable w database.now) }
+    ensures opens { IsTrue (H.state host.new).honest → Opens (Spare ∷ Way updates_path ∷ Updates ∷ Way info_path ∷ Info ∷ Diversions ∷ Leftovers ∷ []) (fault_in result) (H.state host.old).world (H.state host.new).world }
+    ensures listed { Gives result (λ places old new. IsListed new (names_of database.now) places) (H.state host.old) (H.state host.new) }
+    ensures any_moment { AtEachMoment IsOpening (H.state host.old) (H.state host.new) }
     ensures silent { Silent (H.state host.old) (H.state host.new) }
-    ensures cause { HasAdministrationCause (H.state host.old) (H.state host.new) result }
+    ensures counts { CountsAdministration (H.state host.old) (H.state host.new) result }
 {
     check_spare(alloc, host)?;
     open_updates(alloc, host)?;
-    let keep = open_info(alloc, host, database)?;
-    settle_with(alloc, host, keep)
+    let places = open_info(alloc, host, database)?;
+    settle_with(alloc, host, places)
 }
 
 fn open_with<H: Host>(
     alloc: Global,
     host: &mut H,
     database: Database,
-) -> Result<(Database, Keep), AdministrationFault>
-    requires home { IsTrue (H.state host.old).honest → IsDirectory ((H.state host.old).world home_path) }
-    requires table { IsTrue (H.state host.old).honest → IsTable (H.state host.old).world database }
-    ensures opens { IsTrue (H.state host.old).honest → Opens (Spare ∷ Way updates_path ∷ Updates ∷ Way info_path ∷ Info ∷ Diversions ∷ Leftovers ∷ []) (fault_in result) (H.state host.old) (H.state host.new) }
+) -> Result<(Database, Places), AdministrationFault>
+    requires home { Needs (H.state host.old) (λ w. IsDirectory (w home_path)) }
+    requires table { Needs (H.state host.old) (λ w. IsTable w database) }
+    ensures opens { IsTrue (H.state host.new).honest → Opens (Spare ∷ Way updates_path ∷ Updates ∷ Way info_path ∷ Info ∷ Diversions ∷ Leftovers ∷ []) (fault_in result) (H.state host.old).world (H.state host.new).world }
     ensures database { IfOk result (λ opened. opened.0 ≡ database) }
-    ensures listed { IsTrue (H.state host.old).honest → IfOk result (λ opened. IsListed (H.state host.new).world (names_of opened.0) opened.1) }
+    ensures listed { Gives result (λ opened old new. IsListed new (names_of opened.0) opened.1) (H.state host.old) (H.state host.new) }
+    ensures any_moment { AtEachMoment IsOpening (H.state host.old) (H.state host.new) }
     ensures silent { Silent (H.state host.old) (H.state host.new) }
-    ensures cause { HasAdministrationCause (H.state host.old) (H.state host.new) result }
+    ensures counts { CountsAdministration (H.state host.old) (H.state host.new) result }
 {
     match open_rest(alloc, host, &database) {
-        Ok(keep) => {
-            return Ok((database, keep));
+        Ok(places) => {
+            return Ok((database, places));
         }
         Err(fault) => {
             return Err(fault);
@@ -324,11 +341,12 @@ fn open_with<H: Host>(
 pub fn open_administration<H: Host>(
     alloc: Global,
     host: &mut H,
-) -> Result<(Database, Keep), AdministrationFault>
-    ensures opens { IsTrue (H.state host.old).honest → Opens parts (fault_in result) (H.state host.old) (H.state host.new) }
-    ensures opened { IsTrue (H.state host.old).honest → IfOk result (λ opened. IsOpened opened.0 opened.1 (H.state host.new).world) }
+) -> Result<(Database, Places), AdministrationFault>
+    ensures opens { IsTrue (H.state host.new).honest → Opens parts (fault_in result) (H.state host.old).world (H.state host.new).world }
+    ensures opened { Gives result (λ opened old new. IsOpened opened.0 opened.1 new) (H.state host.old) (H.state host.new) }
+    ensures any_moment { AtEachMoment IsOpening (H.state host.old) (H.state host.new) }
     ensures silent { Silent (H.state host.old) (H.state host.new) }
-    ensures cause { HasAdministrationCause (H.state host.old) (H.state host.new) result }
+    ensures counts { CountsAdministration (H.state host.old) (H.state host.new) result }
 {
     open_ways(alloc, host)?;
     let database = Database::open(alloc, host)?;

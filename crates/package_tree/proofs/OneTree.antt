@@ -1,5 +1,5 @@
 -- A tree is that of one package, or has one fault.
-use Rattle.std.proofs.Common.{◌≡◌, ℕ, true, false, List, [], ◌∷◌, ◌++◌, Option, Some, None, sym, ◌∙◌, ap, subst, inl, inr}
+use Rattle.std.proofs.Common.{◌≡◌, ℕ, false, List, [], ◌∷◌, ◌++◌, Option, Some, None, sym, ◌∙◌, ap, subst, inl, inr}
 use Rattle.std.specs.List.{AllByRecursion}
 use Rattle.std.proofs.lemmas.Bool.{true≢false}
 use Rattle.std.proofs.lemmas.Bool.Decides.{same_from_decides}
@@ -13,7 +13,6 @@ use Rattle.control_fields.specs.Faults.{IsFaultOfOne}
 use Rattle.control_fields.specs.declared.field.Field.{Field}
 use Rattle.control_fields.proofs.OnlyOne.{reads_one_once, no_fault_of_one}
 use Rattle.administration.specs.Scripts.{script_of, file_of}
-use Rattle.package_tree.specs.Fault.{IsHostFault}
 use Rattle.package_tree.specs.ControlFile.{key_of, relation_order, HasValue, HasNoBad, HasNoBadRelation, HasBadValue}
 use Rattle.package_tree.specs.Debian.{is_wrong}
 use Rattle.package_tree.specs.Tree.{HasControl, IsTreeOf, IsTreeFault}
@@ -27,8 +26,8 @@ use Rattle.package_tree.proofs.FieldsOnce.{lacked, one_value, not_bad, not_lacke
 
 abbrev bytes_of : Option Node → List ℕ
 bytes_of None = []
-bytes_of (Some (File bytes mode)) = bytes
-bytes_of (Some (Dir mode)) = []
+bytes_of (Some (File bytes access)) = bytes
+bytes_of (Some (Dir access)) = []
 bytes_of (Some (Link target)) = []
 
 one_text : (w : World) (a b : List ℕ) → HasControl w a → HasControl w b → a ≡ b
@@ -50,7 +49,7 @@ among : (w : World) (before after : List Path) (path : Path) → AllByRecursion 
 among w [] after path all = all.0
 among w (q ∷ before) after path all = among w before after path all.1
 
-pub no_fault : (w : World) (p : Package) (fault : TreeFault) → IsTreeOf w p → IsTreeFault w fault → IsHostFault fault
+pub no_fault : (w : World) (p : Package) (fault : TreeFault) → IsTreeOf w p → IsTreeFault w fault → ⊥
 no_fault w p NoControl t wrong = wrong t.text t.there
 no_fault w p (Control fault) t wrong = wrong.2.1 (no_fault_of_one (lines_of t.text) p.control fault t.control.reads (subst (λ (b : List ℕ). IsFaultOfOne (lines_of b) fault) (one_text w wrong.0 t.text wrong.1 t.there) wrong.2.0))
 no_fault w p (FieldMissing field.Package) t wrong =
@@ -71,8 +70,8 @@ no_fault w p (FieldBad (field.Relation relation)) t wrong =
     none_bad (field.Relation relation) wrong.2.0 (relation_among first.front first.rest relation wrong.2.0 (subst (λ (l : List RelationField). HasNoBadRelation l wrong.2.0) first.is good)) first.bad
 no_fault w p (PathBad path) t wrong =
     true≢false (sym wrong.1.wrong ∙ among w wrong.1.before wrong.1.after path (subst (AllByRecursion (λ q. is_wrong (w q) ≡ false)) wrong.1.is t.files))
-no_fault w p Device t wrong = tt
-no_fault w p NoMemory t wrong = tt
+no_fault w p Device t wrong = wrong
+no_fault w p NoMemory t wrong = wrong
 
 pub control_once : (w : World) (p q : Package) → IsTreeOf w p → IsTreeOf w q → p.control ≡ q.control
 control_once w p q s t = one_control w q t s.text p.control s.there s.control.reads

@@ -8,12 +8,11 @@ use Rattle.host_core.specs.Tree.{has_slash}
 use Rattle.host_core.specs.World.{World, is_file}
 use Rattle.host_core.specs.declared.call.Script.{Script}
 use Rattle.host_core.specs.declared.call.Script.TheVariants.{Preinst, Postinst, Prerm, Postrm}
+use Rattle.host_core.specs.declared.node.Access.{Access}
 use Rattle.host_core.specs.declared.node.Node.{Node}
 use Rattle.host_core.specs.declared.node.Node.TheVariants.{File, Dir, Link}
 use Rattle.std.specs.Str.{bytes_eq}
 use Rattle.package_tree.specs.declared.reading.Contents.{Contents}
-use Rattle.package_tree.specs.declared.fault.TreeFault.{TreeFault}
-use Rattle.package_tree.specs.declared.fault.TreeFault.TheVariants as tree
 
 abbrev pub control_path : Path
 control_path = codes "/DEBIAN/control"
@@ -31,7 +30,7 @@ member_paths = conffiles_path ∷ script_path Postinst ∷ script_path Postrm �
 
 -- a file with these bytes stands there
 abbrev pub HasFile : World → Path → List ℕ → Type 0
-HasFile w path bytes = (mode : ℕ) × (w path ≡ Some (File bytes mode))
+HasFile w path bytes = (access : Access) × (w path ≡ Some (File bytes access))
 
 -- something stands there that isn't a file
 abbrev pub is_wrong : Option Node → Bool
@@ -61,8 +60,8 @@ is_entry line = not (list_all is_white line)
 -- the file `conffiles` has such a line
 abbrev pub lists_conffiles : Option Node → Bool
 lists_conffiles None = false
-lists_conffiles (Some (File bytes mode)) = list_any is_entry (lines_of bytes)
-lists_conffiles (Some (Dir mode)) = false
+lists_conffiles (Some (File bytes access)) = list_any is_entry (lines_of bytes)
+lists_conffiles (Some (Dir access)) = false
 lists_conffiles (Some (Link target)) = false
 
 -- something beside `DEBIAN` stands at the tree's root
@@ -81,13 +80,3 @@ pub record AreContents (w : World) (found : Contents) : Type 0 where
   pub preinst : found.preinst ≡ w (script_path Preinst)
   pub prerm : found.prerm ≡ w (script_path Prerm)
   pub ships : IsTrue found.ships ↔ Ships w
-
--- what is wrong with it; want of memory and a failed device stand where they happen
-abbrev pub IsContentsFault : World → TreeFault → Type 0
-IsContentsFault w tree.NoControl = ⊥
-IsContentsFault w (tree.Control fault) = ⊥
-IsContentsFault w (tree.FieldMissing name) = ⊥
-IsContentsFault w (tree.FieldBad name) = ⊥
-IsContentsFault w (tree.PathBad path) = IsFirstWrong w member_paths path
-IsContentsFault w tree.Device = Unit {0}
-IsContentsFault w tree.NoMemory = Unit {0}

@@ -1,6 +1,6 @@
--- A fault of the host, as one of a tree.
-use Rattle.std.specs.Prelude.{◌<◌, Result, IsErrOf}
-use Rattle.host_core.specs.Host.{State}
+-- A fault of the host, as one of a tree, and what the count of faults says of it.
+use Rattle.std.specs.Prelude.{◌≡◌, Result, Ok, Err}
+use Rattle.host_core.specs.Host.{State, faults, HasFailed}
 use Rattle.host_core.specs.declared.fault.HostFault.{HostFault}
 use Rattle.host_core.specs.declared.fault.HostFault.TheVariants as host
 use Rattle.package_tree.specs.declared.fault.TreeFault.{TreeFault}
@@ -10,9 +10,16 @@ abbrev pub fault_of : HostFault → TreeFault
 fault_of host.Device = Device
 fault_of host.NoMemory = NoMemory
 
--- Device is told only where the host's count of failures rose
-abbrev pub HasTreeCause : {T : Type 0} → State → State → Result T TreeFault → Type 0
-HasTreeCause old new result = IsErrOf result Device → old.faults < new.faults
+-- Device is told exactly where the device failed: once, and then nothing was done
+abbrev pub CountsTree : {T : Type 0} → State → State → Result T TreeFault → Type 0
+CountsTree old new (Ok x) = faults new ≡ faults old
+CountsTree old new (Err NoControl) = faults new ≡ faults old
+CountsTree old new (Err (Control fault)) = faults new ≡ faults old
+CountsTree old new (Err (FieldMissing name)) = faults new ≡ faults old
+CountsTree old new (Err (FieldBad name)) = faults new ≡ faults old
+CountsTree old new (Err (PathBad path)) = faults new ≡ faults old
+CountsTree old new (Err Device) = HasFailed old new
+CountsTree old new (Err NoMemory) = faults new ≡ faults old
 
 -- no fault of the tree: the device failed, or memory was refused
 abbrev pub IsHostFault : TreeFault → Type 0

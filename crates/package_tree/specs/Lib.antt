@@ -1,4 +1,4 @@
 pub mod ControlFile
 pub mod Debian
-pub mod Tree
 pub mod Fault
+pub mod Tree

@@ -1,11 +1,12 @@
 -- The reading of a package's tree (Policy 5.6, 6.1).
-use Rattle.std.specs.Prelude.{◌≡◌, ◌↔◌, ℕ, List, IsTrue}
+use Rattle.std.specs.Prelude.{◌≡◌, ◌⊎◌, ◌↔◌, ℕ, List, IsTrue}
 use Rattle.host_core.specs.World.{World}
 use Rattle.host_core.specs.declared.call.Script.{Script}
 use Rattle.control_fields.specs.declared.field.Field.{Field}
 use Rattle.administration.specs.Scripts.{script_of, file_of}
 use Rattle.package_tree.specs.ControlFile.{IsControlText, IsTextFault}
 use Rattle.package_tree.specs.Debian.{HasFile, HasNoneWrong, IsFirstWrong, Ships, control_path, conffiles_path, script_path, member_paths, lists_conffiles}
+use Rattle.package_tree.specs.Fault.{IsHostFault}
 use Rattle.package_tree.specs.declared.package.Package.{Package}
 use Rattle.package_tree.specs.declared.fault.TreeFault.{TreeFault}
 use Rattle.package_tree.specs.declared.fault.TreeFault.TheVariants.{NoControl, Control, FieldMissing, FieldBad, PathBad, Device, NoMemory}
@@ -34,13 +35,16 @@ HasGoodControl w = (text : List ℕ) × HasControl w text × ((paragraph : List 
 abbrev pub HasControlFault : World → TreeFault → Type 0
 HasControlFault w fault = (text : List ℕ) × HasControl w text × IsTextFault text fault
 
--- The tree has this fault, and none that is looked for before it. Want of memory and a failed device stand where they
--- happen.
+-- the tree has this fault, and none that is looked for before it; the host's faults are none of the tree
 abbrev pub IsTreeFault : World → TreeFault → Type 0
 IsTreeFault w NoControl = (text : List ℕ) → HasControl w text → ⊥
 IsTreeFault w (Control fault) = HasControlFault w (Control fault)
 IsTreeFault w (FieldMissing name) = HasControlFault w (FieldMissing name)
 IsTreeFault w (FieldBad name) = HasControlFault w (FieldBad name)
 IsTreeFault w (PathBad path) = HasGoodControl w × IsFirstWrong w member_paths path
-IsTreeFault w Device = Unit {0}
-IsTreeFault w NoMemory = Unit {0}
+IsTreeFault w Device = ⊥
+IsTreeFault w NoMemory = ⊥
+
+-- what a reading may answer in place of the package: the tree's first fault, or one of the host
+abbrev pub IsReadingFault : World → TreeFault → Type 0
+IsReadingFault w fault = IsTreeFault w fault ⊎ IsHostFault fault

@@ -3,12 +3,11 @@ ghost use Rattle.std.specs.Prelude.{◌≡◌};
 ghost use Rattle.host_core.specs.World.{World};
 ghost use Rattle.host_core.specs.declared.call.Script.{Script};
 ghost use Rattle.administration.specs.Scripts.{script_of, file_of};
-ghost use Rattle.package_tree.specs.Fault.{IsHostFault};
 ghost use Rattle.package_tree.specs.Tree.{IsTreeOf, IsTreeFault};
 ghost use Rattle.package_tree.specs.declared.package.Package.{Package as APackage};
 ghost use Rattle.package_tree.specs.declared.fault.TreeFault.{TreeFault as AFault};
 
-/// A tree is that of one package. A tree that is a package's has no fault but a failed device or want of memory.
+/// A tree is that of one package, and then it has no fault.
 pub fn trees_are_of_one_package()
     ensures control { (w : World) (p q : APackage) → IsTreeOf w p → IsTreeOf w q → p.control ≡ q.control }
     ensures name { (w : World) (p q : APackage) → IsTreeOf w p → IsTreeOf w q → p.name ≡ q.name }
@@ -16,5 +15,5 @@ pub fn trees_are_of_one_package()
     ensures scripts { (w : World) (p q : APackage) → IsTreeOf w p → IsTreeOf w q → (script : Script) → file_of (script_of p.scripts script) ≡ file_of (script_of q.scripts script) }
     ensures ships { (w : World) (p q : APackage) → IsTreeOf w p → IsTreeOf w q → p.ships ≡ q.ships }
     ensures has_conffiles { (w : World) (p q : APackage) → IsTreeOf w p → IsTreeOf w q → p.has_conffiles ≡ q.has_conffiles }
-    ensures no_fault { (w : World) (p : APackage) (fault : AFault) → IsTreeOf w p → IsTreeFault w fault → IsHostFault fault }
+    ensures no_fault { (w : World) (p : APackage) (fault : AFault) → IsTreeOf w p → IsTreeFault w fault → ⊥ }
 {}

@@ -1,22 +1,24 @@
 // Reading a tree: its control file, and what stands beside it.
-ghost use Rattle.std.specs.Prelude.{◌≡◌, ◌↔◌, ◌||◌, false, IsTrue, IfOk, IfErr, IsErrOf, OnOk, MatchOption, ℕ, List, Some};
+ghost use Rattle.std.specs.Prelude.{◌≡◌, ◌↔◌, ◌||◌, true, false, IsTrue, IfOk, IfErr, IfSome, MatchOption, ℕ, List, Some};
 ghost use Rattle.std.specs.List.{list_any, list_all};
 ghost use Rattle.control_fields.specs.Grammar.{lines_of};
+ghost use Rattle.host_core.specs.Paths.{is_path};
 ghost use Rattle.host_core.specs.World.{World};
-ghost use Rattle.host_core.specs.Host.{Same, Silent};
+ghost use Rattle.host_core.specs.Host.{Counts, Leaves, Needs, Reads, Silent, Tells};
 ghost use Rattle.host_core.specs.declared.call.Script.{Script as AScript};
+ghost use Rattle.host_core.specs.declared.node.Access.{Access};
 ghost use Rattle.administration.specs.Scripts.{script_of, file_of};
-ghost use Rattle.package_tree.specs.Fault.{HasTreeCause, IsHostFault};
-ghost use Rattle.package_tree.specs.Debian.{is_wrong, is_white, is_entry, is_shipped, lists_conffiles, script_path, member_paths, Ships, HasNoneWrong, IsFirstWrong, IsContentsFault, AreContents};
+ghost use Rattle.package_tree.specs.Fault.{CountsTree};
+ghost use Rattle.package_tree.specs.Debian.{is_wrong, is_white, is_entry, is_shipped, lists_conffiles, script_path, member_paths, Ships, HasNoneWrong, IsFirstWrong, AreContents};
 ghost use Rattle.package_tree.specs.ControlFile.{IsControlText};
-ghost use Rattle.package_tree.specs.Tree.{HasControl, IsTreeOf, IsTreeFault};
+ghost use Rattle.package_tree.specs.Tree.{HasControl, HasGoodControl, IsTreeOf, IsReadingFault};
 
 use crate::control_file::{ControlFile, read_control};
 use crate::fault::TreeFault;
 use crate::package::Package;
 use administration::{ScriptFile, Scripts};
-use host_core::{Host, Listing, Node, RootPath};
-use std::alloc::Global;
+use host_core::{Host, HostFault, Listing, Node, RootPath};
+use std::alloc::{AllocError, Global};
 use texts::{Bytes, Text};
 
 // The nodes in `DEBIAN` beside the control file, and whether the tree ships anything.
@@ -67,12 +69,11 @@ fn lists_shipped(listing: &Listing) -> bool
 }
 
 // Whether something beside `DEBIAN` stands at the root.
-fn ships<H: Host>(alloc: Global, host: &mut H) -> Result<bool, TreeFault>
-    ensures found { IsTrue (H.state host.old).honest → IfOk result (λ ships. IsTrue ships ↔ Ships (H.state host.old).world) }
-    ensures same { IsTrue (H.state host.old).honest → Same (H.state host.old) (H.state host.new) }
+fn ships<H: Host>(alloc: Global, host: &mut H) -> Result<bool, HostFault>
+    ensures found { Tells result (λ ships w. IsTrue ships ↔ Ships w) (H.state host.old) (H.state host.new) }
+    ensures reads { Reads (H.state host.old) (H.state host.new) }
     ensures silent { Silent (H.state host.old) (H.state host.new) }
-    ensures fault { IfErr result IsHostFault }
-    ensures cause { HasTreeCause (H.state host.old) (H.state host.new) result }
+    ensures counts { Counts (H.state host.old) (H.state host.new) result }
 {
     let root = RootPath::from_str(alloc, "")?;
     let listing = host.list(&root)?;
@@ -80,15 +81,15 @@ fn ships<H: Host>(alloc: Global, host: &mut H) -> Result<bool, TreeFault>
 }
 
 // What stands at a path of the tree.
-fn node_at<H: Host>(alloc: Global, host: &mut H, path: &str) -> Result<Option<Node>, TreeFault>
-    ensures found { IsTrue (H.state host.old).honest → IfOk result (λ node. node ≡ (H.state host.old).world path.now) }
-    ensures same { IsTrue (H.state host.old).honest → Same (H.state host.old) (H.state host.new) }
+fn node_at<H: Host>(alloc: Global, host: &mut H, path: &str) -> Result<Option<Node>, HostFault>
+    requires { is_path path.now ≡ true }
+    ensures found { Tells result (λ node w. node ≡ w path.now) (H.state host.old) (H.state host.new) }
+    ensures reads { Reads (H.state host.old) (H.state host.new) }
     ensures silent { Silent (H.state host.old) (H.state host.new) }
-    ensures fault { IfErr result IsHostFault }
-    ensures cause { HasTreeCause (H.state host.old) (H.state host.new) result }
+    ensures counts { Counts (H.state host.old) (H.state host.new) result }
 {
     let path = RootPath::from_str(alloc, path)?;
-    Ok(host.node(&path)?)
+    host.node(&path)
 }
 
 fn is_wrong(node: &Option<Node>) -> bool
@@ -140,7 +141,8 @@ fn lists_conffiles(node: &Option<Node>) -> bool
 
 // The first path in path order where something stands that isn't a file.
 fn first_wrong(contents: &Contents) -> Option<&'static str>
-    ensures { (w : World) → AreContents w contents.now → MatchOption result (HasNoneWrong w member_paths) (λ path. IsFirstWrong w member_paths path.now) }
+    ensures found { (w : World) → AreContents w contents.now → MatchOption result (HasNoneWrong w member_paths) (λ path. IsFirstWrong w member_paths path.now) }
+    ensures path { IfSome result (λ path. is_path path.now ≡ true) }
 {
     if is_wrong(&contents.conffiles) {
         return Some("/DEBIAN/conffiles");
@@ -188,24 +190,24 @@ fn look_at<H: Host>(
     host: &mut H,
     path: &str,
     node: &mut Option<Node>,
-) -> Result<(), TreeFault>
-    ensures found { IsTrue (H.state host.old).honest → OnOk result (node.new ≡ (H.state host.old).world path.now) }
-    ensures same { IsTrue (H.state host.old).honest → Same (H.state host.old) (H.state host.new) }
+) -> Result<(), HostFault>
+    requires { is_path path.now ≡ true }
+    ensures found { Leaves result (λ w now. node.new ≡ w path.now) (H.state host.old) (H.state host.new) }
+    ensures reads { Reads (H.state host.old) (H.state host.new) }
     ensures silent { Silent (H.state host.old) (H.state host.new) }
-    ensures fault { IfErr result IsHostFault }
-    ensures cause { HasTreeCause (H.state host.old) (H.state host.new) result }
+    ensures counts { Counts (H.state host.old) (H.state host.new) result }
 {
     *node = node_at(alloc, host, path)?;
     Ok(())
 }
 
 // Looks at all of them.
-fn look<H: Host>(alloc: Global, host: &mut H, contents: &mut Contents) -> Result<(), TreeFault>
-    ensures found { IsTrue (H.state host.old).honest → OnOk result (AreContents (H.state host.old).world contents.new) }
-    ensures same { IsTrue (H.state host.old).honest → Same (H.state host.old) (H.state host.new) }
+#[tactic(auto, using(host_core::specs::Moments::reads_then))]
+fn look<H: Host>(alloc: Global, host: &mut H, contents: &mut Contents) -> Result<(), HostFault>
+    ensures found { Leaves result (λ w now. AreContents w contents.new) (H.state host.old) (H.state host.new) }
+    ensures reads { Reads (H.state host.old) (H.state host.new) }
     ensures silent { Silent (H.state host.old) (H.state host.new) }
-    ensures fault { IfErr result IsHostFault }
-    ensures cause { HasTreeCause (H.state host.old) (H.state host.new) result }
+    ensures counts { Counts (H.state host.old) (H.state host.new) result }
 {
     look_at(alloc, host, "/DEBIAN/conffiles", &mut contents.conffiles)?;
     look_at(alloc, host, "/DEBIAN/postinst", &mut contents.postinst)?;
@@ -216,20 +218,18 @@ fn look<H: Host>(alloc: Global, host: &mut H, contents: &mut Contents) -> Result
     Ok(())
 }
 
-// Whether a file stands at each of the paths, or nothing.
-fn check_files(alloc: Global, contents: &Contents) -> Result<(), TreeFault>
-    ensures files { OnOk result ((w : World) → AreContents w contents.now → HasNoneWrong w member_paths) }
-    ensures fault { IfErr result (λ fault. (w : World) → AreContents w contents.now → IsContentsFault w fault) }
-    ensures device { IsErrOf result TreeFault.Device → ⊥ }
+// The same as a path of its own.
+fn wrong_path(alloc: Global, contents: &Contents) -> Result<Option<RootPath>, AllocError>
+    ensures { IfOk result (λ found. (w : World) → AreContents w contents.now → MatchOption found (HasNoneWrong w member_paths) (IsFirstWrong w member_paths)) }
 {
-    if let Some(path) = first_wrong(contents) {
-        return Err(TreeFault::PathBad(RootPath::from_str(alloc, path)?));
+    match first_wrong(contents) {
+        Some(path) => Ok(Some(RootPath::from_str(alloc, path)?)),
+        None => Ok(None),
     }
-    Ok(())
 }
 
 fn bytes_of(node: Option<Node>) -> Option<Bytes>
-    ensures { MatchOption result ((bytes : List ℕ) (mode : ℕ) → node ≡ Some (Node.File bytes mode) → ⊥) (λ bytes. (mode : ℕ) × (node ≡ Some (Node.File bytes mode))) }
+    ensures { MatchOption result ((bytes : List ℕ) (access : Access) → node ≡ Some (Node.File bytes access) → ⊥) (λ bytes. (access : Access) × (node ≡ Some (Node.File bytes access))) }
 {
     match node {
         Some(Node::File { bytes, .. }) => Some(bytes),
@@ -240,11 +240,11 @@ fn bytes_of(node: Option<Node>) -> Option<Bytes>
 }
 
 fn control_text<H: Host>(alloc: Global, host: &mut H) -> Result<Bytes, TreeFault>
-    ensures found { IsTrue (H.state host.old).honest → IfOk result (HasControl (H.state host.old).world) }
-    ensures fault { IsTrue (H.state host.old).honest → IfErr result (IsTreeFault (H.state host.old).world) }
-    ensures same { IsTrue (H.state host.old).honest → Same (H.state host.old) (H.state host.new) }
+    ensures found { Tells result (λ text w. HasControl w text) (H.state host.old) (H.state host.new) }
+    ensures fault { IsTrue (H.state host.new).honest → IfErr result (IsReadingFault (H.state host.old).world) }
+    ensures reads { Reads (H.state host.old) (H.state host.new) }
     ensures silent { Silent (H.state host.old) (H.state host.new) }
-    ensures cause { HasTreeCause (H.state host.old) (H.state host.new) result }
+    ensures counts { CountsTree (H.state host.old) (H.state host.new) result }
 {
     let found = node_at(alloc, host, "/DEBIAN/control")?;
     match bytes_of(found) {
@@ -254,30 +254,35 @@ fn control_text<H: Host>(alloc: Global, host: &mut H) -> Result<Bytes, TreeFault
 }
 
 fn read_control_file<H: Host>(alloc: Global, host: &mut H) -> Result<ControlFile, TreeFault>
-    ensures read { IsTrue (H.state host.old).honest → IfOk result (λ file. (text : List ℕ) × HasControl (H.state host.old).world text × IsControlText text file.paragraph file.name file.version) }
-    ensures fault { IsTrue (H.state host.old).honest → IfErr result (IsTreeFault (H.state host.old).world) }
-    ensures same { IsTrue (H.state host.old).honest → Same (H.state host.old) (H.state host.new) }
+    ensures read { Tells result (λ file w. (text : List ℕ) × HasControl w text × IsControlText text file.paragraph file.name file.version) (H.state host.old) (H.state host.new) }
+    ensures fault { IsTrue (H.state host.new).honest → IfErr result (IsReadingFault (H.state host.old).world) }
+    ensures reads { Reads (H.state host.old) (H.state host.new) }
     ensures silent { Silent (H.state host.old) (H.state host.new) }
-    ensures cause { HasTreeCause (H.state host.old) (H.state host.new) result }
+    ensures counts { CountsTree (H.state host.old) (H.state host.new) result }
 {
     let text = control_text(alloc, host)?;
     read_control(alloc, text.as_slice())
 }
 
+// Reads what stands beside a control file in which nothing is wrong.
 fn read_contents<H: Host>(
     alloc: Global,
     host: &mut H,
     contents: &mut Contents,
 ) -> Result<(), TreeFault>
-    ensures found { IsTrue (H.state host.old).honest → OnOk result (AreContents (H.state host.old).world contents.new) }
-    ensures files { IsTrue (H.state host.old).honest → OnOk result (HasNoneWrong (H.state host.old).world member_paths) }
-    ensures fault { IsTrue (H.state host.old).honest → IfErr result (IsContentsFault (H.state host.old).world) }
-    ensures same { IsTrue (H.state host.old).honest → Same (H.state host.old) (H.state host.new) }
+    requires control { Needs (H.state host.old) HasGoodControl }
+    ensures found { Leaves result (λ w now. AreContents w contents.new) (H.state host.old) (H.state host.new) }
+    ensures files { Leaves result (λ w now. HasNoneWrong w member_paths) (H.state host.old) (H.state host.new) }
+    ensures fault { IsTrue (H.state host.new).honest → IfErr result (IsReadingFault (H.state host.old).world) }
+    ensures reads { Reads (H.state host.old) (H.state host.new) }
     ensures silent { Silent (H.state host.old) (H.state host.new) }
-    ensures cause { HasTreeCause (H.state host.old) (H.state host.new) result }
+    ensures counts { CountsTree (H.state host.old) (H.state host.new) result }
 {
     look(alloc, host, contents)?;
-    check_files(alloc, contents)
+    match wrong_path(alloc, contents)? {
+        Some(path) => Err(TreeFault::PathBad(path)),
+        None => Ok(()),
+    }
 }
 
 // The package of what was read.
@@ -302,12 +307,13 @@ fn assemble(control: ControlFile, contents: Contents) -> Package
 }
 
 /// Reads the tree that the host was opened on.
+#[tactic(auto, using(host_core::specs::Moments::reads_then))]
 pub fn read_tree<H: Host>(alloc: Global, host: &mut H) -> Result<Package, TreeFault>
-    ensures read { IsTrue (H.state host.old).honest → IfOk result (IsTreeOf (H.state host.old).world) }
-    ensures fault { IsTrue (H.state host.old).honest → IfErr result (IsTreeFault (H.state host.old).world) }
-    ensures same { IsTrue (H.state host.old).honest → Same (H.state host.old) (H.state host.new) }
+    ensures read { Tells result (λ found w. IsTreeOf w found) (H.state host.old) (H.state host.new) }
+    ensures fault { IsTrue (H.state host.new).honest → IfErr result (IsReadingFault (H.state host.old).world) }
+    ensures reads { Reads (H.state host.old) (H.state host.new) }
     ensures silent { Silent (H.state host.old) (H.state host.new) }
-    ensures cause { HasTreeCause (H.state host.old) (H.state host.new) result }
+    ensures counts { CountsTree (H.state host.old) (H.state host.new) result }
 {
     let control = read_control_file(alloc, host)?;
     let mut contents = Contents::none();

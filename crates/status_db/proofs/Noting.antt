@@ -1,12 +1,12 @@
 -- What writing the status file leaves, in the end and at each moment.
-use Rattle.std.proofs.Common.{◌≡◌, ◌≢◌, ◌⊎◌, inl, inr, ℕ, List, length, Option, Some, None, Result, Ok, Err, OnOk, refl, sym, ap, subst, ◌∙◌, arith, codes}
+use Rattle.std.proofs.Common.{◌≡◌, ◌≢◌, ◌⊎◌, inl, inr, IsTrue, ℕ, List, [], length, Option, Some, None, Result, Ok, Err, OnOk, refl, sym, ap, subst, ◌∙◌, arith, codes}
+use Rattle.std.proofs.lemmas.List.{append-nil}
 use Rattle.host_core.specs.Paths.{Path}
 use Rattle.host_core.specs.World.{World, IsDirectory, IsFile, HasParent}
-use Rattle.std.specs.Prelude.{IsErrAnd}
-use Rattle.host_core.specs.Host.{State, HasCause, Silent, Since}
-use Rattle.host_core.specs.Moments.{since_start, since_weaker}
+use Rattle.host_core.specs.Host.{State, Needs, AtEachMoment}
+use Rattle.host_core.specs.Moments.{since_weaker_if}
+use Rattle.host_core.specs.Nodes.{own_access}
 use Rattle.host_core.specs.declared.fault.HostFault.{HostFault}
-use Rattle.host_core.specs.declared.fault.HostFault.TheVariants.{Device, NoMemory}
 use Rattle.host_core.specs.declared.node.Node.{Node}
 use Rattle.host_core.specs.declared.node.Node.TheVariants.{File}
 use Rattle.administration.specs.Places.{home_path, status_path, temporary}
@@ -17,10 +17,10 @@ use Rattle.status_db.specs.Status.{IsStatus, StandsFor, HasRecords, IsFileOf, Is
 
 -- the file has the text of these records
 abbrev pub Holds : Node → List Record → Type 0
-Holds node rs = (bytes : List ℕ) × (node ≡ File bytes 0o644) × ∥ IsStatus bytes rs ∥₁
+Holds node rs = (bytes : List ℕ) × (node ≡ File bytes (own_access 0o644)) × ∥ IsStatus bytes rs ∥₁
 
 pub holds_file : (node : Node) (rs : List Record) → Holds node rs → IsFile node
-holds_file node rs holds = (holds.0, 0o644, holds.1)
+holds_file node rs holds = (holds.0, own_access 0o644, holds.1)
 
 stands_for : (found : Option Node) (node : Node) (rs : List Record) → Holds node rs → found ≡ Some node → StandsFor found rs
 stands_for found node rs holds e = subst (λ (o : Option Node). StandsFor o rs) (ap (λ (n : Node). Some n) (sym holds.1) ∙ sym e) holds.2
@@ -82,30 +82,11 @@ pub noted_by : {T : Type 0} (rs : List Record) (node : Node) (path : Path) (old 
 noted_by rs node path old new (Ok x) e holds ready is = noted_file rs node old new holds ready (subst (λ p. IsReplaced p node old new) e is)
 noted_by rs node path old new (Err f) e holds ready is = tt
 
-pub noting_by : (rs : List Record) (node : Node) (path : Path) (a b : State) → path ≡ status_path → Holds node rs → IsStatusReady a.world → Since (IsReplacing path node a.world) a b → Since (IsNoting rs a.world) a b
+pub noting_by : (rs : List Record) (node : Node) (path : Path) (a b : State) → path ≡ status_path → Holds node rs → (IsTrue b.honest → IsStatusReady a.world) → AtEachMoment (IsReplacing path node) a b → AtEachMoment (IsNoting rs) a b
 noting_by rs node path a b e holds ready since =
-    since_weaker (IsReplacing path node a.world) (IsNoting rs a.world) a b (λ w is. noting_file rs node a.world w holds ready (subst (λ p. IsReplacing p node a.world w) e is)) since
+    since_weaker_if (λ so_far. IsReplacing path node a.world) (λ so_far. IsNoting rs a.world) a b (λ h so_far w is. noting_file rs node a.world w holds (ready h) (subst (λ p. IsReplacing p node a.world w) e is)) since
 
--- without memory for it nothing is done
+-- nothing was done
 
-pub none_noted : {T : Type 0} (P : Type 0) (r : Result T HostFault) → IsErrAnd r (λ e. e ≡ NoMemory) → OnOk r P
-none_noted P (Ok x) none = absurd none
-none_noted P (Err e) none = tt
-
-abbrev IsMild : {T : Type 0} → Result T HostFault → Type 0
-IsMild (Ok x) = Unit {0}
-IsMild (Err Device) = ⊥
-IsMild (Err NoMemory) = Unit {0}
-
-mild : (T : Type 0) (r : Result T HostFault) → IsErrAnd r (λ e. e ≡ NoMemory) → IsMild r
-mild T (Ok x) none = tt
-mild T (Err e) none = subst (λ (f : HostFault). IsMild {T = T} (Err f)) (sym none) tt
-
-pub none_cause : {T : Type 0} (a : State) (r : Result T HostFault) → IsErrAnd r (λ e. e ≡ NoMemory) → HasCause a a r
-none_cause a r none told = absurd (subst IsMild told (mild _ r none))
-
-pub none_silent : (a : State) → Silent a a
-none_silent a = record { honest = refl; calls = refl; faults = omega arith }
-
-pub none_noting : (rs : List Record) (a : State) → IsStatusReady a.world → Since (IsNoting rs a.world) a a
-none_noting rs a ready = since_start (IsNoting rs a.world) a (noting_start rs a.world ready)
+pub noting_not : (rs : List Record) (a : State) → Needs a IsStatusReady → AtEachMoment (IsNoting rs) a a
+noting_not rs a ready = record { added = []; events = sym (append-nil a.events); honest = λ h. h; world = refl; each = λ h. noting_start rs a.world (ready h) }

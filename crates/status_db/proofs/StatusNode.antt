@@ -12,15 +12,15 @@ use Rattle.status_db.specs.Status.{StandsFor, IsFileOrNothing}
 -- what stands for records is a file or nothing
 pub stands_file : (node : Option Node) (rs : List Record) → StandsFor node rs → IsFileOrNothing node
 stands_file None rs stands = tt
-stands_file (Some (File bytes mode)) rs stands = tt
-stands_file (Some (Dir mode)) rs stands = ∥∥₁_elim stands (hlevel props) (λ no. no)
+stands_file (Some (File bytes access)) rs stands = tt
+stands_file (Some (Dir access)) rs stands = ∥∥₁_elim stands (hlevel props) (λ no. no)
 stands_file (Some (Link target)) rs stands = ∥∥₁_elim stands (hlevel props) (λ no. no)
 
 -- where a file stands, or nothing, no directory does
 pub file_no_directory : (node : Option Node) → IsFileOrNothing node → NoDirectory node
 file_no_directory None is = no_directory_none
-file_no_directory (Some (File bytes mode)) is = no_directory_file (File bytes mode) (bytes, mode, refl)
-file_no_directory (Some (Dir mode)) is = absurd is
+file_no_directory (Some (File bytes access)) is = no_directory_file (File bytes access) (bytes, access, refl)
+file_no_directory (Some (Dir access)) is = absurd is
 file_no_directory (Some (Link target)) is = absurd is
 
 pub stands_no_directory : (node : Option Node) (rs : List Record) → StandsFor node rs → NoDirectory node

@@ -1,6 +1,6 @@
 -- Look-ups in a table of records.
-use Rattle.std.proofs.Common.{◌≡◌, ◌≢◌, ℕ, ◌+◌, ◌<◌, Bool, true, false, cond, not, List, [], ◌∷◌, Option, Some, None, drop, get_or, length, refl, sym, ap, subst, ◌∙◌, add-one, suc}
-use Rattle.std.specs.Prelude.{filter, Result, Ok, Err, OnOk, OnErr}
+use Rattle.std.proofs.Common.{◌≡◌, ◌≢◌, ℕ, ◌+◌, ◌<◌, Bool, true, false, cond, not, List, [], ◌∷◌, Option, Some, None, drop, get_or, length, refl, sym, ap, ◌∙◌, add-one, suc}
+use Rattle.std.specs.Prelude.{filter}
 use Rattle.std.specs.Map.{update}
 use Rattle.std.specs.Str.{bytes_eq}
 use Rattle.std.specs.Ordering.{nat_cmp, is_lt}
@@ -123,7 +123,3 @@ apart_placed r (x ∷ xs) without apart =
 
 pub apart_put : (r : Record) (rs : List Record) → AreApart rs → AreApart (put_record r rs)
 apart_put r rs apart = apart_placed r (drop_record r.name rs) (lacks-drop_record r.name rs) (apart_dropped r.name rs apart)
-
-pub apart_put_by : {T E : Type 0} (r : Record) (old mid new : List Record) (result : Result T E) → mid ≡ drop_record r.name old → OnOk result (new ≡ place_record r mid) → OnErr result (new ≡ mid) → AreApart old → AreApart new
-apart_put_by r old mid new (Ok x) e placed same apart = subst AreApart (sym (placed ∙ ap (place_record r) e)) (apart_put r old apart)
-apart_put_by r old mid new (Err x) e placed same apart = subst AreApart (sym (same ∙ e)) (apart_dropped r.name old apart)

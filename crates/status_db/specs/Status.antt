@@ -1,6 +1,7 @@
 -- The records that the status file stands for.
 use Rattle.std.specs.Prelude.{◌≡◌, ◌⊎◌, ℕ, List, [], Option, Some, None}
 use Rattle.host_core.specs.World.{World, IsDirectory}
+use Rattle.host_core.specs.Nodes.{own_access}
 use Rattle.host_core.specs.declared.node.Node.{Node}
 use Rattle.host_core.specs.declared.node.Node.TheVariants.{File, Dir, Link}
 use Rattle.administration.specs.Places.{status_path, home_path, temporary}
@@ -25,8 +26,8 @@ pub record IsStatus (text : List ℕ) (records : List Record) : Type 0 where
 -- the status file of these records stands there; a missing one has an empty text, a directory or a link is none
 abbrev pub IsStatusAt : Option Node → List Record → Type 0
 IsStatusAt None records = IsStatus [] records
-IsStatusAt (Some (File bytes mode)) records = IsStatus bytes records
-IsStatusAt (Some (Dir mode)) records = ⊥
+IsStatusAt (Some (File bytes access)) records = IsStatus bytes records
+IsStatusAt (Some (Dir access)) records = ⊥
 IsStatusAt (Some (Link target)) records = ⊥
 
 -- the node at the status file's place stands for these records
@@ -39,19 +40,19 @@ HasRecords w records = StandsFor (w status_path) records
 -- a file, or nothing
 abbrev pub IsFileOrNothing : Option Node → Type 0
 IsFileOrNothing None = Unit {0}
-IsFileOrNothing (Some (File bytes mode)) = Unit {0}
-IsFileOrNothing (Some (Dir mode)) = ⊥
+IsFileOrNothing (Some (File bytes access)) = Unit {0}
+IsFileOrNothing (Some (Dir access)) = ⊥
 IsFileOrNothing (Some (Link target)) = ⊥
 
--- a file of mode 644 that stands for these records
+-- a file of mode 644, of the superuser, that stands for these records
 abbrev pub IsFileOf : Option Node → List Record → Type 0
-IsFileOf found records = (bytes : List ℕ) × (found ≡ Some (File bytes 0o644)) × ∥ IsStatus bytes records ∥₁
+IsFileOf found records = (bytes : List ℕ) × (found ≡ Some (File bytes (own_access 0o644))) × ∥ IsStatus bytes records ∥₁
 
 -- why no records are read of a node: a faulty line, or line 0 where it is no file
 abbrev pub IsDamageAt : Option Node → ℕ → Type 0
 IsDamageAt None line = IsFirstFault [] line
-IsDamageAt (Some (File bytes mode)) line = IsFirstFault bytes line
-IsDamageAt (Some (Dir mode)) line = line ≡ 0
+IsDamageAt (Some (File bytes access)) line = IsFirstFault bytes line
+IsDamageAt (Some (Dir access)) line = line ≡ 0
 IsDamageAt (Some (Link target)) line = line ≡ 0
 
 -- why the status file can't be read, by what stands at its place

@@ -5,8 +5,8 @@ ghost use Rattle.std.specs.List.{insert};
 ghost use Rattle.std.specs.Option.{option_copied};
 ghost use Rattle.std.specs.Ordering.{nat_cmp, is_lt};
 ghost use Rattle.std.specs.Str.{bytes_eq};
-ghost use Rattle.host_core.specs.Host.{HasCause, Same, Silent, Since};
-ghost use Rattle.administration.specs.Fault.{HasAdministrationCause};
+ghost use Rattle.host_core.specs.Host.{AtEachMoment, Counts, Leaves, Needs, Reads, Silent, Tells};
+ghost use Rattle.administration.specs.Fault.{CountsAdministration};
 ghost use Rattle.administration.specs.Files.{NoDirectory};
 ghost use Rattle.administration.specs.Places.{status_path};
 ghost use Rattle.administration.specs.declared.fault.AdministrationFault.TheVariants.{Device};
@@ -19,7 +19,7 @@ use crate::record::Record;
 use crate::writing::save;
 use administration::{AdministrationFault, STATUS};
 use host_core::{Host, HostFault, Node, RootPath};
-use std::alloc::{AllocFailed, Global};
+use std::alloc::{AllocError, Global};
 use std::cmp::Ordering;
 use std::marker::Model;
 use texts::Text;
@@ -64,30 +64,33 @@ fn is_of_other(entry: &Record, name: &Text) -> bool
     entry.name.as_str() != name.as_str()
 }
 
-// Takes the record of a name away.
-fn drop_record(records: &mut Vec<Record>, name: &Text)
-    ensures dropped { records.new.items ≡ drop_record name.now records.old.items }
-    ensures apart { AreApart records.old.items → AreApart records.new.items }
+fn copied(alloc: Global, records: &[Record]) -> Result<Vec<Record>, AllocError>
+    ensures { IfOk result (λ rs. rs.items ≡ records.now) }
 {
-    records.retain(|entry| is_of_other(entry, name));
+    let mut copied = Vec::new(alloc);
+    for record in records {
+        copied.push(record.copy()?)?;
+    }
+    Ok(copied)
 }
 
-fn place_record(records: &mut Vec<Record>, entry: Record) -> Result<(), AllocFailed<Record>>
-    ensures ok { OnOk result (records.new.items ≡ place_record entry records.old.items) }
-    ensures err { OnErr result (records.new.items ≡ records.old.items) }
+// All records but that of a name, copied.
+fn without_record(alloc: Global, records: &[Record], name: &Text) -> Result<Vec<Record>, AllocError>
+    ensures { IfOk result (λ rs. rs.items ≡ drop_record name.now records.now) }
 {
-    let place = place_of(records.as_slice(), &entry.name);
-    records.insert(place, entry)
+    let mut kept = copied(alloc, records)?;
+    kept.retain(|entry| is_of_other(entry, name));
+    Ok(kept)
 }
 
-// Sets the record of its name. Without memory for it the name has none.
-fn put_record(records: &mut Vec<Record>, entry: Record) -> Result<(), AllocFailed<Record>>
-    ensures ok { OnOk result (records.new.items ≡ put_record entry records.old.items) }
-    ensures err { OnErr result (records.new.items ≡ drop_record entry.name records.old.items) }
-    ensures apart { AreApart records.old.items → AreApart records.new.items }
+// All records, copied, with this one as that of its name.
+fn with_record(alloc: Global, records: &[Record], entry: Record) -> Result<Vec<Record>, AllocError>
+    ensures { IfOk result (λ rs. rs.items ≡ put_record entry records.now) }
 {
-    drop_record(records, &entry.name);
-    place_record(records, entry)
+    let mut kept = without_record(alloc, records, &entry.name)?;
+    let place = place_of(kept.as_slice(), &entry.name);
+    kept.insert(place, entry)?;
+    Ok(kept)
 }
 
 // The table of the node at the status file's place.
@@ -134,14 +137,14 @@ fn open_at<H: Host>(
     path: RootPath,
 ) -> Result<Database, AdministrationFault>
     requires { path ≡ status_path }
-    ensures records { IsTrue (H.state host.old).honest → IfOk result (HasRecords (H.state host.old).world) }
-    ensures damage { IsTrue (H.state host.old).honest → IfErr result (IsStatusDamage (H.state host.old).world) }
-    ensures loose { IsTrue (H.state host.old).honest → IfOk result (λ d. NoDirectory ((H.state host.old).world status_path)) }
-    ensures file { IsTrue (H.state host.old).honest → IfOk result (λ d. IsFileOrNothing ((H.state host.old).world status_path)) }
+    ensures records { Tells result (λ d w. HasRecords w d) (H.state host.old) (H.state host.new) }
+    ensures damage { IsTrue (H.state host.new).honest → IfErr result (IsStatusDamage (H.state host.old).world) }
+    ensures loose { Tells result (λ d w. NoDirectory (w status_path)) (H.state host.old) (H.state host.new) }
+    ensures file { Tells result (λ d w. IsFileOrNothing (w status_path)) (H.state host.old) (H.state host.new) }
     ensures standing { IfOk result (λ d. standing d ≡ d) }
-    ensures same { IsTrue (H.state host.old).honest → Same (H.state host.old) (H.state host.new) }
+    ensures reads { Reads (H.state host.old) (H.state host.new) }
     ensures silent { Silent (H.state host.old) (H.state host.new) }
-    ensures cause { HasAdministrationCause (H.state host.old) (H.state host.new) result }
+    ensures counts { CountsAdministration (H.state host.old) (H.state host.new) result }
 {
     let node = host.node(&path)?;
     read_node(alloc, path, node)
@@ -150,14 +153,14 @@ fn open_at<H: Host>(
 impl Database {
     /// Reads the status file; a missing one has no records, and none of them is of state not-installed.
     pub fn open<H: Host>(alloc: Global, host: &mut H) -> Result<Database, AdministrationFault>
-        ensures records { IsTrue (H.state host.old).honest → IfOk result (HasRecords (H.state host.old).world) }
-        ensures damage { IsTrue (H.state host.old).honest → IfErr result (IsStatusDamage (H.state host.old).world) }
-        ensures loose { IsTrue (H.state host.old).honest → IfOk result (λ d. NoDirectory ((H.state host.old).world status_path)) }
-        ensures file { IsTrue (H.state host.old).honest → IfOk result (λ d. IsFileOrNothing ((H.state host.old).world status_path)) }
+        ensures records { Tells result (λ d w. HasRecords w d) (H.state host.old) (H.state host.new) }
+        ensures damage { IsTrue (H.state host.new).honest → IfErr result (IsStatusDamage (H.state host.old).world) }
+        ensures loose { Tells result (λ d w. NoDirectory (w status_path)) (H.state host.old) (H.state host.new) }
+        ensures file { Tells result (λ d w. IsFileOrNothing (w status_path)) (H.state host.old) (H.state host.new) }
         ensures standing { IfOk result (λ d. standing d ≡ d) }
-        ensures same { IsTrue (H.state host.old).honest → Same (H.state host.old) (H.state host.new) }
+        ensures reads { Reads (H.state host.old) (H.state host.new) }
         ensures silent { Silent (H.state host.old) (H.state host.new) }
-        ensures cause { HasAdministrationCause (H.state host.old) (H.state host.new) result }
+        ensures counts { CountsAdministration (H.state host.old) (H.state host.new) result }
     {
         let path = RootPath::from_str(alloc, STATUS)?;
         open_at(alloc, host, path)
@@ -182,40 +185,64 @@ impl Database {
         None
     }
 
-    /// Notes the record of a package, in the table and in the status file. After a fault the table
-    /// is of no use any more.
+    /// Notes the record of a package, in the status file and then in the table. After a fault the
+    /// table is as before, though the file may have been replaced.
     pub fn note<H: Host>(
         &mut self,
         alloc: Global,
         host: &mut H,
         entry: Record,
     ) -> Result<(), HostFault>
-        requires { IsTrue (H.state host.old).honest → IsStatusReady (H.state host.old).world }
+        requires { Needs (H.state host.old) IsStatusReady }
         ensures table { OnOk result (self.new ≡ put_record entry self.old) }
-        ensures noted { IsTrue (H.state host.old).honest → OnOk result (IsNoted (put_record entry self.old) (H.state host.old).world (H.state host.new).world) }
-        ensures any_moment { IsTrue (H.state host.old).honest → Since (IsNoting (put_record entry self.old) (H.state host.old).world) (H.state host.old) (H.state host.new) }
+        ensures err { OnErr result (self.new ≡ self.old) }
+        ensures noted { Leaves result (IsNoted (put_record entry self.old)) (H.state host.old) (H.state host.new) }
+        ensures any_moment { AtEachMoment (IsNoting (put_record entry self.old)) (H.state host.old) (H.state host.new) }
         ensures silent { Silent (H.state host.old) (H.state host.new) }
-        ensures cause { HasCause (H.state host.old) (H.state host.new) result }
+        ensures counts { Counts (H.state host.old) (H.state host.new) result }
     {
-        put_record(&mut self.records, entry)?;
-        save(alloc, host, self.records.as_slice())
+        let records = with_record(alloc, self.records.as_slice(), entry)?;
+        self.replace(alloc, host, records)
     }
 
-    /// Takes the record of a package away, in the table and in the status file.
+    /// Takes the record of a package away, in the status file and then in the table. After a fault
+    /// the table is as before, though the file may have been replaced.
     pub fn forget<H: Host>(
         &mut self,
         alloc: Global,
         host: &mut H,
         name: &Text,
     ) -> Result<(), HostFault>
-        requires { IsTrue (H.state host.old).honest → IsStatusReady (H.state host.old).world }
+        requires { Needs (H.state host.old) IsStatusReady }
         ensures table { OnOk result (self.new ≡ drop_record name.now self.old) }
-        ensures noted { IsTrue (H.state host.old).honest → OnOk result (IsNoted (drop_record name.now self.old) (H.state host.old).world (H.state host.new).world) }
-        ensures any_moment { IsTrue (H.state host.old).honest → Since (IsNoting (drop_record name.now self.old) (H.state host.old).world) (H.state host.old) (H.state host.new) }
+        ensures err { OnErr result (self.new ≡ self.old) }
+        ensures noted { Leaves result (IsNoted (drop_record name.now self.old)) (H.state host.old) (H.state host.new) }
+        ensures any_moment { AtEachMoment (IsNoting (drop_record name.now self.old)) (H.state host.old) (H.state host.new) }
         ensures silent { Silent (H.state host.old) (H.state host.new) }
-        ensures cause { HasCause (H.state host.old) (H.state host.new) result }
+        ensures counts { Counts (H.state host.old) (H.state host.new) result }
     {
-        drop_record(&mut self.records, name);
-        save(alloc, host, self.records.as_slice())
+        let records = without_record(alloc, self.records.as_slice(), name)?;
+        self.replace(alloc, host, records)
+    }
+
+    // Puts this table in place of its own, once the status file has it.
+    fn replace<H: Host>(
+        &mut self,
+        alloc: Global,
+        host: &mut H,
+        records: Vec<Record>,
+    ) -> Result<(), HostFault>
+        requires apart { AreApart records.items }
+        requires ready { Needs (H.state host.old) IsStatusReady }
+        ensures table { OnOk result (self.new ≡ records.items) }
+        ensures err { OnErr result (self.new ≡ self.old) }
+        ensures noted { Leaves result (IsNoted records.items) (H.state host.old) (H.state host.new) }
+        ensures any_moment { AtEachMoment (IsNoting records.items) (H.state host.old) (H.state host.new) }
+        ensures silent { Silent (H.state host.old) (H.state host.new) }
+        ensures counts { Counts (H.state host.old) (H.state host.new) result }
+    {
+        save(alloc, host, records.as_slice())?;
+        self.records = records;
+        Ok(())
     }
 }

@@ -2,7 +2,8 @@
 ghost use Rattle.std.specs.Prelude.{◌≡◌, ◌++◌, ◌∷◌, [], IfOk, OnOk, ℕ, List, IsTrue, false, map};
 ghost use Rattle.std.specs.List.{AllByRecursion};
 ghost use Rattle.control_fields.specs.Names.{stands};
-ghost use Rattle.host_core.specs.Host.{HasCause, Silent, Since};
+ghost use Rattle.host_core.specs.Host.{AtEachMoment, Counts, Leaves, Needs, Silent};
+ghost use Rattle.host_core.specs.Nodes.{own_access};
 ghost use Rattle.host_core.specs.declared.node.Node.TheVariants.{File};
 ghost use Rattle.version_order.specs.Versions.{IsVersion};
 ghost use Rattle.status_db.specs.Records.{AreApart, standing};
@@ -14,7 +15,7 @@ ghost use Rattle.status_db.specs.Status.{IsStatus, IsStatusReady, IsNoted, IsNot
 use crate::record::Record;
 use administration::{STATUS, replace};
 use control_fields::{Field, Paragraph, write_paragraphs};
-use host_core::{Host, HostFault, Node, RootPath};
+use host_core::{Access, Host, HostFault, Node, RootPath};
 use std::alloc::{AllocError, Global};
 use texts::Bytes;
 
@@ -103,11 +104,15 @@ fn status_bytes(alloc: Global, records: &[Record]) -> Result<Bytes, AllocError>
 // The status file of a table.
 fn status_node(alloc: Global, records: &[Record]) -> Result<Node, AllocError>
     requires { AreApart records.now }
-    ensures { IfOk result (λ node. (bytes : List ℕ) × (node ≡ File bytes 0o644) × ∥ IsStatus bytes records.now ∥₁) }
+    ensures { IfOk result (λ node. (bytes : List ℕ) × (node ≡ File bytes (own_access 0o644)) × ∥ IsStatus bytes records.now ∥₁) }
 {
     Ok(Node::File {
         bytes: status_bytes(alloc, records)?,
-        mode: 0o644,
+        access: Access {
+            mode: 0o644,
+            user: 0,
+            group: 0,
+        },
     })
 }
 
@@ -118,11 +123,11 @@ pub(crate) fn save<H: Host>(
     records: &[Record],
 ) -> Result<(), HostFault>
     requires apart { AreApart records.now }
-    requires ready { IsTrue (H.state host.old).honest → IsStatusReady (H.state host.old).world }
-    ensures noted { IsTrue (H.state host.old).honest → OnOk result (IsNoted records.now (H.state host.old).world (H.state host.new).world) }
-    ensures any_moment { IsTrue (H.state host.old).honest → Since (IsNoting records.now (H.state host.old).world) (H.state host.old) (H.state host.new) }
+    requires ready { Needs (H.state host.old) IsStatusReady }
+    ensures noted { Leaves result (IsNoted records.now) (H.state host.old) (H.state host.new) }
+    ensures any_moment { AtEachMoment (IsNoting records.now) (H.state host.old) (H.state host.new) }
     ensures silent { Silent (H.state host.old) (H.state host.new) }
-    ensures cause { HasCause (H.state host.old) (H.state host.new) result }
+    ensures counts { Counts (H.state host.old) (H.state host.new) result }
 {
     let path = RootPath::from_str(alloc, STATUS)?;
     let node = status_node(alloc, records)?;

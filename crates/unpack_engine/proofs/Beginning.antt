@@ -1,5 +1,5 @@
 -- The beginning of a unit.
-use Rattle.std.proofs.Common.{◌≡◌, ◌≢◌, ℕ, Bool, true, false, nat_eq, List, [], ◌∷◌, ◌++◌, Some, None, Result, Ok, Err, OnOk, refl, sym, ap, subst, ◌∙◌, codes, Contains, get_or, arith}
+use Rattle.std.proofs.Common.{◌≡◌, ◌≢◌, ℕ, Bool, true, false, nat_eq, List, [], ◌∷◌, ◌++◌, Some, None, refl, sym, ap, subst, ◌∙◌, codes, Contains, get_or, arith}
 use Rattle.std.specs.Prelude.{◌||◌}
 use Rattle.std.specs.List.{list_any, list_all}
 use Rattle.std.proofs.lemmas.Bool.{true≢false, and_parts, eqb-true}
@@ -9,7 +9,6 @@ use Rattle.host_core.specs.Paths.{Path}
 use Rattle.host_core.specs.World.{World, IsDirectory, KeepsBut}
 use Rattle.host_core.specs.Tree.{has_slash}
 use Rattle.host_core.specs.declared.call.Script.TheVariants.{Preinst, Postinst, Prerm, Postrm}
-use Rattle.host_core.specs.declared.fault.HostFault.{HostFault}
 use Rattle.texts.specs.PackageNames.{is_name_sign, is_package_name}
 use Rattle.texts.proofs.PackageNames.{signs_of_name}
 use Rattle.administration.specs.Places.{home_path, status_path, tmp_path, temporary, is_within}
@@ -18,12 +17,9 @@ use Rattle.package_tree.specs.declared.package.Package.{Package}
 use Rattle.unpack_engine.specs.OwnFiles.{OwnFile, ending, own_path, IsCleared, IsOwnReady}
 use Rattle.unpack_engine.specs.Incoming.{AreLaidOut}
 use Rattle.status_db.specs.declared.record.Record.{Record}
-use Rattle.status_db.specs.declared.words.Flag.TheVariants as flag
-use Rattle.status_db.specs.declared.words.State.TheVariants as state
-use Rattle.status_db.specs.Status.{IsStatusReady}
+use Rattle.status_db.specs.Status.{IsNoted, IsStatusReady}
 use Rattle.unpack_engine.specs.Unpack.{IsInOrder}
-use Rattle.unpack_engine.specs.Stages.{IsNotedAs}
-use Rattle.unpack_engine.specs.Units.{HasBegun}
+use Rattle.unpack_engine.specs.Units.{BegunWorlds}
 use Rattle.unpack_engine.proofs.Apart.{own_not_status, own_not_status_spare, home_not_own}
 
 -- a byte that no name has, as a slash
@@ -91,10 +87,5 @@ home_after p old cleared there own = subst IsDirectory (sym (own.rest home_path 
 pub tmp_after : (p : Package) (old cleared : World) → old tmp_path ≡ None → IsCleared p.name old cleared → cleared tmp_path ≡ None
 tmp_after p old cleared none own = own.rest tmp_path (λ f e. let d : ◌≡◌ {A = ℕ} 116 105 = ap (λ (l : Path). get_or l 14 0) e in absurd (omega arith)) ∙ none
 
-pub begun_by : {T : Type 0} (p : Package) (before after : List Record) (honest : Type 0) (old cleared laid now : World) (result : Result T HostFault) → (honest → IsCleared p.name old cleared) → (honest → IsOwnReady p.name cleared) → (honest → AreLaidOut p.scripts laid) → (honest → KeepsBut (is_within tmp_path) cleared laid)
-    → OnOk result (IsNotedAs p flag.Reinstreq state.HalfInstalled before after honest laid now) → OnOk result (HasBegun p before after honest old now)
-begun_by p before after honest old cleared laid now (Ok x) own ready scripts tmp noted = record {
-  put = noted.put;
-  worlds = λ h. record { cleared = cleared; laid = laid; own_cleared = own h; own_ready = ready h; scripts_laid = scripts h; tmp_alone = tmp h; noted = noted.noted h };
-}
-begun_by p before after honest old cleared laid now (Err e) own ready scripts tmp noted = tt
+pub begun_by : (p : Package) (after : List Record) (old cleared laid now : World) → IsCleared p.name old cleared → IsOwnReady p.name cleared → AreLaidOut p.scripts laid → KeepsBut (is_within tmp_path) cleared laid → IsNoted after laid now → BegunWorlds p after old now
+begun_by p after old cleared laid now own ready scripts tmp noted = record { cleared = cleared; laid = laid; own_cleared = own; own_ready = ready; scripts_laid = scripts; tmp_alone = tmp; noted = noted }

@@ -5,8 +5,9 @@ use Rattle.std.proofs.lemmas.List.Elements.{Contains-append_cases}
 use Rattle.host_core.proofs.Paths.{decide}
 use Rattle.host_core.specs.Paths.{Path}
 use Rattle.host_core.specs.World.{World, IsDirectory, IsFile, HasParent, is_file}
-use Rattle.host_core.specs.Host.{State, Silent, Since}
-use Rattle.host_core.specs.Moments.{since_then, since_weaker, since_now}
+use Rattle.host_core.specs.Host.{State, Since}
+use Rattle.host_core.specs.Moments.{since_then, since_weaker_if, since_now}
+use Rattle.host_core.specs.Nodes.{own_access}
 use Rattle.host_core.specs.declared.node.Node.{Node}
 use Rattle.host_core.specs.declared.node.Node.TheVariants.{File, Dir, Link}
 use Rattle.host_core.specs.declared.call.Script.{Script}
@@ -83,45 +84,28 @@ script_loose None = no_directory_none
 script_loose (Some script) = kind_of_file script.node script.file
 
 pub own_nodes : (scripts : Scripts) (file : OwnFile) → NoDirectory (own_node scripts file)
-own_nodes scripts None = no_directory_file root_list (codes "/.\n", 0o644, refl)
+own_nodes scripts None = no_directory_file root_list (codes "/.\n", own_access 0o644, refl)
 own_nodes scripts (Some script) = script_loose (script_of scripts script)
 
--- one part of the work, and one after another
-pub record Parts (part : World → World → Type 0) (s a : State) : Type 0 where
-  pub honest : a.honest ≡ s.honest
-  pub moments : IsTrue s.honest → Since (part s.world) s a
-
+-- one part of the work after another
 module _ (part : World → World → Type 0) (both : (u v w : World) → part u v → part v w → part u w) where
-  parts_then : (s a b : State) → Parts part s a → Silent a b → (IsTrue a.honest → Since (part a.world) a b) → Parts part s b
-  parts_then s a b first silent moments = record {
-    honest = silent.honest ∙ first.honest;
-    moments = λ h.
-        let m = first.moments h in
-        since_then (part s.world) s a b m (since_weaker (part a.world) (part s.world) a b (λ w is. both s.world a.world w (since_now (part s.world) s a m) is) (moments (subst IsTrue (sym first.honest) h)));
-  }
+  since_part : (s a b : State) → Since (λ so_far. part s.world) s a → Since (λ so_far. part a.world) a b → Since (λ so_far. part s.world) s b
+  since_part s a b first second = since_then (λ so_far. part s.world) s a b first
+      (since_weaker_if (λ so_far. part a.world) (λ so_far. part s.world) a b (λ h so_far w is. both s.world a.world w (since_now (λ so_far. part s.world) s a first (second.honest h)) is) second)
 
 module _ (name : List ℕ) (scripts : Scripts) where
-  abbrev pub Goes : State → State → Type 0
-  Goes s a = Parts (IsChanging name scripts) s a
+  pub goes_then : (s a b : State) → Since (λ so_far. IsChanging name scripts s.world) s a → Since (λ so_far. IsChanging name scripts a.world) a b → Since (λ so_far. IsChanging name scripts s.world) s b
+  goes_then s a b first second = since_part (IsChanging name scripts) (changing_then name scripts) s a b first second
 
-  pub goes_one : (s a : State) → Silent s a → (IsTrue s.honest → Since (IsChanging name scripts s.world) s a) → Goes s a
-  goes_one s a silent moments = record { honest = silent.honest; moments = moments }
-
-  pub goes_then : (s a b : State) → Goes s a → Silent a b → (IsTrue a.honest → Since (IsChanging name scripts a.world) a b) → Goes s b
-  goes_then s a b first silent moments = parts_then (IsChanging name scripts) (changing_then name scripts) s a b first silent moments
-
-  pub goes_ready : (s a : State) → (IsTrue s.honest → IsOwnReady name s.world) → Goes s a → IsTrue a.honest → IsOwnReady name a.world
-  goes_ready s a ready goes h =
-      let h0 = subst IsTrue goes.honest h in
-      changing_ready name scripts s.world a.world (own_nodes scripts) (ready h0) (since_now (IsChanging name scripts s.world) s a (goes.moments h0))
+  pub goes_ready : (s a : State) → (IsTrue s.honest → IsOwnReady name s.world) → Since (λ so_far. IsChanging name scripts s.world) s a → IsTrue a.honest → IsOwnReady name a.world
+  goes_ready s a ready goes h = changing_ready name scripts s.world a.world (own_nodes scripts) (ready (goes.honest h)) (since_now (λ so_far. IsChanging name scripts s.world) s a goes h)
 
 pub changing_there : (name : List ℕ) (scripts : Scripts) (w now : World) → IsChanging name scripts w now → now info_path ≡ w info_path
 changing_there name scripts w now is = is.rest info_path (λ f. (info_apart name f, info_lasting (own_path name f)))
 
-pub goes_there : (name : List ℕ) (scripts : Scripts) (s a : State) → (IsTrue s.honest → IsDirectory (s.world info_path)) → Goes name scripts s a → IsTrue a.honest → IsDirectory (a.world info_path)
+pub goes_there : (name : List ℕ) (scripts : Scripts) (s a : State) → (IsTrue s.honest → IsDirectory (s.world info_path)) → Since (λ so_far. IsChanging name scripts s.world) s a → IsTrue a.honest → IsDirectory (a.world info_path)
 goes_there name scripts s a there goes h =
-    let h0 = subst IsTrue goes.honest h in
-    subst IsDirectory (sym (changing_there name scripts s.world a.world (since_now (IsChanging name scripts s.world) s a (goes.moments h0)))) (there h0)
+    subst IsDirectory (sym (changing_there name scripts s.world a.world (since_now (λ so_far. IsChanging name scripts s.world) s a goes h))) (there (goes.honest h))
 
 -- what stands under the name is taken away
 less_ready : (m now : Option Node) → NoDirectory m → (now ≡ m) ⊎ (now ≡ None) → NoDirectory now
@@ -129,6 +113,9 @@ less_ready m now free (inl e) = no_directory_at now m e free
 less_ready m now free (inr e) = no_directory_at now None e no_directory_none
 
 module _ (name : List ℕ) where
+  pub clearing_start : (w : World) → IsClearing name w w
+  clearing_start w = record { own = λ f. inl refl; rest = λ q out. refl }
+
   pub clearing_then : (u v w : World) → IsClearing name u v → IsClearing name v w → IsClearing name u w
   clearing_then u v w first second = record {
     own = λ f. less_then (w (own_path name f)) (v (own_path name f)) (u (own_path name f)) (first.own f) (second.own f);
@@ -156,19 +143,11 @@ module _ (name : List ℕ) where
     spares = λ f. no_directory_at (now (temporary (own_path name f))) (w (temporary (own_path name f))) (is.rest (temporary (own_path name f)) (λ other e. own_lasting name other (own_path name f) (sym e))) (ready.spares f);
   }
 
-  abbrev pub Clears : State → State → Type 0
-  Clears s a = Parts (IsClearing name) s a
+  pub clears_then : (s a b : State) → Since (λ so_far. IsClearing name s.world) s a → Since (λ so_far. IsClearing name a.world) a b → Since (λ so_far. IsClearing name s.world) s b
+  clears_then s a b first second = since_part (IsClearing name) clearing_then s a b first second
 
-  pub clears_one : (s a : State) → Silent s a → (IsTrue s.honest → Since (IsClearing name s.world) s a) → Clears s a
-  clears_one s a silent moments = record { honest = silent.honest; moments = moments }
-
-  pub clears_then : (s a b : State) → Clears s a → Silent a b → (IsTrue a.honest → Since (IsClearing name a.world) a b) → Clears s b
-  clears_then s a b first silent moments = parts_then (IsClearing name) clearing_then s a b first silent moments
-
-  pub clears_ready : (s a : State) → (IsTrue s.honest → IsOwnReady name s.world) → Clears s a → IsTrue a.honest → IsOwnReady name a.world
-  clears_ready s a ready clears h =
-      let h0 = subst IsTrue clears.honest h in
-      clearing_ready s.world a.world (ready h0) (since_now (IsClearing name s.world) s a (clears.moments h0))
+  pub clears_ready : (s a : State) → (IsTrue s.honest → IsOwnReady name s.world) → Since (λ so_far. IsClearing name s.world) s a → IsTrue a.honest → IsOwnReady name a.world
+  clears_ready s a ready clears h = clearing_ready s.world a.world (ready (clears.honest h)) (since_now (λ so_far. IsClearing name s.world) s a clears h)
 
 -- the four scripts are dropped one after another
 pub dropped_four : (name : List ℕ) (w0 w1 w2 w3 w4 : World) → IsDropped (own_path name (Some Preinst)) w0 w1 → IsDropped (own_path name (Some Postinst)) w1 w2 → IsDropped (own_path name (Some Prerm)) w2 w3 → IsDropped (own_path name (Some Postrm)) w3 w4 → HasDroppedScripts name w0 w4

@@ -2,13 +2,13 @@
 use Rattle.std.proofs.Common.{◌≡◌, ℕ, eqb, Bool, true, false, List, [], ◌∷◌, ◌++◌, length, Option, Some, None, refl, sym, subst, ◌∙◌, arith}
 use Rattle.std.proofs.lemmas.Bool.{eqb-true, eqb-false}
 use Rattle.std.proofs.lemmas.List.{append-nil}
-use Rattle.host_core.specs.Host.{Ran}
+use Rattle.host_core.specs.Events.{Ran}
 use Rattle.host_core.specs.declared.call.Call.{Call}
 use Rattle.unwind_stack.specs.declared.rows.Row.{Row}
 use Rattle.unwind_stack.specs.declared.rows.Owner.{Owner}
 use Rattle.unwind_stack.specs.Transcript.{Tries, TriesRow, UndoesAny, UndoesRow}
 use Rattle.unwind_stack.proofs.Makes.{killed}
-use Rattle.unpack_engine.specs.Turns.{Falls, IsTurn, TakesTurn}
+use Rattle.unpack_engine.specs.Turns.{HasFallen, IsTurn, TakesTurn}
 use Rattle.unpack_engine.specs.declared.rows.Turn.TheVariants.{Committed, Undone, UndoFailed}
 use Rattle.unpack_engine.specs.ForwardRows.{preinst_row}
 use Rattle.package_tree.specs.declared.package.Package.{Package}
@@ -17,7 +17,7 @@ no_items : (l : List Owner) → length l ≡ 0 → l ≡ []
 no_items [] e = refl
 no_items (o ∷ l) e = absurd (omega arith)
 
-falls : (row : Row) (owners before : List Owner) (ok : Bool) (x y : List Ran) → ok ≡ false → before ≡ [] → Tries row x ok → UndoesRow row before y owners → Falls row owners (x ++ y)
+falls : (row : Row) (owners before : List Owner) (ok : Bool) (x y : List Ran) → ok ≡ false → before ≡ [] → Tries row x ok → UndoesRow row before y owners → HasFallen row owners (x ++ y)
 falls row owners before ok x y failed none tries undoes = record {
   last = x;
   back = y;
@@ -28,9 +28,9 @@ falls row owners before ok x y failed none tries undoes = record {
 
 pub falls_undone : (row : Row) (owners before : List Owner) (n : ℕ) (b ok : Bool) (x y : List Ran) → n ≡ length owners → b ≡ eqb n 0 → b ≡ true → ok ≡ false → before ≡ [] → Tries row x ok → UndoesRow row before y owners → IsTurn row Undone (x ++ y)
 falls_undone row owners before n b ok x y is test empty failed none tries undoes =
-    subst (λ l. Falls row l (x ++ y)) (no_items owners (sym is ∙ eqb-true n 0 (sym test ∙ empty))) (falls row owners before ok x y failed none tries undoes)
+    subst (λ l. HasFallen row l (x ++ y)) (no_items owners (sym is ∙ eqb-true n 0 (sym test ∙ empty))) (falls row owners before ok x y failed none tries undoes)
 
-some_owner : (row : Row) (owners : List Owner) (n : ℕ) (b : Bool) (ts : List Ran) → n ≡ length owners → b ≡ eqb n 0 → b ≡ false → Falls row owners ts → IsTurn row UndoFailed ts
+some_owner : (row : Row) (owners : List Owner) (n : ℕ) (b : Bool) (ts : List Ran) → n ≡ length owners → b ≡ eqb n 0 → b ≡ false → HasFallen row owners ts → IsTurn row UndoFailed ts
 some_owner row [] n b ts is test denied f = absurd (eqb-false n 0 (sym test ∙ denied) is)
 some_owner row (o ∷ owners) n b ts is test denied f = (o, owners, f)
 

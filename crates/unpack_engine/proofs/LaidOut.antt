@@ -1,14 +1,16 @@
 -- What laying out the scripts of the incoming tree leaves.
-use Rattle.std.proofs.Common.{◌≡◌, ◌⊎◌, inl, inr, Bool, true, false, cond, nat_eq, ◌∷◌, ◌++◌, Option, Some, None, refl, sym, ap, subst, ◌∙◌, codes, Contains, arith, is_some, drop, zero, suc}
+use Rattle.std.proofs.Common.{◌≡◌, ◌⊎◌, inl, inr, Bool, true, false, cond, nat_eq, List, [], ◌∷◌, ◌++◌, IsTrue, Option, Some, None, refl, sym, ap, subst, ◌∙◌, codes, Contains, arith, is_some, drop, zero, suc}
 use Rattle.std.specs.Prelude.{IsSome, MatchBool}
 use Rattle.std.proofs.lemmas.Bool.{true≢false, eqb-true, eqb-false}
+use Rattle.std.proofs.lemmas.List.{append-nil}
 use Rattle.host_core.proofs.Nodes.{directory_stands, none_stands, some_or_none}
 use Rattle.host_core.proofs.Paths.{decide}
-use Rattle.host_core.specs.Paths.{Path}
+use Rattle.host_core.specs.Paths.{Path, is_path}
 use Rattle.host_core.specs.World.{World, IsDirectory, IsLoose, IsBare, KeepsBut, HasParent}
 use Rattle.host_core.specs.Tree.{IsTree, has_slash}
+use Rattle.host_core.specs.Events.{Event}
 use Rattle.host_core.specs.Host.{State, Since}
-use Rattle.host_core.specs.Moments.{since_then, since_weaker, since_now}
+use Rattle.host_core.specs.Moments.{since_then, since_weaker_if, since_now}
 use Rattle.host_core.specs.Outcome.{script_name}
 use Rattle.host_core.specs.declared.node.Node.{Node}
 use Rattle.host_core.specs.declared.call.Script.{Script}
@@ -24,6 +26,10 @@ use Rattle.unpack_engine.specs.OwnFiles.{IsPut}
 use Rattle.unpack_engine.specs.Incoming.{script_names, AreLaidOut, IsIncoming, IsLaying}
 use Rattle.unpack_engine.proofs.Endings.{mark, same_file, tmp_apart, tmp_lasting}
 use Rattle.unpack_engine.proofs.Changes.{script_loose}
+
+-- nothing has been done
+pub since_here : (P : List Event → World → Type 0) (a : State) → (IsTrue a.honest → P [] a.world) → Since P a a
+since_here P a here = record { added = []; events = sym (append-nil a.events); honest = λ h. h; world = refl; each = here }
 
 -- all happens within `tmp.ci`
 pub keeps_then : (area : Path → Bool) (u v w : World) → KeepsBut area u v → KeepsBut area v w → KeepsBut area u w
@@ -167,12 +173,19 @@ spare_plain Postinst = refl
 spare_plain Prerm = refl
 spare_plain Postrm = refl
 
+tmp_script_is_path : (script : Script) → is_path (tmp_script_path script) ≡ true
+tmp_script_is_path Preinst = refl
+tmp_script_is_path Postinst = refl
+tmp_script_is_path Prerm = refl
+tmp_script_is_path Postrm = refl
+
 pub incoming_flat : (w : World) → IsIncoming w → (script : Script) → NoDirectory (w (tmp_script_path script)) × NoDirectory (w (temporary (tmp_script_path script)))
 incoming_flat w is script = (is.loose (script_name script) (name_plain script), is.loose (temporary (script_name script)) (spare_plain script))
 
 pub laid_flat : (scripts : Scripts) (w : World) → AreLaidOut scripts w → IsFlat w tmp_path script_names
 laid_flat scripts w laid = record {
   plain = λ name has. let n = named name has in ap has_slash n.1 ∙ name_plain n.0;
+  fits = λ name has. let n = named name has in subst (λ r. is_path (tmp_path ++ 47 ∷ r) ≡ true) (sym n.1) (tmp_script_is_path n.0);
   loose = λ name has. let n = named name has in subst (λ r. NoDirectory (w (tmp_path ++ 47 ∷ r))) (sym n.1)
       (no_directory_at (w (tmp_script_path n.0)) (file_of (script_of scripts n.0)) (laid.files n.0) (script_loose (script_of scripts n.0)));
   whole = laid.whole;
@@ -215,12 +228,16 @@ laid_incoming scripts w laid = record {
   loose = λ name plain is. (laid_flat scripts w laid).loose name (laid.whole name plain (directory_stands (w (tmp_path ++ 47 ∷ name)) is)) is;
 }
 
-pub laying_start : (w : World) → IsIncoming w → IsLaying w w
+laying_start : (w : World) → IsIncoming w → IsLaying w w
 laying_start w is = record { incoming = is; rest = λ q out. refl }
+
+-- nothing has been done
+pub laying_same : (a : State) → (IsTrue a.honest → IsIncoming a.world) → Since (λ so_far. IsLaying a.world) a a
+laying_same a is = since_here (λ so_far. IsLaying a.world) a (λ h. laying_start a.world (is h))
 
 pub laying_making : (w now : World) → IsTree w → w tmp_path ≡ None → IsMaking tmp_path w now → IsLaying w now
 laying_making w now tree none is = record {
-  incoming = incoming_bare now (λ loose. elim is.target [ inl e ↦ none_stands (now tmp_path) (e ∙ none) loose.0 | inr made ↦ loose.1 (0o755, made.1) ])
+  incoming = incoming_bare now (λ loose. elim is.target [ inl e ↦ none_stands (now tmp_path) (e ∙ none) loose.0 | inr made ↦ loose.1 made.1 ])
       (λ rest. is.rest (tmp_path ++ 47 ∷ rest) (λ e. directory_differs tmp_path rest (sym e)) ∙ absent_bare w tree none rest);
   rest = making_within w now is;
 }
@@ -253,6 +270,6 @@ laying_replacing script node w now file is replacing = record {
 pub laying_taking : (w now : World) → IsIncoming w → IsTaking tmp_path w now → IsLaying w now
 laying_taking w now incoming is = record { incoming = incoming_less w now is.less incoming; rest = is.rest }
 
-pub since_laying : (s a b : State) → Since (IsLaying s.world) s a → Since (IsLaying a.world) a b → Since (IsLaying s.world) s b
+pub since_laying : (s a b : State) → Since (λ so_far. IsLaying s.world) s a → Since (λ so_far. IsLaying a.world) a b → Since (λ so_far. IsLaying s.world) s b
 since_laying s a b first second = since_then _ s a b first
-    (since_weaker _ _ a b (λ w is. record { incoming = is.incoming; rest = keeps_then (is_within tmp_path) s.world a.world w (since_now _ s a first).rest is.rest }) second)
+    (since_weaker_if _ _ a b (λ h so_far w is. record { incoming = is.incoming; rest = keeps_then (is_within tmp_path) s.world a.world w (since_now _ s a first (second.honest h)).rest is.rest }) second)

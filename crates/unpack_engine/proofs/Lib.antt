@@ -1,4 +1,5 @@
 pub mod Endings
+pub mod OwnPaths
 pub mod Changes
 pub mod LaidOut
 pub mod Falling
@@ -8,7 +9,6 @@ pub mod Apart
 pub mod Standing
 pub mod Amid
 pub mod Beginning
-pub mod Finishing
 pub mod Whole
 pub mod Moments
 pub mod Tables

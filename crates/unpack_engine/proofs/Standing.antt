@@ -1,10 +1,11 @@
 -- How what stands goes on from part to part.
-use Rattle.std.proofs.Common.{◌≡◌, true, cond, List, [], ◌∷◌, ◌++◌, Option, None, IsTrue, refl, sym, ap, subst, ◌∙◌}
-use Rattle.std.specs.Str.{bytes_eq}
+use Rattle.std.proofs.Common.{◌≡◌, true, List, [], ◌∷◌, ◌++◌, Option, None, IsTrue, refl, sym, ap, subst, ◌∙◌}
+use Rattle.std.proofs.lemmas.List.{map-append}
 use Rattle.host_core.specs.Paths.{Path}
-use Rattle.host_core.specs.World.{World, put, Change, changed, Avoids, is_kept, IsDirectory, KeepsBut, SameOn}
-use Rattle.host_core.specs.Host.{Ran, State, Calls, scripts_change}
-use Rattle.host_core.specs.Scripts.{changed-append, changed_kept, scripts_change-append, Avoids-append}
+use Rattle.host_core.specs.World.{World, changed, Avoids, is_kept, IsDirectory, KeepsBut, SameOn}
+use Rattle.host_core.specs.Events.{Ran, Finished, changes_of, follow_all}
+use Rattle.host_core.specs.Host.{State, Calls, finished}
+use Rattle.host_core.specs.Scripts.{changed-append, changed_at, changed_kept, changes_of-append, Avoids-append}
 use Rattle.host_core.specs.declared.node.Node.{Node}
 use Rattle.administration.specs.Places.{home_path, info_path, status_path, tmp_path, temporary, is_within}
 use Rattle.administration.specs.Files.{NoDirectory}
@@ -13,13 +14,22 @@ use Rattle.package_tree.specs.declared.package.Package.{Package}
 use Rattle.unpack_engine.specs.OwnFiles.{OwnFile, own_path, own_node, IsCleared, IsInstalled, IsOwnReady}
 use Rattle.status_db.specs.declared.record.Record.{Record}
 use Rattle.status_db.specs.Status.{StandsFor, HasRecords, IsNoted, IsStatusReady}
-use Rattle.unpack_engine.specs.Unpack.{IsOutside}
+use Rattle.unpack_engine.specs.Unpack.{IsOutside, changes_by}
 use Rattle.unpack_engine.specs.Stages.{Stands}
 use Rattle.unpack_engine.proofs.Apart.{own_not_status, own_not_status_spare, spare_not_status, spare_not_status_spare, home_outside, info_outside}
 
-changed_at : (c : Change) (v w : World) (q : Path) → v q ≡ w q → changed c v q ≡ changed c w q
-changed_at [] v w q same = same
-changed_at (e ∷ c) v w q same = changed_at c (put v e.0 e.1) (put w e.0 e.1) q (ap (λ o. cond (bytes_eq e.0 q) e.1 o) same)
+-- what calls that were made changed
+
+pub follow_calls : (ts : List Ran) (w : World) → follow_all (finished ts) w ≡ changed (changes_by ts) w
+follow_calls [] w = refl
+follow_calls (t ∷ ts) w = follow_calls ts (changed t.change w) ∙ sym (changed-append t.change (changes_by ts) w)
+
+changes_by-append : (ts us : List Ran) → changes_by (ts ++ us) ≡ changes_by ts ++ changes_by us
+changes_by-append ts us = ap changes_of (map-append Finished ts us) ∙ changes_of-append (finished ts) (finished us)
+
+pub calls_keep : (places : List Path) (ts : List Ran) (a b : State) → IsTrue b.honest → Calls (is_kept places) ts a b → SameOn (is_kept places) a.world b.world
+calls_keep places ts a b h made =
+    subst (SameOn (is_kept places) a.world) (sym (made.goes.world ∙ follow_calls ts a.world)) (changed_kept (is_kept places) (changes_by ts) a.world (made.avoids h))
 
 pub moved_records : (table : List Record) (w now : World) → now status_path ≡ w status_path → HasRecords w table → HasRecords now table
 moved_records table w now e has = subst (λ n. StandsFor n table) (sym e) has
@@ -27,7 +37,7 @@ moved_records table w now e has = subst (λ n. StandsFor n table) (sym e) has
 module _ (p : Package) (places : List Path) where
   -- what is kept and outside is as before
   pub kept_outside : (ts : List Ran) (table : List Record) (files : OwnFile → Option Node) (old now : World) (q : Path) → Stands p places ts table files old now → IsOutside p.name q → is_kept places q ≡ true → now q ≡ old q
-  kept_outside ts table files old now q stands out kept = stands.rest q out ∙ changed_kept (is_kept places) (scripts_change ts) old stands.avoids q kept
+  kept_outside ts table files old now q stands out kept = stands.rest q out ∙ changed_kept (is_kept places) (changes_by ts) old stands.avoids q kept
 
   pub stands_start : (table : List Record) (old : World) → HasRecords old table → NoDirectory (old status_path) → NoDirectory (old (temporary status_path)) → ((file : OwnFile) → NoDirectory (old (temporary (own_path p.name file)))) → Stands p places [] table (λ file. old (own_path p.name file)) old old
   stands_start table old has status spare spares = record { avoids = tt; records = has; status = status; status_spare = spare; own = λ f. refl; spares = spares; rest = λ q out. refl }
@@ -71,20 +81,21 @@ module _ (p : Package) (places : List Path) where
   }
 
   -- script calls
-  pub stands_scripts : (ts us : List Ran) (table : List Record) (files : OwnFile → Option Node) (old : World) (a b : State) → IsTrue a.honest → Stands p places ts table files old a.world → Calls (is_kept places) us a b → Stands p places (ts ++ us) table files old b.world
+  pub stands_scripts : (ts us : List Ran) (table : List Record) (files : OwnFile → Option Node) (old : World) (a b : State) → IsTrue b.honest → Stands p places ts table files old a.world → Calls (is_kept places) us a b → Stands p places (ts ++ us) table files old b.world
   stands_scripts ts us table files old a b h stands made =
       let w = a.world in
       let now = b.world in
-      let same : SameOn (is_kept places) w now = subst (SameOn (is_kept places) w) (sym (made.world h)) (changed_kept (is_kept places) (scripts_change us) w (made.avoids h)) in
+      let same = calls_keep places us a b h made in
+      let moved : now ≡ changed (changes_by us) w = made.goes.world ∙ follow_calls us w in
       record {
-        avoids = subst (Avoids (is_kept places)) (sym (scripts_change-append ts us)) (Avoids-append (is_kept places) (scripts_change ts) (scripts_change us) stands.avoids (made.avoids h));
+        avoids = subst (Avoids (is_kept places)) (sym (changes_by-append ts us)) (Avoids-append (is_kept places) (changes_by ts) (changes_by us) stands.avoids (made.avoids h));
         records = moved_records table w now (same status_path refl) stands.records;
         status = no_directory_at (now status_path) (w status_path) (same status_path refl) stands.status;
         status_spare = no_directory_at (now (temporary status_path)) (w (temporary status_path)) (same (temporary status_path) refl) stands.status_spare;
         own = λ f. same (own_path p.name f) refl ∙ stands.own f;
         spares = λ f. no_directory_at (now (temporary (own_path p.name f))) (w (temporary (own_path p.name f))) (same (temporary (own_path p.name f)) refl) (stands.spares f);
-        rest = λ q out. ap (λ v. v q) (made.world h) ∙ changed_at (scripts_change us) w (changed (scripts_change ts) old) q (stands.rest q out)
-            ∙ ap (λ v. v q) (sym (changed-append (scripts_change ts) (scripts_change us) old)) ∙ ap (λ c. changed c old q) (sym (scripts_change-append ts us));
+        rest = λ q out. ap (λ v. v q) moved ∙ changed_at (changes_by us) w (changed (changes_by ts) old) q (stands.rest q out)
+            ∙ ap (λ v. v q) (sym (changed-append (changes_by ts) (changes_by us) old)) ∙ ap (λ c. changed c old q) (sym (changes_by-append ts us));
       }
 
   -- the list and the scripts

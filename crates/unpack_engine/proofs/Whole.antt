@@ -1,5 +1,5 @@
 -- The whole unit, from its parts.
-use Rattle.std.proofs.Common.{◌≡◌, ◌≢◌, ◌⊎◌, inl, inr, ℕ, true, false, cond, List, [], ◌∷◌, ◌++◌, get_or, Option, Some, None, IsTrue, refl, sym, ap, subst, ◌∙◌, arith}
+use Rattle.std.proofs.Common.{◌≡◌, ◌≢◌, ◌⊎◌, inl, inr, ℕ, Bool, true, false, cond, List, [], ◌∷◌, ◌++◌, get_or, Option, Some, None, IsTrue, refl, sym, ap, subst, ◌∙◌, arith}
 use Rattle.std.specs.Prelude.{◌||◌, IsSome}
 use Rattle.std.specs.Str.{bytes_eq}
 use Rattle.std.proofs.lemmas.List.{append-nil}
@@ -7,8 +7,12 @@ use Rattle.std.proofs.lemmas.Slice.Eq.{bytes_eq-Decides}
 use Rattle.host_core.proofs.Paths.{decide}
 use Rattle.host_core.specs.Paths.{Path}
 use Rattle.host_core.specs.World.{World, is_kept, IsDirectory}
-use Rattle.host_core.specs.Host.{Ran, State, Silent, Calls, IsLater}
-use Rattle.host_core.specs.Moments.{silent_then, since_then}
+use Rattle.host_core.specs.Nodes.{own_access}
+use Rattle.host_core.specs.Events.{Ran, Event, Cut, Failed, calls_of, changes_of}
+use Rattle.host_core.specs.Host.{State, Silent, Calls, calls}
+use Rattle.host_core.specs.Loss.{IsLater}
+use Rattle.host_core.specs.Moments.{silent_then}
+use Rattle.host_core.specs.Scripts.{calls_grown, calls_of-append, calls_of-scripts}
 use Rattle.host_core.specs.declared.node.Node.{Node}
 use Rattle.host_core.specs.declared.call.Script.{Script}
 use Rattle.file_lists.specs.Lists.{NamesNothing}
@@ -19,7 +23,7 @@ use Rattle.administration.specs.Files.{NoDirectory}
 use Rattle.administration.specs.Directories.{IsRemoved}
 use Rattle.administration.proofs.WholeFiles.{no_directory_at, no_directory_none}
 use Rattle.administration.proofs.Within.{directory_within, below_within}
-use Rattle.unwind_stack.specs.Transcript.{Begins, Ended, Committed as AllSucceeded, Unwound, Legal, Tells, Goes, Undid, UndoesRow, Tries}
+use Rattle.unwind_stack.specs.Transcript.{Begins, BrokeOff, Makes, Ended, Committed as AllSucceeded, Unwound, Legal, Goes, Undid, UndoesRow, Tries}
 use Rattle.unwind_stack.specs.declared.rows.Called.{Called}
 use Rattle.unwind_stack.specs.declared.rows.Owner.{Owner}
 use Rattle.unwind_stack.specs.declared.rows.Owner.TheVariants.{Package as OfPackage, Files}
@@ -38,13 +42,13 @@ use Rattle.status_db.specs.Status.{HasRecords}
 use Rattle.status_db.proofs.Tables.{record_in-put_record, record_in-drop_record, covered}
 use Rattle.status_db.specs.declared.record.Record.{Record}
 use Rattle.unpack_engine.specs.ForwardRows.{preinst_row, file_row, rows_of, gives}
-use Rattle.unpack_engine.specs.Turns.{Falls, IsTurn, TakesTurn}
+use Rattle.unpack_engine.specs.Turns.{HasFallen, IsTurn, TakesTurn}
 use Rattle.unpack_engine.specs.declared.rows.Turn.{Turn}
 use Rattle.unpack_engine.specs.declared.rows.Turn.TheVariants.{Committed, Undone, UndoFailed}
 use Rattle.unpack_engine.specs.EndStates.{IsRecordOf, IsUnwoundEnd, IsEnd, own_undo_failed, end_script}
-use Rattle.unpack_engine.specs.Unpack.{IsInOrder, IsReadyForCalls, IsOutside, HasChangedRecord, HasOwn, MayBeStored, IsStage, IsAmid}
+use Rattle.unpack_engine.specs.Unpack.{IsInOrder, IsReadyForCalls, MadeCalls, IsOutside, HasChangedRecord, HasOwn, MayBeStored, IsStage, IsAmid}
 use Rattle.unpack_engine.specs.Stages.{Stands, IsPutAs, IsNotingAs}
-use Rattle.unpack_engine.specs.Units.{EndsAs, FinishedTable, FinishedWorlds, BegunWorlds, IsBeginning, IsFinishing, HasCalled, HasUnpacked}
+use Rattle.unpack_engine.specs.Units.{EndsAs, BegunTable, FinishedTable, FinishedWorlds, BegunWorlds, CameTo, IsBeginning, IsFinishing, HasCalled, HasUnpacked}
 use Rattle.unpack_engine.specs.Units.IsBeginning.{clearing, laying, noting}
 use Rattle.unpack_engine.specs.Units.IsFinishing.{storing, unpacked, forgetting, left}
 use Rattle.unpack_engine.proofs.Standing.{moved_records, kept_outside, stands_start, stands_cleared, stands_tmp, stands_noted, stands_scripts, stands_installed, home_there, info_there}
@@ -69,7 +73,7 @@ at_preinst = record { row = 0; fault = None }
 legal_committed : (p : Package) (ts : List Ran) → Tries (preinst_row p) ts true → Legal gives [] AllSucceeded (rows_of p) ts
 legal_committed p ts tries = (ts, [], sym (append-nil ts), Goes.succeeded ts (not_files p) tries, ([], [], refl, Goes.wrote refl refl, refl))
 
-legal_unwound : (p : Package) (owners : List Owner) (ts : List Ran) → Falls (preinst_row p) owners ts → Legal gives [] (Unwound at_preinst owners) (rows_of p) ts
+legal_unwound : (p : Package) (owners : List Owner) (ts : List Ran) → HasFallen (preinst_row p) owners ts → Legal gives [] (Unwound at_preinst owners) (rows_of p) ts
 legal_unwound p owners ts falls = record {
   before = [];
   row = preinst_row p;
@@ -132,7 +136,7 @@ pub record EndTable (p : Package) (ended : Ended) (before after : List Record) :
   pub is : IsEnd p ended entry
   pub table : HasChangedRecord p.name entry before after
 
-pub end_table : (p : Package) (turn : Turn) (ended : Ended) (before mid after : List Record) → EndsAs p turn ended → IsPutAs p flag.Reinstreq state.HalfInstalled before mid → FinishedTable p turn mid after → EndTable p ended before after
+pub end_table : (p : Package) (turn : Turn) (ended : Ended) (before mid after : List Record) → EndsAs p turn ended → BegunTable p before mid → FinishedTable p turn mid after → EndTable p ended before after
 end_table p Committed AllSucceeded before mid after turned half put = record {
   entry = Some put.entry;
   is = (put.entry, refl, put.is);
@@ -156,7 +160,7 @@ end_table p UndoFailed (Unwound fall owners) before mid after turned half kept =
 put_standing : (p : Package) (flag : Flag) (state : State') (before after : List Record) → is_not_installed state ≡ false → IsPutAs p flag state before after → standing before ≡ before → standing after ≡ after
 put_standing p flag state before after here put e = subst (λ l. standing l ≡ l) (sym put.table) (standing_put put.entry before (ap is_not_installed put.is.in_state ∙ here) e)
 
-end_standing : (p : Package) (turn : Turn) (before mid after : List Record) → IsPutAs p flag.Reinstreq state.HalfInstalled before mid → FinishedTable p turn mid after → standing before ≡ before → standing after ≡ after
+end_standing : (p : Package) (turn : Turn) (before mid after : List Record) → BegunTable p before mid → FinishedTable p turn mid after → standing before ≡ before → standing after ≡ after
 end_standing p Committed before mid after half put e = put_standing p flag.Ok state.Unpacked mid after refl put (put_standing p flag.Reinstreq state.HalfInstalled before mid refl half e)
 end_standing p Undone before mid after half dropped e =
     subst (λ l. standing l ≡ l) (sym dropped) (standing_dropped p.name mid (put_standing p flag.Reinstreq state.HalfInstalled before mid refl half e))
@@ -177,7 +181,7 @@ end_scripts p UndoFailed AllSucceeded turned script = absurd turned
 end_scripts p UndoFailed (Unwound fall owners) turned script = refl
 
 turn_list : (p : Package) (turn : Turn) → NamesNothing (turn_file p turn None)
-turn_list p Committed = root_names_nothing 0o644
+turn_list p Committed = root_names_nothing (own_access 0o644)
 turn_list p Undone = missing_names_nothing
 turn_list p UndoFailed = missing_names_nothing
 
@@ -291,36 +295,36 @@ begun_laid p after old now worlds = laid_keeps p worlds.laid now (noted_within w
 -- moments
 
 module _ (p : Package) (places : List Path) (before : List Record) where
-  amid_notes : (flag : Flag) (state : State') (prev : List Record) (old w now : World) → IsAmid p places before old w → ((entry : Record) → IsRecordOf p flag state entry → IsStage p before old w (put_record entry prev)) → IsNotingAs p flag state prev w now → IsAmid p places before old now
-  amid_notes flag state prev old w now amid stage notes = elim notes.status [
-    | inl e ↦ amid_status p places before old w now amid amid.stage amid.is_stage (moved_records amid.stage w now e amid.records) notes.ready.spare notes.rest
-    | inr has ↦ amid_status p places before old w now amid (put_record has.0 prev) (stage has.0 has.1) has.2 notes.ready.spare notes.rest
+  amid_notes : (flag : Flag) (state : State') (prev : List Record) (old w now : World) (x : List Event) → IsAmid p places before old x w → ((entry : Record) → IsRecordOf p flag state entry → IsStage p before old w (put_record entry prev)) → IsNotingAs p flag state prev w now → IsAmid p places before old x now
+  amid_notes flag state prev old w now x amid stage notes = elim notes.status [
+    | inl e ↦ amid_status p places before old w now x amid amid.stage amid.is_stage (moved_records amid.stage w now e amid.records) notes.ready.spare notes.rest
+    | inr has ↦ amid_status p places before old w now x amid (put_record has.0 prev) (stage has.0 has.1) has.2 notes.ready.spare notes.rest
   ]
 
-  pub amid_beginning : (old now : World) → IsInOrder old → IsIncoming old → HasRecords old before → IsBeginning p before old now → IsAmid p places before old now
-  amid_beginning old now order incoming has (clearing is) = amid_clearing p places before old now order incoming has is
-  amid_beginning old now order incoming has (laying cleared is laid) = amid_tmp p places before old cleared now (amid_clearing p places before old cleared order incoming has (clearing_cleared p.name old cleared is)) laid
-  amid_beginning old now order incoming has (noting cleared laid is within noted) =
-      amid_notes flag.Reinstreq state.HalfInstalled before old laid now
-      (amid_tmp p places before old cleared laid (amid_clearing p places before old cleared order incoming has (clearing_cleared p.name old cleared is)) within)
+  pub amid_beginning : (old now : World) (x : List Event) → changes_of x ≡ [] → IsInOrder old → IsIncoming old → HasRecords old before → IsBeginning p before old now → IsAmid p places before old x now
+  amid_beginning old now x none order incoming has (clearing is) = amid_clearing p places before old now x none order incoming has is
+  amid_beginning old now x none order incoming has (laying cleared is laid) = amid_tmp p places before old cleared now x (amid_clearing p places before old cleared x none order incoming has (clearing_cleared p.name old cleared is)) laid
+  amid_beginning old now x none order incoming has (noting cleared laid is within noted) =
+      amid_notes flag.Reinstreq state.HalfInstalled before old laid now x
+      (amid_tmp p places before old cleared laid x (amid_clearing p places before old cleared x none order incoming has (clearing_cleared p.name old cleared is)) within)
       (λ entry is_entry. IsStage.half entry is_entry (own_none p laid (λ f. within.rest (own_path p.name f) refl ∙ is.gone f))) noted
 
-  half_stage : (mid : List Record) (old w : World) → IsPutAs p flag.Reinstreq state.HalfInstalled before mid → HasOwn MayBeStored p w → IsStage p before old w mid
+  half_stage : (mid : List Record) (old w : World) → BegunTable p before mid → HasOwn MayBeStored p w → IsStage p before old w mid
   half_stage mid old w half own = subst (IsStage p before old w) (sym half.table) (IsStage.half half.entry half.is own)
 
-  pub amid_finishing : (turn : Turn) (ts : List Ran) (mid : List Record) (old w now : World) → IsPutAs p flag.Reinstreq state.HalfInstalled before mid → Stands p places ts mid (λ file. None) old w → IsAmid p places before old w → IsFinishing p turn mid w now → IsAmid p places before old now
-  amid_finishing turn ts mid old w now half stands amid (storing t is) = amid_own p places before old w now amid mid stands.records (half_stage mid old now half (own_putting p w now stands.own is)) is.spares is.rest
-  amid_finishing turn ts mid old w now half stands amid (unpacked t stored is ready noted) =
+  pub amid_finishing : (turn : Turn) (ts : List Ran) (mid : List Record) (old w now : World) (x : List Event) → BegunTable p before mid → Stands p places ts mid (λ file. None) old w → IsAmid p places before old x w → IsFinishing p turn mid w now → IsAmid p places before old x now
+  amid_finishing turn ts mid old w now x half stands amid (storing t is) = amid_own p places before old w now x amid mid stands.records (half_stage mid old now half (own_putting p w now stands.own is)) is.spares is.rest
+  amid_finishing turn ts mid old w now x half stands amid (unpacked t stored is ready noted) =
       let own = own_stored p w stored stands.own is in
-      amid_notes flag.Ok state.Unpacked mid old stored now (amid_own p places before old w stored amid mid stands.records (half_stage mid old stored half (some_stored p stored own)) ready.spares is.rest)
+      amid_notes flag.Ok state.Unpacked mid old stored now x (amid_own p places before old w stored x amid mid stands.records (half_stage mid old stored half (some_stored p stored own)) ready.spares is.rest)
       (λ entry is_entry. subst (λ l. IsStage p before old stored (put_record entry l)) (sym half.table) (IsStage.unpacked half.entry entry half.is is_entry own)) noted
-  amid_finishing turn ts mid old w now half stands amid (forgetting t is) =
-      amid_noting p places before old w now amid (drop_record p.name mid) (subst (λ l. IsStage p before old w (drop_record p.name l)) (sym half.table) (IsStage.forgotten half.entry half.is (own_gone p w stands.own))) is
-  amid_finishing turn ts mid old w now half stands amid (left t e) = subst (IsAmid p places before old) (sym e) amid
+  amid_finishing turn ts mid old w now x half stands amid (forgetting t is) =
+      amid_noting p places before old w now x amid (drop_record p.name mid) (subst (λ l. IsStage p before old w (drop_record p.name l)) (sym half.table) (IsStage.forgotten half.entry half.is (own_gone p w stands.own))) is
+  amid_finishing turn ts mid old w now x half stands amid (left t e) = subst (IsAmid p places before old x) (sym e) amid
 
 -- all is ready for the calls once the unit has begun
 
-ready_for_calls : (p : Package) (places : List Path) (before mid : List Record) (s a : State) → IsPutAs p flag.Reinstreq state.HalfInstalled before mid → IsInOrder s.world → HasRecords s.world before → BegunWorlds p mid s.world a.world → IsReadyForCalls p before a.world
+ready_for_calls : (p : Package) (places : List Path) (before mid : List Record) (s a : State) → BegunTable p before mid → IsInOrder s.world → HasRecords s.world before → BegunWorlds p mid s.world a.world → IsReadyForCalls p before a.world
 ready_for_calls p places before mid s a half order has begun = record {
   scripts = (begun_laid p mid s.world a.world begun).files;
   entry = half.entry;
@@ -328,6 +332,19 @@ ready_for_calls p places before mid s a half order has begun = record {
   records = subst (HasRecords a.world) half.table begun.noted.records;
   own = (begun_stands p places before mid s.world a.world order has begun).own;
 }
+
+-- the host's list of calls
+
+pub silent_calls : (a b : State) → Silent a b → calls b ≡ calls a
+silent_calls a b silent = sym (calls_of-scripts b.events) ∙ ap calls_of silent.scripts ∙ calls_of-scripts a.events
+
+no_more : (a b : State) (es : List Event) → calls_of es ≡ [] → b.events ≡ a.events ++ es → calls b ≡ calls a
+no_more a b es none grown = ap calls_of grown ∙ calls_of-append a.events es ∙ ap (λ (l : List Ran). calls a ++ l) none ∙ append-nil (calls a)
+
+off_calls : (kept : Path → Bool) (more : List Ran) (a b : State) → BrokeOff kept more a b → calls b ≡ calls a
+off_calls kept more a b (BrokeOff.before same) = ap calls_of same.events
+off_calls kept more a b (BrokeOff.failed goes) = no_more a b (Failed ∷ []) refl goes.events
+off_calls kept more a b (BrokeOff.within call change next avoids goes) = no_more a b (Cut call change ∷ Failed ∷ []) refl goes.events
 
 -- no script was called
 pub called_none : (p : Package) (places : List Path) (before : List Record) (s a : State) (told now : List Called) → Silent s a → now ≡ told → HasCalled p places before s a told now
@@ -338,79 +355,96 @@ called_none p places before s a told now silent same =
       ts = [];
       more = turn.0;
       legal = (legal_turn p turn.1.0 turn.0 turn.1.1).legal;
-      calls = silent.calls ∙ sym (append-nil s.calls);
+      calls = silent_calls s a silent ∙ sym (append-nil (calls s));
       tells = same ∙ sym (append-nil told);
-      made = inl refl;
+      came = CameTo.nowhere refl silent;
     }
 
--- the rows were run, or broken off, and after them nothing was called
-pub called_by : (p : Package) (places : List Path) (before mid : List Record) (s a b d : State) (told now : List Called) → Silent s a → Begins (is_kept places) (TakesTurn (preinst_row p)) a b told now → Silent b d
-    → IsPutAs p flag.Reinstreq state.HalfInstalled before mid → (IsTrue s.honest → IsInOrder s.world) → (IsTrue s.honest → HasRecords s.world before) → (IsTrue s.honest → BegunWorlds p mid s.world a.world)
-    → (IsTrue s.honest → IsLater s a) → (IsTrue b.honest → IsLater b d) → HasCalled p places before s d told now
-called_by p places before mid s a b d told now first begins last half order has begun before_calls after_calls =
-    let legal = legal_turn p begins.first_of.0 (begins.ts ++ begins.more) begins.first_of.1 in
-    let honest_a = λ (h : IsTrue s.honest). subst IsTrue (sym first.honest) h in
-    let honest_b = λ (h : IsTrue s.honest). subst IsTrue (sym (begins.since.honest ∙ begins.made.honest)) (honest_a h) in
-    record {
-      ended = legal.ended;
-      ts = begins.ts;
-      more = begins.more;
-      legal = legal.legal;
-      calls = last.calls ∙ begins.since.calls ∙ begins.made.calls ∙ ap (λ l. l ++ begins.ts) first.calls;
-      tells = begins.tells;
-      made = inr (record {
-        begun = a;
-        ended = begins.last;
-        until = first;
-        made = begins.made;
-        since = silent_then begins.last b d begins.since last;
-        later = λ h. (before_calls h, since_then (λ w. Unit {0}) begins.last b d (begins.later (honest_a h)) (after_calls (honest_b h)));
-        ready = λ h. ready_for_calls p places before mid s a half (order h) (has h) (begun h);
-      });
-    }
+module _ (p : Package) (places : List Path) (before mid : List Record) (s a : State) where
+  -- the unit has begun: all that the calls need is there
+  pub record HasBegun : Type 0 where
+    pub silent : Silent s a
+    pub later : IsLater s a
+    pub half : BegunTable p before mid
+    pub order : IsTrue s.honest → IsInOrder s.world
+    pub has : IsTrue s.honest → HasRecords s.world before
+    pub begun : IsTrue a.honest → BegunWorlds p mid s.world a.world
 
--- the whole
+  made_calls : (ts : List Ran) (b : State) → HasBegun → Calls (is_kept places) ts a b → MadeCalls (is_kept places) p before ts s b
+  made_calls ts b first made = record {
+    begun = a;
+    until = first.silent;
+    later = first.later;
+    made = made;
+    ready = λ ha. let h = first.silent.honest ha in ready_for_calls p places before mid s a first.half (first.order h) (first.has h) (first.begun ha);
+  }
 
-pub unit_by : (p : Package) (places : List Path) (turn : Turn) (before mid after : List Record) (ts : List Ran) (s a b c d : State) (told now : List Called) → IsTurn (preinst_row p) turn ts → Silent s a → Calls (is_kept places) ts a b → Silent b c → Silent c d → Tells ts told now
-    → IsPutAs p flag.Reinstreq state.HalfInstalled before mid → FinishedTable p turn mid after → (IsTrue s.honest → IsInOrder s.world) → (IsTrue s.honest → HasRecords s.world before)
-    → (IsTrue s.honest → BegunWorlds p mid s.world a.world) → (IsTrue s.honest → FinishedWorlds p turn after b.world c.world) → (IsTrue s.honest → IsRemoved tmp_path c.world d.world) → (IsTrue s.honest → IsLater s a × IsLater b d) → HasUnpacked p places turn before after s d told now
-unit_by p places turn before mid after ts s a b c d told now turned first made third fourth tells half table order has begun finished removed later =
-    let legal = legal_turn p turn ts turned in
-    let end = end_table p turn legal.ended before mid after legal.as_turned half table in
-    record {
-      ended = legal.ended;
-      ts = ts;
-      is_end = legal.as_turned;
-      calls = fourth.calls ∙ third.calls ∙ made.calls ∙ ap (λ l. l ++ ts) first.calls;
-      tells = tells;
-      unit = record {
+  grown_calls : (ts : List Ran) (b d : State) → HasBegun → Calls (is_kept places) ts a b → calls d ≡ calls b → calls d ≡ calls s ++ ts
+  grown_calls ts b d first made same = same ∙ calls_grown (is_kept places) ts a b made ∙ ap (λ (l : List Ran). l ++ ts) (silent_calls s a first.silent)
+
+  -- the rows were broken off
+  pub called_off : (b : State) (told now : List Called) → HasBegun → Begins (is_kept places) (TakesTurn (preinst_row p)) a b told now → HasCalled p places before s b told now
+  called_off b told now first begins =
+      let legal = legal_turn p begins.first_of.0 (begins.ts ++ begins.more) begins.first_of.1 in
+      record {
+        ended = legal.ended;
+        ts = begins.ts;
+        more = begins.more;
         legal = legal.legal;
-        made = record {
-          begun = a;
-          ended = b;
-          until = first;
-          made = made;
+        calls = grown_calls begins.ts begins.last b first begins.made (off_calls (is_kept places) begins.more begins.last b begins.rest);
+        tells = begins.tells;
+        came = CameTo.broke_off begins.last (made_calls begins.ts begins.last first begins.made) begins.rest;
+      }
+
+  -- the rows were run, and after them nothing was called
+  pub called_all : (turn : Turn) (b d : State) (told now : List Called) → HasBegun → Makes (is_kept places) (IsTurn (preinst_row p) turn) a b told now → Silent b d → IsLater b d → HasCalled p places before s d told now
+  called_all turn b d told now first (ts, made, (turned, tells)) last later =
+      let legal = legal_turn p turn ts turned in
+      record {
+        ended = legal.ended;
+        ts = ts;
+        more = [];
+        legal = subst (Legal gives [] legal.ended (rows_of p)) (sym (append-nil ts)) legal.legal;
+        calls = grown_calls ts b d first made (silent_calls b d last);
+        tells = tells;
+        came = CameTo.whole b (made_calls ts b first made) refl last later;
+      }
+
+  -- the whole
+  pub unit_by : (turn : Turn) (after : List Record) (b c d : State) (told now : List Called) → HasBegun → Makes (is_kept places) (IsTurn (preinst_row p) turn) a b told now → Silent b c → Silent c d → IsLater b d → FinishedTable p turn mid after
+      → (IsTrue c.honest → FinishedWorlds p turn after b.world c.world) → (IsTrue d.honest → IsRemoved tmp_path c.world d.world) → HasUnpacked p places turn before after s d told now
+  unit_by turn after b c d told now first (ts, made, (turned, tells)) third fourth later table finished removed =
+      let legal = legal_turn p turn ts turned in
+      let end = end_table p turn legal.ended before mid after legal.as_turned first.half table in
+      record {
+        ended = legal.ended;
+        ts = ts;
+        is_end = legal.as_turned;
+        calls = grown_calls ts b d first made (silent_calls b d (silent_then b c d third fourth));
+        tells = tells;
+        unit = record {
+          legal = legal.legal;
+          last = b;
+          made = made_calls ts b first made;
           since = silent_then b c d third fourth;
           later = later;
-          ready = λ h. ready_for_calls p places before mid s a half (order h) (has h) (begun h);
+          records = record { entry = end.entry; end = end.is; table = end.table; standing = end_standing p turn before mid after first.half table };
+          leaves = λ hd.
+              let hc = fourth.honest hd in
+              let hb = third.honest hc in
+              let ha = made.goes.honest hb in
+              let h = first.silent.honest ha in
+              let one = begun_stands p places before mid s.world a.world (first.order h) (first.has h) (first.begun ha) in
+              let two = stands_scripts p places [] ts mid (λ file. None) s.world a b hb one made in
+              let three = stands_finished p places turn ts mid after s.world b.world c.world table two (finished hc) in
+              let four = stands_tmp p places ts after (turn_file p turn) s.world c.world d.world three (removed hd).rest in
+              record {
+                order = in_order_again p places ts after (turn_file p turn) s.world d.world (turn_loose p turn) (first.order h) four ((removed hd).inside tmp_path (directory_within tmp_path));
+                avoids = four.avoids;
+                records = four.records;
+                list = subst NamesNothing (sym (four.own None)) (turn_list p turn);
+                scripts = λ script. four.own (Some script) ∙ end_scripts p turn legal.ended legal.as_turned script;
+                rest = four.rest;
+              };
         };
-        leaves = λ h.
-            let h1 = subst IsTrue (sym first.honest) h in
-            let one = begun_stands p places before mid s.world a.world (order h) (has h) (begun h) in
-            let two = stands_scripts p places [] ts mid (λ file. None) s.world a b h1 one made in
-            let three = stands_finished p places turn ts mid after s.world b.world c.world table two (finished h) in
-            let four = stands_tmp p places ts after (turn_file p turn) s.world c.world d.world three (removed h).rest in
-            record {
-              order = in_order_again p places ts after (turn_file p turn) s.world d.world (turn_loose p turn) (order h) four ((removed h).inside tmp_path (directory_within tmp_path));
-              avoids = four.avoids;
-              entry = end.entry;
-              end = end.is;
-              table = end.table;
-              standing = end_standing p turn before mid after half table;
-              records = four.records;
-              list = subst NamesNothing (sym (four.own None)) (turn_list p turn);
-              scripts = λ script. four.own (Some script) ∙ end_scripts p turn legal.ended legal.as_turned script;
-              rest = four.rest;
-            };
-      };
-    }
+      }

@@ -1,6 +1,6 @@
 -- The rows of an unpack (Policy 6.6): what is called, and what undoes it.
 use Rattle.std.specs.Prelude.{◌≡◌, ℕ, List, [], ◌∷◌, Option, Some, None, codes}
-use Rattle.host_core.specs.Host.{Ran}
+use Rattle.host_core.specs.Events.{Ran}
 use Rattle.host_core.specs.declared.call.Call.{Call}
 use Rattle.host_core.specs.declared.call.Side.TheVariants.{New}
 use Rattle.host_core.specs.declared.call.Script.{Script}

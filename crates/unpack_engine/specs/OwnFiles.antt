@@ -2,6 +2,7 @@
 use Rattle.std.specs.Prelude.{◌≡◌, ◌≢◌, ◌⊎◌, ℕ, List, ◌∷◌, ◌++◌, Option, Some, None, codes}
 use Rattle.host_core.specs.Paths.{Path}
 use Rattle.host_core.specs.World.{World}
+use Rattle.host_core.specs.Nodes.{own_access}
 use Rattle.host_core.specs.Outcome.{script_name}
 use Rattle.host_core.specs.declared.node.Node.{Node}
 use Rattle.host_core.specs.declared.node.Node.TheVariants.{File}
@@ -25,7 +26,7 @@ own_path name file = info_file (name ++ ending file)
 
 -- the list of a package that has no paths: the root alone
 abbrev pub root_list : Node
-root_list = File (codes "/.\n") 0o644
+root_list = File (codes "/.\n") (own_access 0o644)
 
 -- what stands there once the scripts are stored and the list is that of a package without files
 abbrev pub own_node : Scripts → OwnFile → Option Node

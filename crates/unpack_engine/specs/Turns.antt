@@ -1,6 +1,6 @@
 -- How the rows of an unpack can end.
 use Rattle.std.specs.Prelude.{◌≡◌, true, false, List, [], ◌∷◌, ◌++◌}
-use Rattle.host_core.specs.Host.{Ran}
+use Rattle.host_core.specs.Events.{Ran}
 use Rattle.unwind_stack.specs.declared.rows.Row.{Row}
 use Rattle.unwind_stack.specs.declared.rows.Owner.{Owner}
 use Rattle.unwind_stack.specs.Transcript.{Tries, UndoesRow}
@@ -8,7 +8,7 @@ use Rattle.unpack_engine.specs.declared.rows.Turn.{Turn}
 use Rattle.unpack_engine.specs.declared.rows.Turn.TheVariants.{Committed, Undone, UndoFailed}
 
 -- the calls of a row, and of its undo where it fails; the owners that then have a failed undo
-pub record Falls (row : Row) (owners : List Owner) (ts : List Ran) : Type 0 where
+pub record HasFallen (row : Row) (owners : List Owner) (ts : List Ran) : Type 0 where
   pub last : List Ran
   pub back : List Ran
   pub calls_are : ts ≡ last ++ back
@@ -17,8 +17,8 @@ pub record Falls (row : Row) (owners : List Owner) (ts : List Ran) : Type 0 wher
 
 abbrev pub IsTurn : Row → Turn → List Ran → Type 0
 IsTurn row Committed ts = Tries row ts true
-IsTurn row Undone ts = Falls row [] ts
-IsTurn row UndoFailed ts = (owner : Owner) × (owners : List Owner) × Falls row (owner ∷ owners) ts
+IsTurn row Undone ts = HasFallen row [] ts
+IsTurn row UndoFailed ts = (owner : Owner) × (owners : List Owner) × HasFallen row (owner ∷ owners) ts
 
 -- the calls of a row and of its undo, whatever turn they take
 abbrev pub TakesTurn : Row → List Ran → Type 0

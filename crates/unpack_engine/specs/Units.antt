@@ -1,10 +1,12 @@
 -- The parts of a unit, and the whole.
-use Rattle.std.specs.Prelude.{◌≡◌, ◌⊎◌, true, false, List, [], ◌++◌}
+use Rattle.std.specs.Prelude.{◌≡◌, true, false, List, [], ◌++◌}
 use Rattle.host_core.specs.Paths.{Path}
 use Rattle.host_core.specs.World.{World, KeepsBut, is_kept}
-use Rattle.host_core.specs.Host.{Ran, State}
+use Rattle.host_core.specs.Events.{Ran}
+use Rattle.host_core.specs.Host.{State, Silent, calls}
+use Rattle.host_core.specs.Loss.{IsLater}
 use Rattle.administration.specs.Places.{tmp_path, is_within}
-use Rattle.unwind_stack.specs.Transcript.{Ended, Committed as AllSucceeded, Unwound, Legal, Tells}
+use Rattle.unwind_stack.specs.Transcript.{Ended, Committed as AllSucceeded, Unwound, Legal, Tells, BrokeOff}
 use Rattle.unwind_stack.specs.declared.rows.Called.{Called}
 use Rattle.package_tree.specs.declared.package.Package.{Package}
 use Rattle.unpack_engine.specs.OwnFiles.{IsCleared, IsClearing, IsInstalled, IsChanging, IsOwnReady}
@@ -31,9 +33,9 @@ pub record BegunWorlds (p : Package) (after : List Record) (old now : World) : T
   pub tmp_alone : KeepsBut (is_within tmp_path) cleared laid
   pub noted : IsNoted after laid now
 
-pub record HasBegun (p : Package) (before after : List Record) (honest : Type 0) (old new : World) : Type 0 where
-  pub put : IsPutAs p flag.Reinstreq state.HalfInstalled before after
-  pub worlds : honest → BegunWorlds p after old new
+-- the package is noted as half-installed, and to be installed again
+abbrev pub BegunTable : Package → List Record → List Record → Type 0
+BegunTable p before after = IsPutAs p flag.Reinstreq state.HalfInstalled before after
 
 -- at each moment of the beginning
 pub data IsBeginning (p : Package) (before : List Record) (old now : World) : Type 0 where
@@ -52,10 +54,7 @@ FinishedTable p Committed before after = IsPutAs p flag.Ok state.Unpacked before
 FinishedTable p Undone before after = after ≡ drop_record p.name before
 FinishedTable p UndoFailed before after = after ≡ before
 
-pub record HasFinished (p : Package) (turn : Turn) (before after : List Record) (honest : Type 0) (old new : World) : Type 0 where
-  pub table : FinishedTable p turn before after
-  pub worlds : honest → FinishedWorlds p turn after old new
-
+-- at each moment of the end
 pub data IsFinishing (p : Package) (turn : Turn) (before : List Record) (old now : World) : Type 0 where
   storing : turn ≡ Committed → IsChanging p.name p.scripts old now → IsFinishing p turn before old now
   unpacked : turn ≡ Committed → (stored : World) → IsInstalled p.name p.scripts old stored → IsOwnReady p.name stored → IsNotingAs p flag.Ok state.Unpacked before stored now → IsFinishing p turn before old now
@@ -76,9 +75,16 @@ pub record HasUnpacked (p : Package) (places : List Path) (turn : Turn) (before 
   pub ended : Ended
   pub ts : List Ran
   pub is_end : EndsAs p turn ended
-  pub calls : new.calls ≡ old.calls ++ ts
+  pub calls : calls new ≡ calls old ++ ts
   pub tells : Tells ts told now
   pub unit : Unpacks p places before after ended ts old new
+
+-- How far the script calls of a unit came: none was begun; it was broken off where these calls could have come; or they are
+-- all of them.
+pub data CameTo (p : Package) (places : List Path) (before : List Record) (ts more : List Ran) (old new : State) : Type 0 where
+  nowhere : ts ≡ [] → Silent old new → CameTo p places before ts more old new
+  broke_off : (last : State) → MadeCalls (is_kept places) p before ts old last → BrokeOff (is_kept places) more last new → CameTo p places before ts more old new
+  whole : (last : State) → MadeCalls (is_kept places) p before ts old last → more ≡ [] → Silent last new → IsLater last new → CameTo p places before ts more old new
 
 -- The calls of a unit, whatever its answer: the first of some that are legal for its rows. They were made one after another,
 -- none before all was ready for them, and they are told.
@@ -87,6 +93,6 @@ pub record HasCalled (p : Package) (places : List Path) (before : List Record) (
   pub ts : List Ran
   pub more : List Ran
   pub legal : Legal gives [] ended (rows_of p) (ts ++ more)
-  pub calls : new.calls ≡ old.calls ++ ts
+  pub calls : calls new ≡ calls old ++ ts
   pub tells : Tells ts told now
-  pub made : (ts ≡ []) ⊎ MadeCalls (is_kept places) p before ts old new
+  pub came : CameTo p places before ts more old new

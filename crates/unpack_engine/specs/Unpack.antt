@@ -1,10 +1,12 @@
 -- What an unpack of a package that has scripts alone, and wasn't installed before, does.
-use Rattle.std.specs.Prelude.{◌≡◌, ◌≢◌, ◌⊎◌, ℕ, Bool, true, false, List, [], ◌∷◌, ◌++◌, Option, Some, None, IsTrue}
+use Rattle.std.specs.Prelude.{◌≡◌, ◌≢◌, ◌⊎◌, ℕ, Bool, false, List, [], ◌∷◌, ◌++◌, Option, Some, None, IsTrue}
 use Rattle.std.specs.Map.{update}
 use Rattle.std.specs.Str.{bytes_eq}
 use Rattle.host_core.specs.Paths.{Path}
-use Rattle.host_core.specs.World.{World, IsDirectory, Avoids, changed, is_kept}
-use Rattle.host_core.specs.Host.{Ran, State, Silent, Calls, IsLater, scripts_change}
+use Rattle.host_core.specs.World.{World, IsDirectory, Change, Avoids, changed, is_kept}
+use Rattle.host_core.specs.Events.{Ran, Event, changes_of}
+use Rattle.host_core.specs.Host.{State, Silent, Calls, finished}
+use Rattle.host_core.specs.Loss.{IsLater}
 use Rattle.host_core.specs.Tree.{has_slash}
 use Rattle.host_core.specs.declared.node.Node.{Node}
 use Rattle.host_core.specs.declared.call.Script.{Script}
@@ -52,38 +54,47 @@ pub record IsReadyForCalls (p : Package) (before : List Record) (w : World) : Ty
   pub records : HasRecords w (put_record entry before)
   pub own : (file : OwnFile) → w (own_path p.name file) ≡ None
 
--- The script calls of a unit were made one after another between two moments of it, and no others; at the first of these
--- moments all was ready for them.
-pub record MadeCalls (kept : Path → Bool) (p : Package) (before : List Record) (ts : List Ran) (old new : State) : Type 0 where
-  pub begun : State
-  pub ended : State
-  pub until : Silent old begun
-  pub made : Calls kept ts begun ended
-  pub since : Silent ended new
-  pub later : IsTrue old.honest → IsLater old begun × IsLater ended new
-  pub ready : IsTrue old.honest → IsReadyForCalls p before begun.world
+-- what these script calls changed, one after another
+abbrev pub changes_by : List Ran → Change
+changes_by ts = changes_of (finished ts)
 
--- the world that an unpack leaves
-pub record IsLeft (p : Package) (places : List Path) (before after : List Record) (ended : Ended) (ts : List Ran) (old new : World) : Type 0 where
-  pub order : IsInOrder new
-  -- a script call changes no kept path
-  pub avoids : Avoids (is_kept places) (scripts_change ts)
+-- The script calls of a unit were made one after another up to a moment of it, and no others; at the first of these moments
+-- all was ready for them.
+pub record MadeCalls (kept : Path → Bool) (p : Package) (before : List Record) (ts : List Ran) (old last : State) : Type 0 where
+  pub begun : State
+  pub until : Silent old begun
+  pub later : IsLater old begun
+  pub made : Calls kept ts begun last
+  pub ready : IsTrue begun.honest → IsReadyForCalls p before begun.world
+
+-- the record that an unpack leaves of the package, and the table with it
+pub record HasEnded (p : Package) (before after : List Record) (ended : Ended) : Type 0 where
   pub entry : Option Record
   pub end : IsEnd p ended entry
   pub table : HasChangedRecord p.name entry before after
   -- no record comes in of a package that is gone
   pub standing : standing before ≡ before → standing after ≡ after
+
+-- the world that an unpack leaves
+pub record IsLeft (p : Package) (places : List Path) (after : List Record) (ended : Ended) (ts : List Ran) (old new : World) : Type 0 where
+  pub order : IsInOrder new
+  -- a script call changes no kept path
+  pub avoids : Avoids (is_kept places) (changes_by ts)
   pub records : HasRecords new after
   pub list : NamesNothing (new (own_path p.name None))
   pub scripts : (script : Script) → new (own_path p.name (Some script)) ≡ end_script p ended script
   -- apart from that nothing has changed but what the script calls changed
-  pub rest : (q : Path) → IsOutside p.name q → new q ≡ changed (scripts_change ts) old q
+  pub rest : (q : Path) → IsOutside p.name q → new q ≡ changed (changes_by ts) old q
 
--- the unit: its calls are legal for its rows and were made, and the world is as the tables say
+-- the unit: its calls are legal for its rows and were made, and records and world are as the tables say
 pub record Unpacks (p : Package) (places : List Path) (before after : List Record) (ended : Ended) (ts : List Ran) (old new : State) : Type 0 where
   pub legal : Legal gives [] ended (rows_of p) ts
-  pub made : MadeCalls (is_kept places) p before ts old new
-  pub leaves : IsTrue old.honest → IsLeft p places before after ended ts old.world new.world
+  pub last : State
+  pub made : MadeCalls (is_kept places) p before ts old last
+  pub since : Silent last new
+  pub later : IsLater last new
+  pub records : HasEnded p before after ended
+  pub leaves : IsTrue new.honest → IsLeft p places after ended ts old.world new.world
 
 -- this script is stored as the tree has it
 abbrev pub IsStored : Package → Script → Option Node → Type 0
@@ -114,12 +125,13 @@ pub data IsStage (p : Package) (before : List Record) (old now : World) : List R
   forgotten : (r : Record) → IsRecordOf p flag.Reinstreq state.HalfInstalled r → HasOwn IsNotStored p now → IsStage p before old now (drop_record p.name (put_record r before))
 
 -- At each moment of it: the records and the package's files are those of a stage, nothing is in the way of the next
--- opening, all kept places are as before.
-pub record IsAmid (p : Package) (places : List Path) (before : List Record) (old now : World) : Type 0 where
+-- opening, and all else is as before but for what the script calls so far changed, a running one included.
+pub record IsAmid (p : Package) (places : List Path) (before : List Record) (old : World) (so_far : List Event) (now : World) : Type 0 where
   pub stage : List Record
   pub is_stage : IsStage p before old now stage
   pub records : HasRecords now stage
   pub status_spare : NoDirectory (now (temporary status_path))
   pub spares : (file : OwnFile) → NoDirectory (now (temporary (own_path p.name file)))
   pub incoming : IsIncoming now
-  pub rest : (q : Path) → IsOutside p.name q → is_kept places q ≡ true → now q ≡ old q
+  pub avoids : Avoids (is_kept places) (changes_of so_far)
+  pub rest : (q : Path) → IsOutside p.name q → now q ≡ changed (changes_of so_far) old q

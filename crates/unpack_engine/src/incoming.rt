@@ -1,7 +1,7 @@
 // The scripts of the incoming tree, which lie in `tmp.ci` while its unit runs.
-ghost use Rattle.std.specs.Prelude.{◌≡◌, ◌++◌, ◌∷◌, [], IsTrue, OnOk, IfOk, None};
+ghost use Rattle.std.specs.Prelude.{◌≡◌, ◌++◌, ◌∷◌, [], OnOk, IfOk, None};
 ghost use Rattle.host_core.specs.World.{IsDirectory, IsBare};
-ghost use Rattle.host_core.specs.Host.{HasCause, Silent, Since};
+ghost use Rattle.host_core.specs.Host.{AtEachMoment, Counts, Leaves, Needs, Silent};
 ghost use Rattle.host_core.specs.Outcome.{script_name};
 ghost use Rattle.administration.specs.Places.{home_path, tmp_path as tmp_place, tmp_script_path as script_place};
 ghost use Rattle.administration.specs.Directories.{IsMade, IsRemoved};
@@ -16,12 +16,12 @@ use texts::{Text, Texts};
 
 // Makes `tmp.ci`, where nothing stands.
 fn make_tmp<H: Host>(alloc: Global, host: &mut H) -> Result<(), HostFault>
-    requires home { IsTrue (H.state host.old).honest → IsDirectory ((H.state host.old).world home_path) }
-    requires absent { IsTrue (H.state host.old).honest → (H.state host.old).world tmp_place ≡ None }
-    ensures made { IsTrue (H.state host.old).honest → OnOk result (IsMade tmp_place (H.state host.old).world (H.state host.new).world) }
-    ensures any_moment { IsTrue (H.state host.old).honest → Since (IsLaying (H.state host.old).world) (H.state host.old) (H.state host.new) }
+    requires home { Needs (H.state host.old) (λ w. IsDirectory (w home_path)) }
+    requires absent { Needs (H.state host.old) (λ w. w tmp_place ≡ None) }
+    ensures made { Leaves result (IsMade tmp_place) (H.state host.old) (H.state host.new) }
+    ensures any_moment { AtEachMoment IsLaying (H.state host.old) (H.state host.new) }
     ensures silent { Silent (H.state host.old) (H.state host.new) }
-    ensures cause { HasCause (H.state host.old) (H.state host.new) result }
+    ensures counts { Counts (H.state host.old) (H.state host.new) result }
 {
     let path = RootPath::from_str(alloc, INCOMING)?;
     let _made = make_directory(host, &path)?;
@@ -35,12 +35,12 @@ fn put_incoming<H: Host>(
     scripts: &Scripts,
     script: Script,
 ) -> Result<(), HostFault>
-    requires there { IsTrue (H.state host.old).honest → IsDirectory ((H.state host.old).world tmp_place) }
-    requires incoming { IsTrue (H.state host.old).honest → IsIncoming (H.state host.old).world }
-    ensures put { IsTrue (H.state host.old).honest → OnOk result (IsPut (script_place script) (file_of (script_of scripts.now script)) (H.state host.old).world (H.state host.new).world) }
-    ensures any_moment { IsTrue (H.state host.old).honest → Since (IsLaying (H.state host.old).world) (H.state host.old) (H.state host.new) }
+    requires there { Needs (H.state host.old) (λ w. IsDirectory (w tmp_place)) }
+    requires incoming { Needs (H.state host.old) IsIncoming }
+    ensures put { Leaves result (IsPut (script_place script) (file_of (script_of scripts.now script))) (H.state host.old) (H.state host.new) }
+    ensures any_moment { AtEachMoment IsLaying (H.state host.old) (H.state host.new) }
     ensures silent { Silent (H.state host.old) (H.state host.new) }
-    ensures cause { HasCause (H.state host.old) (H.state host.new) result }
+    ensures counts { Counts (H.state host.old) (H.state host.new) result }
 {
     let Some(file) = scripts.get(script) else {
         return Ok(());
@@ -50,12 +50,12 @@ fn put_incoming<H: Host>(
 }
 
 fn put_all<H: Host>(alloc: Global, host: &mut H, scripts: &Scripts) -> Result<(), HostFault>
-    requires there { IsTrue (H.state host.old).honest → IsDirectory ((H.state host.old).world tmp_place) }
-    requires bare { IsTrue (H.state host.old).honest → IsBare (H.state host.old).world tmp_place }
-    ensures laid { IsTrue (H.state host.old).honest → OnOk result (AreLaidOut scripts.now (H.state host.new).world) }
-    ensures any_moment { IsTrue (H.state host.old).honest → Since (IsLaying (H.state host.old).world) (H.state host.old) (H.state host.new) }
+    requires there { Needs (H.state host.old) (λ w. IsDirectory (w tmp_place)) }
+    requires bare { Needs (H.state host.old) (λ w. IsBare w tmp_place) }
+    ensures laid { Leaves result (λ old new. AreLaidOut scripts.now new) (H.state host.old) (H.state host.new) }
+    ensures any_moment { AtEachMoment IsLaying (H.state host.old) (H.state host.new) }
     ensures silent { Silent (H.state host.old) (H.state host.new) }
-    ensures cause { HasCause (H.state host.old) (H.state host.new) result }
+    ensures counts { Counts (H.state host.old) (H.state host.new) result }
 {
     put_incoming(alloc, host, scripts, Script::Preinst)?;
     put_incoming(alloc, host, scripts, Script::Postinst)?;
@@ -69,12 +69,12 @@ pub(crate) fn lay_out<H: Host>(
     host: &mut H,
     scripts: &Scripts,
 ) -> Result<(), HostFault>
-    requires home { IsTrue (H.state host.old).honest → IsDirectory ((H.state host.old).world home_path) }
-    requires absent { IsTrue (H.state host.old).honest → (H.state host.old).world tmp_place ≡ None }
-    ensures laid { IsTrue (H.state host.old).honest → OnOk result (AreLaidOut scripts.now (H.state host.new).world) }
-    ensures any_moment { IsTrue (H.state host.old).honest → Since (IsLaying (H.state host.old).world) (H.state host.old) (H.state host.new) }
+    requires home { Needs (H.state host.old) (λ w. IsDirectory (w home_path)) }
+    requires absent { Needs (H.state host.old) (λ w. w tmp_place ≡ None) }
+    ensures laid { Leaves result (λ old new. AreLaidOut scripts.now new) (H.state host.old) (H.state host.new) }
+    ensures any_moment { AtEachMoment IsLaying (H.state host.old) (H.state host.new) }
     ensures silent { Silent (H.state host.old) (H.state host.new) }
-    ensures cause { HasCause (H.state host.old) (H.state host.new) result }
+    ensures counts { Counts (H.state host.old) (H.state host.new) result }
 {
     make_tmp(alloc, host)?;
     put_all(alloc, host, scripts)
@@ -103,13 +103,13 @@ pub(crate) fn clear_away<H: Host>(
     host: &mut H,
     scripts: &Scripts,
 ) -> Result<(), HostFault>
-    requires { IsTrue (H.state host.old).honest → AreLaidOut scripts.now (H.state host.old).world }
-    ensures removed { IsTrue (H.state host.old).honest → OnOk result (IsRemoved tmp_place (H.state host.old).world (H.state host.new).world) }
-    ensures any_moment { IsTrue (H.state host.old).honest → Since (IsLaying (H.state host.old).world) (H.state host.old) (H.state host.new) }
+    requires { Needs (H.state host.old) (AreLaidOut scripts.now) }
+    ensures removed { Leaves result (IsRemoved tmp_place) (H.state host.old) (H.state host.new) }
+    ensures any_moment { AtEachMoment IsLaying (H.state host.old) (H.state host.new) }
     ensures silent { Silent (H.state host.old) (H.state host.new) }
-    ensures cause { HasCause (H.state host.old) (H.state host.new) result }
+    ensures counts { Counts (H.state host.old) (H.state host.new) result }
 {
-    let path = RootPath::from_str(alloc, INCOMING)?;
+    let incoming = RootPath::from_str(alloc, INCOMING)?;
     let names = names(alloc)?;
-    remove_flat(host, &path, names.as_slice())
+    remove_flat(host, &incoming, names.as_slice())
 }

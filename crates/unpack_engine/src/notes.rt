@@ -1,8 +1,8 @@
 // Noting how far a package is.
-ghost use Rattle.std.specs.Prelude.{IsTrue, OnOk};
-ghost use Rattle.host_core.specs.Host.{HasCause, Silent, Since};
-ghost use Rattle.status_db.specs.Status.{IsStatusReady};
-ghost use Rattle.unpack_engine.specs.Stages.{IsNotedAs, IsNotingAs};
+ghost use Rattle.std.specs.Prelude.{OnOk};
+ghost use Rattle.host_core.specs.Host.{AtEachMoment, Counts, Leaves, Needs, Silent};
+ghost use Rattle.status_db.specs.Status.{IsNoted, IsStatusReady};
+ghost use Rattle.unpack_engine.specs.Stages.{IsNotingAs, IsPutAs};
 
 use host_core::{Host, HostFault};
 use package_tree::Package;
@@ -18,11 +18,12 @@ pub(crate) fn note_as<H: Host>(
     flag: Flag,
     state: State,
 ) -> Result<(), HostFault>
-    requires { IsTrue (H.state host.old).honest → IsStatusReady (H.state host.old).world }
-    ensures noted { OnOk result (IsNotedAs incoming.now flag state database.old database.new (IsTrue (H.state host.old).honest) (H.state host.old).world (H.state host.new).world) }
-    ensures any_moment { IsTrue (H.state host.old).honest → Since (IsNotingAs incoming.now flag state database.old (H.state host.old).world) (H.state host.old) (H.state host.new) }
+    requires { Needs (H.state host.old) IsStatusReady }
+    ensures put { OnOk result (IsPutAs incoming.now flag state database.old database.new) }
+    ensures noted { Leaves result (IsNoted database.new) (H.state host.old) (H.state host.new) }
+    ensures any_moment { AtEachMoment (IsNotingAs incoming.now flag state database.old) (H.state host.old) (H.state host.new) }
     ensures silent { Silent (H.state host.old) (H.state host.new) }
-    ensures cause { HasCause (H.state host.old) (H.state host.new) result }
+    ensures counts { Counts (H.state host.old) (H.state host.new) result }
 {
     let record = Record::of_package(
         alloc,

@@ -1,7 +1,7 @@
 // The rows of an unpack, run one after another.
-ghost use Rattle.std.specs.Prelude.{◌≡◌, ◌≤◌, IfOk, IsTrue, codes};
-ghost use Rattle.host_core.specs.World.{SameOn, is_kept};
-ghost use Rattle.host_core.specs.Host.{HasCause, Since};
+ghost use Rattle.std.specs.Prelude.{◌≡◌, IfOk, codes};
+ghost use Rattle.host_core.specs.World.{is_kept};
+ghost use Rattle.host_core.specs.Host.{AtEachMomentOf, Counts, OnlyScripts};
 ghost use Rattle.unwind_stack.specs.Transcript.{Begins, Makes};
 ghost use Rattle.host_core.specs.declared.call.Script.TheVariants.{Preinst};
 ghost use Rattle.unpack_engine.specs.ForwardRows.{call_of, if_there, preinst_row};
@@ -92,16 +92,14 @@ pub fn preinst_call(alloc: Global, incoming: &Package) -> Result<Call, AllocErro
 fn run_row<H: Host>(
     alloc: Global,
     host: &mut H,
-    keep: &Keep,
+    keep: &Keep<'_>,
     row: &Row,
     told: &mut Vec<Called>,
 ) -> Result<Turn, HostFault>
     ensures calls { IfOk result (λ turn. Makes (is_kept keep.now) (IsTurn row.now turn) (H.state host.old) (H.state host.new) told.old.items told.new.items) }
     ensures told { Begins (is_kept keep.now) (TakesTurn row.now) (H.state host.old) (H.state host.new) told.old.items told.new.items }
-    ensures any_moment { IsTrue (H.state host.old).honest → Since (SameOn (is_kept keep.now) (H.state host.old).world) (H.state host.old) (H.state host.new) }
-    ensures honest { (H.state host.new).honest ≡ (H.state host.old).honest }
-    ensures faults { (H.state host.old).faults ≤ (H.state host.new).faults }
-    ensures cause { HasCause (H.state host.old) (H.state host.new) result }
+    ensures any_moment { AtEachMomentOf (OnlyScripts (is_kept keep.now)) (H.state host.old) (H.state host.new) }
+    ensures counts { Counts (H.state host.old) (H.state host.new) result }
 {
     if try_row(host, keep, row, told)? {
         return Ok(Turn::Committed);
@@ -118,16 +116,14 @@ fn run_row<H: Host>(
 pub(crate) fn run_rows<H: Host>(
     alloc: Global,
     host: &mut H,
-    keep: &Keep,
+    keep: &Keep<'_>,
     incoming: &Package,
     told: &mut Vec<Called>,
 ) -> Result<Turn, HostFault>
     ensures calls { IfOk result (λ turn. Makes (is_kept keep.now) (IsTurn (preinst_row incoming.now) turn) (H.state host.old) (H.state host.new) told.old.items told.new.items) }
     ensures told { Begins (is_kept keep.now) (TakesTurn (preinst_row incoming.now)) (H.state host.old) (H.state host.new) told.old.items told.new.items }
-    ensures any_moment { IsTrue (H.state host.old).honest → Since (SameOn (is_kept keep.now) (H.state host.old).world) (H.state host.old) (H.state host.new) }
-    ensures honest { (H.state host.new).honest ≡ (H.state host.old).honest }
-    ensures faults { (H.state host.old).faults ≤ (H.state host.new).faults }
-    ensures cause { HasCause (H.state host.old) (H.state host.new) result }
+    ensures any_moment { AtEachMomentOf (OnlyScripts (is_kept keep.now)) (H.state host.old) (H.state host.new) }
+    ensures counts { Counts (H.state host.old) (H.state host.new) result }
 {
     let row = make_preinst_row(alloc, incoming)?;
     run_row(alloc, host, keep, &row, told)

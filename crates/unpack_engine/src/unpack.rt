@@ -1,12 +1,13 @@
 // The unit of an unpack: notes, rows, files, in Policy's order.
-ghost use Rattle.std.specs.Prelude.{◌≡◌, ◌≤◌, IsTrue, IfOk, OnOk};
+ghost use Rattle.std.specs.Prelude.{◌≡◌, false, None, IfOk, OnOk};
 ghost use Rattle.host_core.specs.World.{IsDirectory};
-ghost use Rattle.host_core.specs.Host.{HasCause, Silent, Since};
+ghost use Rattle.host_core.specs.Host.{AtEachMoment, AtEachMomentOf, Counts, Leaves, Needs, Silent};
 ghost use Rattle.administration.specs.Places.{home_path, info_path};
+ghost use Rattle.status_db.specs.Records.{record_in};
 ghost use Rattle.status_db.specs.Status.{HasRecords, IsStatusReady};
 ghost use Rattle.unpack_engine.specs.OwnFiles.{IsOwnReady};
 ghost use Rattle.unpack_engine.specs.Unpack.{IsAmid, IsInOrder};
-ghost use Rattle.unpack_engine.specs.Units.{HasBegun, IsBeginning, HasFinished, IsFinishing, HasCalled, HasUnpacked};
+ghost use Rattle.unpack_engine.specs.Units.{BegunTable, BegunWorlds, FinishedTable, FinishedWorlds, HasCalled, HasUnpacked, IsBeginning, IsFinishing};
 
 use crate::incoming::{clear_away, lay_out};
 use crate::notes::note_as;
@@ -26,11 +27,12 @@ fn begin<H: Host>(
     database: &mut Database,
     incoming: &Package,
 ) -> Result<(), HostFault>
-    requires { IsTrue (H.state host.old).honest → IsInOrder (H.state host.old).world }
-    ensures begun { OnOk result (HasBegun incoming.now database.old database.new (IsTrue (H.state host.old).honest) (H.state host.old).world (H.state host.new).world) }
-    ensures any_moment { IsTrue (H.state host.old).honest → Since (IsBeginning incoming.now database.old (H.state host.old).world) (H.state host.old) (H.state host.new) }
+    requires { Needs (H.state host.old) IsInOrder }
+    ensures table { OnOk result (BegunTable incoming.now database.old database.new) }
+    ensures begun { Leaves result (BegunWorlds incoming.now database.new) (H.state host.old) (H.state host.new) }
+    ensures any_moment { AtEachMoment (IsBeginning incoming.now database.old) (H.state host.old) (H.state host.new) }
     ensures silent { Silent (H.state host.old) (H.state host.new) }
-    ensures cause { HasCause (H.state host.old) (H.state host.new) result }
+    ensures counts { Counts (H.state host.old) (H.state host.new) result }
 {
     discard_own(alloc, host, &incoming.name)?;
     lay_out(alloc, host, &incoming.scripts)?;
@@ -52,14 +54,15 @@ fn finish<H: Host>(
     incoming: &Package,
     turn: Turn,
 ) -> Result<(), HostFault>
-    requires home { IsTrue (H.state host.old).honest → IsDirectory ((H.state host.old).world home_path) }
-    requires info { IsTrue (H.state host.old).honest → IsDirectory ((H.state host.old).world info_path) }
-    requires status { IsTrue (H.state host.old).honest → IsStatusReady (H.state host.old).world }
-    requires own { IsTrue (H.state host.old).honest → IsOwnReady incoming.now.name (H.state host.old).world }
-    ensures finished { OnOk result (HasFinished incoming.now turn database.old database.new (IsTrue (H.state host.old).honest) (H.state host.old).world (H.state host.new).world) }
-    ensures any_moment { IsTrue (H.state host.old).honest → Since (IsFinishing incoming.now turn database.old (H.state host.old).world) (H.state host.old) (H.state host.new) }
+    requires home { Needs (H.state host.old) (λ w. IsDirectory (w home_path)) }
+    requires info { Needs (H.state host.old) (λ w. IsDirectory (w info_path)) }
+    requires status { Needs (H.state host.old) IsStatusReady }
+    requires own { Needs (H.state host.old) (IsOwnReady incoming.now.name) }
+    ensures table { OnOk result (FinishedTable incoming.now turn database.old database.new) }
+    ensures finished { Leaves result (FinishedWorlds incoming.now turn database.new) (H.state host.old) (H.state host.new) }
+    ensures any_moment { AtEachMoment (IsFinishing incoming.now turn database.old) (H.state host.old) (H.state host.new) }
     ensures silent { Silent (H.state host.old) (H.state host.new) }
-    ensures cause { HasCause (H.state host.old) (H.state host.new) result }
+    ensures counts { Counts (H.state host.old) (H.state host.new) result }
 {
     match turn {
         Turn::Committed => {
@@ -75,23 +78,24 @@ fn finish<H: Host>(
     }
 }
 
-/// Unpacks a package that isn't installed and ships no files.
+/// Unpacks a package that has no record and ships no files.
 pub fn unpack_package<H: Host>(
     alloc: Global,
     host: &mut H,
     database: &mut Database,
-    keep: &Keep,
+    keep: &Keep<'_>,
     incoming: &Package,
     told: &mut Vec<Called>,
 ) -> Result<Turn, HostFault>
-    requires order { IsTrue (H.state host.old).honest → IsInOrder (H.state host.old).world }
-    requires records { IsTrue (H.state host.old).honest → HasRecords (H.state host.old).world database.old }
+    requires new { record_in database.old incoming.now.name ≡ None }
+    requires bare { incoming.now.ships ≡ false }
+    requires no_conffiles { incoming.now.has_conffiles ≡ false }
+    requires order { Needs (H.state host.old) IsInOrder }
+    requires records { Needs (H.state host.old) (λ w. HasRecords w database.old) }
     ensures unit { IfOk result (λ turn. HasUnpacked incoming.now keep.now turn database.old database.new (H.state host.old) (H.state host.new) told.old.items told.new.items) }
     ensures told { HasCalled incoming.now keep.now database.old (H.state host.old) (H.state host.new) told.old.items told.new.items }
-    ensures any_moment { IsTrue (H.state host.old).honest → Since (IsAmid incoming.now keep.now database.old (H.state host.old).world) (H.state host.old) (H.state host.new) }
-    ensures honest { (H.state host.new).honest ≡ (H.state host.old).honest }
-    ensures faults { (H.state host.old).faults ≤ (H.state host.new).faults }
-    ensures cause { HasCause (H.state host.old) (H.state host.new) result }
+    ensures any_moment { AtEachMomentOf (IsAmid incoming.now keep.now database.old) (H.state host.old) (H.state host.new) }
+    ensures counts { Counts (H.state host.old) (H.state host.new) result }
 {
     begin(alloc, host, database, incoming)?;
     let turn = run_rows(alloc, host, keep, incoming, told)?;

@@ -8,6 +8,7 @@ mod version_rows;
 
 use command_line::{Hosts, run_words};
 use control_fields::{Paragraph, read_one, read_paragraphs, write_paragraph};
+use host_core::RootPath;
 use relation_fields::{Clause, Form, Provided, Provides, Relations};
 use std::alloc::{AllocError, Global};
 use std::process::Abort;
@@ -24,6 +25,14 @@ fn expect(rt: &impl Abort, answer: Result<String, AllocError>, row: &str) -> Res
 // What stands in bytes that are to be text.
 fn text_of(bytes: &[u8]) -> &str {
     str::from_utf8(bytes).unwrap_or("bytes that are no text")
+}
+
+// The path that a row names.
+fn path_of(alloc: Global, text: &str) -> Result<RootPath, AllocError> {
+    match RootPath::parse(alloc, text)? {
+        Some(path) => Ok(path),
+        None => Err(AllocError),
+    }
 }
 
 // Told on standard error; where the test's buffers can't grow, a write fails.

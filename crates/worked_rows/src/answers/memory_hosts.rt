@@ -7,9 +7,9 @@ mod tree_rows;
 mod unpack_rows;
 mod word_rows;
 
-use super::{answer, expect, text_of};
+use super::{answer, expect, path_of, text_of};
 use command_line::Hosts;
-use host_core::{Host, HostFault, Node, Outcome, RootPath};
+use host_core::{Access, Host, HostFault, Node, Outcome, RootPath};
 use host_memory::{Entry, MemoryHost, Planned};
 use std::alloc::{AllocError, Global};
 use std::process::Abort;
@@ -30,13 +30,13 @@ struct MemoryHosts {
 
 fn file(alloc: Global, text: &str) -> Result<Node, AllocError> {
     let bytes = Bytes::from_slice(alloc, text.as_bytes())?;
-    Ok(Node::File { bytes, mode: 0o755 })
+    let access = Access::own(0o755);
+    Ok(Node::File { bytes, access })
 }
 
 // Sets what a file holds.
 fn put(alloc: Global, host: &mut MemoryHost, path: &str, text: &str) -> Result<(), AllocError> {
-    let path = RootPath::from_str(alloc, path)?;
-    host.place(&path, file(alloc, text)?)?;
+    host.place(&path_of(alloc, path)?, file(alloc, text)?)?;
     Ok(())
 }
 
@@ -51,11 +51,12 @@ fn tree_of(alloc: Global, files: &[TreeFile], tree: &str) -> Result<MemoryHost, 
     Ok(host)
 }
 
-// A call that makes the directory /made and tries to remove the status file.
+// A call that makes the directory /made, tries to remove the status file and ends so.
 fn planned(alloc: Global, outcome: Outcome) -> Result<Planned, AllocError> {
     let mut change = Vec::new(alloc);
     let path = RootPath::from_str(alloc, "/made")?;
-    let node = Some(Node::Dir { mode: 0o755 });
+    let access = Access::own(0o755);
+    let node = Some(Node::Dir { access });
     change.push(Entry { path, node })?;
     let path = RootPath::from_str(alloc, "/var/lib/dpkg/status")?;
     change.push(Entry { path, node: None })?;
@@ -82,7 +83,7 @@ fn hosts(
 
 // What a file holds; nothing where none stands.
 fn text_at(alloc: Global, host: &mut MemoryHost, path: &str) -> Result<String, AllocError> {
-    match host.node(&RootPath::from_str(alloc, path)?) {
+    match host.node(&path_of(alloc, path)?) {
         Ok(Some(Node::File { bytes, .. })) => String::from_str(alloc, text_of(bytes.as_slice())),
         Ok(Some(_)) => String::from_str(alloc, "directory"),
         Ok(None) => Ok(String::new(alloc)),

@@ -8,12 +8,14 @@ mod link_rows;
 use super::{answer, is_refusing, is_want, text_of};
 use command_line::Hosts;
 use host_core::HostFault;
-use host_files::FilesHost;
+use host_files::{FilesHost, Unknown};
 use std::alloc::AllocError;
 use std::io::{Error, ErrorKind};
 use std::process::{Command, Stdio};
 use std::test::Fail;
 use std::{fs, io};
+
+type RealHost = FilesHost<Unknown>;
 
 // Opens directories by their paths. Of the host that was given back last it keeps how many calls and faults it had.
 #[derive(Drop)]
@@ -37,7 +39,7 @@ impl RealHosts {
 }
 
 impl Hosts for RealHosts {
-    type Opened = FilesHost;
+    type Opened = RealHost;
 
     ghost faults = { λ h. h.opened };
 
@@ -52,7 +54,7 @@ impl Hosts for RealHosts {
     ghost unopened = { λ _ _. ⊤ };
 
     // With a full count nothing is opened any more.
-    fn open_root(&mut self, directory: &str) -> Result<FilesHost, HostFault> {
+    fn open_root(&mut self, directory: &str) -> Result<RealHost, HostFault> {
         if self.opened == u64::MAX {
             return Err(HostFault::NoMemory);
         }
@@ -60,16 +62,16 @@ impl Hosts for RealHosts {
         FilesHost::open(self.rt, directory)
     }
 
-    fn open_tree(&mut self, tree: &str) -> Result<FilesHost, HostFault> {
+    fn open_tree(&mut self, tree: &str) -> Result<RealHost, HostFault> {
         self.open_root(tree)
     }
 
-    fn close_root(&mut self, host: FilesHost) {
+    fn close_root(&mut self, host: RealHost) {
         self.calls = host.calls().len();
         self.broken = host.faults();
     }
 
-    fn close_tree(&mut self, host: FilesHost) {
+    fn close_tree(&mut self, host: RealHost) {
         let _ = host;
     }
 }
@@ -255,7 +257,7 @@ fn preinst_kills_itself(rt: HostRuntime) -> Result<(), Fail> {
 const LOOKING: &[Step] = &[Step {
     before: "mkdir root
 tree t alpha 1.0
-script t preinst 5775 '. ../looks'
+script t preinst 1775 '. ../looks'
 cat >looks <<'END'
 root=${0%/var/lib/dpkg/tmp.ci/preinst}
 [ \"$(pwd -P)\" = \"$(cd \"$root\" && pwd -P)\" ] || exit 11
@@ -275,7 +277,7 @@ END",
 preinst install
 644 info/alpha.list
 /.
-5775 info/alpha.preinst
+1775 info/alpha.preinst
 #!/bin/sh
 echo \"preinst $*\" >>../started
 . ../looks

@@ -13,14 +13,15 @@ returns-in_ok-done-in-Ok-clause-done g c =
     let session = c.in-Ok.session in
     let begun = g.S.Opened.Host.state session.host in
     record {
-      places = session.keep;
+      places = session.places;
       table = session.database;
       state = begun;
       silent = c.in-Ok.ensures.silent;
       opens = c.in-Ok.ensures.opens;
+      opening = c.in-Ok.ensures.any_moment;
       opened = c.in-Ok.ensures.opened;
       end = g.S.Opened.Host.state c.into_host.result;
       given = c.close_root.ensures.given;
-      ran = subst (λ host. HasRunTrees outer c.args.trees.now c.in_ok-done-in-Ok.field-0 session.keep session.database begun (g.S.Opened.Host.state host)) (sym c.into_host.ensures)
-          (run_within outer inner (record { tree = λ word s h. h; seen = c.close_root.ensures.seen; failed = λ h. omega arith }) c.args.trees.now c.in_ok-done-in-Ok.field-0 session.keep session.database begun (g.S.Opened.Host.state c.run_trees-done.new.session.host) c.in_ok-done-in-Ok.ensures.done);
+      ran = subst (λ host. HasRunTrees outer c.args.trees.now c.in_ok-done-in-Ok.field-0 session.places session.database begun (g.S.Opened.Host.state host)) (sym c.into_host.ensures)
+          (run_within outer inner (record { tree = λ word s h. h; seen = c.close_root.ensures.seen; failed = λ h. omega arith }) c.args.trees.now c.in_ok-done-in-Ok.field-0 session.places session.database begun (g.S.Opened.Host.state c.run_trees-done.new.session.host) c.in_ok-done-in-Ok.ensures.done);
     }

@@ -1,6 +1,6 @@
 use Rattle.std.proofs.Common.{◌≡◌, [], ◌∷◌, ◌++◌, ◌∙◌, rules}
 use Rattle.dpkg_session.proofs.Amid.{since_unit_start}
-use Rattle.dpkg_session.proofs.Runs.{broken_by, is_broken_off, not_broken}
+use Rattle.dpkg_session.proofs.Runs.{broken_by, counts_no_memory, counts_whole, is_broken_off, is_whole, not_broken}
 use Rattle.dpkg_session.proofs.Told.{called_tells, not_begun, tells_unit}
 use Rattle.dpkg_session.proofs.units.run_one.Goals as goal
 
@@ -17,7 +17,7 @@ returns-clause-told g c =
     tells_unit (g.H.Host.state c.args.host.now) (g.H.Host.state c.unit_of-unit.new.host) c.args.units.now.items c.push.new.self.items unit grown (called_tells c.args.candidate.now.tree c.args.keep.now c.args.database.now unit (g.H.Host.state c.args.host.now) (g.H.Host.state c.unit_of-unit.new.host) c.unit_of-unit.ensures.told)
 
 pub returns-then-is_err-clause-any_moment : goal.returns-then-is_err-clause-any_moment
-returns-then-is_err-clause-any_moment g c = λ h. since_unit_start _ _ _ _ (record { order = c.requires.order h; tree = g.H.Host.tree c.args.host.now h; records = c.requires.records h })
+returns-then-is_err-clause-any_moment g c = since_unit_start _ _ _ _ (λ h. record { order = c.requires.order h; tree = g.H.Host.tree c.args.host.now h; records = c.requires.records h })
 
 pub returns-then-is_err-clause-broken_off : goal.returns-then-is_err-clause-broken_off
 returns-then-is_err-clause-broken_off g c = record {
@@ -30,3 +30,16 @@ pub returns-then-is_broken-clause-broken_off : goal.returns-then-is_broken-claus
 returns-then-is_broken-clause-broken_off g c =
     let broken = is_broken_off c.unit_of-unit.result.reply c.is_broken.result c.if-is_broken.true c.is_broken.ensures in
     record { broken = broken; untouched = c.unit_of-unit.ensures.untouched broken; called = c.unit_of-unit.ensures.told }
+
+pub returns-then-is_err-clause-counts : goal.returns-then-is_err-clause-counts
+returns-then-is_err-clause-counts g c = counts_no_memory c.broken.result.reply (g.H.Host.state c.args.host.now) c.broken.ensures.reply
+
+pub returns-clause-no_fault : goal.returns-clause-no_fault
+returns-clause-no_fault g c =
+    let unit = c.unit_of-unit.result in
+    counts_whole unit.reply (g.H.Host.state c.args.host.now) (g.H.Host.state c.unit_of-unit.new.host) (is_whole unit.reply c.is_broken.result c.if-is_broken.false c.is_broken.ensures) c.unit_of-unit.ensures.counts
+
+pub returns-clause-answered : goal.returns-clause-answered
+returns-clause-answered g c =
+    let unit = c.unit_of-unit.result in
+    not_broken unit.reply c.is_broken.result c.if-is_broken.false c.is_broken.ensures c.unit_of-unit.ensures.answered

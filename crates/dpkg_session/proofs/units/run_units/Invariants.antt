@@ -1,5 +1,5 @@
-use Rattle.std.proofs.Common.{◌≡◌, ◌≤◌, [], IsTrue, length, take}
-use Rattle.host_core.specs.Host.{Since}
+use Rattle.std.proofs.Common.{◌≡◌, [], length, take}
+use Rattle.host_core.specs.Host.{Since, faults}
 use Rattle.unwind_stack.specs.Transcript.{TellsAll}
 use Rattle.dpkg_session.specs.Units.{calls_of}
 use Rattle.dpkg_session.specs.Run.{IsAmidRun, IsRun}
@@ -13,9 +13,8 @@ invariant-loop-candidate g l =
     record {
       count : length l.units.items ≡ l.candidate-index;
       so_far : IsRun (take l.candidate-index l.candidates) l.units.items l.keep l.fn.database l.database old now;
-      honest : now.honest ≡ old.honest;
-      faults : old.faults ≤ now.faults;
+      no_fault : faults now ≡ faults old;
       told : TellsAll old now [] (calls_of l.units.items);
       ready : Ready l.database now;
-      moments : IsTrue old.honest → Since (IsAmidRun l.candidates l.keep l.fn.database old) old now;
+      moments : Since (IsAmidRun l.candidates l.keep l.fn.database old) old now;
     }

@@ -1,7 +1,7 @@
-use Rattle.std.proofs.Common.{◌∷◌, [], refl, sym, subst, codes, IsTrue}
+use Rattle.std.proofs.Common.{◌∷◌, [], refl, codes}
 use Rattle.administration.specs.Places.{home_path, updates_path}
 use Rattle.opening.specs.Parts.{Way, Updates}
-use Rattle.opening.proofs.Openings.{child_parent, opens_then, stopped_before}
+use Rattle.opening.proofs.Openings.{child_parent, moments_read, moments_then, opens_then, stopped_before}
 use Rattle.opening.proofs.open.open_updates.Goals as goal
 
 pub make_way-requires-clause-parent : goal.make_way-requires-clause-parent
@@ -13,5 +13,7 @@ returns-in_err-make_way-clause-opens g c = λ h.
 
 pub returns-clause-opens : goal.returns-clause-opens
 returns-clause-opens g c = λ h.
-    let h1 = subst IsTrue (sym c.make_way.ensures.silent.honest) h in
-    opens_then (Way updates_path ∷ []) (Updates ∷ []) _ _ _ _ (refl, tt) (c.in_ok-make_way.ensures.opens h) (c.check_updates.ensures.opens h1)
+    opens_then (Way updates_path ∷ []) (Updates ∷ []) _ _ _ _ (refl, tt) (c.in_ok-make_way.ensures.opens (c.check_updates.ensures.silent.honest h)) (c.check_updates.ensures.opens h)
+
+pub returns-clause-any_moment : goal.returns-clause-any_moment
+returns-clause-any_moment g c = moments_then _ _ _ c.make_way.ensures.any_moment (moments_read _ _ c.check_updates.ensures.reads)

@@ -9,11 +9,11 @@ use Rattle.package_tree.proofs.reading.first_wrong.Goals as goal
 told : {found there : Option Node} {b : Bool} → found ≡ there → b ≡ is_wrong found → is_wrong there ≡ b
 told same is = ap is_wrong (sym same) ∙ sym is
 
-pub returns-then-is_wrong : goal.returns-then-is_wrong
-returns-then-is_wrong c = λ w are. record { before = []; after = _; is = refl; wrong = told are.conffiles c.if-is_wrong.ensures; first = tt }
+pub returns-then-is_wrong-clause-found : goal.returns-then-is_wrong-clause-found
+returns-then-is_wrong-clause-found c = λ w are. record { before = []; after = _; is = refl; wrong = told are.conffiles c.if-is_wrong.ensures; first = tt }
 
-pub returns-then-is_wrong-2 : goal.returns-then-is_wrong-2
-returns-then-is_wrong-2 c = λ w are. record {
+pub returns-then-is_wrong-2-clause-found : goal.returns-then-is_wrong-2-clause-found
+returns-then-is_wrong-2-clause-found c = λ w are. record {
   before = conffiles_path ∷ [];
   after = _;
   is = refl;
@@ -21,8 +21,8 @@ returns-then-is_wrong-2 c = λ w are. record {
   first = (told are.conffiles c.if-is_wrong.ensures, tt);
 }
 
-pub returns-then-is_wrong-3 : goal.returns-then-is_wrong-3
-returns-then-is_wrong-3 c = λ w are. record {
+pub returns-then-is_wrong-3-clause-found : goal.returns-then-is_wrong-3-clause-found
+returns-then-is_wrong-3-clause-found c = λ w are. record {
   before = conffiles_path ∷ script_path Postinst ∷ [];
   after = _;
   is = refl;
@@ -30,8 +30,8 @@ returns-then-is_wrong-3 c = λ w are. record {
   first = (told are.conffiles c.if-is_wrong.ensures, (told are.postinst c.if-is_wrong-2.ensures, tt));
 }
 
-pub returns-then-is_wrong-4 : goal.returns-then-is_wrong-4
-returns-then-is_wrong-4 c = λ w are. record {
+pub returns-then-is_wrong-4-clause-found : goal.returns-then-is_wrong-4-clause-found
+returns-then-is_wrong-4-clause-found c = λ w are. record {
   before = conffiles_path ∷ script_path Postinst ∷ script_path Postrm ∷ [];
   after = _;
   is = refl;
@@ -39,8 +39,8 @@ returns-then-is_wrong-4 c = λ w are. record {
   first = (told are.conffiles c.if-is_wrong.ensures, (told are.postinst c.if-is_wrong-2.ensures, (told are.postrm c.if-is_wrong-3.ensures, tt)));
 }
 
-pub returns-then-is_wrong-5 : goal.returns-then-is_wrong-5
-returns-then-is_wrong-5 c = λ w are. record {
+pub returns-then-is_wrong-5-clause-found : goal.returns-then-is_wrong-5-clause-found
+returns-then-is_wrong-5-clause-found c = λ w are. record {
   before = conffiles_path ∷ script_path Postinst ∷ script_path Postrm ∷ script_path Preinst ∷ [];
   after = _;
   is = refl;

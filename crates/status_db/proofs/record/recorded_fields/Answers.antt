@@ -19,7 +19,7 @@ push-requires c =
 pub loop-field-preserved-in_ok-push : goal.loop-field-preserved-in_ok-push
 loop-field-preserved-in_ok-push c = (
   kept_more own_names c.loop-field.kept c.push.new.self c.loop-field.yielded c.in-Some.field c.in_ok-copy.field-0 (sym (ap (λ n. list_any (bytes_eq (lower n)) own_names) c.as_slice.ensures) ∙ sym c.is_own.ensures ∙ c.if-not-is_own.true) c.loop-field.invariant.0
-      c.in_ok-push.ensures c.in_ok-copy.ensures,
+      c.in_ok-push.ensures.ok c.in_ok-copy.ensures,
   walk_more c.args.control.now c.loop-field.field-iterator c.next.new.self c.loop-field.yielded c.in-Some.field c.loop-field.invariant.1 c.in-Some.ensures.steps,
 )
 

@@ -13,6 +13,6 @@ push-requires c =
 pub loop-field-preserved : goal.loop-field-preserved
 loop-field-preserved c =
     let r = c.args.entry.now in (
-      written_more (first_fields r.name (status_text r.want r.flag r.state) r.version) c.loop-field.fields c.push.new.self c.loop-field.yielded c.in-Some.field c.in_ok-copy.field-0 c.loop-field.invariant.0 c.in_ok-push.ensures c.in_ok-copy.ensures,
+      written_more (first_fields r.name (status_text r.want r.flag r.state) r.version) c.loop-field.fields c.push.new.self c.loop-field.yielded c.in-Some.field c.in_ok-copy.field-0 c.loop-field.invariant.0 c.in_ok-push.ensures.ok c.in_ok-copy.ensures,
       walk_more r.fields c.loop-field.field-iterator c.next.new.self c.loop-field.yielded c.in-Some.field c.loop-field.invariant.1 c.in-Some.ensures.steps,
     )

@@ -1,18 +1,19 @@
+use Rattle.host_core.specs.Scripts.{since_scripts}
 use Rattle.unwind_stack.specs.Transcript.{Tries, TriesRow, UndoesAny, UndoesRow}
-use Rattle.unwind_stack.proofs.Makes.{begins_more, begins_then, makes_then, moments_then}
+use Rattle.unwind_stack.proofs.Makes.{begins_more, begins_then, makes_then}
 use Rattle.unpack_engine.specs.Turns.{IsTurn, TakesTurn}
 use Rattle.unpack_engine.specs.declared.rows.Turn.TheVariants.{Undone, UndoFailed}
 use Rattle.unpack_engine.proofs.Falling.{falls_undone, falls_failed, turn_falls, turn_goes_on}
 use Rattle.unpack_engine.proofs.rows.run_row.Goals as goal
 
 pub returns-in_err-undo_row-clause-any_moment : goal.returns-in_err-undo_row-clause-any_moment
-returns-in_err-undo_row-clause-any_moment g c = moments_then _ _ _ _ c.try_row.ensures.any_moment c.try_row.ensures.honest c.undo_row.ensures.any_moment
+returns-in_err-undo_row-clause-any_moment g c = since_scripts _ _ _ _ c.try_row.ensures.any_moment c.undo_row.ensures.any_moment
 
 pub returns-then-is_empty-clause-any_moment : goal.returns-then-is_empty-clause-any_moment
-returns-then-is_empty-clause-any_moment g c = moments_then _ _ _ _ c.try_row.ensures.any_moment c.try_row.ensures.honest c.undo_row.ensures.any_moment
+returns-then-is_empty-clause-any_moment g c = since_scripts _ _ _ _ c.try_row.ensures.any_moment c.undo_row.ensures.any_moment
 
 pub returns-clause-any_moment : goal.returns-clause-any_moment
-returns-clause-any_moment g c = moments_then _ _ _ _ c.try_row.ensures.any_moment c.try_row.ensures.honest c.undo_row.ensures.any_moment
+returns-clause-any_moment g c = since_scripts _ _ _ _ c.try_row.ensures.any_moment c.undo_row.ensures.any_moment
 
 pub returns-then-is_empty-clause-calls : goal.returns-then-is_empty-clause-calls
 returns-then-is_empty-clause-calls g c =

@@ -1,8 +1,8 @@
 // A tree in memory: what is read of it, and what stands in it.
 use super::unpack_rows::WITH_POSTRM;
-use super::{expect, file, text_of, tree_of};
+use super::{expect, file, path_of, text_of, tree_of};
 use control_fields::write_paragraph;
-use host_core::{RootPath, Script};
+use host_core::Script;
 use host_memory::MemoryHost;
 use package_tree::{Package, read_tree};
 use std::alloc::{AllocError, Global};
@@ -55,7 +55,7 @@ fn a_package_is_copied(rt: HostRuntime) -> Result<(), Fail> {
 }
 
 fn place(alloc: Global, host: &mut MemoryHost, path: &str) -> Result<bool, AllocError> {
-    host.place(&RootPath::from_str(alloc, path)?, file(alloc, "x")?)
+    host.place(&path_of(alloc, path)?, file(alloc, "x")?)
 }
 
 #[test]

@@ -19,12 +19,21 @@ pub(crate) const WITH_POSTRM: &[TreeFile] = &[
     ("t", "/DEBIAN/postrm", "#!/bin/sh\n"),
 ];
 
+// Its name has 201 letters.
+const LONG_NAME: &str =
+    "Package: aaaaaaaaaaaaaaaaaaaaaaaaaaaaaaaaaaaaaaaaaaaaaaaaaaaaaaaaaaaaaaaaaaaaaaaaa\
+aaaaaaaaaaaaaaaaaaaaaaaaaaaaaaaaaaaaaaaaaaaaaaaaaaaaaaaaaaaaaaaaaaaaaaaaaaaaaaaaaaaaaaaaaaaaa\
+aaaaaaaaaaaaaaaaaaaaaaaaaaaaaaaaaaa
+Version: 1.0
+";
+
 // Trees that are named by what is refused of them, and two that are not.
 pub(crate) const TREES: &[TreeFile] = &[
     ("empty", "/DEBIAN/preinst", "#!/bin/sh\n"),
     ("bare", CONTROL, "Package: alpha\n"),
     ("colon", CONTROL, "Package\n"),
     ("name", CONTROL, "Package: A\nVersion: 1.0\n"),
+    ("long", CONTROL, LONG_NAME),
     ("version", CONTROL, "Package: alpha\nVersion: 1_0\n"),
     (
         "essential",
@@ -151,6 +160,10 @@ pub(crate) const REFUSALS: &[(&str, &str)] = &[
     (
         "dpkg_cli unpack name",
         "refused name FieldBad Package\n||1\n",
+    ),
+    (
+        "dpkg_cli unpack long",
+        "refused long FieldBad Package\n||1\n",
     ),
     (
         "dpkg_cli unpack version",

@@ -1,7 +1,9 @@
 // No call of a host goes through a link, in the middle of a path or at its end.
-use super::{NEW_DIRECTORY, shell};
-use crate::answers::text_of;
-use host_core::{Call, Host, HostFault, Keep, Node, Outcome, RootPath, Script, Side};
+use super::{NEW_DIRECTORY, RealHost, shell};
+use crate::answers::{path_of, text_of};
+use host_core::{
+    Access, Call, Host, HostFault, Keep, Node, Outcome, Places, RootPath, Script, Side,
+};
 use host_files::FilesHost;
 use std::alloc::{AllocError, Global};
 use std::fs;
@@ -18,15 +20,20 @@ chmod 755 outside/script
 echo moved >root/file
 ln -s ../outside root/link
 ln -s ../outside/new root/dangling
+ln -s ../outside/new root/dangling.dpkg-inst
 ln -s ../outside/script root/script";
 
 fn node_text(alloc: Global, node: Option<Node>) -> Result<String, AllocError> {
     match node {
-        Some(Node::File { bytes, mode }) => {
+        Some(Node::File { bytes, access }) => {
+            let mode = access.mode;
             let text = text_of(bytes.as_slice());
             format!(in alloc; "file {mode:o} {text}")
         }
-        Some(Node::Dir { mode }) => format!(in alloc; "directory {mode:o}"),
+        Some(Node::Dir { access }) => {
+            let mode = access.mode;
+            format!(in alloc; "directory {mode:o}")
+        }
         Some(Node::Link { target }) => {
             let target = target.as_str();
             format!(in alloc; "link {target}")
@@ -36,7 +43,7 @@ fn node_text(alloc: Global, node: Option<Node>) -> Result<String, AllocError> {
 }
 
 // Runs a preinst.
-fn run(alloc: Global, host: &mut FilesHost, path: &RootPath) -> Result<Outcome, HostFault> {
+fn run(alloc: Global, host: &mut RealHost, path: &RootPath) -> Result<Outcome, HostFault> {
     let call = Call {
         side: Side::New,
         package: Text::new(String::from_str(alloc, "alpha")?),
@@ -44,25 +51,32 @@ fn run(alloc: Global, host: &mut FilesHost, path: &RootPath) -> Result<Outcome, 
         at: path.copy()?,
         args: Texts::new(alloc),
     };
-    let places = Vec::new(alloc);
-    host.run(&call, &Keep { places })
+    let places = Places {
+        items: Vec::new(alloc),
+    };
+    host.run(&call, &Keep { places: &places })
+}
+
+// Writes a file; at a temporary name alone.
+#[tactic(auto, using(host_files::specs::Replay::unknown_needs))]
+fn write(alloc: Global, host: &mut RealHost, path: &RootPath) -> Result<(), HostFault> {
+    if !path.as_str().ends_with(".dpkg-inst") {
+        return Err(HostFault::NoMemory);
+    }
+    let bytes = Bytes::from_slice(alloc, b"written\n")?;
+    let access = Access::own(0o1775);
+    host.write_new(path, &Node::File { bytes, access })
 }
 
 // Makes a step at the path.
-fn step(alloc: Global, host: &mut FilesHost, word: &str, path: &RootPath) -> Result<(), HostFault> {
+#[tactic(auto, using(host_files::specs::Replay::unknown_needs))]
+fn step(alloc: Global, host: &mut RealHost, word: &str, path: &RootPath) -> Result<(), HostFault> {
     match word {
-        "write" => {
-            let bytes = Bytes::from_slice(alloc, b"written\n")?;
-            host.write_new(
-                path,
-                &Node::File {
-                    bytes,
-                    mode: 0o5775,
-                },
-            )
-        }
-        "make" => host.make_dir(path, 0o5775),
+        "write" => write(alloc, host, path),
+        "sync" => host.sync(path),
+        "make" => host.make_dir(path, Access::own(0o1775)),
         "move" => host.rename(path, &RootPath::from_str(alloc, "/moved")?),
+        "settle" => host.rename(path, &RootPath::from_str(alloc, "/written")?),
         "cover" => host.rename(&RootPath::from_str(alloc, "/file")?, path),
         "remove" => host.remove(path),
         _ => host.remove_dir(path),
@@ -72,7 +86,7 @@ fn step(alloc: Global, host: &mut FilesHost, word: &str, path: &RootPath) -> Res
 // What the host answers to the call that a word names.
 fn told(
     alloc: Global,
-    host: &mut FilesHost,
+    host: &mut RealHost,
     word: &str,
     path: &RootPath,
 ) -> Result<String, HostFault> {
@@ -102,8 +116,8 @@ const CALLS: &[(&str, &str, &str)] = &[
     ("list", "/link/full", "0 names"),
     ("run", "/script", "not started"),
     ("run", "/link/script", "not started"),
-    ("write", "/dangling", "Device"),
-    ("write", "/link/new", "Device"),
+    ("write", "/dangling.dpkg-inst", "Device"),
+    ("write", "/link/new.dpkg-inst", "Device"),
     ("make", "/dangling", "Device"),
     ("make", "/link/new", "Device"),
     ("move", "/link/file", "Device"),
@@ -114,21 +128,23 @@ const CALLS: &[(&str, &str, &str)] = &[
     ("cover", "/dangling", "done"),
     ("move", "/script", "done"),
     ("remove", "/link", "done"),
-    ("write", "/written", "done"),
+    ("write", "/written.dpkg-inst", "done"),
+    ("sync", "/written.dpkg-inst", "done"),
+    ("settle", "/written.dpkg-inst", "done"),
     ("make", "/made", "done"),
-    ("node", "/written", "file 5775 written\n"),
-    ("node", "/made", "directory 5775"),
+    ("node", "/written", "file 1775 written\n"),
+    ("node", "/made", "directory 1775"),
 ];
 
 fn check(
     rt: &HostRuntime,
-    host: &mut FilesHost,
+    host: &mut RealHost,
     asked: (&str, &str),
     row: &str,
 ) -> Result<(), Fail> {
     let alloc = rt.alloc();
     let (word, path) = asked;
-    let answer = match told(alloc, host, word, &RootPath::from_str(alloc, path)?) {
+    let answer = match told(alloc, host, word, &path_of(alloc, path)?) {
         Ok(answer) => answer,
         Err(fault) => format!(in alloc; "{fault:?}")?,
     };
@@ -161,9 +177,10 @@ outside/full/file f 644
 outside/script f 755
 root d 755
 root/dangling f 644
-root/made d 5775
+root/dangling.dpkg-inst -> ../outside/new
+root/made d 1775
 root/moved -> ../outside/script
-root/written f 5775
+root/written f 1775
 kept
 kept
 moved

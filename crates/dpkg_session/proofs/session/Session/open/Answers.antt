@@ -1,10 +1,16 @@
-use Rattle.std.proofs.Common.{IsTrue, subst}
 use Rattle.dpkg_session.proofs.Listed.{standing_opened}
+use Rattle.dpkg_session.proofs.Outlasting.{loses_like}
 use Rattle.dpkg_session.proofs.session.Session.open.Goals as goal
 use Rattle.std.proofs.Common.{rules}
 
 pub invariant_of-result : goal.invariant_of-result
-invariant_of-result g c = record { ready = λ open_still h. standing_opened _ _ _ (c.in-Ok.ensures.opened (subst IsTrue c.open_administration.ensures.silent.honest h)) }
+invariant_of-result g c = record { ready = λ open_still h. standing_opened _ _ _ (c.in-Ok.ensures.opened h) }
 
 pub returns-in-Ok-clause-closed : goal.returns-in-Ok-clause-closed
 returns-in-Ok-clause-closed g c = search rules
+
+pub returns-in-Ok-clause-loss : goal.returns-in-Ok-clause-loss
+returns-in-Ok-clause-loss g c = loses_like _ _ _ (g.H.Host.settled c.open_to_disk.new.host) c.open_to_disk.ensures.any_moment
+
+pub returns-in-Err-clause-loss_refused : goal.returns-in-Err-clause-loss_refused
+returns-in-Err-clause-loss_refused g c = loses_like _ _ _ (g.H.Host.settled c.open_to_disk.new.host) c.open_to_disk.ensures.any_moment

@@ -1,12 +1,21 @@
-use Rattle.std.proofs.Common.{sym, subst, IsTrue, ◌∙◌}
+use Rattle.std.proofs.Common.{sym, ◌∙◌}
 use Rattle.dpkg_session.proofs.Listed.{standing_run}
+use Rattle.dpkg_session.specs.Commands.{candidates_of}
+use Rattle.dpkg_session.proofs.Outlasting.{run_loses, run_stands}
+use Rattle.dpkg_session.proofs.Runs.{falls_run}
 use Rattle.dpkg_session.proofs.session.Session.run.Goals as goal
 
 pub invariant_of-self : goal.invariant_of-self
 invariant_of-self g c = record {
-  ready = λ open_still h1.
+  ready = λ open_still h.
       let left = sym c.is_some-self.ensures ∙ open_still in
       let units = c.run_units-report.ensures in
-      let h = subst IsTrue units.honest h1 in
-      standing_run _ _ _ _ _ _ _ (units.whole left) h (units.order left h) (units.records left h) (c.args.self.now.ready c.if-self.false h);
+      let run = units.whole left in
+      standing_run _ _ _ _ _ _ _ run h (units.order left h) (units.records left h) (c.args.self.now.ready c.if-self.false (falls_run _ _ _ _ _ _ _ run h));
 }
+
+pub returns-clause-loss : goal.returns-clause-loss
+returns-clause-loss g c = λ open_before. run_loses _ (candidates_of c.args.command.now) _ _ _ _ c.candidates.ensures (g.H.Host.settled c.run_units-report.new.host) c.run_units-report.ensures.any_moment
+
+pub returns-clause-stands : goal.returns-clause-stands
+returns-clause-stands g c = λ open_before whole. run_stands _ _ _ _ _ _ _ _ c.run_units-report.ensures.any_moment (c.run_units-report.ensures.whole whole)

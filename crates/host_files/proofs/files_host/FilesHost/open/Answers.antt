@@ -1,5 +1,5 @@
-use Rattle.std.proofs.Common.{rules}
+use Rattle.host_files.proofs.Replayed.{settled_start}
 use Rattle.host_files.proofs.files_host.FilesHost.open.Goals as goal
 
-pub returns-in-Ok-clause-directory : goal.returns-in-Ok-clause-directory
-returns-in-Ok-clause-directory c = search rules
+pub invariant_of-result : goal.invariant_of-result
+invariant_of-result g c = record { settled = settled_start g.D.Disk.model c.new-in-Ok-3.result.log.notes c.new-in-Ok-3.ensures }

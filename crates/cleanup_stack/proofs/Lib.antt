@@ -1,0 +1,6 @@
+pub mod Tellings
+pub mod Parts
+pub mod Rowwise
+pub mod Undone
+pub mod Growth
+pub mod Runs

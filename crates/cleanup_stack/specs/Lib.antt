@@ -1,0 +1,5 @@
+pub mod Place
+pub mod Undoing
+pub mod Transcripts
+pub mod Telling
+pub mod Stops

@@ -1,0 +1,140 @@
+// What is done beside the calls of rows.
+ghost use Rattle.std.specs.Prelude.{◌≡◌, ◌≢◌, ℕ, ◌+◌, List, ◌++◌, Option, IfOk, OnOk, IsTrue};
+ghost use Rattle.host_core.specs.Paths.{Path};
+ghost use Rattle.host_core.specs.World.{World, is_kept};
+ghost use Rattle.host_core.specs.Events.{Event, Ran};
+ghost use Rattle.host_core.specs.Host.{Calls, Counts, OnlyScripts, Silent, State, calls};
+ghost use Rattle.unwind_stack.specs.declared.rows.Row.{Row};
+ghost use Rattle.unwind_stack.specs.declared.rows.Owner.TheVariants.{Files};
+ghost use Rattle.unwind_stack.specs.declared.fall.StepFault.{StepFault};
+ghost use Rattle.cleanup_stack.specs.Place.{Back, Forward, Place, Ready, blamed, called, worked};
+ghost use Rattle.cleanup_stack.specs.Stops.{AtEachStop};
+ghost use Rattle.cleanup_stack.specs.Transcripts.{IfHonest};
+
+use crate::Failed;
+use host_core::{Host, HostFault, Places};
+use unwind_stack::{Fall, Row, StepFault};
+
+/// What is done beside the calls of rows: notes and files. It makes no script call.
+pub trait Around<H: Host> {
+    /// What stays the same over a run of rows.
+    ghost Task: { Type 0 };
+
+    ghost task: { Self → Self.Task };
+
+    /// The name of what it holds by `&mut`, which stays the same.
+    ghost reference: { Self → ℕ };
+
+    /// Which row may stand at which place of the list.
+    ghost fits: { Self.Task → ℕ → Row → Type 0 };
+
+    /// The places that scripts leave alone.
+    ghost kept: { Self.Task → List Path };
+
+    /// The step fault of the file row's work, or none, after all these calls.
+    ghost file_step_fault: { Self.Task → List Ran → Option StepFault → Type 0 };
+
+    /// What holds at each moment of all events of the host so far, and of the world.
+    ghost stops: { Self.Task → List Event → World → Type 0 };
+
+    /// What holds at a place of the run.
+    ghost at: { Self → State → Place → Type 0 };
+
+    fn places(&self) -> &Places
+        ensures { result.now ≡ kept (task self.now) };
+
+    /// Is called before a row of calls.
+    fn prepare(&mut self, host: &mut H, row: &Row, index: usize) -> Result<(), HostFault>
+        requires place { at self.old (H.state host.old) (Forward index) }
+        requires row { fits (task self.old) index row.now }
+        requires calls { row.now.owner ≢ Files }
+        ensures place { OnOk result (at self.new (H.state host.new) (Ready index)) }
+        ensures any_moment { AtEachStop (stops (task self.old)) (H.state host.old) (H.state host.new) }
+        ensures task { task self.new ≡ task self.old }
+        ensures reference { reference self.new ≡ reference self.old }
+        ensures silent { Silent (H.state host.old) (H.state host.new) }
+        ensures counts { Counts (H.state host.old) (H.state host.new) result };
+
+    /// Is called after a row of calls, which has succeeded or not.
+    fn conclude(
+        &mut self,
+        host: &mut H,
+        row: &Row,
+        index: usize,
+        succeeded: bool,
+    ) -> Result<(), HostFault>
+        requires place { at self.old (H.state host.old) (Ready index) }
+        requires row { fits (task self.old) index row.now }
+        requires calls { row.now.owner ≢ Files }
+        ensures place { OnOk result (at self.new (H.state host.new) (called index succeeded)) }
+        ensures any_moment { AtEachStop (stops (task self.old)) (H.state host.old) (H.state host.new) }
+        ensures task { task self.new ≡ task self.old }
+        ensures reference { reference self.new ≡ reference self.old }
+        ensures silent { Silent (H.state host.old) (H.state host.new) }
+        ensures counts { Counts (H.state host.old) (H.state host.new) result };
+
+    /// Does the work of the file row. A step fault means that the row has failed.
+    fn work(
+        &mut self,
+        host: &mut H,
+        row: &Row,
+        index: usize,
+    ) -> Result<Option<StepFault>, HostFault>
+        requires place { at self.old (H.state host.old) (Forward index) }
+        requires row { fits (task self.old) index row.now }
+        requires files { row.now.owner ≡ Files }
+        ensures fault { IfOk result (IfHonest (H.state host.new) (file_step_fault (task self.old)) (calls (H.state host.old))) }
+        ensures place { IfOk result (λ fault. at self.new (H.state host.new) (worked index fault)) }
+        ensures any_moment { AtEachStop (stops (task self.old)) (H.state host.old) (H.state host.new) }
+        ensures task { task self.new ≡ task self.old }
+        ensures reference { reference self.new ≡ reference self.old }
+        ensures silent { Silent (H.state host.old) (H.state host.new) }
+        ensures counts { Counts (H.state host.old) (H.state host.new) result };
+
+    /// Is called after the undo call of a row, or in place of one that is absent or spared.
+    fn undone(
+        &mut self,
+        host: &mut H,
+        row: &Row,
+        index: usize,
+        fall: &Fall,
+        failed: &[Failed],
+        fails: bool,
+    ) -> Result<(), HostFault>
+        requires place { at self.old (H.state host.old) (Back (index + 1) fall.now failed.now) }
+        requires row { fits (task self.old) index row.now }
+        requires calls { row.now.owner ≢ Files }
+        ensures place { OnOk result (at self.new (H.state host.new) (Back index fall.now (blamed fails index row.now.owner failed.now))) }
+        ensures any_moment { AtEachStop (stops (task self.old)) (H.state host.old) (H.state host.new) }
+        ensures task { task self.new ≡ task self.old }
+        ensures reference { reference self.new ≡ reference self.old }
+        ensures silent { Silent (H.state host.old) (H.state host.new) }
+        ensures counts { Counts (H.state host.old) (H.state host.new) result };
+
+    /// Undoes the work of the file row.
+    fn put_back(
+        &mut self,
+        host: &mut H,
+        row: &Row,
+        index: usize,
+        fall: &Fall,
+        failed: &[Failed],
+    ) -> Result<(), HostFault>
+        requires place { at self.old (H.state host.old) (Back (index + 1) fall.now failed.now) }
+        requires row { fits (task self.old) index row.now }
+        requires files { row.now.owner ≡ Files }
+        ensures place { OnOk result (at self.new (H.state host.new) (Back index fall.now failed.now)) }
+        ensures any_moment { AtEachStop (stops (task self.old)) (H.state host.old) (H.state host.new) }
+        ensures task { task self.new ≡ task self.old }
+        ensures reference { reference self.new ≡ reference self.old }
+        ensures silent { Silent (H.state host.old) (H.state host.new) }
+        ensures counts { Counts (H.state host.old) (H.state host.new) result };
+
+    ghost holds: { (a : Self) (s : State) (p : Place) → at a s p → IsTrue s.honest → stops (task a) s.events s.world };
+
+    /// Script calls lead to no other place.
+    ghost stays: { (a : Self) (s t : State) (p : Place) (ts : List Ran) → at a s p → Calls (is_kept (kept (task a))) ts s t → at a t p };
+
+    /// While scripts run, and where one is cut off, it holds as well.
+    ghost scripts: { (t : Self.Task) (es more : List Event) (w v : World) → stops t es w → OnlyScripts (is_kept (kept t)) w more v → stops t (es ++ more) v };
+}

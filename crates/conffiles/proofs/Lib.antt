@@ -1,0 +1,7 @@
+mod Rows
+mod DigestTexts
+mod ConffileWorlds
+mod Settlings
+mod SettlingLists
+mod ClearWays
+mod Stopped

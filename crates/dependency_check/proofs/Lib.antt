@@ -1,0 +1,6 @@
+pub mod DependentLaws
+pub mod LeftLaws
+pub mod MeetingLaws
+pub mod QueueLaws
+pub mod UnpackLaws
+pub mod WaitingLaws

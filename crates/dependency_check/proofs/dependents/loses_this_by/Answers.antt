@@ -1,0 +1,13 @@
+use Rattle.std.proofs.Common.{◌≡◌, true, subst, sym, ◌∙◌, List}
+use Rattle.relation_index.specs.Packages.{Meets, meets, those}
+use Rattle.relation_index.specs.declared.package.Package.{Package}
+use Rattle.dependency_check.specs.Deconfigured.{IsLost}
+use Rattle.dependency_check.proofs.LeftLaws.{besides_is}
+use Rattle.dependency_check.proofs.MeetingLaws.{meets_is}
+use Rattle.dependency_check.proofs.dependents.loses_this_by.Goals as goal
+
+pub returns : goal.returns
+returns c =
+    let meets' = subst (λ (l : List Package). those (meets c.args.clause.now) l c.args.number ≡ true) c.as_slice.ensures.list (sym c.is_met_by_number.ensures ∙ c.if-not-is_met_by_number.false) in
+    let here = (meets_is c.args.clause.now c.args.packages.now c.args.number).0 meets' in
+    besides_is c.in_ok-lost.lost (Meets c.args.clause.now c.args.packages.now c.args.number) (IsLost c.args.packages.now c.args.incoming.now c.args.clause.now) here c.in_ok-lost.ensures

@@ -1,0 +1,10 @@
+use Rattle.std.proofs.Common.{List, take}
+use Rattle.std.specs.List.{Contains}
+use Rattle.dependency_sets.specs.Sets.{has}
+use Rattle.relation_fields.specs.declared.alternative.Alternative.{Alternative}
+use Rattle.relation_index.specs.Packages.{Meets}
+use Rattle.dependency_check.specs.Queues.{IsMetBy}
+use Rattle.dependency_check.proofs.left.has_one_left.Given as goal
+
+abbrev pub invariant-loop-clause : goal.invariant-loop-clause
+invariant-loop-clause l = (x : List Alternative) → Contains (take l.clause-index l.clauses) x → Meets x l.packages l.number × (IsMetBy l.packages x (has l.staying) → ⊥) → ⊥

@@ -1,0 +1,7 @@
+pub mod Deconfigured
+pub mod Departing
+pub mod Left
+pub mod Queues
+pub mod Roles
+pub mod Unpack
+pub mod Waiting

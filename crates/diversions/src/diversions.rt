@@ -1,0 +1,147 @@
+// The open table.
+ghost use Rattle.std.specs.Prelude.{◌≡◌, IfOk, IfErr, IsTrue, false, length, ◌<◌, ◌^◌};
+ghost use Rattle.std.specs.Map.Iter.{ShowsInOrder, deref};
+ghost use Rattle.host_core.specs.Host.{Reads, Silent, Tells};
+ghost use Rattle.administration.specs.Fault.{CountsAdministration};
+ghost use Rattle.administration.specs.Files.{NoDirectory};
+ghost use Rattle.administration.specs.Places.{diversions_path};
+ghost use Rattle.administration.specs.declared.fault.AdministrationFault.TheVariants.{Device};
+ghost use Rattle.std.specs.Prelude.{IsErrOf};
+ghost use Rattle.diversions.specs.declared.entry.Diversion.{Diversion as ADiversion};
+ghost use Rattle.diversions.specs.Entries.{IsTable};
+ghost use Rattle.diversions.specs.Lines.{HasEntries, HasDiversions, ReadsAs, IsNodeDamage, IsFileDamage, IsDiversionsDamage};
+ghost use Rattle.diversions.specs.Places as spec;
+
+use crate::entry::Diversion;
+use crate::reading::{TableFault, read_text};
+use crate::table::Table;
+use administration::{AdministrationFault, DIVERSIONS};
+use host_core::{Host, Node, RootPath};
+use indexmap::map::Values;
+use std::alloc::{AllocError, Global};
+use std::marker::Model;
+use texts::Text;
+
+/// The diversions, as the file has them, in the order of adding.
+#[derive(Drop)]
+pub struct Diversions {
+    table: Table,
+    closed: bool,
+}
+
+impl Model for Diversions {
+    ghost use Rattle.diversions.specs.Diverted.{Diverted};
+
+    ghost Value = { Diverted };
+
+    ghost view = { λ d. record { entries = d.table; closed = d.closed } };
+}
+
+// The table of a file.
+fn read_file(alloc: Global, path: RootPath, bytes: &[u8]) -> Result<Table, AdministrationFault>
+    requires { path ≡ diversions_path }
+    ensures reads { IfOk result (λ table. ReadsAs bytes.now table) }
+    ensures damage { IfErr result (IsFileDamage bytes.now) }
+    ensures device { IsErrOf result Device → ⊥ }
+{
+    match read_text(alloc, bytes) {
+        Ok(table) => Ok(table),
+        Err(TableFault::Line(line)) => Err(AdministrationFault::Damaged { file: path, line }),
+        Err(TableFault::NoMemory) => Err(AdministrationFault::NoMemory),
+    }
+}
+
+// The table of the node at the file's place.
+fn read_node(
+    alloc: Global,
+    path: RootPath,
+    node: Option<Node>,
+) -> Result<Table, AdministrationFault>
+    requires { path ≡ diversions_path }
+    ensures entries { IfOk result (λ table. HasEntries node table) }
+    ensures damage { IfErr result (IsNodeDamage node) }
+    ensures loose { IfOk result (λ table. NoDirectory node) }
+    ensures device { IsErrOf result Device → ⊥ }
+{
+    match node {
+        None => Ok(Table::new(alloc)),
+        Some(Node::File { bytes, .. }) => read_file(alloc, path, bytes.as_slice()),
+        Some(_) => Err(AdministrationFault::Damaged {
+            file: path,
+            line: 0,
+        }),
+    }
+}
+
+fn read_table<H: Host>(alloc: Global, host: &mut H) -> Result<Table, AdministrationFault>
+    ensures entries { Tells result (λ table w. HasDiversions w table) (H.state host.old) (H.state host.new) }
+    ensures damage { IsTrue (H.state host.new).honest → IfErr result (IsDiversionsDamage (H.state host.old).world) }
+    ensures loose { Tells result (λ table w. NoDirectory (w diversions_path)) (H.state host.old) (H.state host.new) }
+    ensures reads { Reads (H.state host.old) (H.state host.new) }
+    ensures silent { Silent (H.state host.old) (H.state host.new) }
+    ensures counts { CountsAdministration (H.state host.old) (H.state host.new) result }
+{
+    let path = RootPath::from_str(alloc, DIVERSIONS)?;
+    let node = host.node(&path)?;
+    read_node(alloc, path, node)
+}
+
+impl Diversions {
+    /// Reads the file; a missing one has no entries.
+    pub fn open<H: Host>(alloc: Global, host: &mut H) -> Result<Diversions, AdministrationFault>
+        ensures entries { Tells result (λ d w. HasDiversions w d.entries) (H.state host.old) (H.state host.new) }
+        ensures opened { IfOk result (λ d. d.closed ≡ false) }
+        ensures damage { IsTrue (H.state host.new).honest → IfErr result (IsDiversionsDamage (H.state host.old).world) }
+        ensures loose { Tells result (λ d w. NoDirectory (w diversions_path)) (H.state host.old) (H.state host.new) }
+        ensures reads { Reads (H.state host.old) (H.state host.new) }
+        ensures silent { Silent (H.state host.old) (H.state host.new) }
+        ensures counts { CountsAdministration (H.state host.old) (H.state host.new) result }
+    {
+        let table = read_table(alloc, host)?;
+        Ok(Diversions {
+            table,
+            closed: false,
+        })
+    }
+
+    /// What holds of the entries of each table.
+    pub fn law(&self)
+        ensures { IsTable self.now.entries }
+    {
+        self.table.law();
+    }
+
+    /// The entries in the order of adding.
+    pub fn entries(&self) -> Values<'_, String, Diversion>
+        ensures rest { result ≡ self.now.entries }
+        ensures runs { ShowsInOrder (deref {X = ADiversion}) }
+        ensures fits { length self.now.entries < 2 ^ 63 }
+    {
+        self.table.entries()
+    }
+
+    /// Where a path is for each package but the owner of its diversion.
+    pub fn truename(&self, path: &RootPath) -> Result<RootPath, AllocError>
+        ensures { IfOk result (λ p. p ≡ spec.truename self.now.entries path.now) }
+    {
+        match self.table.get(path.as_str()) {
+            Some(entry) => entry.target.at(),
+            None => path.copy(),
+        }
+    }
+
+    /// Where a package has the file of a path.
+    pub fn place(&self, user: &Text, path: &RootPath) -> Result<RootPath, AllocError>
+        ensures { IfOk result (λ p. p ≡ spec.place self.now.entries user.now path.now) }
+    {
+        match self.table.get(path.as_str()) {
+            None => path.copy(),
+            Some(entry) => {
+                if entry.owner.holds_for(user) {
+                    return entry.target.at();
+                }
+                path.copy()
+            }
+        }
+    }
+}

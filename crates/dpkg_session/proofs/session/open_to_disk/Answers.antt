@@ -1,0 +1,12 @@
+use Rattle.dpkg_session.proofs.Barriers.{barrier_world, opening_to_disk, opens_stopped}
+use Rattle.dpkg_session.proofs.session.open_to_disk.Goals as goal
+
+pub returns-in-Ok-barrier-clause-any_moment : goal.returns-in-Ok-barrier-clause-any_moment
+returns-in-Ok-barrier-clause-any_moment g c = opening_to_disk _ _ _ _ c.open_administration.ensures.any_moment c.barrier.ensures.does
+
+pub returns-in-Err-barrier-clause-opens : goal.returns-in-Err-barrier-clause-opens
+returns-in-Err-barrier-clause-opens g c = λ h.
+    opens_stopped c.in-Err-barrier.fault c.from.result _ _ _ c.from.ensures (barrier_world _ _ _ c.barrier.ensures.does h) (c.in-Ok.ensures.opens (c.barrier.ensures.silent.honest h))
+
+pub returns-in-Err-barrier-clause-any_moment : goal.returns-in-Err-barrier-clause-any_moment
+returns-in-Err-barrier-clause-any_moment g c = opening_to_disk _ _ _ _ c.open_administration.ensures.any_moment c.barrier.ensures.does

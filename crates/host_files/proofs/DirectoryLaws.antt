@@ -1,0 +1,46 @@
+-- The directory of a path, and sets of directories.
+use Rattle.std.proofs.Common.{◌≡◌, inl, inr, ℕ, Bool, true, false, cond, None, List, [], ◌∷◌, ◌++◌, take, drop, map, reverse, String, string_bytes, refl, sym, ap, ◌∙◌, Contains, arith}
+use Rattle.std.specs.Prelude.{◌==◌}
+use Rattle.std.specs.Str.{NoCharPasses}
+use Rattle.std.specs.Str.Pattern.{SplitsAroundMatch, RFindsChar}
+use Rattle.std.specs.declared.alloc.Global.{Global}
+use Rattle.std.proofs.lemmas.List.{take-append-drop, get_or_default, reverse-append}
+use Rattle.std.proofs.lemmas.Str.Pattern.{NoCharPasses-char}
+use Rattle.host_files.specs.Directories.{IsDirectoryOf}
+use Rattle.host_files.specs.Places.{place_of}
+use Rattle.host_files.specs.Shown.{sync_calls}
+use Rattle.host_files.specs.SystemCalls.{changes_in}
+use Rattle.host_files.specs.declared.trace.SystemCall.TheVariants.{SyncDirectory}
+
+-- a text without that character has none of its bytes
+no_byte : (bs : List ℕ) → NoCharPasses (λ d. d == 47) bs → Contains bs 47 → ⊥
+no_byte bs none has = NoCharPasses-char 47 bs has.0 none (omega arith) has.1 (sym (get_or_default bs has.0 47 0 has.1) ∙ has.2)
+
+-- what `rsplit_once` at a slash gives
+pub directory_found : (path front back : List ℕ) → SplitsAroundMatch (RFindsChar 47) path front back → IsDirectoryOf path front
+unfolding lib.Utf8.encode
+directory_found path front back h = inl (
+  drop h.1 path,
+  sym (take-append-drop h.0 path) ∙ ap (λ (l : List ℕ). take h.0 path ++ l) h.2.1.split ∙ ap (λ (l : List ℕ). l ++ 47 ∷ drop h.1 path) (sym h.3),
+  no_byte (drop h.1 path) h.2.0,
+)
+
+pub directory_of_root : (path : List ℕ) → RFindsChar 47 path None → IsDirectoryOf path []
+directory_of_root path none = inr (no_byte path none, refl)
+
+-- what is in a set is in it with one more
+pub still_there : (same there : Bool) → there ≡ true → cond same true there ≡ true
+still_there true there is = refl
+still_there false there is = is
+
+-- one directory more is synced
+pub sync_more : (front : List ℕ) (directories : List (String Global)) (directory : String Global) → sync_calls front (directories ++ directory ∷ []) ≡ SyncDirectory (place_of front (string_bytes directory)) ∷ sync_calls front directories
+sync_more front directories directory = ap (map (λ d. SyncDirectory (place_of front (string_bytes d)))) (reverse-append directories (directory ∷ []))
+
+syncs_change_nothing : (front : List ℕ) (directories : List (String Global)) → changes_in (map (λ d. SyncDirectory (place_of front (string_bytes d))) directories) ≡ []
+syncs_change_nothing front [] = refl
+syncs_change_nothing front (d ∷ rest) = syncs_change_nothing front rest
+
+-- a sync changes nothing
+pub nothing_changed : (front : List ℕ) (directories : List (String Global)) → changes_in (sync_calls front directories) ≡ []
+nothing_changed front directories = syncs_change_nothing front (reverse directories)

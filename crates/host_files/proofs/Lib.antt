@@ -1,0 +1,5 @@
+pub mod Walks
+pub mod Answered
+pub mod DirectoryLaws
+pub mod Replayed
+pub mod Supposed

@@ -1,0 +1,6 @@
+use Rattle.host_files.specs.declared.record.Noted.TheVariants.{Ended}
+use Rattle.host_files.proofs.Replayed.{settled_note}
+use Rattle.host_files.proofs.files_host.FilesHost.end.Goals as goal
+
+pub invariant_of-self : goal.invariant_of-self
+invariant_of-self g c = record { settled = settled_note g.D.Disk.model g.D.Disk.sound (Ended c.args.call.now c.args.kept.now c.args.outcome) c.args.self.now.told.log.notes c.end.new.self.log.notes c.end.ensures.notes (λ h. tt) c.args.self.now.settled }

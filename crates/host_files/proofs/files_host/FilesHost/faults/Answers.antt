@@ -1,5 +1,0 @@
-use Rattle.std.proofs.Common.{rules}
-use Rattle.host_files.proofs.files_host.FilesHost.faults.Goals as goal
-
-pub returns : goal.returns
-returns c = search rules

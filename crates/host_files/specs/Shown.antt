@@ -1,0 +1,189 @@
+-- Which calls of the system stand behind a call of the host and its answer, the newest first.
+use Rattle.std.specs.Prelude.{◌≡◌, ◌≢◌, ◌⊎◌, ℕ, ℤ, Bool, true, false, List, [], ◌∷◌, ◌++◌, Option, Some, None, Result, Ok, Err, String, string_bytes, map, reverse}
+use Rattle.std.specs.BTreeSet.{BTreeSet}
+use Rattle.std.specs.Fs.{file_type, IsFile, IsSymlink}
+use Rattle.std.specs.declared.alloc.Global.{Global}
+use Rattle.std.specs.declared.fs.Metadata.{Metadata}
+use Rattle.std.specs.declared.process.Command.{Command}
+use Rattle.host_core.specs.Paths.{Path}
+use Rattle.host_core.specs.declared.call.Call.{Call}
+use Rattle.host_core.specs.declared.call.Outcome.{Outcome}
+use Rattle.host_core.specs.declared.call.Outcome.TheVariants.{NotStarted}
+use Rattle.host_core.specs.declared.fault.HostFault.{HostFault}
+use Rattle.host_core.specs.declared.fault.HostFault.TheVariants.{Device, NoMemory}
+use Rattle.host_core.specs.declared.node.Access.{Access}
+use Rattle.host_core.specs.declared.node.Kind.{Kind}
+use Rattle.host_core.specs.declared.node.Node.{Node}
+use Rattle.host_core.specs.declared.node.Node.TheVariants.{File, Dir, Link}
+use Rattle.host_files.specs.Commands.{outcome_of}
+use Rattle.host_files.specs.Directories.{HasDirectoryOf}
+use Rattle.host_files.specs.Entries.{IsNodeOf, IsKindOf}
+use Rattle.host_files.specs.Places.{place_of, place_in}
+use Rattle.host_files.specs.SystemCalls.{changes_in, Looks, start_call}
+use Rattle.host_files.specs.declared.record.Asked.{Asked}
+use Rattle.host_files.specs.declared.record.Asked.TheVariants as asked
+use Rattle.host_files.specs.declared.record.Noted.{Noted}
+use Rattle.host_files.specs.declared.record.Noted.TheVariants as was
+use Rattle.host_files.specs.declared.trace.SystemCall.{SystemCall}
+use Rattle.host_files.specs.declared.trace.SystemCall.TheVariants as ask
+
+-- what gives a new file or directory its access: a change of the owner takes bits of the mode away, so it comes first
+abbrev pub access_calls : Bool → List ℕ → Access → List SystemCall
+access_calls true place access = ask.SetMode place access.mode ∷ ask.SetOwner place access.user access.group ∷ []
+access_calls false place access = ask.SetMode place access.mode ∷ []
+
+-- what writes a file where nothing stands
+abbrev pub write_calls : Bool → List ℕ → List ℕ → Access → List SystemCall
+write_calls owners place bytes access = access_calls owners place access ++ ask.Append bytes ∷ ask.Create place ∷ []
+
+-- what makes a directory where nothing stands
+abbrev pub directory_calls : Bool → List ℕ → Access → List SystemCall
+directory_calls owners place access = access_calls owners place access ++ ask.MakeDirectory place ∷ []
+
+-- these changes more were made; where the device failed the first of them, where memory was refused none
+abbrev pub Adds : {T : Type 0} → List SystemCall → List SystemCall → List SystemCall → Result T HostFault → Type 0
+Adds changes old new (Ok x) = changes_in new ≡ changes ++ changes_in old
+Adds changes old new (Err Device) = (later : List SystemCall) × (later ++ changes_in new ≡ changes ++ changes_in old)
+Adds changes old new (Err NoMemory) = changes_in new ≡ changes_in old
+
+-- something stands at a place of which this holds
+abbrev pub LooksAt : (Metadata → Type 0) → List ℕ → List SystemCall → List SystemCall → Type 0
+LooksAt P place old new = (found : Metadata) × P found × Looks place (Some found) old new
+
+-- the changes of a rename: where one file has both names the system's own would do nothing, and the former is removed
+abbrev pub IsRenaming : List ℕ → List ℕ → List SystemCall → Type 0
+IsRenaming from to made = (made ≡ ask.Rename from to ∷ []) ⊎ ((made ≡ ask.Unlink from ∷ []) × (from ≢ to))
+
+-- a rename that was done: where the former name was removed, something had just been seen at the latter
+abbrev pub HasRenamed : List ℕ → List ℕ → List SystemCall → Type 0
+HasRenamed from to made = (changes_in made ≡ ask.Rename from to ∷ [])
+    ⊎ ((from ≢ to) × ((mode : ℕ) × ((before : List SystemCall) × (changes_in before ≡ []) × (made ≡ ask.Unlink from ∷ ask.Look to (Some mode) ∷ before))))
+
+-- a sync that was done: of a file, or of a link, of which nothing is to be brought to the disk
+abbrev pub HasSynced : List ℕ → List SystemCall → Type 0
+HasSynced place made =
+    LooksAt (λ found. IsSymlink (file_type found)) place [] made
+    ⊎ ((looked : List SystemCall) × LooksAt (λ found. IsFile (file_type found)) place [] looked × (made ≡ ask.SyncFile place ∷ looked))
+
+-- what is done is done; where the device failed no more than the first changes were made, and none where memory was refused
+abbrev pub IsAnsweredBy : {T : Type 0} → (List SystemCall → Type 0) → (List SystemCall → Type 0) → List SystemCall → Result T HostFault → Type 0
+IsAnsweredBy done changing made (Ok x) = done made
+IsAnsweredBy done changing made (Err Device) = (later : List SystemCall) × changing (later ++ changes_in made)
+IsAnsweredBy done changing made (Err NoMemory) = changes_in made ≡ []
+
+-- the syncs of directories, one after another
+abbrev pub sync_calls : List ℕ → List (String Global) → List SystemCall
+sync_calls front directories = map (λ directory. ask.SyncDirectory (place_of front (string_bytes directory))) (reverse directories)
+
+-- the directories of the names that a step changes are among these, which the next barrier syncs
+abbrev pub IsRemembered : BTreeSet (String Global) → Asked → Type 0
+IsRemembered directories (asked.Write p node) = HasDirectoryOf directories p
+IsRemembered directories (asked.Move a b) = HasDirectoryOf directories a × HasDirectoryOf directories b
+IsRemembered directories (asked.Take p) = HasDirectoryOf directories p
+IsRemembered directories (asked.MakeDir p access) = HasDirectoryOf directories p
+IsRemembered directories (asked.RemoveDir p) = HasDirectoryOf directories p
+IsRemembered directories (asked.HardLink a b) = HasDirectoryOf directories b
+IsRemembered directories (asked.MakeLink p target) = HasDirectoryOf directories p
+IsRemembered directories (asked.Sync p) = Unit {0}
+IsRemembered directories asked.Barrier = Unit {0}
+
+module _ (front : List ℕ) (owners : Bool) where
+  -- the changes of a step
+  abbrev pub IsChanging : Asked → List SystemCall → Type 0
+  IsChanging (asked.Write p (File bytes access)) made = made ≡ write_calls owners (place_of front p) bytes access
+  IsChanging (asked.Write p (Dir access)) made = ⊥
+  IsChanging (asked.Write p (Link target)) made = ⊥
+  IsChanging (asked.Move a b) made = IsRenaming (place_of front a) (place_of front b) made
+  IsChanging (asked.Take p) made = made ≡ ask.Unlink (place_of front p) ∷ []
+  IsChanging (asked.MakeDir p access) made = made ≡ directory_calls owners (place_of front p) access
+  IsChanging (asked.RemoveDir p) made = made ≡ ask.RemoveDirectory (place_of front p) ∷ []
+  IsChanging (asked.HardLink a b) made = made ≡ ask.Link (place_of front a) (place_of front b) ∷ []
+  IsChanging (asked.MakeLink p target) made = made ≡ ask.MakeLink target (place_of front p) ∷ []
+  IsChanging (asked.Sync p) made = made ≡ []
+  IsChanging asked.Barrier made = made ≡ []
+
+  -- a step that was done
+  abbrev pub IsDoneBy : Asked → List SystemCall → Type 0
+  IsDoneBy (asked.Write p node) made = IsChanging (asked.Write p node) (changes_in made)
+  IsDoneBy (asked.Move a b) made = HasRenamed (place_of front a) (place_of front b) made
+  IsDoneBy (asked.Take p) made = IsChanging (asked.Take p) (changes_in made)
+  IsDoneBy (asked.MakeDir p access) made = IsChanging (asked.MakeDir p access) (changes_in made)
+  IsDoneBy (asked.RemoveDir p) made = IsChanging (asked.RemoveDir p) (changes_in made)
+  IsDoneBy (asked.HardLink a b) made = IsChanging (asked.HardLink a b) (changes_in made)
+  IsDoneBy (asked.MakeLink p target) made = IsChanging (asked.MakeLink p target) (changes_in made)
+  IsDoneBy (asked.Sync p) made = HasSynced (place_of front p) made
+  IsDoneBy asked.Barrier made = IsChanging asked.Barrier (changes_in made)
+
+  -- at a barrier each of these directories was synced, the last of them last
+  abbrev pub IsBrought : BTreeSet (String Global) → Asked → List SystemCall → Type 0
+  IsBrought directories (asked.Write p node) made = Unit {0}
+  IsBrought directories (asked.Move a b) made = Unit {0}
+  IsBrought directories (asked.Take p) made = Unit {0}
+  IsBrought directories (asked.MakeDir p access) made = Unit {0}
+  IsBrought directories (asked.RemoveDir p) made = Unit {0}
+  IsBrought directories (asked.HardLink a b) made = Unit {0}
+  IsBrought directories (asked.MakeLink p target) made = Unit {0}
+  IsBrought directories (asked.Sync p) made = Unit {0}
+  IsBrought directories asked.Barrier made = made ≡ sync_calls front directories.keys
+
+  -- a step that failed
+  abbrev pub IsBegunBy : Asked → List SystemCall → Type 0
+  IsBegunBy a made = (later : List SystemCall) × IsChanging a (later ++ changes_in made)
+
+  -- a step that was answered so
+  abbrev pub IsStepBy : {T : Type 0} → Asked → List SystemCall → Result T HostFault → Type 0
+  IsStepBy a made result = IsAnsweredBy (IsDoneBy a) (IsChanging a) made result
+
+  -- the kind that a look told; nothing also where a name above is no directory's
+  abbrev pub IsSeenBy : Path → Option Kind → List SystemCall → Type 0
+  IsSeenBy p (Some kind) made = LooksAt (λ found. IsKindOf found kind) (place_of front p) [] made
+  IsSeenBy p None made = (made ≡ []) ⊎ Looks (place_of front p) None [] made
+
+  -- the node of which a look told
+  abbrev pub IsReadBy : Path → Option Node → List SystemCall → Type 0
+  IsReadBy p (Some node) made = LooksAt (λ found. IsNodeOf owners found node) (place_of front p) [] made
+  IsReadBy p None made = (made ≡ []) ⊎ Looks (place_of front p) None [] made
+
+-- a command was started, and ended so, or couldn't be started; where the device failed no end is known
+abbrev pub Starts : Command Global → List SystemCall → List SystemCall → Result Outcome HostFault → Type 0
+Starts c old new (Ok outcome) =
+    ((code : Option ℤ) × (new ≡ ask.End code ∷ start_call c ∷ old) × (outcome ≡ outcome_of code))
+    ⊎ ((new ≡ start_call c ∷ old) × (outcome ≡ NotStarted))
+Starts c old new (Err fault) = (new ≡ start_call c ∷ old) × (fault ≡ Device)
+
+-- the start of a call's script, in the root
+abbrev pub script_call : List ℕ → List ℕ → Call → SystemCall
+script_call directory front call = ask.Start (place_in directory front call.at) call.args (Some directory)
+
+-- it was started
+abbrev pub IsStarted : List ℕ → List ℕ → Call → List SystemCall → Type 0
+IsStarted directory front call made = changes_in made ≡ script_call directory front call ∷ []
+
+-- it was tried at most
+abbrev pub IsTried : List ℕ → List ℕ → Call → List SystemCall → Type 0
+IsTried directory front call made = (changes_in made ≡ []) ⊎ IsStarted directory front call made
+
+-- it was started, and ended so
+abbrev pub HasEnded : List ℕ → List ℕ → Call → Outcome → List SystemCall → Type 0
+HasEnded directory front call outcome made = (code : Option ℤ) × (changes_in made ≡ ask.End code ∷ script_call directory front call ∷ []) × (outcome ≡ outcome_of code)
+
+-- a script call that ended so
+abbrev pub IsEndedBy : List ℕ → List ℕ → Call → Outcome → List SystemCall → Type 0
+IsEndedBy directory front call outcome made = HasEnded directory front call outcome made ⊎ ((outcome ≡ NotStarted) × IsTried directory front call made)
+
+-- a script call that was answered so
+abbrev pub IsRunBy : List ℕ → List ℕ → Call → List SystemCall → Result Outcome HostFault → Type 0
+IsRunBy directory front call made (Ok outcome) = IsEndedBy directory front call outcome made
+IsRunBy directory front call made (Err Device) = IsTried directory front call made
+IsRunBy directory front call made (Err NoMemory) = changes_in made ≡ []
+
+-- what stands behind a note
+abbrev pub IsShownBy : List ℕ → List ℕ → Bool → Noted → List SystemCall → Type 0
+IsShownBy directory front owners (was.Looked p node) made = IsReadBy front owners p node made
+IsShownBy directory front owners (was.Seen p kind) made = IsSeenBy front owners p kind made
+IsShownBy directory front owners (was.Listed p listing) made = changes_in made ≡ []
+IsShownBy directory front owners (was.Done a) made = IsDoneBy front owners a made
+IsShownBy directory front owners (was.Undone a) made = IsBegunBy front owners a made
+IsShownBy directory front owners (was.Ended call kept outcome) made = IsEndedBy directory front call outcome made
+IsShownBy directory front owners (was.Broke call kept) made = IsTried directory front call made
+IsShownBy directory front owners was.Missed made = changes_in made ≡ []

@@ -1,0 +1,60 @@
+-- The system's calls, as the trace has them.
+use Rattle.std.specs.Prelude.{◌≡◌, ℕ, List, [], ◌∷◌, Option, option_map}
+use Rattle.std.specs.Fs.{metadata_mode}
+use Rattle.std.specs.Process.{command_program, command_args, command_dir, exit_code}
+use Rattle.std.specs.declared.alloc.Global.{Global}
+use Rattle.std.specs.declared.fs.Metadata.{Metadata}
+use Rattle.std.specs.declared.process.Command.{Command}
+use Rattle.host_files.specs.declared.trace.SystemCall.{SystemCall}
+use Rattle.host_files.specs.declared.trace.SystemCall.TheVariants.{Look, Create, Append, SetOwner, SetMode, MakeDirectory, Rename, Link, MakeLink, Unlink, RemoveDirectory, SyncFile, SyncDirectory, Start, End}
+use Rattle.host_files.specs.declared.trace.Request.{Request}
+use Rattle.host_files.specs.declared.trace.Request.TheVariants as request
+
+-- a look at a place that told this
+abbrev pub look_call : List ℕ → Option Metadata → SystemCall
+look_call place found = Look place (option_map metadata_mode found)
+
+-- the start of a command
+abbrev pub start_call : Command Global → SystemCall
+start_call c = Start (command_program c) (command_args c) (command_dir c)
+
+-- a call, out of what was lent for it
+abbrev pub requested : Request → SystemCall
+requested (request.Look p found) = look_call p.now found.now
+requested (request.Create p) = Create p.now
+requested (request.Append bytes) = Append bytes.now
+requested (request.SetOwner p user group) = SetOwner p.now user group
+requested (request.SetMode p mode) = SetMode p.now mode
+requested (request.MakeDirectory p) = MakeDirectory p.now
+requested (request.Rename from to) = Rename from.now to.now
+requested (request.Link from to) = Link from.now to.now
+requested (request.MakeLink target p) = MakeLink target.now p.now
+requested (request.Unlink p) = Unlink p.now
+requested (request.RemoveDirectory p) = RemoveDirectory p.now
+requested (request.SyncFile p) = SyncFile p.now
+requested (request.SyncDirectory p) = SyncDirectory p.now
+requested (request.Start command) = start_call command.now
+requested (request.End status) = End (exit_code status.now)
+
+-- those that change what stands under a root, or run a program
+abbrev pub changes_in : List SystemCall → List SystemCall
+changes_in [] = []
+changes_in (Look p found ∷ made) = changes_in made
+changes_in (Create p ∷ made) = Create p ∷ changes_in made
+changes_in (Append bytes ∷ made) = Append bytes ∷ changes_in made
+changes_in (SetOwner p user group ∷ made) = SetOwner p user group ∷ changes_in made
+changes_in (SetMode p mode ∷ made) = SetMode p mode ∷ changes_in made
+changes_in (MakeDirectory p ∷ made) = MakeDirectory p ∷ changes_in made
+changes_in (Rename from to ∷ made) = Rename from to ∷ changes_in made
+changes_in (Link from to ∷ made) = Link from to ∷ changes_in made
+changes_in (MakeLink target p ∷ made) = MakeLink target p ∷ changes_in made
+changes_in (Unlink p ∷ made) = Unlink p ∷ changes_in made
+changes_in (RemoveDirectory p ∷ made) = RemoveDirectory p ∷ changes_in made
+changes_in (SyncFile p ∷ made) = changes_in made
+changes_in (SyncDirectory p ∷ made) = changes_in made
+changes_in (Start program args directory ∷ made) = Start program args directory ∷ changes_in made
+changes_in (End code ∷ made) = End code ∷ changes_in made
+
+-- a look at a place told this
+abbrev pub Looks : List ℕ → Option Metadata → List SystemCall → List SystemCall → Type 0
+Looks place found old new = new ≡ look_call place found ∷ old

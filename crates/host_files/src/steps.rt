@@ -1,0 +1,271 @@
+// The steps of the device. Each makes its calls of the system once it has seen that the names above its paths are those
+// of directories, and of no link; all memory that it takes is taken before.
+ghost use Rattle.std.specs.Prelude.{◌≡◌, [], true, IfErr, IfOk, IsSome, OnErr, OnOk, Some, string_bytes};
+ghost use Rattle.host_core.specs.World.{IsFile};
+ghost use Rattle.host_core.specs.declared.fault.HostFault.TheVariants.{Device};
+ghost use Rattle.host_files.specs.Entries.{IsSettable};
+ghost use Rattle.host_files.specs.Places.{place_of};
+ghost use Rattle.host_files.specs.Shown.{Adds, HasRenamed, IsAnsweredBy, IsBrought, IsRenaming, IsStepBy, access_calls, directory_calls, write_calls};
+ghost use Rattle.host_files.specs.SystemCalls.{changes_in, Looks};
+ghost use Rattle.host_files.specs.declared.record.Asked.TheVariants.{Barrier, HardLink, MakeDir, MakeLink, Move, RemoveDir, Sync, Take, Write};
+
+use crate::changed::Changed;
+use crate::disk::access_of;
+use crate::root::Root;
+use crate::system::System;
+use host_core::{Access, HostFault, Node, RootPath};
+use std::fs::Metadata;
+use std::os::unix::fs::MetadataExt;
+use texts::Text;
+
+// The place of a step.
+fn place_of_step(system: &System, root: &Root, path: &RootPath) -> Result<String, HostFault>
+    ensures { IfOk result (λ place. string_bytes place ≡ place_of (string_bytes root.now.front) path.now) }
+{
+    match root.place_at(&system.rt, path)? {
+        Some(place) => Ok(place),
+        None => Err(HostFault::Device),
+    }
+}
+
+// Where owners can't be set none but 0 is, and no bit that lends an owner's rights.
+fn check_settable(owners: bool, access: Access) -> Result<(), HostFault>
+    ensures ok { OnOk result (IsSettable owners access) }
+    ensures err { IfErr result (λ fault. fault ≡ Device) }
+{
+    if owners || (access.user == 0 && access.group == 0 && access.mode & 0o6000 == 0) {
+        Ok(())
+    } else {
+        Err(HostFault::Device)
+    }
+}
+
+// The system leaves out the bit for the group where the user isn't of that group.
+fn check_access(
+    system: &mut System,
+    owners: bool,
+    place: &str,
+    access: Access,
+) -> Result<(), HostFault>
+    ensures same { changes_in system.new.trace.calls ≡ changes_in system.old.trace.calls }
+    ensures err { IfErr result (λ fault. fault ≡ Device) }
+{
+    match system.look(place) {
+        Ok(Some(found)) if access_of(owners, &found) == access => Ok(()),
+        _ => Err(HostFault::Device),
+    }
+}
+
+// Gives what was made at a place its owner, and then its mode.
+fn set_access(
+    system: &mut System,
+    owners: bool,
+    place: &str,
+    access: Access,
+) -> Result<(), HostFault>
+    ensures made { Adds (access_calls owners place.now access) system.old.trace.calls system.new.trace.calls result }
+    ensures err { IfErr result (λ fault. fault ≡ Device) }
+{
+    if owners {
+        system.set_owner(place, access.user, access.group)?;
+    }
+    system.set_mode(place, access.mode)?;
+    check_access(system, owners, place, access)
+}
+
+fn write_bytes(
+    system: &mut System,
+    owners: bool,
+    place: &str,
+    bytes: &[u8],
+    access: Access,
+) -> Result<(), HostFault>
+    ensures { Adds (write_calls owners place.now bytes.now access) system.old.trace.calls system.new.trace.calls result }
+{
+    check_settable(owners, access)?;
+    let file = system.create(place)?;
+    system.append(file, bytes)?;
+    set_access(system, owners, place, access)
+}
+
+fn create_directory(
+    system: &mut System,
+    owners: bool,
+    place: &str,
+    access: Access,
+) -> Result<(), HostFault>
+    ensures { Adds (directory_calls owners place.now access) system.old.trace.calls system.new.trace.calls result }
+{
+    check_settable(owners, access)?;
+    system.make_directory(place)?;
+    set_access(system, owners, place, access)
+}
+
+/// Writes a file where nothing stands.
+pub(crate) fn write_file(
+    system: &mut System,
+    root: &Root,
+    path: &RootPath,
+    node: &Node,
+) -> Result<(), HostFault>
+    requires file { IsFile node.now }
+    requires begun { system.old.trace.calls ≡ [] }
+    ensures { IsStepBy (string_bytes root.now.front) root.now.owners (Write path.now node.now) system.new.trace.calls result }
+{
+    let Node::File { bytes, access } = node else {
+        return Err(HostFault::Device);
+    };
+    let place = place_of_step(system, root, path)?;
+    write_bytes(
+        system,
+        root.owners,
+        place.as_str(),
+        bytes.as_slice(),
+        *access,
+    )
+}
+
+/// Makes a directory where nothing stands.
+pub(crate) fn make_directory(
+    system: &mut System,
+    root: &Root,
+    path: &RootPath,
+    access: Access,
+) -> Result<(), HostFault>
+    requires begun { system.old.trace.calls ≡ [] }
+    ensures { IsStepBy (string_bytes root.now.front) root.now.owners (MakeDir path.now access) system.new.trace.calls result }
+{
+    let place = place_of_step(system, root, path)?;
+    create_directory(system, root.owners, place.as_str(), access)
+}
+
+// Whether one file has both names. Where two places are one name of it, it has one.
+fn is_same_file(one: &Metadata, other: &Option<Metadata>) -> bool
+    ensures { result ≡ true → IsSome other.now }
+{
+    match other {
+        Some(other) => one.nlink() > 1 && one.dev() == other.dev() && one.ino() == other.ino(),
+        None => false,
+    }
+}
+
+// Looks what stands at a place, which is to be a file or link.
+fn look_at_loose(system: &mut System, place: &str) -> Result<Metadata, HostFault>
+    ensures ok { IfOk result (λ found. Looks place.now (Some found) system.old.trace.calls system.new.trace.calls) }
+    ensures err { OnErr result (changes_in system.new.trace.calls ≡ changes_in system.old.trace.calls) }
+{
+    match system.look(place)? {
+        Some(found) if !found.is_dir() => Ok(found),
+        _ => Err(HostFault::Device),
+    }
+}
+
+// The system does nothing where both are names of one file.
+fn rename_file(system: &mut System, from: &str, to: &str) -> Result<(), HostFault>
+    requires begun { system.old.trace.calls ≡ [] }
+    ensures { IsAnsweredBy (HasRenamed from.now to.now) (IsRenaming from.now to.now) system.new.trace.calls result }
+{
+    let moved = look_at_loose(system, from)?;
+    let over = system.look(to)?;
+    if from != to && is_same_file(&moved, &over) {
+        system.unlink(from)
+    } else {
+        system.rename(from, to)
+    }
+}
+
+/// Moves a file or link over a file, a link or nothing.
+pub(crate) fn move_over(
+    system: &mut System,
+    root: &Root,
+    from: &RootPath,
+    to: &RootPath,
+) -> Result<(), HostFault>
+    requires begun { system.old.trace.calls ≡ [] }
+    ensures { IsStepBy (string_bytes root.now.front) root.now.owners (Move from.now to.now) system.new.trace.calls result }
+{
+    let from = place_of_step(system, root, from)?;
+    let to = place_of_step(system, root, to)?;
+    rename_file(system, from.as_str(), to.as_str())
+}
+
+/// Makes a symbolic link where nothing stands.
+pub(crate) fn symlink(
+    system: &mut System,
+    root: &Root,
+    path: &RootPath,
+    target: &Text,
+) -> Result<(), HostFault>
+    requires begun { system.old.trace.calls ≡ [] }
+    ensures { IsStepBy (string_bytes root.now.front) root.now.owners (MakeLink path.now target.now) system.new.trace.calls result }
+{
+    let place = place_of_step(system, root, path)?;
+    system.make_link(target.as_str(), place.as_str())
+}
+
+/// Gives a file or link a second name, where nothing stands.
+pub(crate) fn hard_link(
+    system: &mut System,
+    root: &Root,
+    from: &RootPath,
+    to: &RootPath,
+) -> Result<(), HostFault>
+    requires begun { system.old.trace.calls ≡ [] }
+    ensures { IsStepBy (string_bytes root.now.front) root.now.owners (HardLink from.now to.now) system.new.trace.calls result }
+{
+    let from = place_of_step(system, root, from)?;
+    let to = place_of_step(system, root, to)?;
+    look_at_loose(system, from.as_str())?;
+    system.link(from.as_str(), to.as_str())
+}
+
+/// Brings the bytes of a file to the disk; of a link nothing has to be brought there.
+pub(crate) fn flush(system: &mut System, root: &Root, path: &RootPath) -> Result<(), HostFault>
+    requires begun { system.old.trace.calls ≡ [] }
+    ensures { IsStepBy (string_bytes root.now.front) root.now.owners (Sync path.now) system.new.trace.calls result }
+{
+    let place = place_of_step(system, root, path)?;
+    match system.look(place.as_str())? {
+        Some(found) if found.is_symlink() => Ok(()),
+        Some(found) if found.is_file() => system.sync_file(place.as_str()),
+        _ => Err(HostFault::Device),
+    }
+}
+
+/// Removes a file or link.
+pub(crate) fn unlink(system: &mut System, root: &Root, path: &RootPath) -> Result<(), HostFault>
+    requires begun { system.old.trace.calls ≡ [] }
+    ensures { IsStepBy (string_bytes root.now.front) root.now.owners (Take path.now) system.new.trace.calls result }
+{
+    let place = place_of_step(system, root, path)?;
+    system.unlink(place.as_str())
+}
+
+/// Removes a directory that has no entries.
+pub(crate) fn unlink_directory(
+    system: &mut System,
+    root: &Root,
+    path: &RootPath,
+) -> Result<(), HostFault>
+    requires begun { system.old.trace.calls ≡ [] }
+    ensures { IsStepBy (string_bytes root.now.front) root.now.owners (RemoveDir path.now) system.new.trace.calls result }
+{
+    let place = place_of_step(system, root, path)?;
+    system.remove_directory(place.as_str())
+}
+
+/// Brings the names in these directories to the disk.
+pub(crate) fn flush_all(
+    system: &mut System,
+    root: &Root,
+    changed: &Changed,
+) -> Result<(), HostFault>
+    requires begun { system.old.trace.calls ≡ [] }
+    ensures step { IsStepBy (string_bytes root.now.front) root.now.owners Barrier system.new.trace.calls result }
+    ensures brought { OnOk result (IsBrought (string_bytes root.now.front) root.now.owners changed.now.directories Barrier system.new.trace.calls) }
+{
+    for directory in changed.directories.iter() {
+        system.sync_directory(root, directory.as_str())?;
+    }
+    Ok(())
+}

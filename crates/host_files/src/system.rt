@@ -1,0 +1,240 @@
+// The calls of the operating system that change something, start a program or look at a path. Each function makes one
+// and keeps it in the trace; an error of one that changes something is a fault of the device.
+ghost use Rattle.std.specs.Prelude.{◌≡◌, ◌∷◌, [], IfErr, IfOk, OnOk, OnErr, string_bytes};
+ghost use Rattle.std.specs.IoError.{raw_os_error};
+ghost use Rattle.std.specs.Process.{exit_code};
+ghost use Rattle.host_core.specs.declared.fault.HostFault.TheVariants.{Device};
+ghost use Rattle.host_files.specs.Commands.{is_start_error};
+ghost use Rattle.host_files.specs.declared.trace.SystemCall.TheVariants.{Create, Append, SetOwner, SetMode, MakeDirectory, Rename, Link, MakeLink, Unlink, RemoveDirectory, SyncFile, SyncDirectory, End};
+ghost use Rattle.host_files.specs.SystemCalls.{changes_in, Looks, start_call};
+ghost use Rattle.host_files.specs.Places.{place_of};
+
+use crate::disk::{fault_of, stat};
+use crate::root::Root;
+use crate::trace::{Request, Trace};
+use host_core::HostFault;
+use std::fs::{DirBuilder, File, Metadata, OpenOptions, Permissions};
+use std::io::{Error, Write};
+use std::os::unix::fs::{DirBuilderExt, OpenOptionsExt, PermissionsExt, lchown, symlink};
+use std::process::{Child, Command, ExitStatus};
+use std::{fs, io};
+
+#[derive(Drop)]
+pub(crate) struct System {
+    pub(crate) rt: HostRuntime,
+    pub(crate) trace: Trace,
+}
+
+// the system's numbers for a file that can't be started
+const ENOENT: i32 = 2;
+
+const ENOEXEC: i32 = 8;
+
+const EACCES: i32 = 13;
+
+const ENOTDIR: i32 = 20;
+
+const ETXTBSY: i32 = 26;
+
+const ELOOP: i32 = 40;
+
+// Whether the script is one that can't be started, or is missing.
+fn is_start_error(error: &Error) -> bool
+    ensures { result ≡ is_start_error (raw_os_error error.now) }
+{
+    matches!(
+        error.raw_os_error(),
+        Some(ENOENT | ENOEXEC | EACCES | ENOTDIR | ETXTBSY | ELOOP)
+    )
+}
+
+// How a call ended that was made.
+fn ended(answer: io::Result<()>) -> Result<(), HostFault>
+    ensures { IfErr result (λ fault. fault ≡ Device) }
+{
+    match answer {
+        Ok(()) => Ok(()),
+        Err(_) => Err(HostFault::Device),
+    }
+}
+
+// Makes a file where nothing stands.
+fn create_new(rt: &HostRuntime, place: &str) -> io::Result<File> {
+    OpenOptions::new()
+        .write(true)
+        .create_new(true)
+        .mode(0o600)
+        .open(rt, place)
+}
+
+// Brings what is open to the disk.
+fn sync(rt: &HostRuntime, place: &str) -> io::Result<()> {
+    fs::open(rt, place)?.sync_all()
+}
+
+impl System {
+    pub(crate) fn new(rt: HostRuntime) -> System
+        ensures { result.trace.calls ≡ [] }
+    {
+        System {
+            rt,
+            trace: Trace::new(),
+        }
+    }
+
+    /// Begins the trace of a call.
+    pub(crate) fn begin(&mut self)
+        ensures { self.new.trace.calls ≡ [] }
+    {
+        self.trace = Trace::new();
+    }
+
+    /// What stands at the place. No link at its end is followed.
+    pub(crate) fn look(&mut self, place: &str) -> Result<Option<Metadata>, HostFault>
+        ensures ok { IfOk result (λ found. Looks place.now found self.old.trace.calls self.new.trace.calls) }
+        ensures err { OnErr result (self.new.trace.calls ≡ self.old.trace.calls) }
+    {
+        match stat(&self.rt, place) {
+            Ok(found) => {
+                self.trace = self.trace.with(&Request::Look(place, &found));
+                Ok(found)
+            }
+            Err(error) => Err(fault_of(&error)),
+        }
+    }
+
+    pub(crate) fn create(&mut self, place: &str) -> Result<File, HostFault>
+        ensures made { self.new.trace.calls ≡ Create place.now ∷ self.old.trace.calls }
+        ensures err { IfErr result (λ fault. fault ≡ Device) }
+    {
+        self.trace = self.trace.with(&Request::Create(place));
+        match create_new(&self.rt, place) {
+            Ok(file) => Ok(file),
+            Err(_) => Err(HostFault::Device),
+        }
+    }
+
+    pub(crate) fn append(&mut self, mut file: File, bytes: &[u8]) -> Result<(), HostFault>
+        ensures made { self.new.trace.calls ≡ Append bytes.now ∷ self.old.trace.calls }
+        ensures err { IfErr result (λ fault. fault ≡ Device) }
+    {
+        self.trace = self.trace.with(&Request::Append(bytes));
+        ended(file.write_all(bytes))
+    }
+
+    pub(crate) fn set_owner(&mut self, place: &str, user: u32, group: u32) -> Result<(), HostFault>
+        ensures made { self.new.trace.calls ≡ SetOwner place.now user group ∷ self.old.trace.calls }
+        ensures err { IfErr result (λ fault. fault ≡ Device) }
+    {
+        self.trace = self.trace.with(&Request::SetOwner(place, user, group));
+        ended(lchown(&self.rt, place, Some(user), Some(group)))
+    }
+
+    /// Of what this program has just made there, so that no link stands there.
+    pub(crate) fn set_mode(&mut self, place: &str, mode: u16) -> Result<(), HostFault>
+        ensures made { self.new.trace.calls ≡ SetMode place.now mode ∷ self.old.trace.calls }
+        ensures err { IfErr result (λ fault. fault ≡ Device) }
+    {
+        self.trace = self.trace.with(&Request::SetMode(place, mode));
+        ended(fs::set_permissions(&self.rt, place, Permissions::from_mode(u32::from(mode))))
+    }
+
+    pub(crate) fn make_directory(&mut self, place: &str) -> Result<(), HostFault>
+        ensures made { self.new.trace.calls ≡ MakeDirectory place.now ∷ self.old.trace.calls }
+        ensures err { IfErr result (λ fault. fault ≡ Device) }
+    {
+        self.trace = self.trace.with(&Request::MakeDirectory(place));
+        ended(DirBuilder::new().mode(0o700).create(&self.rt, place))
+    }
+
+    pub(crate) fn rename(&mut self, from: &str, to: &str) -> Result<(), HostFault>
+        ensures made { self.new.trace.calls ≡ Rename from.now to.now ∷ self.old.trace.calls }
+        ensures err { IfErr result (λ fault. fault ≡ Device) }
+    {
+        self.trace = self.trace.with(&Request::Rename(from, to));
+        ended(fs::rename(&self.rt, from, to))
+    }
+
+    /// The system follows no link here.
+    pub(crate) fn link(&mut self, from: &str, to: &str) -> Result<(), HostFault>
+        ensures made { self.new.trace.calls ≡ Link from.now to.now ∷ self.old.trace.calls }
+        ensures err { IfErr result (λ fault. fault ≡ Device) }
+    {
+        self.trace = self.trace.with(&Request::Link(from, to));
+        ended(fs::hard_link(&self.rt, from, to))
+    }
+
+    pub(crate) fn make_link(&mut self, target: &str, place: &str) -> Result<(), HostFault>
+        ensures made { self.new.trace.calls ≡ MakeLink target.now place.now ∷ self.old.trace.calls }
+        ensures err { IfErr result (λ fault. fault ≡ Device) }
+    {
+        self.trace = self.trace.with(&Request::MakeLink(target, place));
+        ended(symlink(&self.rt, target, place))
+    }
+
+    pub(crate) fn unlink(&mut self, place: &str) -> Result<(), HostFault>
+        ensures made { self.new.trace.calls ≡ Unlink place.now ∷ self.old.trace.calls }
+        ensures err { IfErr result (λ fault. fault ≡ Device) }
+    {
+        self.trace = self.trace.with(&Request::Unlink(place));
+        ended(fs::remove_file(&self.rt, place))
+    }
+
+    pub(crate) fn remove_directory(&mut self, place: &str) -> Result<(), HostFault>
+        ensures made { self.new.trace.calls ≡ RemoveDirectory place.now ∷ self.old.trace.calls }
+        ensures err { IfErr result (λ fault. fault ≡ Device) }
+    {
+        self.trace = self.trace.with(&Request::RemoveDirectory(place));
+        ended(fs::remove_dir(&self.rt, place))
+    }
+
+    pub(crate) fn sync_file(&mut self, place: &str) -> Result<(), HostFault>
+        ensures made { self.new.trace.calls ≡ SyncFile place.now ∷ self.old.trace.calls }
+        ensures err { IfErr result (λ fault. fault ≡ Device) }
+    {
+        self.trace = self.trace.with(&Request::SyncFile(place));
+        ended(sync(&self.rt, place))
+    }
+
+    /// The directory is told by its path under the root. Where it is gone, or a link leads to it,
+    /// nothing is to be brought to the disk.
+    pub(crate) fn sync_directory(&mut self, root: &Root, directory: &str) -> Result<(), HostFault>
+        ensures made { OnOk result (self.new.trace.calls ≡ SyncDirectory (place_of (string_bytes root.now.front) directory.now) ∷ self.old.trace.calls) }
+        ensures same { changes_in self.new.trace.calls ≡ changes_in self.old.trace.calls }
+    {
+        let place = root.place(directory)?;
+        self.trace = self.trace.with(&Request::SyncDirectory(place.as_str()));
+        match root.stands(&self.rt, directory) {
+            Ok(true) => ended(sync(&self.rt, place.as_str())),
+            Ok(false) => Ok(()),
+            Err(error) => Err(fault_of(&error)),
+        }
+    }
+
+    /// Nothing where the program is one that can't be started, or is missing.
+    pub(crate) fn start(&mut self, command: &mut Command) -> Result<Option<Child>, HostFault>
+        ensures made { self.new.trace.calls ≡ start_call command.old ∷ self.old.trace.calls }
+        ensures err { IfErr result (λ fault. fault ≡ Device) }
+    {
+        self.trace = self.trace.with(&Request::Start(command));
+        match command.spawn(&self.rt) {
+            Ok(child) => Ok(Some(child)),
+            Err(error) if is_start_error(&error) => Ok(None),
+            Err(_) => Err(HostFault::Device),
+        }
+    }
+
+    /// Waits for the end of the program that was started last.
+    pub(crate) fn wait(&mut self, mut child: Child) -> Result<ExitStatus, HostFault>
+        ensures ok { IfOk result (λ status. self.new.trace.calls ≡ End (exit_code status) ∷ self.old.trace.calls) }
+        ensures err { IfErr result (λ fault. (fault ≡ Device) × (self.new.trace.calls ≡ self.old.trace.calls)) }
+    {
+        match child.wait() {
+            Ok(status) => {
+                self.trace = self.trace.with(&Request::End(&status));
+                Ok(status)
+            }
+            Err(_) => Err(HostFault::Device),
+        }
+    }
+}

@@ -1,0 +1,84 @@
+// A trace of the system's calls. It takes no memory, and only clauses read it.
+ghost use Rattle.std.specs.Prelude.{◌≡◌, List, [], ◌∷◌};
+ghost use Rattle.std.specs.Borrow.{ftrue};
+ghost use Rattle.host_files.specs.declared.trace.SystemCall.{SystemCall};
+
+use std::fs::Metadata;
+use std::marker::Model;
+use std::process::{Command, ExitStatus};
+use texts::{Bytes, Text, Texts};
+
+/// What the system is asked for, with the system's paths that it is told.
+#[derive(Drop)]
+pub enum SystemCall {
+    /// what stands at a path; with the answer, its kind and permissions
+    Look(Text, Option<u32>),
+    /// an empty file where nothing stands, which only its owner may read and write
+    Create(Text),
+    /// bytes at the end of the file that was made last
+    Append(Bytes),
+    SetOwner(Text, u32, u32),
+    SetMode(Text, u16),
+    /// a directory where nothing stands, which only its owner may use
+    MakeDirectory(Text),
+    Rename(Text, Text),
+    /// a second name, the latter, for what stands at the former
+    Link(Text, Text),
+    /// a symbolic link to the former, at the latter
+    MakeLink(Text, Text),
+    Unlink(Text),
+    RemoveDirectory(Text),
+    SyncFile(Text),
+    /// the names in a directory
+    SyncDirectory(Text),
+    /// a program, with its arguments and its working directory
+    Start(Text, Texts, Option<Text>),
+    /// the end of the program that was started last, with its status if it has one
+    End(Option<i32>),
+}
+
+/// The same, lent.
+#[derive(Clone, Copy, Drop)]
+pub(crate) enum Request<'a> {
+    Look(&'a str, &'a Option<Metadata>),
+    Create(&'a str),
+    Append(&'a [u8]),
+    SetOwner(&'a str, u32, u32),
+    SetMode(&'a str, u16),
+    MakeDirectory(&'a str),
+    Rename(&'a str, &'a str),
+    Link(&'a str, &'a str),
+    MakeLink(&'a str, &'a str),
+    Unlink(&'a str),
+    RemoveDirectory(&'a str),
+    SyncFile(&'a str),
+    SyncDirectory(&'a str),
+    Start(&'a Command),
+    End(&'a ExitStatus),
+}
+
+/// The newest call comes first.
+#[derive(Drop)]
+pub(crate) struct Trace {
+    pub(crate) ghost calls: { List SystemCall },
+}
+
+impl Model for Trace {
+    ghost also_owns = { λ _. ftrue };
+}
+
+impl Trace {
+    ghost use Rattle.host_files.specs.SystemCalls.{requested};
+
+    pub(crate) fn new() -> Trace
+        ensures { result.calls ≡ [] }
+    {
+        Trace {}
+    }
+
+    pub(crate) fn with(&self, _request: &Request<'_>) -> Trace
+        ensures { result.calls ≡ requested _request.now ∷ self.now.calls }
+    {
+        Trace {}
+    }
+}

@@ -1,0 +1,155 @@
+// What is told and set of owners, as the superuser and as a plain user: the gate has one of them, scripts/owners has both
+// and then also names a root whose file /owned, of mode 2755, belongs to user 1 and group 42.
+use super::{NEW_DIRECTORY, RealHost, Row, check, shell};
+use host_core::{Access, Host, HostFault, Node, RootPath};
+use host_files::FilesHost;
+use std::alloc::{AllocError, Global};
+use std::rt::Env;
+use std::test::Fail;
+use std::{env, fs};
+use texts::{Bytes, Text};
+
+fn node_text(alloc: Global, node: Option<Node>) -> Result<String, AllocError> {
+    match node {
+        Some(Node::File { access, .. }) => {
+            let mode = access.mode;
+            let user = access.user;
+            let group = access.group;
+            format!(in alloc; "{mode:o} {user} {group}")
+        }
+        _ => String::from_str(alloc, "no file"),
+    }
+}
+
+// What is told of a file's access.
+fn look(alloc: Global, host: &mut RealHost, path: &RootPath) -> Result<String, HostFault> {
+    let node = host.node(path)?;
+    Ok(node_text(alloc, node)?)
+}
+
+// Writes a file with that access, brings it to the disk and renames it.
+#[tactic(auto, using(host_files::specs::Replay::unknown_needs))]
+fn write(alloc: Global, host: &mut RealHost, access: Access) -> Result<(), HostFault> {
+    let new = RootPath::from_str(alloc, "/written.dpkg-inst")?;
+    let node = Node::File {
+        bytes: Bytes::from_slice(alloc, b"written\n")?,
+        access,
+    };
+    host.write_new(&new, &node)?;
+    host.sync(&new)?;
+    host.rename(&new, &RootPath::from_str(alloc, "/written")?)
+}
+
+// An access that a file is written with, whether it is written, and what the host and the system then tell of it.
+type Case = (u16, u32, u32, &'static str, &'static str);
+
+const AS_SUPERUSER: &[Case] = &[
+    (0o2755, 1, 42, "2755 1 42", "2755 1 42\n"),
+    (0o6511, 0, 0, "6511 0 0", "6511 0 0\n"),
+    (0o644, 0, 0, "644 0 0", "644 0 0\n"),
+];
+
+const AS_PLAIN_USER: &[Case] = &[
+    (0o755, 0, 0, "755 0 0", "755\n"),
+    (0o1755, 0, 0, "1755 0 0", "1755\n"),
+    (0o2755, 0, 0, "Device", "nothing\n"),
+    (0o755, 1, 42, "Device", "nothing\n"),
+];
+
+fn answer(alloc: Global, host: &mut RealHost, access: Access) -> Result<String, HostFault> {
+    write(alloc, host, access)?;
+    look(alloc, host, &RootPath::from_str(alloc, "/written")?)
+}
+
+fn try_case(
+    rt: &HostRuntime,
+    host: &mut RealHost,
+    directory: &str,
+    format: &str,
+    case: &Case,
+) -> Result<(), Fail> {
+    let (mode, user, group, told, seen) = *case;
+    let access = Access { mode, user, group };
+    let answer = match answer(rt.alloc(), host, access) {
+        Ok(answer) => answer,
+        Err(fault) => format!(in rt.alloc(); "{fault:?}")?,
+    };
+    let look = format!(in rt.alloc();
+        "[ ! -e root/written.dpkg-inst ] || echo left
+[ -e root/written ] || echo nothing
+[ ! -e root/written ] || stat -c '{format}' root/written
+rm -f root/written"
+    )?;
+    let left = shell(rt, look.as_str(), directory)?;
+    match answer.as_str() == told && left.as_str() == seen {
+        true => Ok(()),
+        false => Err(Fail::new(format_args!("{mode:o} {user} {group}: {answer}, {left}"))),
+    }
+}
+
+fn try_cases(rt: &HostRuntime, format: &str, cases: &[Case]) -> Result<(), Fail> {
+    let directory = shell(rt, NEW_DIRECTORY, "/")?;
+    let directory = directory.as_str();
+    let root = format!(in rt.alloc(); "{directory}/root")?;
+    let mut host = FilesHost::open(*rt, root.as_str())?;
+    for case in cases {
+        try_case(rt, &mut host, directory, format, case)?;
+    }
+    fs::remove_dir_all(rt, directory)?;
+    Ok(())
+}
+
+fn is_superuser(rt: &HostRuntime) -> Result<bool, Fail> {
+    Ok(shell(rt, "id -u", "/")?.as_str() == "0\n")
+}
+
+#[test]
+fn written_access(rt: HostRuntime) -> Result<(), Fail> {
+    match is_superuser(&rt)? {
+        true => try_cases(&rt, "%a %u %g", AS_SUPERUSER),
+        false => try_cases(&rt, "%a", AS_PLAIN_USER),
+    }
+}
+
+// A step in a directory that only others may change. The superuser may.
+const CLOSED: &[Row] = &[
+    (
+        "mkdir root/closed
+echo one >root/file
+chmod 555 root/closed",
+        ("move", "/file", "/closed/file"),
+        "Device",
+    ),
+    ("", ("make", "/closed/made", ""), "Device"),
+    ("", ("kind", "/file", ""), "file"),
+    ("", ("barrier", "/", "/"), "done"),
+];
+
+#[test]
+fn closed_directory(rt: HostRuntime) -> Result<(), Fail> {
+    match is_superuser(&rt)? {
+        true => Ok(()),
+        false => super::run(&rt, CLOSED, "chmod 755 root/closed").map(|_| ()),
+    }
+}
+
+#[test]
+fn owned_file(rt: HostRuntime) -> Result<(), Fail> {
+    let Ok(root) = env::var(&rt, "OWNED") else {
+        return Ok(());
+    };
+    let told = match is_superuser(&rt)? {
+        true => "2755 1 42",
+        false => "755 0 0",
+    };
+    let mut host = FilesHost::open(rt, root.as_str())?;
+    let found = look(
+        rt.alloc(),
+        &mut host,
+        &RootPath::from_str(rt.alloc(), "/owned")?,
+    )?;
+    match found.as_str() == told {
+        true => Ok(()),
+        false => Err(Fail::new(format_args!("/owned: {found}"))),
+    }
+}
