@@ -51,7 +51,6 @@ fn kind_text(kind: Option<Kind>) -> &'static str {
 }
 
 // Makes the step that a word names, at one path or from one to the other.
-#[tactic(auto, using(host_files::specs::Replay::unknown_needs))]
 fn step(
     host: &mut RealHost,
     word: &str,
@@ -69,7 +68,6 @@ fn step(
 }
 
 // Makes a directory, or a link to it.
-#[tactic(auto, using(host_files::specs::Replay::unknown_needs))]
 fn make(host: &mut RealHost, word: &str, path: &RootPath, target: &Text) -> Result<(), HostFault> {
     let access = Access {
         mode: 0o755,

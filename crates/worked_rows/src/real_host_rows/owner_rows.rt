@@ -28,7 +28,6 @@ fn look(alloc: Global, host: &mut RealHost, path: &RootPath) -> Result<String, H
 }
 
 // Writes a file with that access, brings it to the disk and renames it.
-#[tactic(auto, using(host_files::specs::Replay::unknown_needs))]
 fn write(alloc: Global, host: &mut RealHost, access: Access) -> Result<(), HostFault> {
     let new = RootPath::from_str(alloc, "/written.dpkg-inst")?;
     let node = Node::File {

@@ -58,7 +58,6 @@ fn run(alloc: Global, host: &mut RealHost, path: &RootPath) -> Result<Outcome, H
 }
 
 // Writes a file; at a temporary name alone.
-#[tactic(auto, using(host_files::specs::Replay::unknown_needs))]
 fn write(alloc: Global, host: &mut RealHost, path: &RootPath) -> Result<(), HostFault> {
     if !path.as_str().ends_with(".dpkg-inst") {
         return Err(HostFault::NoMemory);
@@ -69,7 +68,6 @@ fn write(alloc: Global, host: &mut RealHost, path: &RootPath) -> Result<(), Host
 }
 
 // Makes a step at the path.
-#[tactic(auto, using(host_files::specs::Replay::unknown_needs))]
 fn step(alloc: Global, host: &mut RealHost, word: &str, path: &RootPath) -> Result<(), HostFault> {
     match word {
         "write" => write(alloc, host, path),
