@@ -26,7 +26,7 @@ pub rename-requires-clause-parent : goal.rename-requires-clause-parent
 rename-requires-clause-parent c = λ h. unknown_needs _ h
 
 pub remove-requires : goal.remove-requires
-remove-requires c = λ h. unknown_needs _ h
+remove-requires c = record { there = λ h. unknown_needs _ h }
 
 pub remove_dir-requires-clause-there : goal.remove_dir-requires-clause-there
 remove_dir-requires-clause-there c = λ h. unknown_needs _ h
@@ -35,4 +35,4 @@ pub remove_dir-requires-clause-bare : goal.remove_dir-requires-clause-bare
 remove_dir-requires-clause-bare c = λ h. unknown_needs _ h
 
 pub sync-requires : goal.sync-requires
-sync-requires c = λ h. unknown_needs _ h
+sync-requires c = record { there = λ h. unknown_needs _ h }

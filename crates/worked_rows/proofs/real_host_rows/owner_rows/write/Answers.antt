@@ -8,7 +8,7 @@ pub write_new-requires-clause-parent : goal.write_new-requires-clause-parent
 write_new-requires-clause-parent c = λ h. unknown_needs _ h
 
 pub sync-requires : goal.sync-requires
-sync-requires c = λ h. unknown_needs _ h
+sync-requires c = record { there = λ h. unknown_needs _ h }
 
 pub rename-requires-clause-synced : goal.rename-requires-clause-synced
 rename-requires-clause-synced c = λ h. unknown_needs _ h

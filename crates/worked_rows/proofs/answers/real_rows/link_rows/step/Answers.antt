@@ -2,7 +2,7 @@ use Rattle.host_files.specs.Replay.{unknown_needs}
 use Rattle.worked_rows.proofs.answers.real_rows.link_rows.step.Goals as goal
 
 pub sync-requires : goal.sync-requires
-sync-requires c = λ h. unknown_needs _ h
+sync-requires c = record { there = λ h. unknown_needs _ h }
 
 pub make_dir-requires-clause-absent : goal.make_dir-requires-clause-absent
 make_dir-requires-clause-absent c = λ h. unknown_needs _ h
@@ -47,7 +47,7 @@ pub rename-requires-in-cover-clause-parent : goal.rename-requires-in-cover-claus
 rename-requires-in-cover-clause-parent c = λ h. unknown_needs _ h
 
 pub remove-requires : goal.remove-requires
-remove-requires c = λ h. unknown_needs _ h
+remove-requires c = record { there = λ h. unknown_needs _ h }
 
 pub remove_dir-requires-clause-there : goal.remove_dir-requires-clause-there
 remove_dir-requires-clause-there c = λ h. unknown_needs _ h
