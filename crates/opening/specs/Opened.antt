@@ -15,9 +15,9 @@ use Rattle.status_db.specs.Status.{HasRecords, IsFileOrNothing}
 use Rattle.opening.specs.Parts.{names_of, IsEmptyIn}
 
 -- the lists and scripts of the packages of these names can be read, and these are their lists
-pub record IsListed (w : World) (names : List (List ℕ)) (lists : List PackageList) : Type 0 where
+pub record IsListed (w : World) (names : List (List ℕ)) (found : List PackageList) : Type 0 where
   pub sound : AreSound w names
-  pub lists : HasLists w names lists
+  pub lists : HasLists w names found
 
 -- Its directories are there, all that is in it can be read, no directory is in a file's way, nothing is left in `tmp.ci`;
 -- these are its records, the lists of their packages, and its diversions.

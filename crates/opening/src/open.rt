@@ -14,8 +14,8 @@ ghost use Rattle.administration.specs.Least.{IsLeast};
 ghost use Rattle.opening.specs.Opened.{IsListed, IsOpened};
 
 use administration::{
-    AdministrationFault, Flatness, INCOMING, INFO, Standing, UPDATES, inspect_flat,
-    lesser, look, make_directory, remove_flat,
+    AdministrationFault, Flatness, INCOMING, INFO, Standing, UPDATES, inspect_flat, lesser, look,
+    make_directory, remove_flat,
 };
 use diversions::Diversions;
 use file_lists::FileLists;
