@@ -104,11 +104,13 @@ impl<H: Host> Session<H> {
         ensures on_disk { IfOk result (λ s. IsOnDisk (H.state s.host).events) }
     {
         match open_to_disk(alloc, &mut host) {
-            Ok(Opened {
-                database,
-                lists,
-                diversions,
-            }) => match lists.places(alloc, &diversions) {
+            Ok(
+                Opened {
+                    database,
+                    lists,
+                    diversions,
+                },
+            ) => match lists.places(alloc, &diversions) {
                 Ok(places) => Ok(Session {
                     alloc,
                     host,
