@@ -1,0 +1,9 @@
+//! The texts that questions about an administration are answered with.
+#![tactic(auto)]
+
+mod paths;
+mod places;
+mod records;
+
+pub use places::{diversions_text, truename_text};
+pub use records::{audit_text, list_text, status_text};
