@@ -17,6 +17,6 @@ mod writing;
 pub use diversions::Diversions;
 pub use entry::{Diversion, Owner};
 pub use fault::DiversionFault;
-pub use laws::{a_stopped_change_is_finished, a_table_is_read_as_written};
+pub use laws::{a_node_is_moved_whole, a_stopped_change_is_finished, a_table_is_read_as_written};
 pub use refusal::{Answer, Refusal, Seen};
 pub use sight::Sight;
