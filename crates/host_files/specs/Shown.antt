@@ -144,12 +144,17 @@ module _ (front : List ℕ) (owners : Bool) where
   IsReadBy p (Some node) made = LooksAt (λ found. IsNodeOf owners found node) (place_of front p) [] made
   IsReadBy p None made = (made ≡ []) ⊎ Looks (place_of front p) None [] made
 
--- a command was started, and ended so, or couldn't be started; where the device failed no end is known
+-- the device failed, and no end is known; or memory was wanting, and no start was made
+abbrev pub IsNotBegun : Command Global → List SystemCall → List SystemCall → HostFault → Type 0
+IsNotBegun c old new Device = new ≡ start_call c ∷ old
+IsNotBegun c old new NoMemory = new ≡ old
+
+-- a command was started, and ended so, or couldn't be started
 abbrev pub Starts : Command Global → List SystemCall → List SystemCall → Result Outcome HostFault → Type 0
 Starts c old new (Ok outcome) =
     ((code : Option ℤ) × (new ≡ ask.End code ∷ start_call c ∷ old) × (outcome ≡ outcome_of code))
     ⊎ ((new ≡ start_call c ∷ old) × (outcome ≡ NotStarted))
-Starts c old new (Err fault) = (new ≡ start_call c ∷ old) × (fault ≡ Device)
+Starts c old new (Err fault) = IsNotBegun c old new fault
 
 -- the start of a call's script, in the root
 abbrev pub script_call : List ℕ → List ℕ → Call → SystemCall

@@ -3,9 +3,10 @@
 ghost use Rattle.std.specs.Prelude.{◌≡◌, ◌∷◌, [], IfErr, IfOk, OnOk, OnErr, string_bytes};
 ghost use Rattle.std.specs.IoError.{raw_os_error};
 ghost use Rattle.std.specs.Process.{exit_code};
-ghost use Rattle.host_core.specs.declared.fault.HostFault.TheVariants.{Device};
+ghost use Rattle.host_core.specs.declared.fault.HostFault.TheVariants.{Device, NoMemory};
 ghost use Rattle.host_files.specs.Commands.{is_start_error};
 ghost use Rattle.host_files.specs.declared.trace.SystemCall.TheVariants.{Create, Append, SetOwner, SetMode, MakeDirectory, Rename, Link, MakeLink, Unlink, RemoveDirectory, SyncFile, SyncDirectory, End};
+ghost use Rattle.host_files.specs.Shown.{IsNotBegun};
 ghost use Rattle.host_files.specs.SystemCalls.{changes_in, Looks, start_call};
 ghost use Rattle.host_files.specs.Places.{place_of};
 
@@ -211,16 +212,36 @@ impl System {
         }
     }
 
-    /// Nothing where the program is one that can't be started, or is missing.
+    /// Nothing where the program is one that can't be started, or is missing. Where memory was wanting nothing was started.
     pub(crate) fn start(&mut self, command: &mut Command) -> Result<Option<Child>, HostFault>
-        ensures made { self.new.trace.calls ≡ start_call command.old ∷ self.old.trace.calls }
-        ensures err { IfErr result (λ fault. fault ≡ Device) }
+        ensures made { OnOk result (self.new.trace.calls ≡ start_call command.old ∷ self.old.trace.calls) }
+        ensures err { IfErr result (IsNotBegun command.old self.old.trace.calls self.new.trace.calls) }
     {
-        self.trace = self.trace.with(&Request::Start(command));
+        let started = self.trace.with(&Request::Start(command));
         match command.spawn(&self.rt) {
-            Ok(child) => Ok(Some(child)),
-            Err(error) if is_start_error(&error) => Ok(None),
-            Err(_) => Err(HostFault::Device),
+            Ok(child) => {
+                self.trace = started;
+                Ok(Some(child))
+            }
+            Err(error) if is_start_error(&error) => {
+                self.trace = started;
+                Ok(None)
+            }
+            Err(error) => {
+                let fault = fault_of(&error);
+                self.note_failed_start(started, fault);
+                Err(fault)
+            }
+        }
+    }
+
+    // A start for which the device failed stands in the trace; for want of memory none was made.
+    fn note_failed_start(&mut self, started: Trace, fault: HostFault)
+        ensures device { fault ≡ Device → self.new.trace ≡ started }
+        ensures memory { fault ≡ NoMemory → self.new.trace ≡ self.old.trace }
+    {
+        if let HostFault::Device = fault {
+            self.trace = started;
         }
     }
 
