@@ -8,8 +8,9 @@ ghost use Rattle.file_lists.specs.Lists.{HasLists};
 ghost use Rattle.file_lists.specs.Info.{AreSound, IsInfoDamage};
 ghost use Rattle.file_lists.specs.Owners.{AreLists, paths_of, owners_of, places_in};
 
+use crate::index::Index;
 use crate::info::read_info;
-use crate::owners::Owners;
+use crate::owners::{Owners, look_up, scan};
 use crate::table::Table;
 use administration::AdministrationFault;
 use diversions::Diversions;
@@ -22,15 +23,19 @@ use texts::Text;
 #[derive(Drop)]
 pub struct FileLists {
     table: Table,
+    index: Option<Index>,
     closed: bool,
 }
 
 impl Model for FileLists {
     ghost use Rattle.file_lists.specs.Filed.{Filed};
+    ghost use Rattle.file_lists.specs.Index.{IsIndexed};
 
     ghost Value = { Filed };
 
     ghost view = { λ f. record { lists = f.table; closed = f.closed } };
+
+    ghost invariant = { λ f. IsIndexed f.index f.table };
 }
 
 impl FileLists {
@@ -54,6 +59,7 @@ impl FileLists {
         let table = read_info(alloc, host, names)?;
         Ok(FileLists {
             table,
+            index: None,
             closed: false,
         })
     }
@@ -72,6 +78,17 @@ impl FileLists {
         self.table.list_of(name)
     }
 
+    /// Builds the index by path, from which `owners` answers from then on: worth its time where many
+    /// places are asked for.
+    pub fn index(&mut self, alloc: Global) -> Result<(), AllocError>
+        ensures { self.new ≡ self.old }
+    {
+        if self.index.is_none() {
+            self.index = Some(Index::of_lists(alloc, self.table.as_slice())?);
+        }
+        Ok(())
+    }
+
     /// The listed paths that lie at a place, in the order of the packages' names.
     pub fn owners(
         &self,
@@ -81,7 +98,10 @@ impl FileLists {
     ) -> Result<Owners, AllocError>
         ensures { IfOk result (λ o. o ≡ owners_of diversions.now.entries self.now.lists place.now) }
     {
-        self.table.owners(alloc, diversions, place)
+        match &self.index {
+            Some(index) => look_up(alloc, diversions, place, self.table.as_slice(), index),
+            None => scan(alloc, diversions, place, self.table.as_slice()),
+        }
     }
 
     /// All places at which listed paths lie, for the host to keep while a script runs.

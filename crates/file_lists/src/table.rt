@@ -2,13 +2,11 @@
 ghost use Rattle.std.specs.Prelude.{◌≡◌, ◌++◌, [], ◌∷◌, List, ℕ, IfOk, OnOk, IfSome, IfNone, ◌<◌, length, Contains, ◌↔◌, false, cond};
 ghost use Rattle.std.specs.Str.{bytes_eq};
 ghost use Rattle.file_lists.specs.declared.paths.PackageList.{PackageList as AList};
-ghost use Rattle.file_lists.specs.Owners.{AreLists, AreListPaths, names_of, paths_of, listed, owners_in, owners_of, places_of_list, places_in};
-ghost use Rattle.diversions.specs.Places.{place};
+ghost use Rattle.file_lists.specs.Owners.{AreLists, AreListPaths, names_of, paths_of, places_of_list, places_in};
 ghost use Rattle.file_lists.specs.Table.{IsAt, IsSet};
 
 use crate::ordering::sorted;
-use crate::owners::Owners;
-use crate::paths::{Listed, PackageList, Paths};
+use crate::paths::{PackageList, Paths};
 use diversions::Diversions;
 use host_core::{Places, RootPath};
 use std::alloc::{AllocError, Global};
@@ -47,41 +45,6 @@ fn find(lists: &[PackageList], name: &[u8]) -> Option<usize>
         }
     }
     None
-}
-
-// Adds a path of a package if it lies at a place.
-fn take_owner(
-    diversions: &Diversions,
-    at: &RootPath,
-    name: &Text,
-    path: &RootPath,
-    owners: &mut Owners,
-) -> Result<(), AllocError>
-    ensures { OnOk result (owners.new ≡ owners.old ++ cond (bytes_eq (place diversions.now.entries name.now path.now) at.now) (listed name.now path.now ∷ []) []) }
-{
-    if !diversions.place(name, path)?.is(at) {
-        return Ok(());
-    }
-    owners.items.push(Listed {
-        name: name.copy()?,
-        path: path.copy()?,
-    })?;
-    Ok(())
-}
-
-// Adds the paths of one list that lie at a place.
-fn take_owners(
-    diversions: &Diversions,
-    at: &RootPath,
-    list: &PackageList,
-    owners: &mut Owners,
-) -> Result<(), AllocError>
-    ensures { OnOk result (owners.new ≡ owners.old ++ owners_in diversions.now.entries at.now list.now) }
-{
-    for path in &list.paths.items {
-        take_owner(diversions, at, &list.name, path, owners)?;
-    }
-    Ok(())
 }
 
 // Adds the places of one list.
@@ -150,21 +113,10 @@ impl Table {
         }
     }
 
-    pub(crate) fn owners(
-        &self,
-        alloc: Global,
-        diversions: &Diversions,
-        place: &RootPath,
-    ) -> Result<Owners, AllocError>
-        ensures { IfOk result (λ o. o ≡ owners_of diversions.now.entries self.now place.now) }
+    pub(crate) fn as_slice(&self) -> &[PackageList]
+        ensures { result.now ≡ self.now }
     {
-        let mut owners = Owners {
-            items: Vec::new(alloc),
-        };
-        for list in &self.lists {
-            take_owners(diversions, place, list, &mut owners)?;
-        }
-        Ok(owners)
+        self.lists.as_slice()
     }
 
     pub(crate) fn places(
