@@ -4,6 +4,7 @@ pub mod Kept
 pub mod ControlValues
 pub mod Lines
 pub mod ConffileReading
+pub mod ConfigReading
 pub mod Parsing
 pub mod Sayings
 pub mod Standing

@@ -3,6 +3,7 @@
 
 mod conffile_fields;
 mod conffile_lists;
+mod configured;
 mod database;
 mod laws;
 mod reading;
