@@ -6,6 +6,7 @@ mod conffile_lists;
 mod configured;
 mod database;
 mod laws;
+mod names;
 mod reading;
 mod record;
 mod values;
