@@ -14,7 +14,6 @@ use Rattle.host_core.specs.Host.{State, Reads, Since}
 use Rattle.host_core.specs.Moments.{since_reads, since_then, since_weaker, since_weaker_if, since_now}
 use Rattle.host_core.specs.declared.fault.HostFault.{HostFault}
 use Rattle.host_core.specs.declared.fault.HostFault.TheVariants as host
-use Rattle.host_core.specs.declared.node.Node.{Node}
 use Rattle.host_core.specs.Nodes.{own_access}
 use Rattle.administration.specs.Places.{home_path, info_path, status_path, diversions_path, updates_path, tmp_path, list_path, temporary, is_within}
 use Rattle.administration.specs.Directories.{new_directory, HasBadName, IsMade, IsMaking, IsRemoved, IsTaking}
