@@ -9,3 +9,4 @@ mod table;
 
 pub use diversions::Diversions;
 pub use entry::{Diversion, Owner};
+pub use lines::cut_line;

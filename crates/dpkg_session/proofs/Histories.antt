@@ -6,9 +6,13 @@ use Rattle.host_core.specs.World.{World, SameOn, IsDirectory}
 use Rattle.host_core.specs.Host.{State}
 use Rattle.administration.specs.Places.{home_path, info_path, status_path, tmp_path, list_path, updates_path, diversions_path, temporary}
 use Rattle.administration.proofs.WholeFiles.{no_directory_at}
-use Rattle.file_lists.proofs.Kept.{has_places_kept}
+use Rattle.diversions.specs.declared.entry.Diversion.{Diversion}
+use Rattle.diversions.specs.Lines.{HasEntries}
+use Rattle.file_lists.specs.Owners.{places_in}
+use Rattle.file_lists.specs.declared.paths.PackageList.{PackageList}
+use Rattle.opening.proofs.KeptLists.{has_lists_kept}
 use Rattle.opening.specs.Opened.{IsOpened}
-use Rattle.opening.specs.Parts.{names_of, IsWithoutDiversions}
+use Rattle.opening.specs.Parts.{names_of}
 use Rattle.file_lists.specs.Info.{entry_path, IsSound}
 use Rattle.status_db.specs.declared.record.Record.{Record}
 use Rattle.status_db.specs.Status.{IsFileOrNothing, StandsFor}
@@ -18,26 +22,26 @@ use Rattle.dpkg_session.specs.declared.report.Unit.{Unit as AUnit}
 use Rattle.dpkg_session.specs.History.{Ran, IsCommand, IsHistory, Stands}
 use Rattle.dpkg_session.specs.Run.{IsRun}
 use Rattle.dpkg_session.proofs.Listed.{listed_run}
-use Rattle.dpkg_session.proofs.Readable.{IsReadableBeside, readable_run}
+use Rattle.dpkg_session.proofs.Readable.{IsReadableBeside, diverted_run, readable_run}
 use Rattle.dpkg_session.proofs.Runs.{Ready, ready_after}
 
 -- the administration is read from its own paths alone
-opened_outside : (table : List Record) (places : List Path) (old new : World) → SameOn is_own old new → IsOpened table places old → IsOpened table places new
-opened_outside table places old new same opened = record {
+opened_outside : (table : List Record) (lists : List PackageList) (entries : List Diversion) (old new : World) → SameOn is_own old new → IsOpened table lists entries old → IsOpened table lists entries new
+opened_outside table lists entries old new same opened = record {
   home = subst IsDirectory (sym (same home_path refl)) opened.home;
   info = subst IsDirectory (sym (same info_path refl)) opened.info;
   updates = subst IsDirectory (sym (same updates_path refl)) opened.updates;
   empty = λ name plain. same (updates_path ++ 47 ∷ name) refl ∙ opened.empty name plain;
   text = λ bad. opened.text (bad.0, bad.1, bad.2, subst IsSome (same (info_path ++ 47 ∷ bad.0) refl) bad.3);
   status = subst IsFileOrNothing (sym (same status_path refl)) opened.status;
-  diversions = subst IsWithoutDiversions (sym (same diversions_path refl)) opened.diversions;
+  diversions = subst (λ n. HasEntries n entries) (sym (same diversions_path refl)) opened.diversions;
   status_spare = no_directory_at _ _ (same (temporary status_path) refl) opened.status_spare;
   tmp = same tmp_path refl ∙ opened.tmp;
   records = subst (λ n. StandsFor n table) (sym (same status_path refl)) opened.records;
   standing = opened.standing;
   listed = record {
     sound = λ entry plain. subst (IsSound (names_of table) entry) (sym (same (entry_path entry) refl)) (opened.listed.sound entry plain);
-    places = has_places_kept old new (names_of table) places (λ name known. same (list_path name) refl) opened.listed.places;
+    lists = has_lists_kept old new (names_of table) lists (λ name known. same (list_path name) refl) opened.listed.lists;
   };
 }
 
@@ -47,26 +51,25 @@ ready_run [] (u ∷ us) places before after s t run ready = absurd run
 ready_run (c ∷ cs) [] places before after s t run ready = absurd run
 ready_run (c ∷ cs) (u ∷ us) places before after s t run ready = ready_run cs us places run.1 after run.0 t run.3 (ready_after c places before run.1 u s run.0 ready run.2.is)
 
-readable_opened : (table : List Record) (places : List Path) (w : World) → IsOpened table places w → IsReadableBeside w table
-readable_opened table places w opened = record {
+readable_opened : (table : List Record) (lists : List PackageList) (entries : List Diversion) (w : World) → IsOpened table lists entries w → IsReadableBeside w table
+readable_opened table lists entries w opened = record {
   updates = opened.updates;
   empty = opened.empty;
-  diversions = opened.diversions;
   text = opened.text;
   sound = opened.listed.sound;
   standing = opened.standing;
 }
 
-ready_opened : (table : List Record) (places : List Path) (s : State) → IsOpened table places s.world → Ready table s
-ready_opened table places s opened = record {
+ready_opened : (table : List Record) (lists : List PackageList) (entries : List Diversion) (s : State) → IsOpened table lists entries s.world → Ready table s
+ready_opened table lists entries s opened = record {
   order = λ h. record { home = opened.home; info = opened.info; entries = λ name plain. (opened.listed.sound name plain).loose; status = file_no_directory (s.world status_path) opened.status; status_spare = opened.status_spare; tmp = opened.tmp };
   records = λ h. opened.records;
 }
 
-opened_run : (cs : List Candidate) (us : List AUnit) (places : List Path) (before after : List Record) (s t : State) → IsRun cs us places before after s t → IsTrue t.honest → IsOpened before places s.world → IsOpened after places t.world
-opened_run cs us places before after s t run h opened =
-    let ready = ready_run cs us places before after s t run (ready_opened before places s opened) in
-    let beside = readable_run places cs us before after s t run h (readable_opened before places s.world opened) in
+opened_run : (cs : List Candidate) (us : List AUnit) (places : List Path) (lists : List PackageList) (entries : List Diversion) (before after : List Record) (s t : State) → IsRun cs us places before after s t → IsTrue t.honest → IsOpened before lists entries s.world → IsOpened after lists entries t.world
+opened_run cs us places lists entries before after s t run h opened =
+    let ready = ready_run cs us places before after s t run (ready_opened before lists entries s opened) in
+    let beside = readable_run places cs us before after s t run h (readable_opened before lists entries s.world opened) in
     record {
       home = (ready.order h).home;
       info = (ready.order h).info;
@@ -75,25 +78,25 @@ opened_run cs us places before after s t run h opened =
       text = beside.text;
       status = stands_file (t.world status_path) after (ready.records h);
       status_spare = (ready.order h).status_spare;
-      diversions = beside.diversions;
+      diversions = subst (λ n. HasEntries n entries) (sym (diverted_run places cs us before after s t run h)) opened.diversions;
       tmp = (ready.order h).tmp;
       records = ready.records h;
       standing = beside.standing;
-      listed = record { sound = beside.sound; places = listed_run places cs us before after s t run h opened.listed.places };
+      listed = record { sound = beside.sound; lists = listed_run places lists cs us before after s t run h opened.listed.lists };
     }
 
-pub stands_outside : (table : List Record) (old new : World) → SameOn is_own old new → Stands table old → Stands table new
-stands_outside table old new same stands = (stands.0, opened_outside table stands.0 old new same stands.1)
+pub stands_outside : (table : List Record) (lists : List PackageList) (entries : List Diversion) (old new : World) → SameOn is_own old new → Stands table lists entries old → Stands table lists entries new
+stands_outside table lists entries old new same stands = opened_outside table lists entries old new same stands
 
-stands_command : (ran : Ran) (before after : List Record) (old new : World) → IsCommand ran before after old new → Stands after new
-stands_command ran before after old new command = (
-  command.places,
-  subst (IsOpened after command.places) command.to
-      (opened_run ran.candidates ran.units command.places before after command.start command.end command.run command.honest
-      (subst (IsOpened before command.places) (sym command.from) command.opened)),
-)
+stands_command : (ran : Ran) (before after : List Record) (lists : List PackageList) (entries : List Diversion) (old new : World) → IsCommand ran before after old new → Stands before lists entries old → Stands after lists entries new
+stands_command ran before after lists entries old new command stands =
+    subst (IsOpened after lists entries) command.to
+    (opened_run ran.candidates ran.units (places_in command.entries command.lists) lists entries before after command.start command.end command.run command.honest
+    (subst (IsOpened before lists entries) (sym command.from) stands))
 
-pub stands_history : (commands : List Ran) (before after : List Record) (old new : World) → IsHistory commands before after old new → Stands before old → Stands after new
-stands_history [] before after old new history stands = subst (λ x. Stands x new) (sym history.0) (stands_outside before old new history.1 stands)
-stands_history (ran ∷ rest) before after old new history stands =
-    stands_history rest history.1 after history.2 new history.5 (stands_command ran before history.1 history.0 history.2 history.4)
+pub stands_history : (commands : List Ran) (before after : List Record) (lists : List PackageList) (entries : List Diversion) (old new : World) → IsHistory commands before after old new → Stands before lists entries old → Stands after lists entries new
+stands_history [] before after lists entries old new history stands =
+    subst (λ (x : List Record). Stands x lists entries new) (sym history.0) (stands_outside before lists entries old new history.1 stands)
+stands_history (ran ∷ rest) before after lists entries old new history stands =
+    stands_history rest history.1 after lists entries history.2 new history.5
+    (stands_command ran before history.1 lists entries history.0 history.2 history.4 (stands_outside before lists entries old history.0 history.3 stands))

@@ -1,14 +1,12 @@
--- The places that recorded packages list stay those over units.
+-- The lists of recorded packages stay those over units.
 use Rattle.std.proofs.Common.{◌≡◌, ◌≢◌, ◌⊎◌, ◌↔◌, inl, inr, ℕ, Bool, true, false, cond, List, [], ◌∷◌, ◌++◌, Option, Some, None, is_some, Result, Ok, Err, IsTrue, Contains, codes, arith, get_or, refl, sym, ap, subst, ◌∙◌, ◌||◌}
 use Rattle.std.proofs.lemmas.Bool.{true≢false, false_from_ne_true, cond-true, cond-false, or_parts}
 use Rattle.std.proofs.lemmas.List.{append_cancel_left, append_cancel_right}
 use Rattle.std.proofs.lemmas.Map.Views.{Contains-from_any, list_any-from_Contains}
 use Rattle.std.proofs.lemmas.Slice.Eq.{bytes_eq-Decides}
-use Rattle.std.proofs.Math.Logic.{∥∥₁_map}
 use Rattle.std.specs.List.{list_any}
 use Rattle.std.specs.Str.{bytes_eq}
 use Rattle.std.proofs.lemmas.Cmp.{nat_list_eq_equiv}
-use Rattle.host_core.proofs.Nodes.{directory_is}
 use Rattle.unpack_engine.proofs.Changes.{script_mark}
 use Rattle.host_core.proofs.Paths.{decide}
 use Rattle.host_core.specs.Paths.{Path}
@@ -16,27 +14,24 @@ use Rattle.host_core.specs.World.{World, is_kept}
 use Rattle.host_core.specs.Events.{Ran}
 use Rattle.host_core.specs.Host.{State}
 use Rattle.host_core.specs.Scripts.{changed_kept}
-use Rattle.administration.specs.Places.{home_path, info_path, list_path, status_path, temporary}
-use Rattle.file_lists.specs.Lists.{HasPlaces}
-use Rattle.file_lists.proofs.Kept.{has_places_grown, has_places_left}
-use Rattle.opening.specs.Opened.{IsOpened}
+use Rattle.administration.specs.Places.{list_path, status_path, temporary}
+use Rattle.file_lists.specs.Lists.{HasLists}
+use Rattle.file_lists.specs.declared.paths.PackageList.{PackageList}
+use Rattle.opening.proofs.KeptLists.{has_lists_grown, has_lists_left}
 use Rattle.opening.specs.Parts.{names_of}
 use Rattle.unpack_engine.specs.OwnFiles.{OwnFile, own_path}
 use Rattle.unpack_engine.proofs.Endings.{own_apart, own_lasting}
 use Rattle.package_tree.specs.declared.package.Package.{Package}
 use Rattle.package_tree.specs.declared.fault.TreeFault.{TreeFault}
-use Rattle.status_db.specs.Status.{HasRecords}
-use Rattle.status_db.proofs.StatusNode.{file_no_directory}
 use Rattle.status_db.specs.declared.record.Record.{Record}
 use Rattle.status_db.specs.Records.{record_in}
-use Rattle.unpack_engine.specs.Unpack.{HasChangedRecord, HasEnded, IsInOrder, IsLeft, IsOutside, changes_by}
+use Rattle.unpack_engine.specs.Unpack.{HasChangedRecord, HasEnded, IsLeft, IsOutside, changes_by}
 use Rattle.dpkg_session.specs.declared.refusal.Word.{Word}
 use Rattle.dpkg_session.specs.declared.refusal.Word.TheVariants.{Files, Record as ItsRecord, Conffiles}
 use Rattle.dpkg_session.specs.declared.report.Candidate.{Candidate}
 use Rattle.dpkg_session.specs.declared.report.Unit.{Unit as AUnit}
 use Rattle.dpkg_session.specs.Refusals.{any_has, word_of}
 use Rattle.dpkg_session.specs.Run.{IsRun}
-use Rattle.dpkg_session.specs.Standing.{IsStanding}
 use Rattle.dpkg_session.specs.Units.{IsUnitByWord, IsUnitOf}
 use Rattle.dpkg_session.proofs.Runs.{falls_run}
 use Rattle.unpack_engine.specs.EndStates.{IsEnd, IsUnwoundEnd, own_undo_failed}
@@ -121,31 +116,31 @@ list_outside n name ne = record {
     not_own None e = ne (names_of_lists n name e)
     not_own (Some script) e = own_apart n name None (Some script) (λ same. script_mark script (sym same)) e
 
--- a unit that was carried out leaves the places
+-- a unit that was carried out leaves the lists
 
-module _ (p : Package) (places : List Path) (before after : List Record) (ended : Ended) (ts : List Ran) (old new : World) (records : HasEnded p before after ended) (left : IsLeft p places after ended ts old new) (new_name : is_some (record_in before p.name) ≡ false) where
+module _ (p : Package) (places : List Path) (before after : List Record) (ended : Ended) (ts : List Ran) (old new : World) (records : HasEnded p before after ended) (left : IsLeft p places after ended ts old new) (new_name : is_some (record_in before p.name) ≡ false) (lists : List PackageList) where
   list_stays : (n : List ℕ) → Contains (names_of before) n → new (list_path n) ≡ old (list_path n)
   list_stays n has =
       left.rest (list_path n) (list_outside n p.name (λ same. true≢false (sym (subst (λ x. is_some (record_in before x) ≡ true) same (has_record before n has)) ∙ new_name)))
       ∙ changed_kept (is_kept places) (changes_by ts) old left.avoids (list_path n) refl
 
-  listed_grown : (entry : Record) → records.entry ≡ Some entry → HasPlaces old (names_of before) places → HasPlaces new (names_of after) places
-  listed_grown entry is has = has_places_grown old new (names_of before) (names_of after) p.name places
+  listed_grown : (entry : Record) → records.entry ≡ Some entry → HasLists old (names_of before) lists → HasLists new (names_of after) lists
+  listed_grown entry is has = has_lists_grown old new (names_of before) (names_of after) p.name lists
       (names_grown p.name before after new_name entry (subst (λ e. HasChangedRecord p.name e before after) is records.table)) list_stays left.list has
 
-  listed_less : records.entry ≡ None → HasPlaces old (names_of before) places → HasPlaces new (names_of after) places
-  listed_less is has = has_places_left old new (names_of before) (names_of after) places
+  listed_less : records.entry ≡ None → HasLists old (names_of before) lists → HasLists new (names_of after) lists
+  listed_less is has = has_lists_left old new (names_of before) (names_of after) lists
       (names_left p.name before after new_name (subst (λ e. HasChangedRecord p.name e before after) is records.table)) list_stays has
 
-  by_unwound : (failed : Bool) → IsUnwoundEnd p failed records.entry → HasPlaces old (names_of before) places → HasPlaces new (names_of after) places
+  by_unwound : (failed : Bool) → IsUnwoundEnd p failed records.entry → HasLists old (names_of before) lists → HasLists new (names_of after) lists
   by_unwound false end has = listed_less end has
   by_unwound true end has = listed_grown end.0 end.1 has
 
-  by_end : (e : Ended) → IsEnd p e records.entry → HasPlaces old (names_of before) places → HasPlaces new (names_of after) places
+  by_end : (e : Ended) → IsEnd p e records.entry → HasLists old (names_of before) lists → HasLists new (names_of after) lists
   by_end Committed end has = listed_grown end.0 end.1 has
   by_end (Unwound fall owners) end has = by_unwound (own_undo_failed p owners) end has
 
-  pub listed_left : HasPlaces old (names_of before) places → HasPlaces new (names_of after) places
+  pub listed_left : HasLists old (names_of before) lists → HasLists new (names_of after) lists
   listed_left has = by_end ended records.end has
 
 -- what is carried out has no record before
@@ -174,47 +169,21 @@ carried_conffiles p before e =
     let rest = (cond_none (is_some (record_in before p.name)) ItsRecord _ (cond_none p.ships Files _ e).1).1 in
     (or_parts p.has_conffiles _ (cond_none (p.has_conffiles || (any_has before (codes "Conffiles") || any_has before (codes "New-Conffiles"))) Conffiles _ rest).0).0
 
--- the places after a run
+-- the lists after a run
 
-module _ (places : List Path) where
-  listed_word : (p : Package) (word : Option Word) (before after : List Record) (u : AUnit) (s t : State) → word_of p before ≡ word → IsUnitByWord p word places before after u s t → IsTrue t.honest → HasPlaces s.world (names_of before) places → HasPlaces t.world (names_of after) places
-  listed_word p (Some word) before after u s t e unit h has = subst (λ x. HasPlaces t.world (names_of x) places) (sym unit.table) (subst (λ w. HasPlaces w (names_of before) places) (sym unit.state.world) has)
+module _ (places : List Path) (lists : List PackageList) where
+  listed_word : (p : Package) (word : Option Word) (before after : List Record) (u : AUnit) (s t : State) → word_of p before ≡ word → IsUnitByWord p word places before after u s t → IsTrue t.honest → HasLists s.world (names_of before) lists → HasLists t.world (names_of after) lists
+  listed_word p (Some word) before after u s t e unit h has = subst (λ x. HasLists t.world (names_of x) lists) (sym unit.table) (subst (λ w. HasLists w (names_of before) lists) (sym unit.state.world) has)
   listed_word p None before after u s t e unit h has =
-      listed_left p places before after unit.unpacked.ended unit.unpacked.ts s.world t.world unit.unpacked.unit.records (unit.unpacked.unit.leaves h) (no_record p before e) has
+      listed_left p places before after unit.unpacked.ended unit.unpacked.ts s.world t.world unit.unpacked.unit.records (unit.unpacked.unit.leaves h) (no_record p before e) lists has
 
-  listed_unit : (label : List ℕ) (tree : Result Package TreeFault) (before after : List Record) (u : AUnit) (s t : State) → IsUnitOf label tree places before after u s t → IsTrue t.honest → HasPlaces s.world (names_of before) places → HasPlaces t.world (names_of after) places
-  listed_unit label (Err fault) before after u s t unit h has = subst (λ x. HasPlaces t.world (names_of x) places) (sym unit.table) (subst (λ w. HasPlaces w (names_of before) places) (sym unit.state.world) has)
+  listed_unit : (label : List ℕ) (tree : Result Package TreeFault) (before after : List Record) (u : AUnit) (s t : State) → IsUnitOf label tree places before after u s t → IsTrue t.honest → HasLists s.world (names_of before) lists → HasLists t.world (names_of after) lists
+  listed_unit label (Err fault) before after u s t unit h has = subst (λ x. HasLists t.world (names_of x) lists) (sym unit.table) (subst (λ w. HasLists w (names_of before) lists) (sym unit.state.world) has)
   listed_unit label (Ok p) before after u s t unit h has = listed_word p (word_of p before) before after u s t refl unit h has
 
-  pub listed_run : (cs : List Candidate) (us : List AUnit) (before after : List Record) (s t : State) → IsRun cs us places before after s t → IsTrue t.honest → HasPlaces s.world (names_of before) places → HasPlaces t.world (names_of after) places
-  listed_run [] [] before after s t run h has = subst (λ x. HasPlaces t.world (names_of x) places) (sym run.1) (subst (λ x. HasPlaces x.world (names_of before) places) (sym run.0) has)
+  pub listed_run : (cs : List Candidate) (us : List AUnit) (before after : List Record) (s t : State) → IsRun cs us places before after s t → IsTrue t.honest → HasLists s.world (names_of before) lists → HasLists t.world (names_of after) lists
+  listed_run [] [] before after s t run h has = subst (λ x. HasLists t.world (names_of x) lists) (sym run.1) (subst (λ x. HasLists x.world (names_of before) lists) (sym run.0) has)
   listed_run [] (u ∷ us) before after s t run h has = absurd run
   listed_run (c ∷ cs) [] before after s t run h has = absurd run
   listed_run (c ∷ cs) (u ∷ us) before after s t run h has =
       listed_run cs us run.1 after run.0 t run.3 h (listed_unit c.label c.tree before run.1 u s run.0 run.2.is (falls_run cs us places run.1 after run.0 t run.3 h) has)
-
--- what a session keeps
-
-pub standing_opened : (table : List Record) (places : List Path) (w : World) → IsOpened table places w → IsStanding table places w
-standing_opened table places w opened = (
-  directory_is (w home_path) opened.home,
-  directory_is (w info_path) opened.info,
-  (λ name plain. (opened.listed.sound name plain).loose),
-  file_no_directory (w status_path) opened.status,
-  opened.status_spare,
-  opened.tmp,
-  opened.records,
-  ∣ opened.listed.places ∣₁,
-)
-
-pub standing_run : (cs : List Candidate) (us : List AUnit) (places : List Path) (before after : List Record) (s t : State) → IsRun cs us places before after s t → IsTrue t.honest → IsInOrder t.world → HasRecords t.world after → IsStanding before places s.world → IsStanding after places t.world
-standing_run cs us places before after s t run h order records standing = (
-  directory_is (t.world home_path) order.home,
-  directory_is (t.world info_path) order.info,
-  order.entries,
-  order.status,
-  order.status_spare,
-  order.tmp,
-  records,
-  ∥∥₁_map standing.7 (λ has. listed_run places cs us before after s t run h has),
-)

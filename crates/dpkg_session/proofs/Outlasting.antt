@@ -35,7 +35,7 @@ answered_then s m t first (inl now) = inl now
 answered_then s m t (inl disk) (inr reads) = inl (answered_disk m t (inr reads) disk)
 answered_then s m t (inr before) (inr reads) = inr (reads_then s m t before reads)
 
-run_answered : (cs : List Candidate) (us : List AUnit) (places : List Path) (before after : List Record) (s t : State) → IsRun cs us places before after s t → IsAnswered s t
+pub run_answered : (cs : List Candidate) (us : List AUnit) (places : List Path) (before after : List Record) (s t : State) → IsRun cs us places before after s t → IsAnswered s t
 run_answered [] [] places before after s t run = subst (λ (x : State). IsAnswered s x) (sym run.0) (answered_here s)
 run_answered [] (u ∷ us) places before after s t run = absurd run
 run_answered (c ∷ cs) [] places before after s t run = absurd run

@@ -25,7 +25,7 @@ use Rattle.administration.specs.Scripts.{script_of, file_of}
 use Rattle.administration.specs.declared.scripts.ScriptFile.{ScriptFile}
 use Rattle.file_lists.specs.Info.{is_foreign, entry_path, AreSound, IsSound, IsListOf, IsLink}
 use Rattle.file_lists.specs.Lists.{IsReadable}
-use Rattle.opening.specs.Parts.{names_of, IsEmptyIn, IsWithoutDiversions}
+use Rattle.opening.specs.Parts.{names_of, IsEmptyIn}
 use Rattle.package_tree.specs.declared.package.Package.{Package}
 use Rattle.package_tree.specs.declared.fault.TreeFault.{TreeFault}
 use Rattle.status_db.specs.declared.record.Record.{Record}
@@ -48,12 +48,11 @@ use Rattle.dpkg_session.specs.Units.{IsUnitByWord, IsUnitOf}
 use Rattle.dpkg_session.proofs.Listed.{at_other, has_record, is_named}
 use Rattle.dpkg_session.proofs.Runs.{falls_run}
 
--- what a further opening reads, apart from the status file and the places
+-- what a further opening reads, apart from the status file and the lists
 
 pub record IsReadableBeside (w : World) (table : List Record) : Type 0 where
   pub updates : IsDirectory (w updates_path)
   pub empty : IsEmptyIn w updates_path
-  pub diversions : IsWithoutDiversions (w diversions_path)
   pub text : HasBadName w info_path → ⊥
   pub sound : AreSound w (names_of table)
   pub standing : standing table ≡ table
@@ -197,15 +196,33 @@ module _ (p : Package) (places : List Path) (before after : List Record) (ended 
   readable_left was = record {
     updates = subst IsDirectory (sym (stays updates_path (updates_outside p.name []) refl)) was.updates;
     empty = λ name plain. stays (updates_path ++ 47 ∷ name) (updates_outside p.name (47 ∷ name)) refl ∙ was.empty name plain;
-    diversions = subst IsWithoutDiversions (sym (stays diversions_path (diversions_outside p.name) refl)) was.diversions;
     text = text_left was.text;
     sound = sound_left was.sound;
     standing = records.standing was.standing;
   }
 
+  pub diverted_left : new diversions_path ≡ old diversions_path
+  diverted_left = stays diversions_path (diversions_outside p.name) refl
+
 -- units, and a run of them
 
 module _ (places : List Path) where
+  diverted_word : (p : Package) (word : Option Word) (before after : List Record) (u : AUnit) (s t : State) → IsUnitByWord p word places before after u s t → IsTrue t.honest → t.world diversions_path ≡ s.world diversions_path
+  diverted_word p (Some word) before after u s t unit h = ap (λ w. w diversions_path) unit.state.world
+  diverted_word p None before after u s t unit h = diverted_left p places before after unit.unpacked.ended unit.unpacked.ts s.world t.world unit.unpacked.unit.records (unit.unpacked.unit.leaves h)
+
+  diverted_unit : (label : List ℕ) (tree : Result Package TreeFault) (before after : List Record) (u : AUnit) (s t : State) → IsUnitOf label tree places before after u s t → IsTrue t.honest → t.world diversions_path ≡ s.world diversions_path
+  diverted_unit label (Err fault) before after u s t unit h = ap (λ w. w diversions_path) unit.state.world
+  diverted_unit label (Ok p) before after u s t unit h = diverted_word p (word_of p before) before after u s t unit h
+
+  -- the file of diversions isn't touched
+  pub diverted_run : (cs : List Candidate) (us : List AUnit) (before after : List Record) (s t : State) → IsRun cs us places before after s t → IsTrue t.honest → t.world diversions_path ≡ s.world diversions_path
+  diverted_run [] [] before after s t run h = ap (λ (x : State). x.world diversions_path) run.0
+  diverted_run [] (u ∷ us) before after s t run h = absurd run
+  diverted_run (c ∷ cs) [] before after s t run h = absurd run
+  diverted_run (c ∷ cs) (u ∷ us) before after s t run h =
+      diverted_run cs us run.1 after run.0 t run.3 h ∙ diverted_unit c.label c.tree before run.1 u s run.0 run.2.is (falls_run cs us places run.1 after run.0 t run.3 h)
+
   readable_word : (p : Package) (word : Option Word) (before after : List Record) (u : AUnit) (s t : State) → IsUnitByWord p word places before after u s t → IsTrue t.honest → IsReadableBeside s.world before → IsReadableBeside t.world after
   readable_word p (Some word) before after u s t unit h was = subst (IsReadableBeside t.world) (sym unit.table) (subst (λ w. IsReadableBeside w before) (sym unit.state.world) was)
   readable_word p None before after u s t unit h was = readable_left p places before after unit.unpacked.ended unit.unpacked.ts s.world t.world unit.unpacked.unit.records (unit.unpacked.unit.leaves h) was

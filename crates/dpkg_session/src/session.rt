@@ -1,8 +1,9 @@
 // A session over one host.
 ghost use Rattle.std.specs.Prelude.{◌≡◌, true, false, IsTrue, IsNone, OnOk, IfOk, IfErr, IfSome, is_some, Some, None};
 ghost use Rattle.host_core.specs.Host.{AtEachMoment, Falls, Gives, Needs, Silent, Since, faults};
-ghost use Rattle.host_core.specs.Loss.{IsOnDisk};
+ghost use Rattle.host_core.specs.Loss.{IsAnswered, IsOnDisk};
 ghost use Rattle.administration.specs.Fault.{CountsAdministration};
+ghost use Rattle.file_lists.specs.Owners.{places_in};
 ghost use Rattle.opening.specs.Leaving.{IsOpening};
 ghost use Rattle.opening.specs.Opened.{IsOpened};
 ghost use Rattle.opening.specs.Parts.{Opens, fault_in, parts};
@@ -15,8 +16,10 @@ ghost use Rattle.dpkg_session.specs.Units.{CountsLast, IsBrokenBy, IsClosedRepor
 use crate::report::{Breakage, Candidate, Report};
 use crate::units::{broken, run_units};
 use administration::AdministrationFault;
+use diversions::Diversions;
+use file_lists::FileLists;
 use host_core::{Host, Keep, Places};
-use opening::open_administration;
+use opening::{Opened, open_administration};
 use status_db::Database;
 use std::alloc::Global;
 
@@ -38,23 +41,24 @@ impl Command {
     }
 }
 
-/// A root whose administration is open. After a unit that was broken off it is closed.
+/// A root whose administration is open. After a unit that was broken off it is closed. A running
+/// script leaves alone the places of all listed paths, which are computed once.
 pub struct Session<H: Host> {
     alloc: Global,
     host: H,
     database: Database,
+    lists: FileLists,
+    diversions: Diversions,
     places: Places,
     closed: bool,
-    pub ghost ready: { closed ≡ false → Needs (H.state host) (IsStanding database places) },
+    pub ghost ready: { closed ≡ false → Needs (H.state host) (IsStanding database lists.lists diversions.entries) },
+    pub ghost kept: { places ≡ places_in diversions.entries lists.lists },
 }
 
 // Opens the administration, and brings all that was done to the disk.
-fn open_to_disk<H: Host>(
-    alloc: Global,
-    host: &mut H,
-) -> Result<(Database, Places), AdministrationFault>
+fn open_to_disk<H: Host>(alloc: Global, host: &mut H) -> Result<Opened, AdministrationFault>
     ensures opens { IsTrue (H.state host.new).honest → Opens parts (fault_in result) (H.state host.old).world (H.state host.new).world }
-    ensures opened { Gives result (λ opened old new. IsOpened opened.0 opened.1 new) (H.state host.old) (H.state host.new) }
+    ensures opened { Gives result (λ opened old new. IsOpened opened.database opened.lists.lists opened.diversions.entries new) (H.state host.old) (H.state host.new) }
     ensures on_disk { OnOk result (IsOnDisk (H.state host.new).events) }
     ensures any_moment { AtEachMoment IsOpening (H.state host.old) (H.state host.new) }
     ensures silent { Silent (H.state host.old) (H.state host.new) }
@@ -85,7 +89,7 @@ impl<H: Host> Session<H> {
     /// Opens the administration of a host. A refusal hands the host back; it and what was changed
     /// then are told by `refused`.
     pub fn open(alloc: Global, mut host: H) -> Result<Session<H>, (H, AdministrationFault)>
-        ensures opened { IfOk result (λ s. Needs (H.state s.host) (IsOpened s.database s.places)) }
+        ensures opened { IfOk result (λ s. Needs (H.state s.host) (IsOpened s.database s.lists.lists s.diversions.entries)) }
         ensures opens { IfOk result (λ s. OpensAll None (H.state host) (H.state s.host)) }
         ensures refused { IfErr result (λ e. OpensAll (Some e.1) (H.state host) (H.state e.0)) }
         ensures any_moment { IfOk result (λ s. AtEachMoment IsOpening (H.state host) (H.state s.host)) }
@@ -100,13 +104,22 @@ impl<H: Host> Session<H> {
         ensures on_disk { IfOk result (λ s. IsOnDisk (H.state s.host).events) }
     {
         match open_to_disk(alloc, &mut host) {
-            Ok((database, places)) => Ok(Session {
-                alloc,
-                host,
+            Ok(Opened {
                 database,
-                places,
-                closed: false,
-            }),
+                lists,
+                diversions,
+            }) => match lists.places(alloc, &diversions) {
+                Ok(places) => Ok(Session {
+                    alloc,
+                    host,
+                    database,
+                    lists,
+                    diversions,
+                    places,
+                    closed: false,
+                }),
+                Err(_) => Err((host, AdministrationFault::NoMemory)),
+            },
             Err(fault) => Err((host, fault)),
         }
     }
@@ -122,6 +135,9 @@ impl<H: Host> Session<H> {
         ensures closes { self.new.closed ≡ is_some result.last }
         ensures refused { self.old.closed ≡ true → IsClosedReport result }
         ensures same { self.old.closed ≡ true → H.state self.new.host ≡ H.state self.old.host }
+        ensures answered { self.old.closed ≡ false → IsNone result.last → IsAnswered (H.state self.old.host) (H.state self.new.host) }
+        ensures lists { self.new.lists ≡ self.old.lists }
+        ensures diversions { self.new.diversions ≡ self.old.diversions }
         ensures places { self.new.places ≡ self.old.places }
         ensures honest { Falls (H.state self.old.host) (H.state self.new.host) }
         ensures counts { self.old.closed ≡ false → CountsLast (H.state self.old.host) (H.state self.new.host) result.last }
@@ -151,6 +167,8 @@ impl<H: Host> Session<H> {
         let Session {
             host,
             database: _database,
+            lists: _lists,
+            diversions: _diversions,
             places: _places,
             alloc: _,
             closed: _,

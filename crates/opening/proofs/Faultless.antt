@@ -16,8 +16,9 @@ use Rattle.administration.proofs.WholeFiles.{no_directory_none}
 use Rattle.file_lists.specs.Lists.{IsReadable}
 use Rattle.file_lists.specs.Info.{entry_path, IsSound, IsFaultyWhole, HasBadLine, HasFault, AreSound, IsInfoDamage}
 use Rattle.status_db.specs.Status.{IsFileOrNothing}
-use Rattle.opening.specs.Parts.{Part, Root, Way, Status, Spare, Updates, Info, Diversions, Leftovers, parts, names_of, IsEmptyIn, IsWithoutDiversions, IsReadableInfo, IsEntryFault, IsDiversionsFault, IsLeftoversFault, IsFine, IsFaulty, IsFirstFault}
+use Rattle.opening.specs.Parts.{Part, Root, Way, Status, Spare, Updates, Info, Diversions, Leftovers, parts, names_of, IsEmptyIn, IsReadableInfo, IsEntryFault, IsLeftoversFault, IsFine, IsFaulty, IsFirstFault}
 use Rattle.opening.proofs.OneTable.{all_at, not_damaged, one_table}
+use Rattle.opening.proofs.OneDiversions.{not_faulty}
 
 -- an entry of `info`
 
@@ -51,12 +52,6 @@ empty_updates : (w : World) (file : Path) → IsEmptyIn w updates_path → IsEnt
 empty_updates w file empty (inl bad) = none_stands (w (updates_path ++ 47 ∷ bad.1.0)) (empty bad.1.0 bad.1.1) bad.1.3
 empty_updates w file empty (inr entry) = none_stands (w (updates_path ++ 47 ∷ entry.1.0)) (empty entry.1.0 entry.1.2.plain) entry.1.2.holds
 
-no_diversions : (node : Option Node) (line : ℕ) → IsWithoutDiversions node → IsDiversionsFault node line → ⊥
-no_diversions None line without fault = fault
-no_diversions (Some (File bytes access)) line without fault = fault.0 without
-no_diversions (Some (Dir access)) line without fault = without
-no_diversions (Some (Link target)) line without fault = without
-
 -- below what isn't there nothing stands
 below_nothing : (w : World) (name : Path) → IsTree w → w tmp_path ≡ None → IsSome (w (tmp_path ++ 47 ∷ name)) → ⊥
 below_nothing w name tree none stands = no_directory_none (subst IsDirectory none (tree tmp_path name stands))
@@ -72,7 +67,7 @@ faultless Status w file line tree status fine faulty = not_damaged (w status_pat
 faultless Spare w file line tree status fine faulty = fine (subst (λ (p : Path). IsDirectory (w p)) faulty.0 faulty.2)
 faultless Updates w file line tree status fine faulty = empty_updates w file fine faulty.1
 faultless Info w file line tree status fine faulty = readable_info w file line status fine faulty
-faultless Diversions w file line tree status fine faulty = no_diversions (w diversions_path) line fine faulty.1
+faultless Diversions w file line tree status fine faulty = not_faulty (w diversions_path) fine.0 line fine.1 faulty.1
 faultless Leftovers w file line tree status fine faulty = no_leftovers w file tree fine faulty.1
 
 none_among : (among : List Part) (w : World) (file : Path) (line : ℕ) → IsTree w → IsFileOrNothing (w status_path) → AllByRecursion (IsFine w) among → IsFirstFault among w file line → ⊥

@@ -1,3 +1,5 @@
 mod Openings
 mod OneTable
 mod Faultless
+mod OneDiversions
+pub mod KeptLists

@@ -26,13 +26,19 @@ use Rattle.administration.specs.declared.fault.AdministrationFault.TheVariants.{
 use Rattle.administration.proofs.WholeFiles.{no_directory_none, no_directory_at}
 use Rattle.administration.proofs.Emptying.{less_then}
 use Rattle.file_lists.specs.Info.{AreSound, IsInfoDamage, IsSound}
-use Rattle.file_lists.specs.Lists.{HasPlaces}
-use Rattle.file_lists.proofs.Kept.{has_places_kept}
+use Rattle.diversions.specs.declared.entry.Diversion.{Diversion}
+use Rattle.diversions.specs.Diverted.{Diverted}
+use Rattle.diversions.specs.Lines.{HasDiversions, HasEntries, IsDiversionsDamage}
+use Rattle.file_lists.specs.Filed.{Filed}
+use Rattle.file_lists.specs.Lists.{HasLists}
+use Rattle.file_lists.specs.declared.paths.PackageList.{PackageList}
+use Rattle.opening.proofs.KeptLists.{has_lists_kept}
+use Rattle.opening.specs.declared.open.Opened.{Opened as AnOpened}
 use Rattle.status_db.specs.declared.record.Record.{Record}
 use Rattle.status_db.specs.Status.{IsFileOrNothing, IsStatusDamage, StandsFor}
 use Rattle.opening.specs.Opened.{IsListed, IsOpened}
 use Rattle.opening.specs.Leaving.{IsOpening, HasMadeWays, IsNewWay, is_way, root_path, ways}
-use Rattle.opening.specs.Parts.{Part, Root, Way, is_leftovers, IsDamaged, IsTable, SparesLeftovers, Status, Spare, Updates, Info, Diversions, Leftovers, IsFine, IsFirstFault, IsDamage, IsWithoutDiversions, IsDiversionsFault, IsLeftoversFault, Finds, Opens, fault_in, names_of, parts}
+use Rattle.opening.specs.Parts.{Part, Root, Way, is_leftovers, IsDamaged, IsTable, SparesLeftovers, Status, Spare, Updates, Info, Diversions, Leftovers, IsFine, IsFirstFault, IsDamage, IsLeftoversFault, Finds, Opens, fault_in, names_of, parts}
 
 pub opening_start : (w : World) → IsOpening w w
 opening_start w = record { rest = λ q out. inl refl; left = λ q within. inl refl }
@@ -160,6 +166,9 @@ IsEarly Leftovers = ⊥
 table_kept : (table : List Record) (u v : World) → v status_path ≡ u status_path → IsTable u table → IsTable v table
 table_kept table u v e is = record { records = subst (λ n. StandsFor n table) (sym e) is.records; standing = is.standing }
 
+diverted_kept : (entries : List Diversion) (u v : World) → v diversions_path ≡ u diversions_path → HasDiversions u entries → HasDiversions v entries
+diverted_kept entries u v e has = subst (λ n. HasEntries n entries) (sym e) has
+
 pub fine_kept : (part : Part) (u v : World) → IsEarly part → IsOpening u v → IsFine u part → IsFine v part
 fine_kept Root u v early opening fine = directory_kept root_path u v (opening.rest root_path refl) fine
 fine_kept (Way path) u v early opening fine = directory_kept path u v (opening.rest path early) fine
@@ -176,7 +185,7 @@ fine_kept Info u v early opening fine = record {
   text = λ bad. fine.text (bad.0, bad.1, bad.2, subst IsSome (plain_kept (info_path ++ 47 ∷ bad.0) u v refl (opening.rest (info_path ++ 47 ∷ bad.0) refl)) bad.3);
   sound = λ entry plain. subst (IsSound (names_of fine.table) entry) (sym (plain_kept (info_path ++ 47 ∷ entry) u v refl (opening.rest (info_path ++ 47 ∷ entry) refl))) (fine.sound entry plain);
 }
-fine_kept Diversions u v early opening fine = subst IsWithoutDiversions (sym (plain_kept diversions_path u v refl (opening.rest diversions_path refl))) fine
+fine_kept Diversions u v early opening fine = (fine.0, diverted_kept fine.0 u v (plain_kept diversions_path u v refl (opening.rest diversions_path refl)) fine.1)
 fine_kept Leftovers u v early opening fine = absurd early
 
 all_kept : (among : List Part) (u v : World) → AllByRecursion IsEarly among → IsOpening u v → AllByRecursion (IsFine u) among → AllByRecursion (IsFine v) among
@@ -389,12 +398,16 @@ leftovers_stopped p h (Err fault) u v w e is same taking =
 
 -- the diversions
 
-pub diversions_read : (p : Path) (n : Option Node) (u v : World) → p ≡ diversions_path → n ≡ u p → v ≡ u → IsWithoutDiversions n → Opens (Diversions ∷ []) None u v
-diversions_read p n u v e is same without = opens_read (Diversions ∷ []) None u v same (subst IsWithoutDiversions (is ∙ ap u e) without, tt)
+pub diversions_read : (entries : List Diversion) (u v : World) → v ≡ u → HasDiversions u entries → Opens (Diversions ∷ []) None u v
+diversions_read entries u v same has = opens_read (Diversions ∷ []) None u v same ((entries, has), tt)
 
-pub diversions_faulty : (p : Path) (line : ℕ) (n : Option Node) (fault : AdministrationFault) (u v : World) → p ≡ diversions_path → fault ≡ Damaged p line → n ≡ u p → v ≡ u → IsDiversionsFault n line → Opens (Diversions ∷ []) (Some fault) u v
-diversions_faulty p line n fault u v e told is same faulty = opens_read (Diversions ∷ []) (Some fault) u v same
-    (subst (IsDamage (Diversions ∷ []) u) (sym told) (inl (e, subst (λ m. IsDiversionsFault m line) (is ∙ ap u e) faulty)))
+diversions_fault : (w : World) (fault : AdministrationFault) → IsDiversionsDamage w fault → IsDamage (Diversions ∷ []) w fault
+diversions_fault w (Damaged file line) damage = inl damage
+diversions_fault w Device damage = tt
+diversions_fault w NoMemory damage = tt
+
+pub diversions_damaged : (fault : AdministrationFault) (u v : World) → v ≡ u → IsDiversionsDamage u fault → Opens (Diversions ∷ []) (Some fault) u v
+diversions_damaged fault u v same damage = opens_read (Diversions ∷ []) (Some fault) u v same (diversions_fault u fault damage)
 
 -- a directory's entry has it as its parent
 pub child_parent : (w : World) (front name : Path) → list_any (nat_eq 47) name ≡ false → IsDirectory (w front) → HasParent w (front ++ 47 ∷ name)
@@ -424,10 +437,10 @@ home_kept u v opens is = directory_kept home_path u v (opens.changes.rest home_p
 pub table_opens : {among : List Part} {fault : Option AdministrationFault} (table : List Record) (u v : World) → Opens among fault u v → IsTable u table → IsTable v table
 table_opens table u v opens is = table_kept table u v (plain_kept status_path u v refl (opens.changes.rest status_path refl)) is
 
-pub listed_kept : {among : List Part} {fault : Option AdministrationFault} (names : List (List ℕ)) (places : List Path) (u v : World) → Opens among fault u v → IsListed u names places → IsListed v names places
-listed_kept names places u v opens has = record {
+pub listed_kept : {among : List Part} {fault : Option AdministrationFault} (names : List (List ℕ)) (lists : List PackageList) (u v : World) → Opens among fault u v → IsListed u names lists → IsListed v names lists
+listed_kept names lists u v opens has = record {
   sound = λ entry plain. subst (IsSound names entry) (sym (plain_kept (info_path ++ 47 ∷ entry) u v refl (opens.changes.rest (info_path ++ 47 ∷ entry) refl))) (has.sound entry plain);
-  places = has_places_kept u v names places (λ name known. plain_kept (list_path name) u v refl (opens.changes.rest (list_path name) refl)) has.places;
+  lists = has_lists_kept u v names lists (λ name known. plain_kept (list_path name) u v refl (opens.changes.rest (list_path name) refl)) has.lists;
 }
 
 -- reading alone
@@ -444,8 +457,8 @@ pub info_read : {T : Type 0} (result : Result T AdministrationFault) (table : Li
 info_read result table u v w first is same text sound damage =
     opens_then (Way info_path ∷ []) (Info ∷ []) (fault_in result) u v w (refl, tt) first (opens_read (Info ∷ []) (fault_in result) v w same (found_info table v result is text sound damage))
 
-pub listed_read : (result : Result (List Path) AdministrationFault) (table : List Record) (v w : World) → w ≡ v → IfOk result (λ k. AreSound v (names_of table)) → IfOk result (HasPlaces v (names_of table)) → IfOk result (IsListed w (names_of table))
-listed_read (Ok places) table v w same sound has = subst (λ x. IsListed x (names_of table) places) (sym same) (record { sound = sound; places = has })
+pub listed_read : (result : Result Filed AdministrationFault) (table : List Record) (v w : World) → w ≡ v → IfOk result (λ k. AreSound v (names_of table)) → IfOk result (λ f. HasLists v (names_of table) f.lists) → IfOk result (λ f. IsListed w (names_of table) f.lists)
+listed_read (Ok f) table v w same sound has = subst (λ x. IsListed x (names_of table) f.lists) (sym same) (record { sound = sound; lists = has })
 listed_read (Err fault) table v w same sound has = tt
 
 status_fault : (w : World) (fault : AdministrationFault) → IsStatusDamage w fault → IsDamage (Status ∷ []) w fault
@@ -459,8 +472,8 @@ status_damaged fault u v same damage = opens_read (Status ∷ []) (Some fault) u
 pub status_read : (table : List Record) (u v : World) → v ≡ u → IsFileOrNothing (u status_path) → IsTable u table → Opens (Status ∷ []) None u v
 status_read table u v same file is = opens_read (Status ∷ []) None u v same ((file, (table, is)), tt)
 
-pub opened_of : (table : List Record) (places : List Path) (u v : World) → Opens parts None u v → IsTable v table → IsListed v (names_of table) places → IsOpened table places v
-opened_of table places u v opens is listed = record {
+pub opened_of : (table : List Record) (lists : List PackageList) (entries : List Diversion) (u v : World) → Opens parts None u v → IsTable v table → IsListed v (names_of table) lists → HasDiversions v entries → IsOpened table lists entries v
+opened_of table lists entries u v opens is listed diverted = record {
   home = opens.finds.1.1.1.0;
   info = opens.finds.1.1.1.1.1.1.1.1.0;
   updates = opens.finds.1.1.1.1.1.1.0;
@@ -468,17 +481,28 @@ opened_of table places u v opens is listed = record {
   text = opens.finds.1.1.1.1.1.1.1.1.1.0.text;
   status = opens.finds.1.1.1.1.0.0;
   status_spare = opens.finds.1.1.1.1.1.0;
-  diversions = opens.finds.1.1.1.1.1.1.1.1.1.1.0;
+  diversions = diverted;
   tmp = opens.finds.1.1.1.1.1.1.1.1.1.1.1.0;
   records = is.records;
   standing = is.standing;
   listed = listed;
 }
 
-pub listed_through : {among : List Part} {fault : Option AdministrationFault} (result : Result (List Path) AdministrationFault) (names : List (List ℕ)) (places : List Path) (u v : World) → Opens among fault u v → IfOk result (λ kept. kept ≡ places) → IsListed u names places → IfOk result (IsListed v names)
-listed_through (Ok kept) names places u v opens is has = subst (IsListed v names) (sym is) (listed_kept names places u v opens has)
-listed_through (Err fault) names places u v opens is has = tt
+-- what was read goes through
 
-pub opened_ok : (result : Result (List Record × List Path) AdministrationFault) (table : List Record) (u v : World) → Opens parts (fault_in result) u v → IfOk result (λ o. o.0 ≡ table) → IsTable v table → IfOk result (λ o. IsListed v (names_of o.0) o.1) → IfOk result (λ o. IsOpened o.0 o.1 v)
-opened_ok (Ok o) table u v opens is table_is listed = opened_of o.0 o.1 u v opens (subst (IsTable v) (sym is) table_is) listed
-opened_ok (Err fault) table u v opens is table_is listed = tt
+pub diverted_here : (d : Diverted) (u v : World) → v ≡ u → HasDiversions u d.entries → HasDiversions v d.entries
+diverted_here d u v same has = subst (λ w. HasDiversions w d.entries) (sym same) has
+
+pub diverted_through : {among : List Part} {fault : Option AdministrationFault} (result : Result Diverted AdministrationFault) (d : Diverted) (u v : World) → Opens among fault u v → IfOk result (λ kept. kept ≡ d) → HasDiversions u d.entries → IfOk result (λ kept. HasDiversions v kept.entries)
+diverted_through (Ok kept) d u v opens is has = subst (λ (x : Diverted). HasDiversions v x.entries) (sym is) (diverted_kept d.entries u v (plain_kept diversions_path u v refl (opens.changes.rest diversions_path refl)) has)
+diverted_through (Err fault) d u v opens is has = tt
+
+pub listed_through : {among : List Part} {fault : Option AdministrationFault} (result : Result (Filed × Diverted) AdministrationFault) (names : List (List ℕ)) (f : Filed) (u v : World) → Opens among fault u v → IfOk result (λ read. read.0 ≡ f) → IsListed u names f.lists
+    → IfOk result (λ read. IsListed v names read.0.lists)
+listed_through (Ok read) names f u v opens is has = subst (λ (x : Filed). IsListed v names x.lists) (sym is) (listed_kept names f.lists u v opens has)
+listed_through (Err fault) names f u v opens is has = tt
+
+pub opened_ok : (result : Result AnOpened AdministrationFault) (table : List Record) (u v : World) → Opens parts (fault_in result) u v → IfOk result (λ o. o.database ≡ table) → IsTable v table → IfOk result (λ o. IsListed v (names_of o.database) o.lists.lists) → IfOk result (λ o. HasDiversions v o.diversions.entries)
+    → IfOk result (λ o. IsOpened o.database o.lists.lists o.diversions.entries v)
+opened_ok (Ok o) table u v opens is table_is listed diverted = opened_of o.database o.lists.lists o.diversions.entries u v opens (subst (IsTable v) (sym is) table_is) listed diverted
+opened_ok (Err fault) table u v opens is table_is listed diverted = tt

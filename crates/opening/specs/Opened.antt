@@ -1,25 +1,27 @@
 -- An administration that is open.
 use Rattle.std.specs.Prelude.{◌≡◌, ℕ, List, None}
-use Rattle.host_core.specs.Paths.{Path}
 use Rattle.host_core.specs.World.{World, IsDirectory}
-use Rattle.administration.specs.Places.{home_path, info_path, status_path, diversions_path, updates_path, tmp_path, temporary}
+use Rattle.administration.specs.Places.{home_path, info_path, status_path, updates_path, tmp_path, temporary}
 use Rattle.administration.specs.Directories.{HasBadName}
 use Rattle.administration.specs.Files.{NoDirectory}
+use Rattle.diversions.specs.declared.entry.Diversion.{Diversion}
+use Rattle.diversions.specs.Lines.{HasDiversions}
 use Rattle.file_lists.specs.Info.{AreSound}
-use Rattle.file_lists.specs.Lists.{HasPlaces}
+use Rattle.file_lists.specs.Lists.{HasLists}
+use Rattle.file_lists.specs.declared.paths.PackageList.{PackageList}
 use Rattle.status_db.specs.declared.record.Record.{Record}
 use Rattle.status_db.specs.Records.{standing}
 use Rattle.status_db.specs.Status.{HasRecords, IsFileOrNothing}
-use Rattle.opening.specs.Parts.{names_of, IsEmptyIn, IsWithoutDiversions}
+use Rattle.opening.specs.Parts.{names_of, IsEmptyIn}
 
--- the lists and scripts of the packages of these names can be read, and the lists name these places
-pub record IsListed (w : World) (names : List (List ℕ)) (kept : List Path) : Type 0 where
+-- the lists and scripts of the packages of these names can be read, and these are their lists
+pub record IsListed (w : World) (names : List (List ℕ)) (found : List PackageList) : Type 0 where
   pub sound : AreSound w names
-  pub places : HasPlaces w names kept
+  pub lists : HasLists w names found
 
 -- Its directories are there, all that is in it can be read, no directory is in a file's way, nothing is left in `tmp.ci`;
--- these are its records, and these the places that recorded packages list.
-pub record IsOpened (table : List Record) (places : List Path) (w : World) : Type 0 where
+-- these are its records, the lists of their packages, and its diversions.
+pub record IsOpened (table : List Record) (lists : List PackageList) (entries : List Diversion) (w : World) : Type 0 where
   pub home : IsDirectory (w home_path)
   pub info : IsDirectory (w info_path)
   pub updates : IsDirectory (w updates_path)
@@ -27,8 +29,8 @@ pub record IsOpened (table : List Record) (places : List Path) (w : World) : Typ
   pub text : HasBadName w info_path → ⊥
   pub status : IsFileOrNothing (w status_path)
   pub status_spare : NoDirectory (w (temporary status_path))
-  pub diversions : IsWithoutDiversions (w diversions_path)
+  pub diversions : HasDiversions w entries
   pub tmp : w tmp_path ≡ None
   pub records : HasRecords w table
   pub standing : standing table ≡ table
-  pub listed : IsListed w (names_of table) places
+  pub listed : IsListed w (names_of table) lists

@@ -4,14 +4,14 @@ use Rattle.std.specs.List.{AllByRecursion, list_any}
 use Rattle.host_core.specs.Paths.{Path}
 use Rattle.host_core.specs.Tree.{has_slash}
 use Rattle.host_core.specs.World.{World, IsDirectory, IsLoose, SameOn}
-use Rattle.host_core.specs.declared.node.Node.{Node}
-use Rattle.host_core.specs.declared.node.Node.TheVariants.{File, Dir, Link}
-use Rattle.administration.specs.Places.{home_path, info_path, status_path, diversions_path, updates_path, tmp_path, temporary, is_within}
+use Rattle.administration.specs.Places.{home_path, info_path, status_path, updates_path, tmp_path, temporary, is_within}
 use Rattle.administration.specs.Directories.{HasBadName}
 use Rattle.administration.specs.Files.{NoDirectory}
 use Rattle.administration.specs.Least.{IsLeastIn}
 use Rattle.administration.specs.declared.fault.AdministrationFault.{AdministrationFault}
 use Rattle.administration.specs.declared.fault.AdministrationFault.TheVariants.{Damaged, Device, NoMemory}
+use Rattle.diversions.specs.declared.entry.Diversion.{Diversion}
+use Rattle.diversions.specs.Lines.{HasDiversions, IsDiversionsDamage}
 use Rattle.file_lists.specs.Info.{IsInfoDamage, AreSound}
 use Rattle.status_db.specs.declared.record.Record.{Record}
 use Rattle.status_db.specs.Records.{standing}
@@ -44,13 +44,6 @@ parts = Root ∷ Way var_path ∷ Way lib_path ∷ Way home_path ∷ Status ∷ 
 abbrev pub IsEmptyIn : World → Path → Type 0
 IsEmptyIn w directory = (name : Path) → has_slash name ≡ false → w (directory ++ 47 ∷ name) ≡ None
 
--- no diversion stands there: no file, or an empty one
-abbrev pub IsWithoutDiversions : Option Node → Type 0
-IsWithoutDiversions None = Unit {0}
-IsWithoutDiversions (Some (File bytes access)) = bytes ≡ []
-IsWithoutDiversions (Some (Dir access)) = ⊥
-IsWithoutDiversions (Some (Link target)) = ⊥
-
 -- the status file stands for these records, each of a package that isn't gone
 pub record IsTable (w : World) (table : List Record) : Type 0 where
   pub records : HasRecords w table
@@ -71,19 +64,12 @@ IsFine w Status = IsFileOrNothing (w status_path) × ((table : List Record) × I
 IsFine w Spare = NoDirectory (w (temporary status_path))
 IsFine w Updates = IsEmptyIn w updates_path
 IsFine w Info = IsReadableInfo w
-IsFine w Diversions = IsWithoutDiversions (w diversions_path)
+IsFine w Diversions = (entries : List Diversion) × HasDiversions w entries
 IsFine w Leftovers = w tmp_path ≡ None
 
 -- an entry of a directory that has to be empty: the directory itself where a name isn't text, else the first
 abbrev pub IsEntryFault : World → Path → Path → Type 0
 IsEntryFault w directory file = ((file ≡ directory) × HasBadName w directory) ⊎ ((HasBadName w directory → ⊥) × ((name : Path) × (file ≡ directory ++ 47 ∷ name) × IsLeastIn IsSome w directory name))
-
--- diversions aren't carried out yet: the first line of a file that isn't empty; line 0 where it is no file
-abbrev pub IsDiversionsFault : Option Node → ℕ → Type 0
-IsDiversionsFault None line = ⊥
-IsDiversionsFault (Some (File bytes access)) line = (bytes ≡ [] → ⊥) × (line ≡ 1)
-IsDiversionsFault (Some (Dir access)) line = line ≡ 0
-IsDiversionsFault (Some (Link target)) line = line ≡ 0
 
 -- `tmp.ci` is no directory or has a name in it that isn't text; else the first directory in it
 abbrev pub IsLeftoversFault : World → Path → Type 0
@@ -98,7 +84,7 @@ IsFaulty w Status file line = IsStatusDamage w (Damaged file line)
 IsFaulty w Spare file line = (file ≡ temporary status_path) × (line ≡ 0) × IsDirectory (w file)
 IsFaulty w Updates file line = (line ≡ 0) × IsEntryFault w updates_path file
 IsFaulty w Info file line = (table : List Record) × IsTable w table × IsInfoDamage w (names_of table) (Damaged file line)
-IsFaulty w Diversions file line = (file ≡ diversions_path) × IsDiversionsFault (w diversions_path) line
+IsFaulty w Diversions file line = IsDiversionsDamage w (Damaged file line)
 IsFaulty w Leftovers file line = (line ≡ 0) × IsLeftoversFault w file
 
 -- among these parts the first that can't be read

@@ -6,4 +6,4 @@ mod laws;
 mod open;
 
 pub use laws::what_is_fine_has_no_fault;
-pub use open::open_administration;
+pub use open::{Opened, open_administration};

@@ -1,26 +1,36 @@
 // The administration as a whole, part by part in the order in which they are opened.
-ghost use Rattle.std.specs.Prelude.{◌≡◌, ◌∷◌, [], true, IsTrue, Some, option_copied, IfOk, MatchBool, MatchOption};
+ghost use Rattle.std.specs.Prelude.{◌≡◌, ◌∷◌, [], true, IsTrue, Some, option_copied, IfOk, MatchBool};
 ghost use Rattle.host_core.specs.Host.{AtEachMoment, Counts, Gives, Needs, Reads, Silent, Tells};
 ghost use Rattle.host_core.specs.World.{HasParent, World, IsDirectory};
 ghost use Rattle.administration.specs.Fault.{CountsAdministration};
 ghost use Rattle.administration.specs.Files.{NoDirectory};
 ghost use Rattle.administration.specs.Places.{home_path, updates_path, info_path, tmp_path};
 ghost use Rattle.administration.specs.declared.fault.AdministrationFault.TheVariants.{Damaged, Device};
+ghost use Rattle.diversions.specs.Lines.{HasDiversions};
 ghost use Rattle.opening.specs.Leaving.{is_way, IsOpening, var_path, lib_path};
-ghost use Rattle.opening.specs.Parts.{Root, Way, IsTable, Opens, fault_in, Spare, Updates, Finds, Info, names_of, Diversions, IsDiversionsFault, IsWithoutDiversions, Leftovers, parts};
+ghost use Rattle.opening.specs.Parts.{Root, Way, IsTable, Opens, fault_in, Spare, Updates, Finds, Info, names_of, Diversions as ItsDiversions, Leftovers, parts};
 ghost use Rattle.host_core.specs.Tree.{IsListing};
 ghost use Rattle.administration.specs.Least.{IsLeast};
 ghost use Rattle.opening.specs.Opened.{IsListed, IsOpened};
 
 use administration::{
-    AdministrationFault, DIVERSIONS, Flatness, INCOMING, INFO, Standing, UPDATES, inspect_flat,
-    lesser, look, make_directory, remove_flat,
+    AdministrationFault, Flatness, INCOMING, INFO, Standing, UPDATES, inspect_flat, lesser, look,
+    make_directory, remove_flat,
 };
-use file_lists::read_places;
-use host_core::{Host, HostFault, Listing, Node, Places, RootPath};
+use diversions::Diversions;
+use file_lists::FileLists;
+use host_core::{Host, HostFault, Listing, RootPath};
 use status_db::{Database, Record};
 use std::alloc::{AllocError, Global};
 use texts::{Text, Texts};
+
+/// What an administration holds: the records, the lists of recorded packages, and the diversions.
+#[derive(Drop)]
+pub struct Opened {
+    pub database: Database,
+    pub lists: FileLists,
+    pub diversions: Diversions,
+}
 
 // Where the status file is written before it is renamed to its place.
 const STATUS_SPARE: &str = "/var/lib/dpkg/status.dpkg-inst";
@@ -163,57 +173,23 @@ fn names_of(alloc: Global, records: &[Record]) -> Result<Texts, AllocError>
     Ok(names)
 }
 
-// Makes the directory where it is missing, and reads the places that recorded packages list.
+// Makes the directory where it is missing, and reads the lists of recorded packages.
 fn open_info<H: Host>(
     alloc: Global,
     host: &mut H,
     database: &Database,
-) -> Result<Places, AdministrationFault>
+) -> Result<FileLists, AdministrationFault>
     requires home { Needs (H.state host.old) (λ w. IsDirectory (w home_path)) }
     requires table { Needs (H.state host.old) (λ w. IsTable w database.now) }
     ensures opens { IsTrue (H.state host.new).honest → Opens (Way info_path ∷ Info ∷ []) (fault_in result) (H.state host.old).world (H.state host.new).world }
-    ensures listed { Gives result (λ places old new. IsListed new (names_of database.now) places) (H.state host.old) (H.state host.new) }
+    ensures listed { Gives result (λ f old new. IsListed new (names_of database.now) f.lists) (H.state host.old) (H.state host.new) }
     ensures any_moment { AtEachMoment IsOpening (H.state host.old) (H.state host.new) }
     ensures silent { Silent (H.state host.old) (H.state host.new) }
     ensures counts { CountsAdministration (H.state host.old) (H.state host.new) result }
 {
     let names = names_of(alloc, database.records())?;
     make_way(alloc, host, INFO)?;
-    read_places(alloc, host, names.as_slice())
-}
-
-// The faulty line of what stands in the place of the diversions.
-fn faulty_line(node: Option<Node>) -> Option<u64>
-    ensures { MatchOption result (IsWithoutDiversions node) (IsDiversionsFault node) }
-{
-    match node {
-        None => None,
-        Some(Node::File { bytes, .. }) => {
-            if bytes.as_slice().is_empty() {
-                return None;
-            }
-            return Some(1);
-        }
-        Some(Node::Dir { .. }) => Some(0),
-        Some(Node::Link { .. }) => Some(0),
-    }
-}
-
-fn check_diversions<H: Host>(alloc: Global, host: &mut H) -> Result<(), AdministrationFault>
-    ensures opens { IsTrue (H.state host.new).honest → Opens (Diversions ∷ []) (fault_in result) (H.state host.old).world (H.state host.new).world }
-    ensures reads { Reads (H.state host.old) (H.state host.new) }
-    ensures silent { Silent (H.state host.old) (H.state host.new) }
-    ensures counts { CountsAdministration (H.state host.old) (H.state host.new) result }
-{
-    let path = RootPath::from_str(alloc, DIVERSIONS)?;
-    match faulty_line(host.node(&path)?) {
-        Some(line) => {
-            return Err(damaged(path, line));
-        }
-        None => {
-            return Ok(());
-        }
-    }
+    FileLists::open(alloc, host, names.as_slice())
 }
 
 // Removes the directory with the files in it.
@@ -259,31 +235,56 @@ fn clear_leftovers<H: Host>(alloc: Global, host: &mut H) -> Result<(), Administr
     }
 }
 
-fn settle<H: Host>(alloc: Global, host: &mut H) -> Result<(), AdministrationFault>
-    ensures opens { IsTrue (H.state host.new).honest → Opens (Diversions ∷ Leftovers ∷ []) (fault_in result) (H.state host.old).world (H.state host.new).world }
+// Removes what a unit left behind; the diversions that were read go through.
+fn settle_with<H: Host>(
+    alloc: Global,
+    host: &mut H,
+    diversions: Diversions,
+) -> Result<Diversions, AdministrationFault>
+    ensures opens { IsTrue (H.state host.new).honest → Opens (Leftovers ∷ []) (fault_in result) (H.state host.old).world (H.state host.new).world }
+    ensures diversions { IfOk result (λ kept. kept ≡ diversions) }
     ensures any_moment { AtEachMoment IsOpening (H.state host.old) (H.state host.new) }
     ensures silent { Silent (H.state host.old) (H.state host.new) }
     ensures counts { CountsAdministration (H.state host.old) (H.state host.new) result }
 {
-    check_diversions(alloc, host)?;
-    clear_leftovers(alloc, host)
+    match clear_leftovers(alloc, host) {
+        Ok(()) => {
+            return Ok(diversions);
+        }
+        Err(fault) => {
+            return Err(fault);
+        }
+    }
 }
 
-// The last parts; the places that were read go through.
-fn settle_with<H: Host>(
+// The diversions, and after them what a unit left behind.
+fn settle<H: Host>(alloc: Global, host: &mut H) -> Result<Diversions, AdministrationFault>
+    ensures opens { IsTrue (H.state host.new).honest → Opens (ItsDiversions ∷ Leftovers ∷ []) (fault_in result) (H.state host.old).world (H.state host.new).world }
+    ensures diverted { Gives result (λ d old new. HasDiversions new d.entries) (H.state host.old) (H.state host.new) }
+    ensures any_moment { AtEachMoment IsOpening (H.state host.old) (H.state host.new) }
+    ensures silent { Silent (H.state host.old) (H.state host.new) }
+    ensures counts { CountsAdministration (H.state host.old) (H.state host.new) result }
+{
+    let diversions = Diversions::open(alloc, host)?;
+    settle_with(alloc, host, diversions)
+}
+
+// The last parts; the lists that were read go through.
+fn open_settled<H: Host>(
     alloc: Global,
     host: &mut H,
-    places: Places,
-) -> Result<Places, AdministrationFault>
-    ensures opens { IsTrue (H.state host.new).honest → Opens (Diversions ∷ Leftovers ∷ []) (fault_in result) (H.state host.old).world (H.state host.new).world }
-    ensures places { IfOk result (λ kept. kept ≡ places) }
+    lists: FileLists,
+) -> Result<(FileLists, Diversions), AdministrationFault>
+    ensures opens { IsTrue (H.state host.new).honest → Opens (ItsDiversions ∷ Leftovers ∷ []) (fault_in result) (H.state host.old).world (H.state host.new).world }
+    ensures lists { IfOk result (λ read. read.0 ≡ lists) }
+    ensures diverted { Gives result (λ read old new. HasDiversions new read.1.entries) (H.state host.old) (H.state host.new) }
     ensures any_moment { AtEachMoment IsOpening (H.state host.old) (H.state host.new) }
     ensures silent { Silent (H.state host.old) (H.state host.new) }
     ensures counts { CountsAdministration (H.state host.old) (H.state host.new) result }
 {
     match settle(alloc, host) {
-        Ok(()) => {
-            return Ok(places);
+        Ok(diversions) => {
+            return Ok((lists, diversions));
         }
         Err(fault) => {
             return Err(fault);
@@ -296,38 +297,44 @@ fn open_rest<H: Host>(
     alloc: Global,
     host: &mut H,
     database: &Database,
-) -> Result<Places, AdministrationFault>
+) -> Result<(FileLists, Diversions), AdministrationFault>
     requires home { Needs (H.state host.old) (λ w. IsDirectory (w home_path)) }
     requires table { Needs (H.state host.old) (λ w. IsTable w database.now) }
-    ensures opens { IsTrue (H.state host.new).honest → Opens (Spare ∷ Way updates_path ∷ Updates ∷ Way info_path ∷ Info ∷ Diversions ∷ Leftovers ∷ []) (fault_in result) (H.state host.old).world (H.state host.new).world }
-    ensures listed { Gives result (λ places old new. IsListed new (names_of database.now) places) (H.state host.old) (H.state host.new) }
+    ensures opens { IsTrue (H.state host.new).honest → Opens (Spare ∷ Way updates_path ∷ Updates ∷ Way info_path ∷ Info ∷ ItsDiversions ∷ Leftovers ∷ []) (fault_in result) (H.state host.old).world (H.state host.new).world }
+    ensures listed { Gives result (λ read old new. IsListed new (names_of database.now) read.0.lists) (H.state host.old) (H.state host.new) }
+    ensures diverted { Gives result (λ read old new. HasDiversions new read.1.entries) (H.state host.old) (H.state host.new) }
     ensures any_moment { AtEachMoment IsOpening (H.state host.old) (H.state host.new) }
     ensures silent { Silent (H.state host.old) (H.state host.new) }
     ensures counts { CountsAdministration (H.state host.old) (H.state host.new) result }
 {
     check_spare(alloc, host)?;
     open_updates(alloc, host)?;
-    let places = open_info(alloc, host, database)?;
-    settle_with(alloc, host, places)
+    let lists = open_info(alloc, host, database)?;
+    open_settled(alloc, host, lists)
 }
 
 fn open_with<H: Host>(
     alloc: Global,
     host: &mut H,
     database: Database,
-) -> Result<(Database, Places), AdministrationFault>
+) -> Result<Opened, AdministrationFault>
     requires home { Needs (H.state host.old) (λ w. IsDirectory (w home_path)) }
     requires table { Needs (H.state host.old) (λ w. IsTable w database) }
-    ensures opens { IsTrue (H.state host.new).honest → Opens (Spare ∷ Way updates_path ∷ Updates ∷ Way info_path ∷ Info ∷ Diversions ∷ Leftovers ∷ []) (fault_in result) (H.state host.old).world (H.state host.new).world }
-    ensures database { IfOk result (λ opened. opened.0 ≡ database) }
-    ensures listed { Gives result (λ opened old new. IsListed new (names_of opened.0) opened.1) (H.state host.old) (H.state host.new) }
+    ensures opens { IsTrue (H.state host.new).honest → Opens (Spare ∷ Way updates_path ∷ Updates ∷ Way info_path ∷ Info ∷ ItsDiversions ∷ Leftovers ∷ []) (fault_in result) (H.state host.old).world (H.state host.new).world }
+    ensures database { IfOk result (λ opened. opened.database ≡ database) }
+    ensures listed { Gives result (λ opened old new. IsListed new (names_of opened.database) opened.lists.lists) (H.state host.old) (H.state host.new) }
+    ensures diverted { Gives result (λ opened old new. HasDiversions new opened.diversions.entries) (H.state host.old) (H.state host.new) }
     ensures any_moment { AtEachMoment IsOpening (H.state host.old) (H.state host.new) }
     ensures silent { Silent (H.state host.old) (H.state host.new) }
     ensures counts { CountsAdministration (H.state host.old) (H.state host.new) result }
 {
     match open_rest(alloc, host, &database) {
-        Ok(places) => {
-            return Ok((database, places));
+        Ok((lists, diversions)) => {
+            return Ok(Opened {
+                database,
+                lists,
+                diversions,
+            });
         }
         Err(fault) => {
             return Err(fault);
@@ -335,15 +342,14 @@ fn open_with<H: Host>(
     }
 }
 
-/// Opens the administration below `/var/lib/dpkg`: the records, and the places that recorded
-/// packages list. A fault is that of the first part that can't be read; what opening changes is
-/// told by `opens`, whatever the answer.
+/// Opens the administration below `/var/lib/dpkg`. A fault is that of the first part that can't be
+/// read; what opening changes is told by `opens`, whatever the answer.
 pub fn open_administration<H: Host>(
     alloc: Global,
     host: &mut H,
-) -> Result<(Database, Places), AdministrationFault>
+) -> Result<Opened, AdministrationFault>
     ensures opens { IsTrue (H.state host.new).honest → Opens parts (fault_in result) (H.state host.old).world (H.state host.new).world }
-    ensures opened { Gives result (λ opened old new. IsOpened opened.0 opened.1 new) (H.state host.old) (H.state host.new) }
+    ensures opened { Gives result (λ opened old new. IsOpened opened.database opened.lists.lists opened.diversions.entries new) (H.state host.old) (H.state host.new) }
     ensures any_moment { AtEachMoment IsOpening (H.state host.old) (H.state host.new) }
     ensures silent { Silent (H.state host.old) (H.state host.new) }
     ensures counts { CountsAdministration (H.state host.old) (H.state host.new) result }

@@ -35,7 +35,7 @@ returns-clause-opened g c = λ h.
     (status_read c.in_ok-database.database _ _ c.open.ensures.reads.world (c.in_ok-database.ensures.file h2) (record { records = c.in_ok-database.ensures.records h2; standing = c.in_ok-database.ensures.standing })) (c.open_with.ensures.opens h)) in
     let later = table_opens c.in_ok-database.database _ _ (c.open_with.ensures.opens h)
     (subst (λ w. IsTable w c.in_ok-database.database) (sym c.open.ensures.reads.world) (record { records = c.in_ok-database.ensures.records h2; standing = c.in_ok-database.ensures.standing })) in
-    opened_ok c.open_with.result c.in_ok-database.database _ _ all c.open_with.ensures.database later (c.open_with.ensures.listed h)
+    opened_ok c.open_with.result c.in_ok-database.database _ _ all c.open_with.ensures.database later (c.open_with.ensures.listed h) (c.open_with.ensures.diverted h)
 
 pub returns-clause-any_moment : goal.returns-clause-any_moment
 returns-clause-any_moment g c = moments_then _ _ _ (moments_then _ _ _ c.open_ways.ensures.any_moment (moments_read _ _ c.open.ensures.reads)) c.open_with.ensures.any_moment

@@ -1,7 +1,7 @@
 use Rattle.std.proofs.Common.{◌∷◌, [], refl, ap, subst, codes, ◌∙◌, IfErr, IfOk}
 use Rattle.administration.specs.Places.{home_path, info_path}
 use Rattle.file_lists.specs.Info.{AreSound, IsInfoDamage}
-use Rattle.file_lists.specs.Lists.{HasPlaces}
+use Rattle.file_lists.specs.Lists.{HasLists}
 use Rattle.opening.specs.Parts.{Way, Info, names_of}
 use Rattle.opening.proofs.Openings.{child_parent, info_read, listed_read, moments_read, moments_then, stopped_before, stopped_memory, table_opens}
 use Rattle.opening.proofs.open.open_info.Goals as goal
@@ -18,21 +18,21 @@ returns-in_err-make_way-clause-opens g c = λ h.
 
 pub returns-clause-opens : goal.returns-clause-opens
 returns-clause-opens g c = λ h.
-    let h1 = c.read_places.ensures.silent.honest h in
+    let h1 = c.open.ensures.silent.honest h in
     let made = c.in_ok-make_way.ensures.opens h1 in
     let named = c.as_slice.ensures ∙ c.in_ok-names.ensures ∙ ap names_of c.records.ensures in
     let world = (g.H.Host.state c.make_way.new.host).world in
-    info_read c.read_places.result c.args.database.now _ _ _ made (table_opens c.args.database.now _ _ made (c.requires.table (c.make_way.ensures.silent.honest h1))) c.read_places.ensures.reads.world (c.read_places.ensures.text h)
-    (subst (λ names. IfOk c.read_places.result (λ k. AreSound world names)) named (c.read_places.ensures.sound h))
-    (subst (λ names. IfErr c.read_places.result (IsInfoDamage world names)) named (c.read_places.ensures.damage h))
+    info_read c.open.result c.args.database.now _ _ _ made (table_opens c.args.database.now _ _ made (c.requires.table (c.make_way.ensures.silent.honest h1))) c.open.ensures.reads.world (c.open.ensures.text h)
+    (subst (λ names. IfOk c.open.result (λ k. AreSound world names)) named (c.open.ensures.sound h))
+    (subst (λ names. IfErr c.open.result (IsInfoDamage world names)) named (c.open.ensures.damage h))
 
 pub returns-clause-listed : goal.returns-clause-listed
 returns-clause-listed g c = λ h.
     let named = c.as_slice.ensures ∙ c.in_ok-names.ensures ∙ ap names_of c.records.ensures in
     let world = (g.H.Host.state c.make_way.new.host).world in
-    listed_read c.read_places.result c.args.database.now _ _ c.read_places.ensures.reads.world
-    (subst (λ names. IfOk c.read_places.result (λ k. AreSound world names)) named (c.read_places.ensures.sound h))
-    (subst (λ names. IfOk c.read_places.result (HasPlaces world names)) named (c.read_places.ensures.places h))
+    listed_read c.open.result c.args.database.now _ _ c.open.ensures.reads.world
+    (subst (λ names. IfOk c.open.result (λ k. AreSound world names)) named (c.open.ensures.sound h))
+    (subst (λ names. IfOk c.open.result (λ f. HasLists world names f.lists)) named (c.open.ensures.lists h))
 
 pub returns-clause-any_moment : goal.returns-clause-any_moment
-returns-clause-any_moment g c = moments_then _ _ _ c.make_way.ensures.any_moment (moments_read _ _ c.read_places.ensures.reads)
+returns-clause-any_moment g c = moments_then _ _ _ c.make_way.ensures.any_moment (moments_read _ _ c.open.ensures.reads)

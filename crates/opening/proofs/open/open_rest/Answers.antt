@@ -33,31 +33,31 @@ open_info-requires-clause-table g c = λ h2.
     let h1 = c.open_updates.ensures.silent.honest h2 in
     table_opens _ _ _ (c.in_ok-open_updates.ensures.opens h2) (table_opens _ _ _ (c.in_ok-check_spare.ensures.opens h1) (c.requires.table (c.check_spare.ensures.silent.honest h1)))
 
-pub returns-in_err-places-clause-opens : goal.returns-in_err-places-clause-opens
-returns-in_err-places-clause-opens g c = λ h.
+pub returns-in_err-lists-clause-opens : goal.returns-in_err-lists-clause-opens
+returns-in_err-lists-clause-opens g c = λ h.
     let h2 = c.open_info.ensures.silent.honest h in
     let h1 = c.open_updates.ensures.silent.honest h2 in
-    stopped_before (Spare ∷ Way updates_path ∷ Updates ∷ Way info_path ∷ Info ∷ []) (Diversions ∷ Leftovers ∷ []) _ c.from_residual-in_err-places.result _ _ c.from_residual-in_err-places.ensures.1
+    stopped_before (Spare ∷ Way updates_path ∷ Updates ∷ Way info_path ∷ Info ∷ []) (Diversions ∷ Leftovers ∷ []) _ c.from_residual-in_err-lists.result _ _ c.from_residual-in_err-lists.ensures.1
     (opens_then (Spare ∷ []) (Way updates_path ∷ Updates ∷ Way info_path ∷ Info ∷ []) _ _ _ _ (tt, tt) (c.in_ok-check_spare.ensures.opens h1)
-    (opens_then (Way updates_path ∷ Updates ∷ []) (Way info_path ∷ Info ∷ []) _ _ _ _ (refl, (tt, tt)) (c.in_ok-open_updates.ensures.opens h2) (c.in_err-places.ensures.opens h)))
+    (opens_then (Way updates_path ∷ Updates ∷ []) (Way info_path ∷ Info ∷ []) _ _ _ _ (refl, (tt, tt)) (c.in_ok-open_updates.ensures.opens h2) (c.in_err-lists.ensures.opens h)))
 
-pub returns-in_err-places-clause-any_moment : goal.returns-in_err-places-clause-any_moment
-returns-in_err-places-clause-any_moment g c =
+pub returns-in_err-lists-clause-any_moment : goal.returns-in_err-lists-clause-any_moment
+returns-in_err-lists-clause-any_moment g c =
     moments_then _ _ _ (moments_then _ _ _ (moments_read _ _ c.check_spare.ensures.reads) c.open_updates.ensures.any_moment) c.open_info.ensures.any_moment
 
 pub returns-clause-opens : goal.returns-clause-opens
 returns-clause-opens g c = λ h.
-    let h3 = c.settle_with.ensures.silent.honest h in
+    let h3 = c.open_settled.ensures.silent.honest h in
     let h2 = c.open_info.ensures.silent.honest h3 in
     let h1 = c.open_updates.ensures.silent.honest h2 in
     opens_then (Spare ∷ []) (Way updates_path ∷ Updates ∷ Way info_path ∷ Info ∷ Diversions ∷ Leftovers ∷ []) _ _ _ _ (tt, tt) (c.in_ok-check_spare.ensures.opens h1)
     (opens_then (Way updates_path ∷ Updates ∷ []) (Way info_path ∷ Info ∷ Diversions ∷ Leftovers ∷ []) _ _ _ _ (refl, (tt, tt)) (c.in_ok-open_updates.ensures.opens h2)
-    (opens_then (Way info_path ∷ Info ∷ []) (Diversions ∷ Leftovers ∷ []) _ _ _ _ (refl, (tt, tt)) (c.in_ok-places.ensures.opens h3) (c.settle_with.ensures.opens h)))
+    (opens_then (Way info_path ∷ Info ∷ []) (Diversions ∷ Leftovers ∷ []) _ _ _ _ (refl, (tt, tt)) (c.in_ok-lists.ensures.opens h3) (c.open_settled.ensures.opens h)))
 
 pub returns-clause-listed : goal.returns-clause-listed
 returns-clause-listed g c = λ h.
-    listed_through c.settle_with.result (names_of c.args.database.now) c.in_ok-places.places _ _ (c.settle_with.ensures.opens h) c.settle_with.ensures.places (c.in_ok-places.ensures.listed (c.settle_with.ensures.silent.honest h))
+    listed_through c.open_settled.result (names_of c.args.database.now) c.in_ok-lists.lists _ _ (c.open_settled.ensures.opens h) c.open_settled.ensures.lists (c.in_ok-lists.ensures.listed (c.open_settled.ensures.silent.honest h))
 
 pub returns-clause-any_moment : goal.returns-clause-any_moment
 returns-clause-any_moment g c =
-    moments_then _ _ _ (moments_then _ _ _ (moments_then _ _ _ (moments_read _ _ c.check_spare.ensures.reads) c.open_updates.ensures.any_moment) c.open_info.ensures.any_moment) c.settle_with.ensures.any_moment
+    moments_then _ _ _ (moments_then _ _ _ (moments_then _ _ _ (moments_read _ _ c.check_spare.ensures.reads) c.open_updates.ensures.any_moment) c.open_info.ensures.any_moment) c.open_settled.ensures.any_moment

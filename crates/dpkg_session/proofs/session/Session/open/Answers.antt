@@ -1,4 +1,4 @@
-use Rattle.dpkg_session.proofs.Listed.{standing_opened}
+use Rattle.dpkg_session.proofs.Standings.{standing_opened}
 use Rattle.dpkg_session.proofs.Outlasting.{loses_like}
 use Rattle.dpkg_session.proofs.session.Session.open.Goals as goal
 use Rattle.std.proofs.Common.{rules}

@@ -1,7 +1,7 @@
 use Rattle.std.proofs.Common.{sym, ◌∙◌}
-use Rattle.dpkg_session.proofs.Listed.{standing_run}
+use Rattle.dpkg_session.proofs.Standings.{standing_run}
 use Rattle.dpkg_session.specs.Commands.{candidates_of}
-use Rattle.dpkg_session.proofs.Outlasting.{run_loses, run_stands}
+use Rattle.dpkg_session.proofs.Outlasting.{run_answered, run_loses, run_stands}
 use Rattle.dpkg_session.proofs.Runs.{falls_run}
 use Rattle.dpkg_session.proofs.session.Session.run.Goals as goal
 
@@ -11,7 +11,8 @@ invariant_of-self g c = record {
       let left = sym c.is_some-self.ensures ∙ open_still in
       let units = c.run_units-report.ensures in
       let run = units.whole left in
-      standing_run _ _ _ _ _ _ _ run h (units.order left h) (units.records left h) (c.args.self.now.ready c.if-self.false (falls_run _ _ _ _ _ _ _ run h));
+      standing_run _ _ _ _ _ _ _ _ _ run h (units.order left h) (units.records left h) (c.args.self.now.ready c.if-self.false (falls_run _ _ _ _ _ _ _ run h));
+  kept = c.args.self.now.kept;
 }
 
 pub returns-clause-loss : goal.returns-clause-loss
@@ -19,3 +20,6 @@ returns-clause-loss g c = λ open_before. run_loses _ (candidates_of c.args.comm
 
 pub returns-clause-stands : goal.returns-clause-stands
 returns-clause-stands g c = λ open_before whole. run_stands _ _ _ _ _ _ _ _ c.run_units-report.ensures.any_moment (c.run_units-report.ensures.whole whole)
+
+pub returns-clause-answered : goal.returns-clause-answered
+returns-clause-answered g c = λ open_before whole. run_answered _ _ _ _ _ _ _ (c.run_units-report.ensures.whole whole)

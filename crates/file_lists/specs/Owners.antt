@@ -1,0 +1,62 @@
+-- The lists of the recorded packages, and who owns a place: those whose list has a path of that place.
+use Rattle.std.specs.Prelude.{◌≡◌, ◌↔◌, ℕ, List, [], ◌∷◌, map, filter, cond, true, Contains}
+use Rattle.std.specs.List.{flat_map, AllByRecursion}
+use Rattle.std.specs.List.Sorted.{IsStrictlySortedBy}
+use Rattle.std.specs.Str.{bytes_eq}
+use Rattle.std.specs.Ordering.{nat_cmp}
+use Rattle.std.specs.Cmp.Lexicographic.{slice_cmp}
+use Rattle.host_core.specs.Paths.{Path, is_path, has_room}
+use Rattle.diversions.specs.declared.entry.Diversion.{Diversion}
+use Rattle.diversions.specs.Places.{place}
+use Rattle.file_lists.specs.declared.paths.PackageList.{PackageList}
+use Rattle.file_lists.specs.declared.paths.Listed.{Listed}
+
+-- in the order of their bytes, each once
+abbrev pub AreIncreasing : List (List ℕ) → Type 0
+AreIncreasing texts = IsStrictlySortedBy (slice_cmp nat_cmp) texts
+
+-- a path that a list may have: one with room for our endings
+pub record IsListable (path : Path) : Type 0 where
+  pub is : is_path path ≡ true
+  pub room : has_room path ≡ true
+
+-- paths as a list has them
+pub record AreListPaths (paths : List Path) : Type 0 where
+  pub order : AreIncreasing paths
+  pub room : AllByRecursion IsListable paths
+
+abbrev pub names_of : List PackageList → List (List ℕ)
+names_of lists = map (λ l. l.name) lists
+
+-- the lists of an administration: at most one a name, in the order of names
+pub record AreLists (lists : List PackageList) : Type 0 where
+  pub names : AreIncreasing (names_of lists)
+  pub paths : AllByRecursion (λ l. AreListPaths l.paths) lists
+
+-- the paths that a package lists: none where the name has no list
+abbrev pub paths_of : List PackageList → List ℕ → List Path
+paths_of [] name = []
+paths_of (l ∷ lists) name = cond (bytes_eq name l.name) l.paths (paths_of lists name)
+
+abbrev pub listed : List ℕ → Path → Listed
+listed name path = record { name = name; path = path }
+
+-- of one package the paths that lie at a place
+abbrev pub owners_in : List Diversion → Path → PackageList → List Listed
+owners_in entries at l = map (listed l.name) (filter (λ path. bytes_eq (place entries l.name path) at) l.paths)
+
+-- each listed path that lies at a place, with its package, list after list
+abbrev pub owners_of : List Diversion → List PackageList → Path → List Listed
+owners_of entries lists at = flat_map (owners_in entries at) lists
+
+-- the places of one package's paths
+abbrev pub places_of_list : List Diversion → PackageList → List Path
+places_of_list entries l = map (place entries l.name) l.paths
+
+-- the places of all listed paths, list after list
+abbrev pub places_in : List Diversion → List PackageList → List Path
+places_in entries lists = flat_map (places_of_list entries) lists
+
+-- the same paths, whatever their order
+abbrev pub IsSameSet : List Path → List Path → Type 0
+IsSameSet old new = (q : Path) → Contains new q ↔ Contains old q

@@ -1,0 +1,67 @@
+// Names and paths in the order of their bytes.
+ghost use Rattle.std.specs.Prelude.{◌≡◌, IfOk, ℕ, List, Contains, ◌↔◌, IsTrue};
+ghost use Rattle.std.specs.List.{list_any, AllByRecursion};
+ghost use Rattle.std.specs.Str.{bytes_eq};
+ghost use Rattle.std.specs.BTreeSet.{contains_text};
+ghost use Rattle.file_lists.specs.Owners.{AreIncreasing, IsListable, AreListPaths, IsSameSet};
+
+use crate::paths::Paths;
+use host_core::RootPath;
+use std::alloc::{AllocError, Global};
+use std::cmp::Ordering;
+use std::collections::BTreeSet;
+use texts::Text;
+
+/// These names in the order of their bytes.
+pub(crate) fn sorted(alloc: Global, names: &[Text]) -> Result<BTreeSet<String>, AllocError>
+    ensures { IfOk result (λ set. (q : List ℕ) → contains_text set q ≡ list_any (bytes_eq q) names.now) }
+{
+    let mut set = BTreeSet::new(alloc);
+    for name in names {
+        set.insert(String::from_str(alloc, name.as_str())?)?;
+    }
+    Ok(set)
+}
+
+fn are_increasing(paths: &[RootPath]) -> bool
+    ensures { IsTrue result → AreIncreasing paths.now }
+{
+    for at in 1..paths.len() {
+        if paths[at - 1]
+            .as_str()
+            .as_bytes()
+            .cmp(paths[at].as_str().as_bytes())
+            != Ordering::Less
+        {
+            return false;
+        }
+    }
+    true
+}
+
+// The texts of these paths in the order of their bytes.
+fn sorted_paths(alloc: Global, paths: Paths) -> Result<BTreeSet<String>, AllocError>
+    ensures { IfOk result (λ set. (q : List ℕ) → contains_text set q ≡ list_any (bytes_eq q) paths) }
+{
+    let mut set = BTreeSet::new(alloc);
+    for path in &paths.items {
+        set.insert(String::from_str(alloc, path.as_str())?)?;
+    }
+    Ok(set)
+}
+
+/// These paths in the order of their bytes, each once.
+pub(crate) fn in_order(alloc: Global, paths: Paths) -> Result<Paths, AllocError>
+    requires { AllByRecursion IsListable paths }
+    ensures paths { IfOk result AreListPaths }
+    ensures same { IfOk result (IsSameSet paths) }
+{
+    if are_increasing(paths.items.as_slice()) {
+        return Ok(paths);
+    }
+    let mut items = Vec::new(alloc);
+    for text in sorted_paths(alloc, paths)? {
+        items.push(RootPath::new(text))?;
+    }
+    Ok(Paths { items })
+}
