@@ -35,6 +35,12 @@ pub record IsShipLine (line : List ℕ) : Type 0 where
   pub text : IsUtf8 line
   pub path : is_ship_text line ≡ true
 
+-- two paths and an owner, as an entry has them
+pub record IsWellFormed (d : Diversion) : Type 0 where
+  pub path : IsShipLine d.path
+  pub target : IsShipLine d.target
+  pub owner : is_owner d.owner ≡ true
+
 -- an entry by itself: from one path to another
 pub record IsEntry (d : Diversion) : Type 0 where
   pub path : IsShipLine d.path

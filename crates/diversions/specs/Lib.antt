@@ -4,3 +4,9 @@ pub mod Lines
 pub mod Index
 pub mod Reading
 pub mod Diverted
+pub mod Names
+pub mod Sights
+pub mod Refusals
+pub mod Writing
+pub mod Changes
+pub mod Fault

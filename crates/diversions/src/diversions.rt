@@ -1,22 +1,29 @@
 // The open table.
-ghost use Rattle.std.specs.Prelude.{◌≡◌, IfOk, IfErr, IsTrue, false, length, ◌<◌, ◌^◌};
+ghost use Rattle.std.specs.Prelude.{◌≡◌, ◌↔◌, IfOk, IfErr, OnErr, IsTrue, true, false, length, ◌<◌, ◌^◌};
 ghost use Rattle.std.specs.Map.Iter.{ShowsInOrder, deref};
-ghost use Rattle.host_core.specs.Host.{Reads, Silent, Tells};
+ghost use Rattle.host_core.specs.Host.{AtEachMoment, Needs, Reads, Silent, Tells};
 ghost use Rattle.administration.specs.Fault.{CountsAdministration};
 ghost use Rattle.administration.specs.Files.{NoDirectory};
 ghost use Rattle.administration.specs.Places.{diversions_path};
 ghost use Rattle.administration.specs.declared.fault.AdministrationFault.TheVariants.{Device};
 ghost use Rattle.std.specs.Prelude.{IsErrOf};
 ghost use Rattle.diversions.specs.declared.entry.Diversion.{Diversion as ADiversion};
-ghost use Rattle.diversions.specs.Entries.{IsTable};
+ghost use Rattle.diversions.specs.Entries.{IsTable, is_owner, without};
+ghost use Rattle.diversions.specs.Changes.{HasAdded, HasRemoved, IsAdding, IsRemoving, IsTableReady, LeavesDone, OnDone, OnRefused, diversion_of, with_entry};
+ghost use Rattle.diversions.specs.Fault.{CountsDiversion};
+ghost use Rattle.diversions.specs.Refusals.{add_answer, has_same, remove_answer};
+ghost use Rattle.diversions.specs.declared.fault.DiversionFault.TheVariants.{Closed};
 ghost use Rattle.diversions.specs.Lines.{HasEntries, HasDiversions, ReadsAs, IsNodeDamage, IsFileDamage, IsDiversionsDamage};
 ghost use Rattle.diversions.specs.Places as spec;
 
-use crate::entry::Diversion;
+use crate::changing::{add_diversion, remove_diversion};
+use crate::entry::{Diversion, Owner};
+use crate::fault::DiversionFault;
 use crate::reading::{TableFault, read_text};
+use crate::refusal::{Answer, Seen};
 use crate::table::Table;
 use administration::{AdministrationFault, DIVERSIONS};
-use host_core::{Host, Node, RootPath};
+use host_core::{Host, Node, RootPath, ShipPath};
 use indexmap::map::Values;
 use std::alloc::{AllocError, Global};
 use std::marker::Model;
@@ -141,6 +148,89 @@ impl Diversions {
                     return entry.target.at();
                 }
                 path.copy()
+            }
+        }
+    }
+
+    /// Adds the diversion of a path to a target, and with `rename` moves the file or link at the path there, unless the owner's
+    /// list has the path. After an error the value is closed. Stopped on its way, the same command finishes it.
+    pub fn add<H: Host>(
+        &mut self,
+        alloc: Global,
+        host: &mut H,
+        path: &ShipPath,
+        target: &ShipPath,
+        owner: &Owner,
+        rename: bool,
+        seen: Seen,
+    ) -> Result<Answer, DiversionFault>
+        requires owner { is_owner owner.now ≡ true }
+        requires ready { Needs (H.state host.old) IsTableReady }
+        ensures answer { Tells result (λ answer w. answer ≡ add_answer w self.old.entries (diversion_of path.now target.now owner.now) rename seen) (H.state host.old) (H.state host.new) }
+        ensures table { OnDone result (self.new ≡ record self.old { entries = with_entry self.old.entries (diversion_of path.now target.now owner.now) }) }
+        ensures refused { OnRefused result (self.new ≡ self.old) }
+        ensures err { OnErr result (self.new ≡ record self.old { closed = true }) }
+        ensures closed { IsErrOf result Closed ↔ (self.old.closed ≡ true) }
+        ensures shut { self.old.closed ≡ true → H.state host.new ≡ H.state host.old }
+        ensures same { OnRefused result (Reads (H.state host.old) (H.state host.new)) }
+        ensures again { has_same self.old.entries (diversion_of path.now target.now owner.now) ≡ true → Reads (H.state host.old) (H.state host.new) }
+        ensures done { LeavesDone result (HasAdded self.old.entries (diversion_of path.now target.now owner.now) rename seen) (H.state host.old) (H.state host.new) }
+        ensures any_moment { AtEachMoment (IsAdding self.old.entries (diversion_of path.now target.now owner.now) rename seen) (H.state host.old) (H.state host.new) }
+        ensures silent { Silent (H.state host.old) (H.state host.new) }
+        ensures counts { CountsDiversion (H.state host.old) (H.state host.new) result }
+    {
+        if self.closed {
+            return Err(DiversionFault::Closed);
+        }
+        match add_diversion(
+            alloc,
+            host,
+            &mut self.table,
+            path,
+            target,
+            owner,
+            rename,
+            seen,
+        ) {
+            Ok(answer) => Ok(answer),
+            Err(fault) => {
+                self.closed = true;
+                Err(DiversionFault::from(fault))
+            }
+        }
+    }
+
+    /// Takes an owner's diversion of a path away, and with `rename` moves the file or link at its target back to the path. After
+    /// an error the value is closed. Stopped on its way, the same command finishes it, or answers `NotDiverted` where all is done.
+    pub fn remove<H: Host>(
+        &mut self,
+        alloc: Global,
+        host: &mut H,
+        path: &ShipPath,
+        owner: &Owner,
+        rename: bool,
+    ) -> Result<Answer, DiversionFault>
+        requires ready { Needs (H.state host.old) IsTableReady }
+        ensures answer { Tells result (λ answer w. answer ≡ remove_answer w self.old.entries path.now owner.now rename) (H.state host.old) (H.state host.new) }
+        ensures table { OnDone result (self.new ≡ record self.old { entries = without path.now self.old.entries }) }
+        ensures refused { OnRefused result (self.new ≡ self.old) }
+        ensures err { OnErr result (self.new ≡ record self.old { closed = true }) }
+        ensures closed { IsErrOf result Closed ↔ (self.old.closed ≡ true) }
+        ensures shut { self.old.closed ≡ true → H.state host.new ≡ H.state host.old }
+        ensures same { OnRefused result (Reads (H.state host.old) (H.state host.new)) }
+        ensures done { LeavesDone result (HasRemoved self.old.entries path.now rename) (H.state host.old) (H.state host.new) }
+        ensures any_moment { AtEachMoment (IsRemoving self.old.entries path.now rename) (H.state host.old) (H.state host.new) }
+        ensures silent { Silent (H.state host.old) (H.state host.new) }
+        ensures counts { CountsDiversion (H.state host.old) (H.state host.new) result }
+    {
+        if self.closed {
+            return Err(DiversionFault::Closed);
+        }
+        match remove_diversion(alloc, host, &mut self.table, path, owner, rename) {
+            Ok(answer) => Ok(answer),
+            Err(fault) => {
+                self.closed = true;
+                Err(DiversionFault::from(fault))
             }
         }
     }

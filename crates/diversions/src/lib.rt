@@ -1,12 +1,21 @@
-//! Diversions: the file that keeps them, and where a diverted path is.
+//! Diversions: the file that keeps them, where a diverted path is, and how one is added and taken away.
 #![tactic(auto)]
 
+mod changing;
+mod conditions;
 mod diversions;
 mod entry;
+mod fault;
 mod lines;
 mod reading;
+mod refusal;
+mod sight;
 mod table;
+mod writing;
 
 pub use diversions::Diversions;
 pub use entry::{Diversion, Owner};
+pub use fault::DiversionFault;
 pub use lines::cut_line;
+pub use refusal::{Answer, Refusal, Seen};
+pub use sight::Sight;

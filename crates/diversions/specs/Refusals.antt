@@ -1,0 +1,88 @@
+-- Why a diversion isn't added or taken away (dpkg-divert(1)): conditions in the order in which they are looked for.
+use Rattle.std.specs.Prelude.{◌&&◌, ◌||◌, Bool, true, false, not, cond, is_some, List, [], ◌∷◌, ◌++◌, Option, Some, None}
+use Rattle.std.specs.Str.{bytes_eq}
+use Rattle.host_core.specs.Paths.{Path}
+use Rattle.host_core.specs.World.{World}
+use Rattle.diversions.specs.Entries.{is_diverted, is_target, entry_of}
+use Rattle.diversions.specs.Places.{truename}
+use Rattle.diversions.specs.Sights.{sight_of, is_directory_kind, moves_node}
+use Rattle.diversions.specs.declared.entry.Owner.{Owner}
+use Rattle.diversions.specs.declared.entry.Owner.TheVariants.{Local, Package}
+use Rattle.diversions.specs.declared.entry.Diversion.{Diversion}
+use Rattle.diversions.specs.declared.sight.Sight.{Sight}
+use Rattle.diversions.specs.declared.refusal.Answer.{Answer}
+use Rattle.diversions.specs.declared.refusal.Answer.TheVariants.{Done, Refused}
+use Rattle.diversions.specs.declared.refusal.Refusal.{Refusal}
+use Rattle.diversions.specs.declared.refusal.Refusal.TheVariants.{Directory, AlreadyDiverted, TargetDiverted, Conffile, NotDiverted, OtherOwner, TargetExists, NoParent}
+use Rattle.diversions.specs.declared.refusal.Seen.{Seen}
+
+-- the first that holds
+abbrev pub first_holding : {T : Type 0} → List (T × Bool) → Option T
+first_holding [] = None
+first_holding (c ∷ cs) = cond c.1 (Some c.0) (first_holding cs)
+
+abbrev pub same_owner : Owner → Owner → Bool
+same_owner Local Local = true
+same_owner Local (Package other) = false
+same_owner (Package name) Local = false
+same_owner (Package name) (Package other) = bytes_eq name other
+
+-- an entry is this owner's
+abbrev pub is_owned : Option Diversion → Owner → Bool
+is_owned None owner = false
+is_owned (Some d) owner = same_owner d.owner owner
+
+-- the entry of a path goes to this target, and is this owner's
+abbrev pub is_same : Option Diversion → Path → Owner → Bool
+is_same None target owner = false
+is_same (Some d) target owner = bytes_eq d.target target && same_owner d.owner owner
+
+-- the table has this very diversion
+abbrev pub has_same : List Diversion → Diversion → Bool
+has_same entries d = is_same (entry_of entries d.path) d.target d.owner
+
+-- a node that is to be moved has no way
+abbrev pub move_conditions : Bool → Sight → List (Refusal × Bool)
+move_conditions moves sight =
+    (NoParent, moves && not (is_directory_kind sight.above))
+    ∷ (TargetExists, moves && is_some sight.to)
+    ∷ []
+
+-- the target is the path, or one of them stands in an entry already
+abbrev pub is_target_taken : List Diversion → Diversion → Bool
+is_target_taken entries d = bytes_eq d.target d.path || (is_diverted entries d.target || (is_target entries d.target || is_target entries d.path))
+
+abbrev pub add_conditions : Sight → List Diversion → Diversion → Bool → Seen → List (Refusal × Bool)
+add_conditions sight entries d rename seen =
+    (Directory, is_directory_kind sight.from || is_directory_kind sight.to)
+    ∷ (AlreadyDiverted, is_diverted entries d.path)
+    ∷ (TargetDiverted, is_target_taken entries d)
+    ∷ (Conffile, seen.conffile)
+    ∷ move_conditions (moves_node rename seen.listed sight) sight
+
+abbrev pub owner_conditions : List Diversion → Path → Owner → List (Refusal × Bool)
+owner_conditions entries path owner =
+    (NotDiverted, not (is_diverted entries path))
+    ∷ (OtherOwner, not (is_owned (entry_of entries path) owner))
+    ∷ []
+
+-- the node goes back from the target
+abbrev pub remove_conditions : Sight → List Diversion → Path → Owner → Bool → List (Refusal × Bool)
+remove_conditions sight entries path owner rename = owner_conditions entries path owner ++ move_conditions (moves_node rename false sight) sight
+
+abbrev pub add_refusal : World → List Diversion → Diversion → Bool → Seen → Option Refusal
+add_refusal w entries d rename seen = first_holding (add_conditions (sight_of w d.path d.target) entries d rename seen)
+
+abbrev pub remove_refusal : World → List Diversion → Path → Owner → Bool → Option Refusal
+remove_refusal w entries path owner rename = first_holding (remove_conditions (sight_of w (truename entries path) path) entries path owner rename)
+
+abbrev pub answer_of : Option Refusal → Answer
+answer_of None = Done
+answer_of (Some refusal) = Refused refusal
+
+-- the very same diversion again is done before every refusal
+abbrev pub add_answer : World → List Diversion → Diversion → Bool → Seen → Answer
+add_answer w entries d rename seen = cond (has_same entries d) Done (answer_of (add_refusal w entries d rename seen))
+
+abbrev pub remove_answer : World → List Diversion → Path → Owner → Bool → Answer
+remove_answer w entries path owner rename = answer_of (remove_refusal w entries path owner rename)

@@ -1,0 +1,187 @@
+// Writing the file.
+ghost use Rattle.std.specs.Prelude.{◌≡◌, ◌⊎◌, ◌++◌, ◌∷◌, [], IfOk, OnOk, IsTrue};
+ghost use Rattle.host_core.specs.World.{IsFile};
+ghost use Rattle.host_core.specs.Nodes.{own_access};
+ghost use Rattle.host_core.specs.declared.node.Node.TheVariants.{File};
+ghost use Rattle.host_core.specs.Host.{AtEachMoment, Counts, Leaves, Needs, Silent};
+ghost use Rattle.administration.specs.Files.{IsReplaced, IsReplacing};
+ghost use Rattle.administration.specs.Places.{diversions_path};
+ghost use Rattle.diversions.specs.Changes.{CanMove, IsRecorded, IsTableReady, IsUnderWay, moved_if};
+ghost use Rattle.diversions.specs.Entries.{IsTable, without};
+ghost use Rattle.diversions.specs.Lines.{owner_line};
+ghost use Rattle.diversions.specs.Writing.{entry_text, table_text};
+
+use crate::entry::{Diversion, Owner};
+use crate::table::Table;
+use administration::{DIVERSIONS, replace};
+use host_core::{Access, Host, HostFault, Node, RootPath, ShipPath};
+use std::alloc::{AllocError, Global};
+use texts::Bytes;
+
+fn owner_line(owner: &Owner) -> &str
+    ensures { result.now ≡ owner_line owner.now }
+{
+    match owner {
+        Owner::Local => ":",
+        Owner::Package(name) => name.as_str(),
+    }
+}
+
+fn write_line(text: &mut Vec<u8>, line: &str) -> Result<(), AllocError>
+    ensures { OnOk result (text.new.items ≡ text.old.items ++ line.now ++ 10 ∷ []) }
+{
+    text.extend_from_slice(line.as_bytes())?;
+    text.push(b'\n')?;
+    Ok(())
+}
+
+fn write_entry(text: &mut Vec<u8>, entry: &Diversion) -> Result<(), AllocError>
+    ensures { OnOk result (text.new.items ≡ text.old.items ++ entry_text entry.now) }
+{
+    write_line(text, entry.path.as_str())?;
+    write_line(text, entry.target.as_str())?;
+    write_line(text, owner_line(&entry.owner))
+}
+
+// Writes an entry, unless it is that of a path.
+fn write_other(text: &mut Vec<u8>, entry: &Diversion, path: &str) -> Result<(), AllocError>
+    ensures { OnOk result (text.new.items ≡ text.old.items ++ table_text (without path.now (entry.now ∷ []))) }
+{
+    if path == entry.path.as_str() {
+        return Ok(());
+    }
+    write_entry(text, entry)
+}
+
+// The text of all entries but that of a path.
+fn text_without(alloc: Global, table: &Table, path: &str) -> Result<Vec<u8>, AllocError>
+    ensures { IfOk result (λ text. text.items ≡ table_text (without path.now table.now)) }
+{
+    let mut text = Vec::new(alloc);
+    for entry in table.entries() {
+        write_other(&mut text, entry, path)?;
+    }
+    Ok(text)
+}
+
+// The text of all entries and one more.
+fn text_with(alloc: Global, table: &Table, entry: &Diversion) -> Result<Vec<u8>, AllocError>
+    requires { IsTable (table.now ++ entry.now ∷ []) }
+    ensures { IfOk result (λ text. text.items ≡ table_text (table.now ++ entry.now ∷ [])) }
+{
+    let mut text = text_without(alloc, table, entry.path.as_str())?;
+    write_entry(&mut text, entry)?;
+    Ok(text)
+}
+
+fn file_of(text: Vec<u8>) -> Node
+    ensures { result ≡ File text.items (own_access 0o644) }
+{
+    Node::File {
+        bytes: Bytes::new(text),
+        access: Access {
+            mode: 0o644,
+            user: 0,
+            group: 0,
+        },
+    }
+}
+
+// Writes the file: at each moment the old one stands there or the whole new one.
+fn save<H: Host>(alloc: Global, host: &mut H, node: &Node) -> Result<(), HostFault>
+    requires file { IsFile node.now }
+    requires ready { Needs (H.state host.old) IsTableReady }
+    ensures saved { Leaves result (IsReplaced diversions_path node.now) (H.state host.old) (H.state host.new) }
+    ensures any_moment { AtEachMoment (IsReplacing diversions_path node.now) (H.state host.old) (H.state host.new) }
+    ensures silent { Silent (H.state host.old) (H.state host.new) }
+    ensures counts { Counts (H.state host.old) (H.state host.new) result }
+{
+    let path = RootPath::from_str(alloc, DIVERSIONS)?;
+    replace(host, &path, node)
+}
+
+// Moves a node, where one is to be moved.
+fn move_node<H: Host>(
+    host: &mut H,
+    from: &ShipPath,
+    to: &ShipPath,
+    moves: bool,
+) -> Result<(), HostFault>
+    requires { Needs (H.state host.old) (λ w. IsTrue moves → CanMove from.now to.now w) }
+    ensures moved { Leaves result (λ old new. new ≡ moved_if moves from.now to.now old) (H.state host.old) (H.state host.new) }
+    ensures any_moment { AtEachMoment (λ old now. (now ≡ old) ⊎ (now ≡ moved_if moves from.now to.now old)) (H.state host.old) (H.state host.new) }
+    ensures silent { Silent (H.state host.old) (H.state host.new) }
+    ensures counts { Counts (H.state host.old) (H.state host.new) result }
+{
+    if !moves {
+        return Ok(());
+    }
+    from.law();
+    let there = from.at()?;
+    let free = to.at()?;
+    host.rename(&there, &free)
+}
+
+// Moves the node, where one is to be moved, and then writes the file.
+fn carry_out<H: Host>(
+    alloc: Global,
+    host: &mut H,
+    from: &ShipPath,
+    to: &ShipPath,
+    moves: bool,
+    node: &Node,
+) -> Result<(), HostFault>
+    requires file { IsFile node.now }
+    requires ready { Needs (H.state host.old) IsTableReady }
+    requires can { Needs (H.state host.old) (λ w. IsTrue moves → CanMove from.now to.now w) }
+    ensures done { Leaves result (λ old new. IsReplaced diversions_path node.now (moved_if moves from.now to.now old) new) (H.state host.old) (H.state host.new) }
+    ensures any_moment { AtEachMoment (λ old now. (now ≡ old) ⊎ IsReplacing diversions_path node.now (moved_if moves from.now to.now old) now) (H.state host.old) (H.state host.new) }
+    ensures silent { Silent (H.state host.old) (H.state host.new) }
+    ensures counts { Counts (H.state host.old) (H.state host.new) result }
+{
+    from.law();
+    to.law();
+    move_node(host, from, to, moves)?;
+    save(alloc, host, node)
+}
+
+/// Moves the node of a new entry, where it is to be moved, and writes the table with it.
+pub(crate) fn record_new<H: Host>(
+    alloc: Global,
+    host: &mut H,
+    table: &Table,
+    entry: &Diversion,
+    moves: bool,
+) -> Result<(), HostFault>
+    requires may { IsTable (table.now ++ entry.now ∷ []) }
+    requires ready { Needs (H.state host.old) IsTableReady }
+    requires can { Needs (H.state host.old) (λ w. IsTrue moves → CanMove entry.now.path entry.now.target w) }
+    ensures done { Leaves result (λ old new. IsRecorded (table.now ++ entry.now ∷ []) (moved_if moves entry.now.path entry.now.target old) new) (H.state host.old) (H.state host.new) }
+    ensures any_moment { AtEachMoment (IsUnderWay (moved_if moves entry.now.path entry.now.target) (table.now ++ entry.now ∷ [])) (H.state host.old) (H.state host.new) }
+    ensures silent { Silent (H.state host.old) (H.state host.new) }
+    ensures counts { Counts (H.state host.old) (H.state host.new) result }
+{
+    let node = file_of(text_with(alloc, table, entry)?);
+    carry_out(alloc, host, &entry.path, &entry.target, moves, &node)
+}
+
+/// Moves the node at the target of a path's entry back, where it is to be moved, and writes the table without the entry.
+pub(crate) fn record_without<H: Host>(
+    alloc: Global,
+    host: &mut H,
+    table: &Table,
+    path: &ShipPath,
+    target: &ShipPath,
+    moves: bool,
+) -> Result<(), HostFault>
+    requires ready { Needs (H.state host.old) IsTableReady }
+    requires can { Needs (H.state host.old) (λ w. IsTrue moves → CanMove target.now path.now w) }
+    ensures done { Leaves result (λ old new. IsRecorded (without path.now table.now) (moved_if moves target.now path.now old) new) (H.state host.old) (H.state host.new) }
+    ensures any_moment { AtEachMoment (IsUnderWay (moved_if moves target.now path.now) (without path.now table.now)) (H.state host.old) (H.state host.new) }
+    ensures silent { Silent (H.state host.old) (H.state host.new) }
+    ensures counts { Counts (H.state host.old) (H.state host.new) result }
+{
+    table.law();
+    let node = file_of(text_without(alloc, table, path.as_str())?);
+    carry_out(alloc, host, target, path, moves, &node)
+}
