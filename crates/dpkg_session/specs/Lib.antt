@@ -5,3 +5,4 @@ pub mod Run
 pub mod Commands
 pub mod History
 pub mod PowerLoss
+pub mod Queries

@@ -1,13 +1,15 @@
-//! A session over one root: commands as lists of units.
+//! A session over one root: commands as lists of units, and questions about what it holds.
 #![tactic(auto)]
 
 mod laws;
+mod questions;
 mod refusal;
 mod report;
 mod session;
 mod units;
 
 pub use laws::history_stands;
+pub use questions::QueryFault;
 pub use refusal::{Refusal, Rule, Word};
 pub use report::{Breakage, Candidate, Failure, Reply, Report, Touched, Unit};
 pub use session::{Command, Session};

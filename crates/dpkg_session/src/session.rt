@@ -44,13 +44,13 @@ impl Command {
 /// A root whose administration is open. After a unit that was broken off it is closed. A running
 /// script leaves alone the places of all listed paths, which are computed once.
 pub struct Session<H: Host> {
-    alloc: Global,
+    pub(crate) alloc: Global,
     host: H,
-    database: Database,
-    lists: FileLists,
-    diversions: Diversions,
+    pub(crate) database: Database,
+    pub(crate) lists: FileLists,
+    pub(crate) diversions: Diversions,
     places: Places,
-    closed: bool,
+    pub(crate) closed: bool,
     pub ghost ready: { closed ≡ false → Needs (H.state host) (IsStanding database lists.lists diversions.entries) },
     pub ghost kept: { places ≡ places_in diversions.entries lists.lists },
 }
@@ -104,11 +104,13 @@ impl<H: Host> Session<H> {
         ensures on_disk { IfOk result (λ s. IsOnDisk (H.state s.host).events) }
     {
         match open_to_disk(alloc, &mut host) {
-            Ok(Opened {
-                database,
-                lists,
-                diversions,
-            }) => match lists.places(alloc, &diversions) {
+            Ok(
+                Opened {
+                    database,
+                    lists,
+                    diversions,
+                },
+            ) => match lists.places(alloc, &diversions) {
                 Ok(places) => Ok(Session {
                     alloc,
                     host,

@@ -3,6 +3,7 @@ use Rattle.std.specs.Prelude.{◌≡◌, ◌⊎◌, ℕ, true, false, cond, List
 use Rattle.std.specs.List.{list_any, AllByRecursion}
 use Rattle.std.specs.Str.{bytes_eq}
 use Rattle.control_fields.specs.Names.{lower}
+use Rattle.control_fields.specs.Spelling.{spell}
 use Rattle.control_fields.specs.declared.field.Field.{Field}
 use Rattle.texts.specs.PackageNames.{is_package_name}
 use Rattle.status_db.specs.declared.record.Record.{Record}
@@ -17,6 +18,10 @@ use Rattle.status_db.specs.Writable.{first_fields}
 -- Package, Status and Version, then the other fields
 abbrev pub paragraph_of : Record → List Field
 paragraph_of r = first_fields r.name (status_text r.want r.flag r.state) r.version ++ r.fields
+
+-- a record's lines in the status file
+abbrev pub record_text : Record → List ℕ
+record_text r = spell (paragraph_of r)
 
 -- the field of a name, which is given in lower case
 abbrev pub field_in : List ℕ → List Field → Option Field

@@ -13,3 +13,4 @@ pub use database::Database;
 pub use laws::records_are_a_table;
 pub use record::Record;
 pub use words::{Flag, State, Want};
+pub use writing::record_text;

@@ -9,12 +9,12 @@ ghost use Rattle.version_order.specs.Versions.{IsVersion};
 ghost use Rattle.status_db.specs.Records.{AreApart, standing};
 ghost use Rattle.status_db.specs.Writable.{first_fields, line_field};
 ghost use Rattle.status_db.specs.Words.{status_text};
-ghost use Rattle.status_db.specs.Paragraphs.{paragraph_of};
+ghost use Rattle.status_db.specs.Paragraphs.{paragraph_of, record_text};
 ghost use Rattle.status_db.specs.Status.{IsStatus, IsStatusReady, IsNoted, IsNoting};
 
 use crate::record::Record;
 use administration::{STATUS, replace};
-use control_fields::{Field, Paragraph, write_paragraphs};
+use control_fields::{Field, Paragraph, write_paragraph, write_paragraphs};
 use host_core::{Access, Host, HostFault, Node, RootPath};
 use std::alloc::{AllocError, Global};
 use texts::Bytes;
@@ -75,6 +75,17 @@ fn paragraph_of(alloc: Global, entry: &Record) -> Result<Paragraph, AllocError>
     add_first_fields(alloc, entry, &mut paragraph)?;
     add_other_fields(entry, &mut paragraph)?;
     Ok(paragraph)
+}
+
+/// A record as it is written in the status file.
+pub fn record_text(alloc: Global, entry: &Record) -> Result<Bytes, AllocError>
+    ensures { IfOk result (λ text. text ≡ record_text entry.now) }
+{
+    let paragraph = paragraph_of(alloc, entry)?;
+    match write_paragraph(alloc, &paragraph) {
+        Ok(text) => Ok(Bytes::new(text)),
+        Err(_) => Err(AllocError),
+    }
 }
 
 fn paragraphs_of(alloc: Global, records: &[Record]) -> Result<Vec<Paragraph>, AllocError>

@@ -1,16 +1,15 @@
 use Rattle.dpkg_session.proofs.Standings.{standing_opened}
 use Rattle.dpkg_session.proofs.Outlasting.{loses_like}
 use Rattle.dpkg_session.proofs.session.Session.open.Goals as goal
-use Rattle.std.proofs.Common.{rules}
 
 pub invariant_of-result : goal.invariant_of-result
-invariant_of-result g c = record { ready = λ open_still h. standing_opened _ _ _ (c.in-Ok.ensures.opened h) }
+invariant_of-result g c = record { ready = λ open_still h. standing_opened _ _ _ _ (c.in-Ok.ensures.opened h); kept = c.in-Ok-places.ensures }
 
-pub returns-in-Ok-clause-closed : goal.returns-in-Ok-clause-closed
-returns-in-Ok-clause-closed g c = search rules
+pub returns-in-Ok-places-clause-loss : goal.returns-in-Ok-places-clause-loss
+returns-in-Ok-places-clause-loss g c = loses_like _ _ _ (g.H.Host.settled c.open_to_disk.new.host) c.open_to_disk.ensures.any_moment
 
-pub returns-in-Ok-clause-loss : goal.returns-in-Ok-clause-loss
-returns-in-Ok-clause-loss g c = loses_like _ _ _ (g.H.Host.settled c.open_to_disk.new.host) c.open_to_disk.ensures.any_moment
+pub returns-in-Err-places-clause-loss_refused : goal.returns-in-Err-places-clause-loss_refused
+returns-in-Err-places-clause-loss_refused g c = loses_like _ _ _ (g.H.Host.settled c.open_to_disk.new.host) c.open_to_disk.ensures.any_moment
 
 pub returns-in-Err-clause-loss_refused : goal.returns-in-Err-clause-loss_refused
 returns-in-Err-clause-loss_refused g c = loses_like _ _ _ (g.H.Host.settled c.open_to_disk.new.host) c.open_to_disk.ensures.any_moment

@@ -1,0 +1,129 @@
+// Questions about the administration, answered by what the session holds of it.
+ghost use Rattle.std.specs.Prelude.{option_copied};
+ghost use Rattle.queries.specs.Files.{files_text, search_text};
+ghost use Rattle.queries.specs.Places.{diversions_text, truename_text};
+ghost use Rattle.queries.specs.Records.{audit_text, list_text, status_text};
+ghost use Rattle.dpkg_session.specs.Queries.{IsAnswer, IsAnswerAbout};
+
+use crate::session::Session;
+use host_core::{Host, RootPath};
+use queries::{
+    audit_text, diversions_text, files_text, list_text, search_text, status_text, truename_text,
+};
+use texts::{Bytes, Text};
+
+/// Why a question isn't answered: it is about a package that has no record, memory was refused, or
+/// the session is closed.
+#[derive(Clone, Copy)]
+pub enum QueryFault {
+    Unknown,
+    NoMemory,
+    Closed,
+}
+
+impl<H: Host> Session<H> {
+    fn is_closed(&self) -> bool
+        ensures { result ≡ self.now.closed }
+    {
+        self.closed
+    }
+
+    /// The packages with their versions and states.
+    pub fn list(&self) -> Result<Bytes, QueryFault>
+        ensures { IsAnswer self.now.closed (list_text self.now.database) result }
+    {
+        if self.is_closed() {
+            return Err(QueryFault::Closed);
+        }
+        match list_text(self.alloc, &self.database) {
+            Ok(text) => Ok(text),
+            Err(_) => Err(QueryFault::NoMemory),
+        }
+    }
+
+    /// The packages with which something has to be done.
+    pub fn audit(&self) -> Result<Bytes, QueryFault>
+        ensures { IsAnswer self.now.closed (audit_text self.now.database) result }
+    {
+        if self.is_closed() {
+            return Err(QueryFault::Closed);
+        }
+        match audit_text(self.alloc, &self.database) {
+            Ok(text) => Ok(text),
+            Err(_) => Err(QueryFault::NoMemory),
+        }
+    }
+
+    /// The record of a package as the status file has it.
+    pub fn status(&self, name: &Text) -> Result<Bytes, QueryFault>
+        ensures { IsAnswerAbout self.now.closed (status_text self.now.database name.now) result }
+    {
+        if self.is_closed() {
+            return Err(QueryFault::Closed);
+        }
+        match status_text(self.alloc, &self.database, name) {
+            Ok(Some(text)) => Ok(text),
+            Ok(None) => Err(QueryFault::Unknown),
+            Err(_) => Err(QueryFault::NoMemory),
+        }
+    }
+
+    /// The list of a package.
+    pub fn files(&self, name: &Text) -> Result<Bytes, QueryFault>
+        ensures { IsAnswerAbout self.now.closed (files_text self.now.database self.now.lists.lists name.now) result }
+    {
+        if self.is_closed() {
+            return Err(QueryFault::Closed);
+        }
+        match files_text(self.alloc, &self.database, &self.lists, name) {
+            Ok(Some(text)) => {
+                return Ok(text);
+            }
+            Ok(None) => {
+                return Err(QueryFault::Unknown);
+            }
+            Err(_) => {
+                return Err(QueryFault::NoMemory);
+            }
+        }
+    }
+
+    /// Who lists a path that lies at a place.
+    pub fn search(&self, place: &RootPath) -> Result<Bytes, QueryFault>
+        ensures { IsAnswer self.now.closed (search_text self.now.diversions.entries self.now.lists.lists place.now) result }
+    {
+        if self.is_closed() {
+            return Err(QueryFault::Closed);
+        }
+        match search_text(self.alloc, &self.lists, &self.diversions, place) {
+            Ok(text) => Ok(text),
+            Err(_) => Err(QueryFault::NoMemory),
+        }
+    }
+
+    /// Where a path is: for a package, or without one for all but the owner of its diversion.
+    pub fn truename(&self, package: Option<&Text>, path: &RootPath) -> Result<Bytes, QueryFault>
+        ensures { IsAnswer self.now.closed (truename_text self.now.diversions.entries (option_copied package.entry) path.now) result }
+    {
+        if self.is_closed() {
+            return Err(QueryFault::Closed);
+        }
+        match truename_text(self.alloc, &self.diversions, package, path) {
+            Ok(text) => Ok(text),
+            Err(_) => Err(QueryFault::NoMemory),
+        }
+    }
+
+    /// The table of diversions.
+    pub fn diversions(&self) -> Result<Bytes, QueryFault>
+        ensures { IsAnswer self.now.closed (diversions_text self.now.diversions.entries) result }
+    {
+        if self.is_closed() {
+            return Err(QueryFault::Closed);
+        }
+        match diversions_text(self.alloc, &self.diversions) {
+            Ok(text) => Ok(text),
+            Err(_) => Err(QueryFault::NoMemory),
+        }
+    }
+}

@@ -1,0 +1,4 @@
+pub mod Paths
+pub mod Records
+pub mod Files
+pub mod Places

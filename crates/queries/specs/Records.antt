@@ -1,0 +1,59 @@
+-- What is told of the records: their states, and what the status file says of a package.
+use Rattle.std.specs.Prelude.{ℕ, Bool, true, false, List, [], ◌∷◌, ◌++◌, Option, codes, option_map, if◌then◌else◌}
+use Rattle.std.specs.List.{flat_map}
+use Rattle.status_db.specs.Paragraphs.{record_text}
+use Rattle.status_db.specs.Records.{place_record, record_in}
+use Rattle.status_db.specs.Words.{flag_word, state_word}
+use Rattle.status_db.specs.declared.record.Record.{Record}
+use Rattle.status_db.specs.declared.words.Flag.{Flag}
+use Rattle.status_db.specs.declared.words.Flag.TheVariants.{Ok, Reinstreq}
+use Rattle.status_db.specs.declared.words.State.{State}
+use Rattle.status_db.specs.declared.words.State.TheVariants.{NotInstalled, ConfigFiles, HalfInstalled, Unpacked, HalfConfigured, Installed}
+
+-- records in the order of their names' bytes
+abbrev pub by_name : List Record → List Record
+by_name [] = []
+by_name (r ∷ rs) = place_record r (by_name rs)
+
+-- told of a package that has to be installed again
+abbrev pub reinstreq_mark : Flag → List ℕ
+reinstreq_mark Ok = codes ""
+reinstreq_mark Reinstreq = codes " reinstreq"
+
+-- `PKG VERSION STATE`, and ` reinstreq` where that is set
+abbrev pub list_line : Record → List ℕ
+list_line r = r.name ++ (codes " " ++ (r.version ++ (codes " " ++ (state_word r.state ++ (reinstreq_mark r.flag ++ codes "\n")))))
+
+-- each package's line
+abbrev pub list_text : List Record → List ℕ
+list_text records = flat_map list_line (by_name records)
+
+-- the states that a finished command leaves (Policy 6.6)
+abbrev pub is_final : State → Bool
+is_final NotInstalled = false
+is_final ConfigFiles = true
+is_final HalfInstalled = false
+is_final Unpacked = false
+is_final HalfConfigured = false
+is_final Installed = true
+
+-- nothing has to be done: installed ok or config-files ok
+abbrev pub is_settled : Flag → State → Bool
+is_settled Ok state = is_final state
+is_settled Reinstreq state = false
+
+-- `PKG STATE FLAG`
+abbrev pub audit_line : Record → List ℕ
+audit_line r = r.name ++ (codes " " ++ (state_word r.state ++ (codes " " ++ (flag_word r.flag ++ codes "\n"))))
+
+-- the line of a package with which something has to be done
+abbrev pub audit_lines : Record → List ℕ
+audit_lines r = if is_settled r.flag r.state then [] else audit_line r
+
+-- the lines of all such packages
+abbrev pub audit_text : List Record → List ℕ
+audit_text records = flat_map audit_lines (by_name records)
+
+-- the record of a package as the status file has it
+abbrev pub status_text : List Record → List ℕ → Option (List ℕ)
+status_text records name = option_map record_text (record_in records name)
