@@ -1,19 +1,13 @@
 -- The lists of the recorded packages, and who owns a place: those whose list has a path of that place.
 use Rattle.std.specs.Prelude.{◌≡◌, ◌↔◌, ℕ, List, [], ◌∷◌, map, filter, cond, true, Contains}
 use Rattle.std.specs.List.{flat_map, AllByRecursion}
-use Rattle.std.specs.List.Sorted.{IsStrictlySortedBy}
 use Rattle.std.specs.Str.{bytes_eq}
-use Rattle.std.specs.Ordering.{nat_cmp}
-use Rattle.std.specs.Cmp.Lexicographic.{slice_cmp}
 use Rattle.host_core.specs.Paths.{Path, is_path, has_room}
 use Rattle.diversions.specs.declared.entry.Diversion.{Diversion}
 use Rattle.diversions.specs.Places.{place}
+use Rattle.file_lists.specs.Increasing.{AreIncreasing}
 use Rattle.file_lists.specs.declared.paths.PackageList.{PackageList}
 use Rattle.file_lists.specs.declared.paths.Listed.{Listed}
-
--- in the order of their bytes, each once
-abbrev pub AreIncreasing : List (List ℕ) → Type 0
-AreIncreasing texts = IsStrictlySortedBy (slice_cmp nat_cmp) texts
 
 -- a path that a list may have: one with room for our endings
 pub record IsListable (path : Path) : Type 0 where

@@ -3,7 +3,10 @@ ghost use Rattle.std.specs.Prelude.{◌≡◌, IfOk, ℕ, List, Contains, ◌↔
 ghost use Rattle.std.specs.List.{list_any, AllByRecursion};
 ghost use Rattle.std.specs.Str.{bytes_eq};
 ghost use Rattle.std.specs.BTreeSet.{contains_text};
-ghost use Rattle.file_lists.specs.Owners.{AreIncreasing, IsListable, AreListPaths, IsSameSet};
+ghost use Rattle.std.specs.Ordering.{nat_cmp, is_lt};
+ghost use Rattle.std.specs.Cmp.Lexicographic.{slice_cmp};
+ghost use Rattle.file_lists.specs.Owners.{IsListable, AreListPaths, IsSameSet};
+ghost use Rattle.file_lists.specs.Increasing.{AreIncreasing};
 
 use crate::paths::Paths;
 use host_core::RootPath;
@@ -23,16 +26,17 @@ pub(crate) fn sorted(alloc: Global, names: &[Text]) -> Result<BTreeSet<String>, 
     Ok(set)
 }
 
+fn is_before(path: &RootPath, other: &RootPath) -> bool
+    ensures { result ≡ is_lt (slice_cmp nat_cmp path.now other.now) }
+{
+    path.as_str().as_bytes().cmp(other.as_str().as_bytes()) == Ordering::Less
+}
+
 fn are_increasing(paths: &[RootPath]) -> bool
     ensures { IsTrue result → AreIncreasing paths.now }
 {
     for at in 1..paths.len() {
-        if paths[at - 1]
-            .as_str()
-            .as_bytes()
-            .cmp(paths[at].as_str().as_bytes())
-            != Ordering::Less
-        {
+        if !is_before(&paths[at - 1], &paths[at]) {
             return false;
         }
     }
@@ -56,11 +60,12 @@ pub(crate) fn in_order(alloc: Global, paths: Paths) -> Result<Paths, AllocError>
     ensures paths { IfOk result AreListPaths }
     ensures same { IfOk result (IsSameSet paths) }
 {
-    if are_increasing(paths.items.as_slice()) {
+    if are_increasing(paths.as_slice()) {
         return Ok(paths);
     }
+    let mut set = sorted_paths(alloc, paths)?;
     let mut items = Vec::new(alloc);
-    for text in sorted_paths(alloc, paths)? {
+    while let Some(text) = set.pop_first() {
         items.push(RootPath::new(text))?;
     }
     Ok(Paths { items })

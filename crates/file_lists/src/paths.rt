@@ -1,5 +1,5 @@
 // Paths of a list, and listed paths with the packages that list them.
-ghost use Rattle.std.specs.Prelude.{ℕ, List};
+ghost use Rattle.std.specs.Prelude.{◌≡◌, ℕ, List};
 
 use host_core::RootPath;
 use std::marker::Model;
@@ -15,6 +15,14 @@ impl Model for Paths {
     ghost Value = { List (List ℕ) };
 
     ghost view = { λ p. p.items.items };
+}
+
+impl Paths {
+    pub fn as_slice(&self) -> &[RootPath]
+        ensures { result.now ≡ self.now }
+    {
+        self.items.as_slice()
+    }
 }
 
 /// What one package lists besides the root.

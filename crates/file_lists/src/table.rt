@@ -1,8 +1,9 @@
 // The table of the lists.
-ghost use Rattle.std.specs.Prelude.{◌≡◌, ◌++◌, [], List, ℕ, IfOk, OnOk, IfSome, IfNone, ◌<◌, length, Contains, ◌↔◌, false, cond};
+ghost use Rattle.std.specs.Prelude.{◌≡◌, ◌++◌, [], ◌∷◌, List, ℕ, IfOk, OnOk, IfSome, IfNone, ◌<◌, length, Contains, ◌↔◌, false, cond};
 ghost use Rattle.std.specs.Str.{bytes_eq};
 ghost use Rattle.file_lists.specs.declared.paths.PackageList.{PackageList as AList};
-ghost use Rattle.file_lists.specs.Owners.{AreLists, AreListPaths, names_of, paths_of, owners_in, owners_of, places_of_list, places_in};
+ghost use Rattle.file_lists.specs.Owners.{AreLists, AreListPaths, names_of, paths_of, listed, owners_in, owners_of, places_of_list, places_in};
+ghost use Rattle.diversions.specs.Places.{place};
 ghost use Rattle.file_lists.specs.Table.{IsAt, IsSet};
 
 use crate::ordering::sorted;
@@ -48,22 +49,37 @@ fn find(lists: &[PackageList], name: &[u8]) -> Option<usize>
     None
 }
 
+// Adds a path of a package if it lies at a place.
+fn take_owner(
+    diversions: &Diversions,
+    at: &RootPath,
+    name: &Text,
+    path: &RootPath,
+    owners: &mut Owners,
+) -> Result<(), AllocError>
+    ensures { OnOk result (owners.new ≡ owners.old ++ cond (bytes_eq (place diversions.now.entries name.now path.now) at.now) (listed name.now path.now ∷ []) []) }
+{
+    if !diversions.place(name, path)?.is(at) {
+        return Ok(());
+    }
+    owners.items.push(Listed {
+        name: name.copy()?,
+        path: path.copy()?,
+    })?;
+    Ok(())
+}
+
 // Adds the paths of one list that lie at a place.
 fn take_owners(
     diversions: &Diversions,
-    place: &RootPath,
+    at: &RootPath,
     list: &PackageList,
     owners: &mut Owners,
 ) -> Result<(), AllocError>
-    ensures { OnOk result (owners.new ≡ owners.old ++ owners_in diversions.now.entries place.now list.now) }
+    ensures { OnOk result (owners.new ≡ owners.old ++ owners_in diversions.now.entries at.now list.now) }
 {
     for path in &list.paths.items {
-        if diversions.place(&list.name, path)?.is(place) {
-            owners.items.push(Listed {
-                name: list.name.copy()?,
-                path: path.copy()?,
-            })?;
-        }
+        take_owner(diversions, at, &list.name, path, owners)?;
     }
     Ok(())
 }
@@ -88,8 +104,9 @@ impl Table {
         ensures names { IfOk result (λ t. (n : List ℕ) → Contains (names_of t) n ↔ Contains names.now n) }
         ensures empty { IfOk result (λ t. (n : List ℕ) → paths_of t n ≡ []) }
     {
+        let mut set = sorted(alloc, names)?;
         let mut lists = Vec::new(alloc);
-        for name in sorted(alloc, names)? {
+        while let Some(name) = set.pop_first() {
             lists.push(PackageList {
                 name: Text::new(name),
                 paths: Paths {
@@ -128,7 +145,7 @@ impl Table {
         ensures { result.now ≡ paths_of self.now name.now }
     {
         match self.find(name.as_str().as_bytes()) {
-            Some(at) => self.lists[at].paths.items.as_slice(),
+            Some(at) => self.lists[at].paths.as_slice(),
             None => &[],
         }
     }
