@@ -16,7 +16,7 @@ use Rattle.status_db.specs.Words.{is_not_installed, status_text}
 use Rattle.status_db.specs.Fields.{first_names, is_one_of, other_fields}
 use Rattle.status_db.specs.Writable.{IsWritable, line_field, first_fields}
 use Rattle.status_db.specs.Records.{IsWithout, AreApart, standing}
-use Rattle.status_db.specs.Paragraphs.{paragraph_of, IsRecordOf, IsEntry, Enters}
+use Rattle.status_db.specs.Paragraphs.{paragraph_of, record_text, IsRecordOf, IsEntry, Enters}
 use Rattle.status_db.specs.Status.{IsStatus}
 use Rattle.status_db.proofs.Kept.{swapped, called_parts}
 use Rattle.status_db.proofs.Lines.{name_visible, version_visible, package_is_field, status_is_field, version_is_field}
@@ -141,3 +141,9 @@ status_again bytes rs apart versions is = ∥∥₁_map (are_writable (standing 
       enters = enters.1;
     } in
     subst (λ b. IsStatus b rs) (sym is) status)
+
+-- one record by itself
+pub record_read : (text : List ℕ) (r : Record) → IsVersion r.version → text ≡ record_text r → is_not_installed r.state ≡ false → ∥ IsStatus text (r ∷ []) ∥₁
+record_read text r version is there =
+    let stands : standing (r ∷ []) ≡ r ∷ [] = ap (λ b. cond (not b) (r ∷ []) []) there in
+    status_again text (r ∷ []) (tt, tt) (subst HaveVersions (sym stands) (version, tt)) (is ∙ ap (λ (rs : List Record). spell_all (map paragraph_of rs)) (sym stands))

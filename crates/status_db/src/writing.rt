@@ -8,7 +8,7 @@ ghost use Rattle.host_core.specs.declared.node.Node.TheVariants.{File};
 ghost use Rattle.version_order.specs.Versions.{IsVersion};
 ghost use Rattle.status_db.specs.Records.{AreApart, standing};
 ghost use Rattle.status_db.specs.Writable.{first_fields, line_field};
-ghost use Rattle.status_db.specs.Words.{status_text};
+ghost use Rattle.status_db.specs.Words.{is_not_installed, status_text};
 ghost use Rattle.status_db.specs.Paragraphs.{paragraph_of, record_text};
 ghost use Rattle.status_db.specs.Status.{IsStatus, IsStatusReady, IsNoted, IsNoting};
 
@@ -77,9 +77,10 @@ fn paragraph_of(alloc: Global, entry: &Record) -> Result<Paragraph, AllocError>
     Ok(paragraph)
 }
 
-/// A record as it is written in the status file.
+/// A record as it is written in the status file, from which it is read again.
 pub fn record_text(alloc: Global, entry: &Record) -> Result<Bytes, AllocError>
-    ensures { IfOk result (λ text. text ≡ record_text entry.now) }
+    ensures text { IfOk result (λ text. text ≡ record_text entry.now) }
+    ensures read { is_not_installed entry.now.state ≡ false → IfOk result (λ text. ∥ IsStatus text (entry.now ∷ []) ∥₁) }
 {
     let paragraph = paragraph_of(alloc, entry)?;
     match write_paragraph(alloc, &paragraph) {
