@@ -15,7 +15,7 @@ use Rattle.control_fields.specs.Spelling.{AreFields}
 use Rattle.control_fields.specs.declared.field.Field.{Field}
 use Rattle.status_db.specs.Fields.{first_names, own_names, is_one_of, fields_but, recorded_fields, other_fields}
 use Rattle.status_db.specs.declared.values.Kind.{Kind}
-use Rattle.status_db.specs.declared.values.Kind.TheVariants.{PackageName, StatusWords, VersionText, Yes}
+use Rattle.status_db.specs.declared.values.Kind.TheVariants.{PackageName, StatusWords, VersionText, Yes, ConffileLines, PendingLines}
 use Rattle.status_db.specs.Values.{kind_of, control_kind, IsReadableAs, IsReadable, IsReadableControl}
 use Rattle.status_db.specs.Writable.{IsWritable, first_fields}
 
@@ -123,11 +123,20 @@ other_kind l out =
     let c = or_parts (bytes_eq l (codes "version")) _ b.1 in
     let d = or_parts (bytes_eq l (codes "config-version")) _ c.1 in
     let e = or_parts (bytes_eq l (codes "removed-since")) _ d.1 in
+    let f = or_parts (bytes_eq l (codes "conffiles")) _ e.1 in
+    let g = or_parts (bytes_eq l (codes "new-conffiles")) _ f.1 in
     ap (λ x. cond x PackageName (kind_but_package l)) a.0 ∙ ap (λ x. cond x StatusWords (kind_but_status l)) b.0 ∙ ap (λ x. cond x VersionText (kind_but_version l)) c.0
-    ∙ ap (λ x. cond x VersionText (kind_but_earlier l)) d.0 ∙ ap (λ x. cond x Yes (control_kind l)) e.0
+    ∙ ap (λ x. cond x VersionText (kind_but_earlier l)) d.0 ∙ ap (λ x. cond x Yes (kind_but_removed l)) e.0
+    ∙ ap (λ x. cond x ConffileLines (kind_but_conffiles l)) f.0 ∙ ap (λ x. cond x PendingLines (control_kind l)) g.0
   where
+    kind_but_conffiles : List ℕ → Kind
+    kind_but_conffiles l = cond (bytes_eq l (codes "new-conffiles")) PendingLines (control_kind l)
+
+    kind_but_removed : List ℕ → Kind
+    kind_but_removed l = cond (bytes_eq l (codes "conffiles")) ConffileLines (kind_but_conffiles l)
+
     kind_but_earlier : List ℕ → Kind
-    kind_but_earlier l = cond (bytes_eq l (codes "removed-since")) Yes (control_kind l)
+    kind_but_earlier l = cond (bytes_eq l (codes "removed-since")) Yes (kind_but_removed l)
 
     kind_but_version : List ℕ → Kind
     kind_but_version l = cond (bytes_eq l (codes "config-version")) VersionText (kind_but_earlier l)

@@ -1,7 +1,9 @@
+pub mod ConffileWords
 pub mod Tables
 pub mod Kept
 pub mod ControlValues
 pub mod Lines
+pub mod ConffileReading
 pub mod Parsing
 pub mod Sayings
 pub mod Standing

@@ -1,9 +1,11 @@
 pub mod Words
 pub mod Fields
+pub mod ConffileFields
 pub mod Values
 pub mod Writable
 pub mod Records
 pub mod Paragraphs
+pub mod Conffiles
 pub mod Damage
 pub mod Faults
 pub mod Status

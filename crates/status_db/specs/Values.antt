@@ -8,8 +8,9 @@ use Rattle.texts.specs.PackageNames.{is_package_name}
 use Rattle.version_order.specs.Versions.{IsVersion}
 use Rattle.relation_fields.specs.RelationFields.{relation_called, IsRelation}
 use Rattle.status_db.specs.declared.values.Kind.{Kind}
-use Rattle.status_db.specs.declared.values.Kind.TheVariants.{PackageName, StatusWords, VersionText, Yes, YesOrNo, Relation, Any}
+use Rattle.status_db.specs.declared.values.Kind.TheVariants.{PackageName, StatusWords, VersionText, Yes, ConffileLines, PendingLines, YesOrNo, Relation, Any}
 use Rattle.status_db.specs.Words.{IsStatusText}
+use Rattle.status_db.specs.ConffileFields.{IsConffileField, IsPendingField}
 
 -- what the value of a relation field has to be, and of one that isn't looked at
 abbrev pub relation_kind : List ℕ → Kind
@@ -27,6 +28,8 @@ kind_of name =
     else if bytes_eq name (codes "version") then VersionText
     else if bytes_eq name (codes "config-version") then VersionText
     else if bytes_eq name (codes "removed-since") then Yes
+    else if bytes_eq name (codes "conffiles") then ConffileLines
+    else if bytes_eq name (codes "new-conffiles") then PendingLines
     else control_kind name
 
 -- the value of a simple field, which stands on one line (Policy 5.1)
@@ -34,13 +37,16 @@ abbrev pub IsSimple : (List ℕ → Type 0) → Field → Type 0
 IsSimple IsValue f = (f.more ≡ []) × IsValue f.first
 
 -- Package has the name of a package (Policy 5.6.7), Status its three words, Version and Config-Version a version (Policy
--- 5.6.12). Removed-Since, a field of this project's own, is `yes`, Essential `yes` or `no` (Policy 5.6.9). Relations may go
--- on over several lines (Policy 7.1). Other fields are taken as they are.
+-- 5.6.12). Removed-Since, a field of this project's own, is `yes`, Essential `yes` or `no` (Policy 5.6.9). Conffiles and
+-- New-Conffiles have a line for each conffile. Relations may go on over several lines (Policy 7.1). Other fields are taken
+-- as they are.
 abbrev pub IsReadableAs : Kind → Field → Type 0
 IsReadableAs PackageName f = IsSimple (λ text. is_package_name text ≡ true) f
 IsReadableAs StatusWords f = IsSimple IsStatusText f
 IsReadableAs VersionText f = IsSimple IsVersion f
 IsReadableAs Yes f = IsSimple (λ text. text ≡ codes "yes") f
+IsReadableAs ConffileLines f = IsConffileField f
+IsReadableAs PendingLines f = IsPendingField f
 IsReadableAs YesOrNo f = IsYesOrNo f
 IsReadableAs (Relation relation) f = IsRelation relation (value_of f)
 IsReadableAs Any f = Unit {0}

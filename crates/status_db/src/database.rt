@@ -1,7 +1,7 @@
 // The table of records, and the status file that holds it.
 ghost use Rattle.std.specs.Prelude.{◌≡◌, ◌≤◌, List, [], length, not, IfOk, IfErr, OnOk, OnErr, IsTrue, IsErrOf};
 ghost use Rattle.std.specs.Cmp.Lexicographic.{slice_cmp};
-ghost use Rattle.std.specs.List.{insert};
+ghost use Rattle.std.specs.List.{insert, list_any};
 ghost use Rattle.std.specs.Option.{option_copied};
 ghost use Rattle.std.specs.Ordering.{nat_cmp, is_lt};
 ghost use Rattle.std.specs.Str.{bytes_eq};
@@ -12,13 +12,14 @@ ghost use Rattle.administration.specs.Places.{status_path};
 ghost use Rattle.administration.specs.declared.fault.AdministrationFault.TheVariants.{Device};
 ghost use Rattle.status_db.specs.declared.record.Record.{Record as ARecord};
 ghost use Rattle.status_db.specs.Records.{AreApart, record_in, place_record, put_record, drop_record, standing};
+ghost use Rattle.status_db.specs.Conffiles.{has_conffile};
 ghost use Rattle.status_db.specs.Status.{IsStatus, StandsFor, HasRecords, IsFileOrNothing, IsFileDamage, IsNodeDamage, IsStatusDamage, IsStatusReady, IsNoted, IsNoting};
 
 use crate::reading::{StatusFault, read_text};
 use crate::record::Record;
 use crate::writing::save;
 use administration::{AdministrationFault, STATUS};
-use host_core::{Host, HostFault, Node, RootPath};
+use host_core::{Host, HostFault, Node, RootPath, ShipPath};
 use std::alloc::{AllocError, Global};
 use std::cmp::Ordering;
 use std::marker::Model;
@@ -183,6 +184,13 @@ impl Database {
             }
         }
         None
+    }
+
+    /// Whether a path is one of a conffile, of any record. Takes no memory.
+    pub fn has_conffile(&self, path: &ShipPath) -> bool
+        ensures { result ≡ list_any (λ r. has_conffile r path.now) self.now }
+    {
+        self.records.iter().any(|record| record.has_conffile(path))
     }
 
     /// Notes the record of a package, in the status file and then in the table. After a fault the

@@ -1,6 +1,8 @@
 //! The status database: the records of packages and the file that holds them.
 #![tactic(auto)]
 
+mod conffile_fields;
+mod conffile_lists;
 mod database;
 mod laws;
 mod reading;
@@ -9,6 +11,8 @@ mod values;
 mod words;
 mod writing;
 
+pub use conffile_fields::{ConffileEntry, PendingDigest};
+pub use conffile_lists::{ConffileEntries, PendingDigests};
 pub use database::Database;
 pub use laws::records_are_a_table;
 pub use record::Record;

@@ -50,7 +50,8 @@ impl<T: Drop> From<AllocFailed<T>> for StatusFault {
     }
 }
 
-fn field_in<'a>(fields: &'a Paragraph, lower: &[u8]) -> Option<&'a Field>
+/// The field of a name, which is given in lower case.
+pub(crate) fn field_in<'a>(fields: &'a Paragraph, lower: &[u8]) -> Option<&'a Field>
     ensures { option_copied result ≡ field_in lower.now fields.now }
 {
     fields.get(lower)

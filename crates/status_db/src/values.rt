@@ -8,6 +8,7 @@ ghost use Rattle.status_db.specs.declared.words.State.{State as AState};
 ghost use Rattle.status_db.specs.Words.{want_word, flag_word, state_word, status_text, IsStatusText};
 ghost use Rattle.status_db.specs.Values.{kind_of, control_kind, relation_kind, IsReadableAs, IsReadable};
 
+use crate::conffile_fields::{is_conffile_field, is_pending_field};
 use crate::words::{Flag, State, Want};
 use control_fields::Field;
 use relation_fields::RelationField;
@@ -152,6 +153,8 @@ pub(crate) enum Kind {
     StatusWords,
     VersionText,
     Yes,
+    ConffileLines,
+    PendingLines,
     YesOrNo,
     Relation(RelationField),
     Any,
@@ -192,6 +195,12 @@ fn kind_of(name: &[u8]) -> Kind
     }
     if name.eq_ignore_ascii_case(b"removed-since") {
         return Kind::Yes;
+    }
+    if name.eq_ignore_ascii_case(b"conffiles") {
+        return Kind::ConffileLines;
+    }
+    if name.eq_ignore_ascii_case(b"new-conffiles") {
+        return Kind::PendingLines;
     }
     control_kind(name)
 }
@@ -259,6 +268,8 @@ pub(crate) fn is_readable(alloc: Global, field: &Field) -> Result<bool, AllocErr
         Kind::StatusWords => Ok(is_status(field)),
         Kind::VersionText => is_version(alloc, field),
         Kind::Yes => Ok(is_yes(field)),
+        Kind::ConffileLines => is_conffile_field(alloc, field),
+        Kind::PendingLines => is_pending_field(alloc, field),
         Kind::YesOrNo => Ok(field.is_yes_or_no()),
         Kind::Relation(relation) => is_relation(alloc, relation, field),
         Kind::Any => Ok(true),

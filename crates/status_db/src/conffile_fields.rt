@@ -1,0 +1,296 @@
+// Reading the lines of the fields `Conffiles` and `New-Conffiles`.
+ghost use Rattle.std.specs.Prelude.{◌≡◌, ◌≤◌, ◌↔◌, IsTrue, true, false, length, is_some, IfOk, IfSome, MatchOption};
+ghost use Rattle.std.specs.List.{list_any, list_all};
+ghost use Rattle.std.specs.Str.{bytes_eq};
+ghost use Rattle.hex.specs.Hex.{encode_lower};
+ghost use Rattle.control_fields.specs.Names.{is_blank, trim_end};
+ghost use Rattle.conffiles.specs.Digests.{is_digest_text};
+ghost use Rattle.status_db.specs.ConffileFields.{word_start, last_word, words_before, without_word, line_text, text_before_removal, text_before_flags, conffile_words, pending_words, is_ship_path, is_recorded_text, is_conffile_line, is_pending_line, are_apart, conffile_paths, pending_paths, IsConffileField, IsPendingField, digest_word, words_of_conffile, words_of_pending};
+
+use conffiles::Digest;
+use control_fields::Field;
+use host_core::ShipPath;
+use std::alloc::{AllocError, Global};
+use std::str;
+use texts::Bytes;
+
+/// A conffile of a package: the digest of its last version settled, if there is one, whether the
+/// package's current version doesn't ship it, and whether an upgrade is to remove it.
+#[derive(Drop)]
+pub struct ConffileEntry {
+    pub path: ShipPath,
+    pub digest: Option<Digest>,
+    pub obsolete: bool,
+    pub remove_on_upgrade: bool,
+}
+
+/// A shipped conffile's digest that isn't settled yet.
+#[derive(Drop)]
+pub struct PendingDigest {
+    pub path: ShipPath,
+    pub digest: Digest,
+}
+
+fn is_blank(b: u8) -> bool
+    ensures { result ≡ is_blank b }
+{
+    b == b' ' || b == b'\t'
+}
+
+// Without the spaces and tabs at the end.
+fn trim_end(text: &[u8]) -> &[u8]
+    ensures { result.now ≡ trim_end text.now }
+{
+    let mut rest = text;
+    while let [front @ .., last] = rest {
+        if !is_blank(*last) {
+            return rest;
+        }
+        rest = front;
+    }
+    rest
+}
+
+fn word_start(text: &[u8]) -> usize
+    ensures value { result ≡ word_start text.now }
+    ensures within { result ≤ length text.now }
+{
+    let mut start = 0;
+    for (i, b) in text.iter().enumerate() {
+        if is_blank(*b) {
+            start = i + 1;
+        }
+    }
+    start
+}
+
+fn last_word(text: &[u8]) -> &[u8]
+    ensures { result.now ≡ last_word text.now }
+{
+    &text[word_start(text)..]
+}
+
+fn words_before(text: &[u8]) -> &[u8]
+    ensures { result.now ≡ words_before text.now }
+{
+    trim_end(&text[..word_start(text)])
+}
+
+fn without_word<'a>(text: &'a [u8], word: &[u8]) -> &'a [u8]
+    ensures { result.now ≡ without_word word.now text.now }
+{
+    if last_word(text) == word {
+        return words_before(text);
+    }
+    text
+}
+
+fn line_text(line: &[u8]) -> &[u8]
+    ensures { result.now ≡ line_text line.now }
+{
+    match line {
+        [_, text @ ..] => text,
+        [] => line,
+    }
+}
+
+fn text_before_removal(line: &[u8]) -> &[u8]
+    ensures { result.now ≡ text_before_removal line.now }
+{
+    without_word(line_text(line), b"remove-on-upgrade")
+}
+
+fn text_before_flags(line: &[u8]) -> &[u8]
+    ensures { result.now ≡ text_before_flags line.now }
+{
+    without_word(text_before_removal(line), b"obsolete")
+}
+
+fn conffile_path(line: &[u8]) -> &[u8]
+    ensures { result.now ≡ (conffile_words line.now).path }
+{
+    words_before(text_before_flags(line))
+}
+
+fn pending_path(line: &[u8]) -> &[u8]
+    ensures { result.now ≡ (pending_words line.now).path }
+{
+    words_before(line_text(line))
+}
+
+fn is_obsolete(line: &[u8]) -> bool
+    ensures { result ≡ (conffile_words line.now).obsolete }
+{
+    last_word(text_before_removal(line)) == b"obsolete".as_slice()
+}
+
+fn is_removed_on_upgrade(line: &[u8]) -> bool
+    ensures { result ≡ (conffile_words line.now).remove_on_upgrade }
+{
+    last_word(line_text(line)) == b"remove-on-upgrade".as_slice()
+}
+
+fn ship_path(alloc: Global, text: &[u8]) -> Result<Option<ShipPath>, AllocError>
+    ensures { IfOk result (λ o. MatchOption o (is_ship_path text.now ≡ false) (λ path. (is_ship_path text.now ≡ true) × (path ≡ text.now))) }
+{
+    match str::from_utf8(text) {
+        Ok(text) => ShipPath::parse(alloc, text),
+        Err(_) => Ok(None),
+    }
+}
+
+fn digest_of(text: &[u8]) -> Option<Digest>
+    ensures exact { is_some result ≡ is_digest_text text.now }
+    ensures value { IfSome result (λ digest. encode_lower digest ≡ text.now) }
+{
+    match str::from_utf8(text) {
+        Ok(text) => Digest::parse(text),
+        Err(_) => None,
+    }
+}
+
+// A recorded digest, `None` within for a conffile of which no version is settled yet.
+fn recorded_digest(text: &[u8]) -> Option<Option<Digest>>
+    ensures exact { is_some result ≡ is_recorded_text text.now }
+    ensures value { IfSome result (λ digest. digest_word digest ≡ text.now) }
+{
+    if text == b"newconffile".as_slice() {
+        return Some(None);
+    }
+    match digest_of(text) {
+        Some(digest) => Some(Some(digest)),
+        None => None,
+    }
+}
+
+/// The entry of a line of `Conffiles`, if it can be read.
+pub(crate) fn conffile_of(alloc: Global, line: &[u8]) -> Result<Option<ConffileEntry>, AllocError>
+    ensures { IfOk result (λ o. MatchOption o (is_conffile_line line.now ≡ false) (λ e. (is_conffile_line line.now ≡ true) × (words_of_conffile e ≡ conffile_words line.now))) }
+{
+    let Some(digest) = recorded_digest(last_word(text_before_flags(line))) else {
+        return Ok(None);
+    };
+    let obsolete = is_obsolete(line);
+    let remove_on_upgrade = is_removed_on_upgrade(line);
+    match ship_path(alloc, conffile_path(line))? {
+        Some(path) => Ok(Some(ConffileEntry {
+            path,
+            digest,
+            obsolete,
+            remove_on_upgrade,
+        })),
+        None => Ok(None),
+    }
+}
+
+/// The same of a line of `New-Conffiles`.
+pub(crate) fn pending_of(alloc: Global, line: &[u8]) -> Result<Option<PendingDigest>, AllocError>
+    ensures { IfOk result (λ o. MatchOption o (is_pending_line line.now ≡ false) (λ p. (is_pending_line line.now ≡ true) × (words_of_pending p ≡ pending_words line.now))) }
+{
+    let Some(digest) = digest_of(last_word(line_text(line))) else {
+        return Ok(None);
+    };
+    match ship_path(alloc, pending_path(line))? {
+        Some(path) => Ok(Some(PendingDigest { path, digest })),
+        None => Ok(None),
+    }
+}
+
+fn is_conffile_line(alloc: Global, line: &[u8]) -> Result<bool, AllocError>
+    ensures { IfOk result (λ good. good ≡ is_conffile_line line.now) }
+{
+    Ok(conffile_of(alloc, line)?.is_some())
+}
+
+fn is_pending_line(alloc: Global, line: &[u8]) -> Result<bool, AllocError>
+    ensures { IfOk result (λ good. good ≡ is_pending_line line.now) }
+{
+    Ok(pending_of(alloc, line)?.is_some())
+}
+
+fn are_conffile_lines(alloc: Global, lines: &[Bytes]) -> Result<bool, AllocError>
+    ensures { IfOk result (λ good. good ≡ list_all is_conffile_line lines.now) }
+{
+    for line in lines {
+        if !is_conffile_line(alloc, line.as_slice())? {
+            return Ok(false);
+        }
+    }
+    Ok(true)
+}
+
+fn are_pending_lines(alloc: Global, lines: &[Bytes]) -> Result<bool, AllocError>
+    ensures { IfOk result (λ good. good ≡ list_all is_pending_line lines.now) }
+{
+    for line in lines {
+        if !is_pending_line(alloc, line.as_slice())? {
+            return Ok(false);
+        }
+    }
+    Ok(true)
+}
+
+/// Whether one of the lines of `Conffiles` has this path.
+pub(crate) fn has_conffile_path(lines: &[Bytes], path: &[u8]) -> bool
+    ensures { result ≡ list_any (bytes_eq path.now) (conffile_paths lines.now) }
+{
+    lines
+        .iter()
+        .any(|line| path == conffile_path(line.as_slice()))
+}
+
+fn has_pending_path(lines: &[Bytes], path: &[u8]) -> bool
+    ensures { result ≡ list_any (bytes_eq path.now) (pending_paths lines.now) }
+{
+    lines
+        .iter()
+        .any(|line| path == pending_path(line.as_slice()))
+}
+
+fn are_conffiles_apart(lines: &[Bytes]) -> bool
+    ensures { result ≡ are_apart (conffile_paths lines.now) }
+{
+    let mut rest = lines;
+    while let [line, behind @ ..] = rest {
+        if has_conffile_path(behind, conffile_path(line.as_slice())) {
+            return false;
+        }
+        rest = behind;
+    }
+    true
+}
+
+fn are_pending_apart(lines: &[Bytes]) -> bool
+    ensures { result ≡ are_apart (pending_paths lines.now) }
+{
+    let mut rest = lines;
+    while let [line, behind @ ..] = rest {
+        if has_pending_path(behind, pending_path(line.as_slice())) {
+            return false;
+        }
+        rest = behind;
+    }
+    true
+}
+
+/// Whether the value of a field `Conffiles` can be read.
+pub(crate) fn is_conffile_field(alloc: Global, field: &Field) -> Result<bool, AllocError>
+    ensures { IfOk result (λ good. IsTrue good ↔ IsConffileField field.now) }
+{
+    let lines = field.more.as_slice();
+    if !field.first.as_slice().is_empty() || !are_conffiles_apart(lines) {
+        return Ok(false);
+    }
+    are_conffile_lines(alloc, lines)
+}
+
+/// Whether the value of a field `New-Conffiles` can be read.
+pub(crate) fn is_pending_field(alloc: Global, field: &Field) -> Result<bool, AllocError>
+    ensures { IfOk result (λ good. IsTrue good ↔ IsPendingField field.now) }
+{
+    let lines = field.more.as_slice();
+    if !field.first.as_slice().is_empty() || !are_pending_apart(lines) {
+        return Ok(false);
+    }
+    are_pending_lines(alloc, lines)
+}
