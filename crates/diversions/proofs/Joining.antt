@@ -1,6 +1,6 @@
 -- Whether an entry may stand behind those of a table.
-use Rattle.std.proofs.Common.{◌≡◌, Bool, true, false, List, [], ◌∷◌, ◌++◌, sym, subst, ◌∙◌, MatchBool, ℕ}
-use Rattle.std.proofs.lemmas.Bool.{MatchBool-at_true, MatchBool-at_false}
+use Rattle.std.proofs.Common.{◌≡◌, Bool, true, false, List, [], ◌∷◌, ◌++◌, sym, subst, MatchBool}
+use Rattle.std.proofs.lemmas.Bool.{MatchBool-at_true}
 use Rattle.host_core.specs.Paths.{Path}
 use Rattle.diversions.specs.declared.entry.Diversion.{Diversion}
 use Rattle.diversions.specs.Entries.{IsEntry, IsFree, IsTable}

@@ -3,3 +3,9 @@ pub mod Tables
 pub mod Indexed
 pub mod LinesOf
 pub mod Joining
+pub mod Fronts
+pub mod WrittenTables
+pub mod Moving
+pub mod Owners
+pub mod Passing
+pub mod Stopping

@@ -1,5 +1,5 @@
 -- The lines of entries.
-use Rattle.std.proofs.Common.{◌≡◌, ◌≢◌, ℕ, ◌+◌, ◌<◌, ◌≤◌, Bool, true, false, cond, nat_eq, List, [], ◌∷◌, ◌++◌, length, Option, Some, None, MatchOption, refl, sym, ap, subst, ◌∙◌, arith, append_assoc, length-append, codes}
+use Rattle.std.proofs.Common.{◌≡◌, ℕ, ◌+◌, ◌<◌, ◌≤◌, Bool, true, false, cond, nat_eq, List, [], ◌∷◌, ◌++◌, length, Option, Some, None, MatchOption, refl, sym, ap, subst, ◌∙◌, arith, append_assoc, length-append}
 use Rattle.std.specs.List.{onto_first}
 use Rattle.std.specs.Prelude.{nat_le, IfNone}
 use Rattle.std.proofs.lemmas.Bool.{and_parts, leb-true}
@@ -100,3 +100,18 @@ refused_lines entries e a b c entry is not d same table =
 pub none_at : {A : Type 0} (o : Option A) (P : Type 0) → o ≡ None → IfNone o P → P
 none_at None P is holds = holds
 none_at (Some x) P is holds = absurd (let e : Some x ≡ None = is in cc)
+
+-- lines are those of one table
+pub same_table : (a b : List Diversion) → IsTable a → IsTable b → lines_of a ≡ lines_of b → a ≡ b
+same_table [] [] first second e = refl
+same_table [] (d ∷ b) first second e = absurd (let f : [] ≡ d.path ∷ d.target ∷ owner_line d.owner ∷ lines_of b = e in cc)
+same_table (d ∷ a) [] first second e = absurd (let f : d.path ∷ d.target ∷ owner_line d.owner ∷ lines_of a ≡ [] = e in cc)
+same_table (d ∷ a) (f ∷ b) first second e =
+    let all : d.path ∷ d.target ∷ owner_line d.owner ∷ lines_of a ≡ f.path ∷ f.target ∷ owner_line f.owner ∷ lines_of b = e in
+    let path : d.path ≡ f.path = cc in
+    let target : d.target ≡ f.target = cc in
+    let owner : owner_line d.owner ≡ owner_line f.owner = cc in
+    let rest : lines_of a ≡ lines_of b = cc in
+    let this = same_entry d f first.0.owner second.0.owner (λ i. path i ∷ target i ∷ owner i ∷ []) in
+    let those = same_table a b first.3 second.3 rest in
+    λ i. this i ∷ those i

@@ -10,3 +10,4 @@ pub mod Refusals
 pub mod Writing
 pub mod Changes
 pub mod Fault
+pub mod Again

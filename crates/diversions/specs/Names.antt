@@ -1,5 +1,5 @@
 -- The directory that a path lies in.
-use Rattle.std.specs.Prelude.{List, [], ◌∷◌, cond}
+use Rattle.std.specs.Prelude.{[], ◌∷◌, cond}
 use Rattle.host_core.specs.Paths.{Path}
 use Rattle.host_core.specs.Tree.{has_slash}
 

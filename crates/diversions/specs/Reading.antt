@@ -1,5 +1,5 @@
 -- What each step of the reading finds.
-use Rattle.std.specs.Prelude.{◌≡◌, ℕ, Bool, true, false, List, [], ◌∷◌, ◌++◌, MatchBool}
+use Rattle.std.specs.Prelude.{◌≡◌, ℕ, Bool, true, false, List, [], ◌∷◌, ◌++◌}
 use Rattle.diversions.specs.declared.entry.Diversion.{Diversion}
 use Rattle.diversions.specs.declared.reading.TableFault.{TableFault}
 use Rattle.diversions.specs.declared.reading.TableFault.TheVariants.{Line, NoMemory}

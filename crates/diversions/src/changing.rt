@@ -1,8 +1,8 @@
 // Changing the table: the conditions are looked at, the node is moved, the file is written, and then the table follows.
-ghost use Rattle.std.specs.Prelude.{◌≡◌, ◌++◌, ◌∷◌, [], true, IsTrue, IfOk, OnOk, OnErr};
+ghost use Rattle.std.specs.Prelude.{◌≡◌, ◌++◌, ◌∷◌, [], true, false, IsTrue, IfOk, OnOk, OnErr};
 ghost use Rattle.host_core.specs.Host.{AtEachMoment, Counts, Leaves, Needs, Reads, Silent, Tells};
 ghost use Rattle.diversions.specs.Changes.{CanMove, HasAdded, HasRemoved, IsAdding, IsRecorded, IsRemoving, IsTableReady, IsUnderWay, LeavesDone, OnDone, OnRefused, diversion_of, diverted, moved_if, restored, with_entry};
-ghost use Rattle.diversions.specs.Entries.{IsTable, IsWellFormed, is_owner, without};
+ghost use Rattle.diversions.specs.Entries.{IsShipLine, IsTable, IsWellFormed, is_owner, without};
 ghost use Rattle.diversions.specs.Refusals.{add_answer, answer_of, first_holding, has_same, move_conditions, remove_answer};
 ghost use Rattle.diversions.specs.Refusals as refusals;
 ghost use Rattle.diversions.specs.Sights.{sight_of};
@@ -98,6 +98,14 @@ fn add_entry<H: Host>(
     add_other(alloc, host, table, entry, rename, seen)
 }
 
+// What holds of a path, as a line of the file.
+fn ship_law(path: &ShipPath)
+    ensures { IsShipLine path.now }
+{
+    path.law();
+    let _line = path.as_str();
+}
+
 /// Adds the diversion of a path to a target.
 pub(crate) fn add_diversion<H: Host>(
     alloc: Global,
@@ -122,8 +130,8 @@ pub(crate) fn add_diversion<H: Host>(
     ensures silent { Silent (H.state host.old) (H.state host.new) }
     ensures counts { Counts (H.state host.old) (H.state host.new) result }
 {
-    path.law();
-    target.law();
+    ship_law(path);
+    ship_law(target);
     let entry = Diversion {
         path: path.copy()?,
         target: target.copy()?,
@@ -175,6 +183,7 @@ fn take_away<H: Host>(
     ensures silent { Silent (H.state host.old) (H.state host.new) }
     ensures counts { Counts (H.state host.old) (H.state host.new) result }
 {
+    path.law();
     let sight = look_around(alloc, host, target, path)?;
     let moves = moves_node(rename, false, sight);
     if let Some(refusal) = move_refusal(moves, sight) {

@@ -71,10 +71,7 @@ fn is_target_taken(table: &Table, entry: &Diversion) -> bool
 {
     let path = entry.path.as_str();
     let target = entry.target.as_str();
-    target == path
-        || table.is_diverted(target)
-        || table.is_target(target)
-        || table.is_target(path)
+    target == path || table.is_diverted(target) || table.is_target(target) || table.is_target(path)
 }
 
 /// Why an entry isn't added.

@@ -161,6 +161,8 @@ pub(crate) fn record_new<H: Host>(
     ensures silent { Silent (H.state host.old) (H.state host.new) }
     ensures counts { Counts (H.state host.old) (H.state host.new) result }
 {
+    entry.path.law();
+    entry.target.law();
     let node = file_of(text_with(alloc, table, entry)?);
     carry_out(alloc, host, &entry.path, &entry.target, moves, &node)
 }
@@ -182,6 +184,8 @@ pub(crate) fn record_without<H: Host>(
     ensures counts { Counts (H.state host.old) (H.state host.new) result }
 {
     table.law();
+    path.law();
+    target.law();
     let node = file_of(text_without(alloc, table, path.as_str())?);
     carry_out(alloc, host, target, path, moves, &node)
 }

@@ -1,5 +1,3 @@
-use Rattle.std.proofs.Common.{◌≡◌, ◌∙◌, subst, ap, List, ℕ}
-use Rattle.diversions.specs.Entries.{IsFree}
 use Rattle.diversions.proofs.Joining.{joins, joins_not}
 use Rattle.diversions.proofs.reading.may_follow.Goals as goal
 

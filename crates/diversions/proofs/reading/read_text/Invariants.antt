@@ -1,5 +1,4 @@
 use Rattle.std.proofs.Common.{◌≡◌, ◌+◌, ◌≤◌, ◌++◌, length}
-use Rattle.diversions.specs.Entries.{IsTable}
 use Rattle.diversions.specs.Lines.{lines_in, lines_of}
 use Rattle.diversions.proofs.reading.read_text.Given as goal
 

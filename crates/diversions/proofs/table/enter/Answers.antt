@@ -1,4 +1,4 @@
-use Rattle.std.proofs.Common.{◌≡◌, ◌∙◌, refl, sym, ap, true, cond, List, ℕ}
+use Rattle.std.proofs.Common.{◌∙◌, refl, ap, true, cond, List, ℕ}
 use Rattle.std.specs.HashSet.{contains_text}
 use Rattle.std.specs.List.{list_any}
 use Rattle.std.specs.Str.{bytes_eq}
