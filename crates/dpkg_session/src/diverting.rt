@@ -1,49 +1,35 @@
-// Adding diversions and taking them away, each as a unit.
-ghost use Rattle.std.specs.Prelude.{◌≡◌, ◌⊎◌, ◌∷◌, [], true, false, IsTrue, IsNone, IfErr, IfOk, IfSome, OnOk, is_some, Σ};
-ghost use Rattle.host_core.specs.Host.{AtEachMoment, Falls, Needs, Silent};
-ghost use Rattle.host_core.specs.Loss.{IsAnswered};
-ghost use Rattle.diversions.specs.Changes.{HasAdded, HasRemoved, IsAdding, IsRemoving, IsTableReady, LeavesDone, OnDone, OnRefused, with_entry};
-ghost use Rattle.diversions.specs.Entries.{is_owner, without};
+// Adding diversions and taking them away, each as one unit.
+ghost use Rattle.std.specs.Prelude.{◌≡◌, ◌⊎◌, [], true, false, IsErrOf, IsNone, IsTrue, IfOk, IfSome, OnOk, is_some, vec_len, vec_capacity, ◌<◌};
+ghost use Rattle.std.specs.List.{list_any};
+ghost use Rattle.std.specs.Str.{bytes_eq};
+ghost use Rattle.host_core.specs.Host.{AtEachMoment, Counts, Gives, Needs, Silent, Tells};
+ghost use Rattle.host_core.specs.Loss.{IsAnswered, IsOnDisk};
+ghost use Rattle.diversions.specs.Changes.{HasAdded, HasRemoved, IsAdding, IsRemoving, IsTableReady, with_entry};
+ghost use Rattle.diversions.specs.Entries.{without};
+ghost use Rattle.diversions.specs.Fault.{CountsDiversion};
 ghost use Rattle.diversions.specs.Refusals.{add_answer, remove_answer};
-ghost use Rattle.dpkg_session.specs.Diversions.{AnswersDiversion, IsBrokenDiversion, IsDiverted, IsUndiverted, asked_entry, is_listed, seen_of};
+ghost use Rattle.diversions.specs.declared.fault.DiversionFault.TheVariants as fault;
+ghost use Rattle.diversions.specs.declared.refusal.Answer.TheVariants as answered;
+ghost use Rattle.file_lists.specs.Owners.{places_in};
+ghost use Rattle.dpkg_session.specs.Diversions.{AnswersDiversion, HasBroken, IsDiverted, IsOneUnit, IsReportOf, IsUndiverted, LeavesAnswer, asked_entry, by_answer, is_listed, seen_of, table_breakage};
 ghost use Rattle.dpkg_session.specs.PowerLoss.{LosesLikeAStop, StandsOnceAnswered};
-ghost use Rattle.dpkg_session.specs.Units.{CountsLast, IsBrokenBy, IsClosedReport, TellsCalls};
+ghost use Rattle.dpkg_session.specs.Units.{CountsLast, CountsReply, IsBroken, IsBrokenBy, IsClosedReport, TellsCalls, calls_told};
 ghost use Rattle.dpkg_session.specs.declared.report.Breakage.TheVariants.{Closed, NoMemory};
 
+use crate::asked::{Diverting, Undiverting};
 use crate::refusal::{Refusal, Rule};
 use crate::report::{Breakage, Reply, Report, Unit};
 use crate::session::{Session, closed_report};
-use crate::units::broken;
+use crate::units::{broken, is_broken};
 use diversions::{Answer, DiversionFault, Diversions, Owner, Seen};
 use file_lists::FileLists;
-use host_core::{Host, ShipPath};
+use host_core::{Host, HostFault, Places, RootPath, ShipPath};
 use status_db::Database;
-use std::alloc::Global;
+use std::alloc::{AllocError, Global};
 use texts::Text;
 
-/// A diversion to be added: where the files of all packages but the owner go, and whether the file at the path is moved
-/// there.
-#[derive(Drop)]
-pub struct Diverting {
-    pub path: ShipPath,
-    pub target: ShipPath,
-    pub owner: Owner,
-    pub rename: bool,
-    pub ghost named: { is_owner owner ≡ true },
-}
-
-/// An owner's diversion to be taken away, and whether the file at its target is moved back.
-#[derive(Drop)]
-pub struct Undiverting {
-    pub path: ShipPath,
-    pub owner: Owner,
-    pub rename: bool,
-    pub ghost named: { is_owner owner ≡ true },
-}
-
-// What a fault of the table breaks off.
 fn breakage_of(fault: DiversionFault) -> Breakage
-    ensures { result ≡ breakage_of_table fault }
+    ensures { result ≡ table_breakage fault }
 {
     match fault {
         DiversionFault::Device => Breakage::Device,
@@ -52,16 +38,19 @@ fn breakage_of(fault: DiversionFault) -> Breakage
     }
 }
 
-// Whether the owner's list has the path.
+fn has_path(paths: &[RootPath], path: &ShipPath) -> bool
+    ensures { result ≡ list_any (bytes_eq path.now) paths.now }
+{
+    paths.iter().any(|listed| path.as_str() == listed.as_str())
+}
+
+// Whether the owner's list has a path.
 fn is_listed(lists: &FileLists, owner: &Owner, path: &ShipPath) -> bool
     ensures { result ≡ is_listed lists.now.lists owner.now path.now }
 {
     match owner {
         Owner::Local => false,
-        Owner::Package(name) => lists
-            .list_of(name)
-            .iter()
-            .any(|listed| path.as_str() == listed.as_str()),
+        Owner::Package(name) => has_path(lists.list_of(name), path),
     }
 }
 
@@ -75,11 +64,11 @@ fn seen_of(database: &Database, lists: &FileLists, owner: &Owner, path: &ShipPat
     }
 }
 
+// The unit that a refusal makes.
 fn refused(alloc: Global, path: &ShipPath, refusal: diversions::Refusal) -> Unit
     ensures unit { IsBrokenBy NoMemory result.reply ⊎ AnswersDiversion path.now (answered.Refused refusal) result }
     ensures calls { result.calls.items ≡ [] }
     ensures touched { result.touched.items ≡ [] }
-    ensures not_closed { IsBrokenBy Closed result.reply → ⊥ }
 {
     match Text::from_str(alloc, path.as_str()) {
         Ok(package) => Unit {
@@ -94,28 +83,67 @@ fn refused(alloc: Global, path: &ShipPath, refusal: diversions::Refusal) -> Unit
     }
 }
 
-// The unit that an answer about this path makes.
-fn unit_of(alloc: Global, path: &ShipPath, answer: Answer) -> Unit
-    ensures unit { IsBrokenBy NoMemory result.reply ⊎ AnswersDiversion path.now answer result }
+// Computes the places anew.
+fn refresh(
+    alloc: Global,
+    lists: &FileLists,
+    diversions: &Diversions,
+    places: &mut Places,
+) -> Result<(), AllocError>
+    ensures { OnOk result (places.new ≡ places_in diversions.now.entries lists.now.lists) }
+{
+    *places = lists.places(alloc, diversions)?;
+    Ok(())
+}
+
+// The unit of a change that is done, once the kept places are those of the table that it left.
+fn done(
+    alloc: Global,
+    lists: &FileLists,
+    diversions: &Diversions,
+    places: &mut Places,
+    path: &ShipPath,
+) -> Unit
+    ensures unit { IsBrokenBy NoMemory result.reply ⊎ AnswersDiversion path.now answered.Done result }
+    ensures places { IsBrokenBy NoMemory result.reply ⊎ (places.new ≡ places_in diversions.now.entries lists.now.lists) }
     ensures calls { result.calls.items ≡ [] }
     ensures touched { result.touched.items ≡ [] }
-    ensures not_closed { IsBrokenBy Closed result.reply → ⊥ }
 {
-    match answer {
-        Answer::Done => Unit {
+    match refresh(alloc, lists, diversions, places) {
+        Ok(()) => Unit {
             calls: Vec::new(alloc),
             touched: Vec::new(alloc),
             reply: Reply::Done,
         },
+        Err(_) => broken(alloc, Vec::new(alloc), Breakage::NoMemory),
+    }
+}
+
+// The unit of an answer.
+fn unit_of(
+    alloc: Global,
+    lists: &FileLists,
+    diversions: &Diversions,
+    places: &mut Places,
+    path: &ShipPath,
+    answer: Answer,
+) -> Unit
+    ensures unit { IsBrokenBy NoMemory result.reply ⊎ AnswersDiversion path.now answer result }
+    ensures places { IsBrokenBy NoMemory result.reply ⊎ (places.new ≡ by_answer answer places.old (places_in diversions.now.entries lists.now.lists)) }
+    ensures calls { result.calls.items ≡ [] }
+    ensures touched { result.touched.items ≡ [] }
+{
+    match answer {
+        Answer::Done => done(alloc, lists, diversions, places, path),
         Answer::Refused(refusal) => refused(alloc, path, refusal),
     }
 }
 
 // Brings what was done to the disk; a refusal did nothing.
 fn flush_done<H: Host>(host: &mut H, answer: Answer) -> Result<(), HostFault>
-    ensures on_disk { OnOk result (answer ≡ answered.Done → IsOnDisk (H.state host.new).events) }
-    ensures same { answer ≡ answered.Done ⊎ (H.state host.new ≡ H.state host.old) }
-    ensures kept { IsTrue (H.state host.new).honest → (H.state host.new).world ≡ (H.state host.old).world }
+    ensures done { OnOk result (answer ≡ answered.Done → IsOnDisk (H.state host.new).events) }
+    ensures refused { answer ≡ answered.Done ⊎ (H.state host.new ≡ H.state host.old) }
+    ensures world { IsTrue (H.state host.new).honest → (H.state host.new).world ≡ (H.state host.old).world }
     ensures any_moment { AtEachMoment (λ old now. now ≡ old) (H.state host.old) (H.state host.new) }
     ensures silent { Silent (H.state host.old) (H.state host.new) }
     ensures counts { Counts (H.state host.old) (H.state host.new) result }
@@ -126,7 +154,7 @@ fn flush_done<H: Host>(host: &mut H, answer: Answer) -> Result<(), HostFault>
     }
 }
 
-// Adds the diversion, and brings it to the disk.
+// Adds a diversion, and brings that to the disk.
 fn add_to_disk<H: Host>(
     alloc: Global,
     host: &mut H,
@@ -135,17 +163,15 @@ fn add_to_disk<H: Host>(
     seen: Seen,
 ) -> Result<Answer, DiversionFault>
     requires ready { Needs (H.state host.old) IsTableReady }
-    requires opened { diversions.old.closed ≡ false }
+    requires writable { diversions.old.closed ≡ false }
     ensures answer { Tells result (λ answer w. answer ≡ add_answer w diversions.old.entries (asked_entry asked.now) asked.now.rename seen) (H.state host.old) (H.state host.new) }
-    ensures table { OnDone result (diversions.new ≡ record diversions.old { entries = with_entry diversions.old.entries (asked_entry asked.now) }) }
-    ensures refused { OnRefused result (diversions.new ≡ diversions.old) }
-    ensures same { OnRefused result (Reads (H.state host.old) (H.state host.new)) }
-    ensures done { LeavesDone result (HasAdded diversions.old.entries (asked_entry asked.now) asked.now.rename seen) (H.state host.old) (H.state host.new) }
+    ensures table { IfOk result (λ answer. diversions.new ≡ record diversions.old { entries = by_answer answer diversions.old.entries (with_entry diversions.old.entries (asked_entry asked.now)) }) }
+    ensures left { Gives result (λ answer. LeavesAnswer answer (HasAdded diversions.old.entries (asked_entry asked.now) asked.now.rename seen)) (H.state host.old) (H.state host.new) }
     ensures answered { OnOk result (IsAnswered (H.state host.old) (H.state host.new)) }
     ensures any_moment { AtEachMoment (IsAdding diversions.old.entries (asked_entry asked.now) asked.now.rename seen) (H.state host.old) (H.state host.new) }
     ensures silent { Silent (H.state host.old) (H.state host.new) }
     ensures counts { CountsDiversion (H.state host.old) (H.state host.new) result }
-    ensures not_closed { IsErrOf result diversion.Closed → ⊥ }
+    ensures not_closed { IsErrOf result fault.Closed → ⊥ }
 {
     let answer = diversions.add(
         alloc,
@@ -160,7 +186,7 @@ fn add_to_disk<H: Host>(
     Ok(answer)
 }
 
-// Takes the diversion away, and brings that to the disk.
+// Takes a diversion away, and brings that to the disk.
 fn remove_to_disk<H: Host>(
     alloc: Global,
     host: &mut H,
@@ -168,45 +194,19 @@ fn remove_to_disk<H: Host>(
     asked: &Undiverting,
 ) -> Result<Answer, DiversionFault>
     requires ready { Needs (H.state host.old) IsTableReady }
-    requires opened { diversions.old.closed ≡ false }
+    requires writable { diversions.old.closed ≡ false }
     ensures answer { Tells result (λ answer w. answer ≡ remove_answer w diversions.old.entries asked.now.path asked.now.owner asked.now.rename) (H.state host.old) (H.state host.new) }
-    ensures table { OnDone result (diversions.new ≡ record diversions.old { entries = without asked.now.path diversions.old.entries }) }
-    ensures refused { OnRefused result (diversions.new ≡ diversions.old) }
-    ensures same { OnRefused result (Reads (H.state host.old) (H.state host.new)) }
-    ensures done { LeavesDone result (HasRemoved diversions.old.entries asked.now.path asked.now.rename) (H.state host.old) (H.state host.new) }
+    ensures table { IfOk result (λ answer. diversions.new ≡ record diversions.old { entries = by_answer answer diversions.old.entries (without asked.now.path diversions.old.entries) }) }
+    ensures left { Gives result (λ answer. LeavesAnswer answer (HasRemoved diversions.old.entries asked.now.path asked.now.rename)) (H.state host.old) (H.state host.new) }
     ensures answered { OnOk result (IsAnswered (H.state host.old) (H.state host.new)) }
     ensures any_moment { AtEachMoment (IsRemoving diversions.old.entries asked.now.path asked.now.rename) (H.state host.old) (H.state host.new) }
     ensures silent { Silent (H.state host.old) (H.state host.new) }
     ensures counts { CountsDiversion (H.state host.old) (H.state host.new) result }
-    ensures not_closed { IsErrOf result diversion.Closed → ⊥ }
+    ensures not_closed { IsErrOf result fault.Closed → ⊥ }
 {
     let answer = diversions.remove(alloc, host, &asked.path, &asked.owner, asked.rename)?;
     flush_done(host, answer)?;
     Ok(answer)
-}
-
-// The unit of an answer, once the kept places are those of the table that it left.
-fn settled(
-    alloc: Global,
-    lists: &FileLists,
-    diversions: &Diversions,
-    places: &mut Places,
-    path: &ShipPath,
-    answer: Answer,
-) -> Unit
-    ensures unit { IsBrokenBy NoMemory result.reply ⊎ AnswersDiversion path.now answer result }
-    ensures places { IsBrokenBy NoMemory result.reply ⊎ (places.new ≡ places_in diversions.now.entries lists.now.lists) }
-    ensures calls { result.calls.items ≡ [] }
-    ensures touched { result.touched.items ≡ [] }
-    ensures not_closed { IsBrokenBy Closed result.reply → ⊥ }
-{
-    match lists.places(alloc, diversions) {
-        Ok(found) => {
-            *places = found;
-            unit_of(alloc, path, answer)
-        }
-        Err(_) => broken(alloc, Vec::new(alloc), Breakage::NoMemory),
-    }
 }
 
 // The unit that adds a diversion.
@@ -220,10 +220,11 @@ fn add_unit<H: Host>(
     seen: Seen,
 ) -> Unit
     requires ready { Needs (H.state host.old) IsTableReady }
-    requires opened { diversions.old.closed ≡ false }
+    requires writable { diversions.old.closed ≡ false }
+    requires kept { places.old ≡ places_in diversions.old.entries lists.now.lists }
     ensures unit { IsBroken result.reply ⊎ IsDiverted asked.now seen diversions.old.entries diversions.new.entries result (H.state host.old) (H.state host.new) }
-    ensures places { IsBroken result.reply ⊎ (places.new ≡ places_in diversions.new.entries lists.now.lists) }
-    ensures opened { IsBroken result.reply ⊎ (diversions.new.closed ≡ false) }
+    ensures writable { IsBroken result.reply ⊎ (diversions.new.closed ≡ false) }
+    ensures kept { IsBroken result.reply ⊎ (places.new ≡ places_in diversions.new.entries lists.now.lists) }
     ensures calls { result.calls.items ≡ [] }
     ensures touched { result.touched.items ≡ [] }
     ensures any_moment { AtEachMoment (IsAdding diversions.old.entries (asked_entry asked.now) asked.now.rename seen) (H.state host.old) (H.state host.new) }
@@ -231,32 +232,50 @@ fn add_unit<H: Host>(
     ensures counts { CountsReply (H.state host.old) (H.state host.new) result.reply }
     ensures not_closed { IsBrokenBy Closed result.reply → ⊥ }
 {
+    asked.path.law();
+    asked.target.law();
     match add_to_disk(alloc, host, diversions, asked, seen) {
-        Ok(answer) => settled(alloc, lists, diversions, places, &asked.path, answer),
+        Ok(answer) => unit_of(alloc, lists, diversions, places, &asked.path, answer),
         Err(fault) => broken(alloc, Vec::new(alloc), breakage_of(fault)),
     }
 }
 
-// The report of the unit that adds a diversion.
-pub(crate) fn divert_on<H: Host>(
+// The unit that takes a diversion away.
+fn remove_unit<H: Host>(
     alloc: Global,
     host: &mut H,
-    database: &Database,
     lists: &FileLists,
     diversions: &mut Diversions,
     places: &mut Places,
-    asked: &Diverting,
-) -> Report
+    asked: &Undiverting,
+) -> Unit
+    requires ready { Needs (H.state host.old) IsTableReady }
+    requires writable { diversions.old.closed ≡ false }
+    requires kept { places.old ≡ places_in diversions.old.entries lists.now.lists }
+    ensures unit { IsBroken result.reply ⊎ IsUndiverted asked.now diversions.old.entries diversions.new.entries result (H.state host.old) (H.state host.new) }
+    ensures writable { IsBroken result.reply ⊎ (diversions.new.closed ≡ false) }
+    ensures kept { IsBroken result.reply ⊎ (places.new ≡ places_in diversions.new.entries lists.now.lists) }
+    ensures calls { result.calls.items ≡ [] }
+    ensures touched { result.touched.items ≡ [] }
+    ensures any_moment { AtEachMoment (IsRemoving diversions.old.entries asked.now.path asked.now.rename) (H.state host.old) (H.state host.new) }
+    ensures silent { Silent (H.state host.old) (H.state host.new) }
+    ensures counts { CountsReply (H.state host.old) (H.state host.new) result.reply }
+    ensures not_closed { IsBrokenBy Closed result.reply → ⊥ }
 {
-    let mut units = Vec::new(alloc);
-    if units.reserve(1).is_err() {
-        return Report {
-            units,
-            last: Some(broken(alloc, Vec::new(alloc), Breakage::NoMemory)),
-        };
+    asked.path.law();
+    diversions.law();
+    match remove_to_disk(alloc, host, diversions, asked) {
+        Ok(answer) => unit_of(alloc, lists, diversions, places, &asked.path, answer),
+        Err(fault) => broken(alloc, Vec::new(alloc), breakage_of(fault)),
     }
-    let seen = seen_of(database, lists, &asked.owner, &asked.path);
-    let unit = add_unit(alloc, host, lists, diversions, places, asked, seen);
+}
+
+// The report of one unit; there is room for it.
+fn report_of(mut units: Vec<Unit>, unit: Unit) -> Report
+    requires none { units.items ≡ [] }
+    requires room { vec_len units < vec_capacity units }
+    ensures { IsReportOf unit result }
+{
     if is_broken(&unit) {
         return Report {
             units,
@@ -265,4 +284,150 @@ pub(crate) fn divert_on<H: Host>(
     }
     units.push(unit).unwrap();
     Report { units, last: None }
+}
+
+// The report where there was no memory for a unit.
+fn no_memory(alloc: Global) -> Report
+    ensures broken { HasBroken result }
+    ensures last { IfSome result.last (λ u. IsBrokenBy NoMemory u.reply) }
+    ensures calls { calls_told result ≡ [] }
+    ensures some { is_some result.last ≡ true }
+{
+    Report {
+        units: Vec::new(alloc),
+        last: Some(broken(alloc, Vec::new(alloc), Breakage::NoMemory)),
+    }
+}
+
+// The report of the unit that adds a diversion.
+fn divert_on<H: Host>(
+    alloc: Global,
+    host: &mut H,
+    database: &Database,
+    lists: &FileLists,
+    diversions: &mut Diversions,
+    places: &mut Places,
+    asked: &Diverting,
+) -> Report
+    requires ready { Needs (H.state host.old) IsTableReady }
+    requires writable { diversions.old.closed ≡ false }
+    requires kept { places.old ≡ places_in diversions.old.entries lists.now.lists }
+    ensures whole { IsNone result.last → IsOneUnit (λ u. IsDiverted asked.now (seen_of database.now lists.now.lists asked.now.owner asked.now.path) diversions.old.entries diversions.new.entries u (H.state host.old) (H.state host.new)) result.units.items }
+    ensures broken { HasBroken result }
+    ensures calls { calls_told result ≡ [] }
+    ensures writable { IsNone result.last → diversions.new.closed ≡ false }
+    ensures kept { IsNone result.last → places.new ≡ places_in diversions.new.entries lists.now.lists }
+    ensures any_moment { AtEachMoment (IsAdding diversions.old.entries (asked_entry asked.now) asked.now.rename (seen_of database.now lists.now.lists asked.now.owner asked.now.path)) (H.state host.old) (H.state host.new) }
+    ensures silent { Silent (H.state host.old) (H.state host.new) }
+    ensures counts { CountsLast (H.state host.old) (H.state host.new) result.last }
+    ensures not_closed { IfSome result.last (λ unit. IsBrokenBy Closed unit.reply → ⊥) }
+{
+    let mut units = Vec::new(alloc);
+    if units.reserve(1).is_err() {
+        return no_memory(alloc);
+    }
+    let seen = seen_of(database, lists, &asked.owner, &asked.path);
+    let unit = add_unit(alloc, host, lists, diversions, places, asked, seen);
+    report_of(units, unit)
+}
+
+// The report of the unit that takes a diversion away.
+fn undivert_on<H: Host>(
+    alloc: Global,
+    host: &mut H,
+    lists: &FileLists,
+    diversions: &mut Diversions,
+    places: &mut Places,
+    asked: &Undiverting,
+) -> Report
+    requires ready { Needs (H.state host.old) IsTableReady }
+    requires writable { diversions.old.closed ≡ false }
+    requires kept { places.old ≡ places_in diversions.old.entries lists.now.lists }
+    ensures whole { IsNone result.last → IsOneUnit (λ u. IsUndiverted asked.now diversions.old.entries diversions.new.entries u (H.state host.old) (H.state host.new)) result.units.items }
+    ensures broken { HasBroken result }
+    ensures calls { calls_told result ≡ [] }
+    ensures writable { IsNone result.last → diversions.new.closed ≡ false }
+    ensures kept { IsNone result.last → places.new ≡ places_in diversions.new.entries lists.now.lists }
+    ensures any_moment { AtEachMoment (IsRemoving diversions.old.entries asked.now.path asked.now.rename) (H.state host.old) (H.state host.new) }
+    ensures silent { Silent (H.state host.old) (H.state host.new) }
+    ensures counts { CountsLast (H.state host.old) (H.state host.new) result.last }
+    ensures not_closed { IfSome result.last (λ unit. IsBrokenBy Closed unit.reply → ⊥) }
+{
+    let mut units = Vec::new(alloc);
+    if units.reserve(1).is_err() {
+        return no_memory(alloc);
+    }
+    let unit = remove_unit(alloc, host, lists, diversions, places, asked);
+    report_of(units, unit)
+}
+
+impl<H: Host> Session<H> {
+    /// Adds a diversion: one unit. One that is broken off closes the session.
+    pub fn divert(&mut self, asked: &Diverting) -> Report
+        ensures whole { self.old.closed ≡ false → IsNone result.last → IsOneUnit (λ u. IsDiverted asked.now (seen_of self.old.database self.old.lists.lists asked.now.owner asked.now.path) self.old.diversions.entries self.new.diversions.entries u (H.state self.old.host) (H.state self.new.host)) result.units.items }
+        ensures broken { HasBroken result }
+        ensures told { TellsCalls (H.state self.old.host) (H.state self.new.host) result }
+        ensures any_moment { self.old.closed ≡ false → AtEachMoment (IsAdding self.old.diversions.entries (asked_entry asked.now) asked.now.rename (seen_of self.old.database self.old.lists.lists asked.now.owner asked.now.path)) (H.state self.old.host) (H.state self.new.host) }
+        ensures loss { self.old.closed ≡ false → LosesLikeAStop (λ so_far. IsAdding self.old.diversions.entries (asked_entry asked.now) asked.now.rename (seen_of self.old.database self.old.lists.lists asked.now.owner asked.now.path) (H.state self.old.host).world) (H.state self.old.host) (H.state self.new.host) }
+        ensures stands { self.old.closed ≡ false → IsNone result.last → StandsOnceAnswered (H.state self.old.host) (H.state self.new.host) }
+        ensures answered { self.old.closed ≡ false → IsNone result.last → IsAnswered (H.state self.old.host) (H.state self.new.host) }
+        ensures closes { self.new.closed ≡ is_some result.last }
+        ensures refused { self.old.closed ≡ true → IsClosedReport result }
+        ensures same { self.old.closed ≡ true → H.state self.new.host ≡ H.state self.old.host }
+        ensures same_table { self.old.closed ≡ true → self.new.diversions ≡ self.old.diversions }
+        ensures database { self.new.database ≡ self.old.database }
+        ensures lists { self.new.lists ≡ self.old.lists }
+        ensures silent { Silent (H.state self.old.host) (H.state self.new.host) }
+        ensures counts { self.old.closed ≡ false → CountsLast (H.state self.old.host) (H.state self.new.host) result.last }
+        ensures not_closed { self.old.closed ≡ false → IfSome result.last (λ unit. IsBrokenBy Closed unit.reply → ⊥) }
+    {
+        if self.closed {
+            return closed_report(self.alloc);
+        }
+        let report = divert_on(
+            self.alloc,
+            &mut self.host,
+            &self.database,
+            &self.lists,
+            &mut self.diversions,
+            &mut self.places,
+            asked,
+        );
+        self.closed = report.last.is_some();
+        report
+    }
+
+    /// Takes a diversion away: one unit. One that is broken off closes the session.
+    pub fn undivert(&mut self, asked: &Undiverting) -> Report
+        ensures whole { self.old.closed ≡ false → IsNone result.last → IsOneUnit (λ u. IsUndiverted asked.now self.old.diversions.entries self.new.diversions.entries u (H.state self.old.host) (H.state self.new.host)) result.units.items }
+        ensures broken { HasBroken result }
+        ensures told { TellsCalls (H.state self.old.host) (H.state self.new.host) result }
+        ensures any_moment { self.old.closed ≡ false → AtEachMoment (IsRemoving self.old.diversions.entries asked.now.path asked.now.rename) (H.state self.old.host) (H.state self.new.host) }
+        ensures loss { self.old.closed ≡ false → LosesLikeAStop (λ so_far. IsRemoving self.old.diversions.entries asked.now.path asked.now.rename (H.state self.old.host).world) (H.state self.old.host) (H.state self.new.host) }
+        ensures stands { self.old.closed ≡ false → IsNone result.last → StandsOnceAnswered (H.state self.old.host) (H.state self.new.host) }
+        ensures answered { self.old.closed ≡ false → IsNone result.last → IsAnswered (H.state self.old.host) (H.state self.new.host) }
+        ensures closes { self.new.closed ≡ is_some result.last }
+        ensures refused { self.old.closed ≡ true → IsClosedReport result }
+        ensures same { self.old.closed ≡ true → H.state self.new.host ≡ H.state self.old.host }
+        ensures same_table { self.old.closed ≡ true → self.new.diversions ≡ self.old.diversions }
+        ensures database { self.new.database ≡ self.old.database }
+        ensures lists { self.new.lists ≡ self.old.lists }
+        ensures silent { Silent (H.state self.old.host) (H.state self.new.host) }
+        ensures counts { self.old.closed ≡ false → CountsLast (H.state self.old.host) (H.state self.new.host) result.last }
+        ensures not_closed { self.old.closed ≡ false → IfSome result.last (λ unit. IsBrokenBy Closed unit.reply → ⊥) }
+    {
+        if self.closed {
+            return closed_report(self.alloc);
+        }
+        let report = undivert_on(
+            self.alloc,
+            &mut self.host,
+            &self.lists,
+            &mut self.diversions,
+            &mut self.places,
+            asked,
+        );
+        self.closed = report.last.is_some();
+        report
+    }
 }

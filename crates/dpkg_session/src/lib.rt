@@ -1,6 +1,8 @@
 //! A session over one root: commands as lists of units, and questions about what it holds.
 #![tactic(auto)]
 
+mod asked;
+mod diverting;
 mod laws;
 mod questions;
 mod refusal;
@@ -8,6 +10,7 @@ mod report;
 mod session;
 mod units;
 
+pub use asked::{Diverting, Undiverting};
 pub use laws::history_stands;
 pub use questions::QueryFault;
 pub use refusal::{Refusal, Rule, Word};
