@@ -1,5 +1,5 @@
 -- Answers to questions.
-use Rattle.std.specs.Prelude.{◌≡◌, ℕ, Bool, true, false, List, Option, Some, None, Result, Ok, Err}
+use Rattle.std.specs.Prelude.{◌≡◌, ℕ, Bool, true, false, List, Option, Some, None, IsSome, Result, Ok, Err}
 use Rattle.dpkg_session.specs.declared.questions.QueryFault.{QueryFault}
 use Rattle.dpkg_session.specs.declared.questions.QueryFault.TheVariants.{Unknown, NoMemory, Closed}
 
@@ -14,5 +14,5 @@ IsAnswer closed text (Err Closed) = closed ≡ true
 abbrev pub IsAnswerAbout : Bool → Option (List ℕ) → Result (List ℕ) QueryFault → Type 0
 IsAnswerAbout closed text (Ok given) = (closed ≡ false) × (text ≡ Some given)
 IsAnswerAbout closed text (Err Unknown) = (closed ≡ false) × (text ≡ None)
-IsAnswerAbout closed text (Err NoMemory) = closed ≡ false
+IsAnswerAbout closed text (Err NoMemory) = (closed ≡ false) × IsSome text
 IsAnswerAbout closed text (Err Closed) = closed ≡ true

@@ -1,5 +1,6 @@
 // Questions about the administration, answered by what the session holds of it.
-ghost use Rattle.std.specs.Prelude.{option_copied};
+ghost use Rattle.std.specs.Prelude.{◌≡◌, ℕ, false, is_some, IfOk, List, Option, option_copied};
+ghost use Rattle.status_db.specs.Records.{record_in};
 ghost use Rattle.queries.specs.Files.{files_text, search_text};
 ghost use Rattle.queries.specs.Places.{diversions_text, truename_text};
 ghost use Rattle.queries.specs.Records.{audit_text, list_text, status_text};
@@ -10,6 +11,7 @@ use host_core::{Host, RootPath};
 use queries::{
     audit_text, diversions_text, files_text, list_text, search_text, status_text, truename_text,
 };
+use std::alloc::AllocError;
 use texts::{Bytes, Text};
 
 /// Why a question isn't answered: it is about a package that has no record, memory was refused, or
@@ -54,6 +56,23 @@ impl<H: Host> Session<H> {
         }
     }
 
+    // The answer about a package, whose text this is if it has a record.
+    fn about(
+        &self,
+        name: &Text,
+        text: Result<Option<Bytes>, AllocError>,
+    ) -> Result<Bytes, QueryFault>
+        ensures { (asked : Option (List ℕ)) → is_some asked ≡ is_some (record_in self.now.database name.now) → IfOk text (λ t. t ≡ asked) → IsAnswerAbout false asked result }
+    {
+        if self.database.get(name).is_none() {
+            return Err(QueryFault::Unknown);
+        }
+        match text {
+            Ok(Some(text)) => Ok(text),
+            _ => Err(QueryFault::NoMemory),
+        }
+    }
+
     /// The record of a package as the status file has it.
     pub fn status(&self, name: &Text) -> Result<Bytes, QueryFault>
         ensures { IsAnswerAbout self.now.closed (status_text self.now.database name.now) result }
@@ -61,11 +80,7 @@ impl<H: Host> Session<H> {
         if self.is_closed() {
             return Err(QueryFault::Closed);
         }
-        match status_text(self.alloc, &self.database, name) {
-            Ok(Some(text)) => Ok(text),
-            Ok(None) => Err(QueryFault::Unknown),
-            Err(_) => Err(QueryFault::NoMemory),
-        }
+        self.about(name, status_text(self.alloc, &self.database, name))
     }
 
     /// The list of a package.
@@ -75,17 +90,10 @@ impl<H: Host> Session<H> {
         if self.is_closed() {
             return Err(QueryFault::Closed);
         }
-        match files_text(self.alloc, &self.database, &self.lists, name) {
-            Ok(Some(text)) => {
-                return Ok(text);
-            }
-            Ok(None) => {
-                return Err(QueryFault::Unknown);
-            }
-            Err(_) => {
-                return Err(QueryFault::NoMemory);
-            }
-        }
+        self.about(
+            name,
+            files_text(self.alloc, &self.database, &self.lists, name),
+        )
     }
 
     /// Who lists a path that lies at a place.
@@ -102,13 +110,13 @@ impl<H: Host> Session<H> {
     }
 
     /// Where a path is: for a package, or without one for all but the owner of its diversion.
-    pub fn truename(&self, package: Option<&Text>, path: &RootPath) -> Result<Bytes, QueryFault>
-        ensures { IsAnswer self.now.closed (truename_text self.now.diversions.entries (option_copied package.entry) path.now) result }
+    pub fn truename(&self, user: Option<&Text>, path: &RootPath) -> Result<Bytes, QueryFault>
+        ensures { IsAnswer self.now.closed (truename_text self.now.diversions.entries (option_copied user.entry) path.now) result }
     {
         if self.is_closed() {
             return Err(QueryFault::Closed);
         }
-        match truename_text(self.alloc, &self.diversions, package, path) {
+        match truename_text(self.alloc, &self.diversions, user, path) {
             Ok(text) => Ok(text),
             Err(_) => Err(QueryFault::NoMemory),
         }
