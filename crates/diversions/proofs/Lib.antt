@@ -9,3 +9,4 @@ pub mod Moving
 pub mod Owners
 pub mod Passing
 pub mod Stopping
+pub mod Readiness

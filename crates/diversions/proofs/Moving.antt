@@ -4,16 +4,16 @@ use Rattle.std.proofs.lemmas.Bool.{true≢false}
 use Rattle.host_core.specs.Paths.{Path, is_ship_text}
 use Rattle.host_core.specs.World.{World, put, moved, IsDirectory, IsFile, HasParent, Move}
 use Rattle.host_core.specs.Host.{State, Does, Reads, Since}
-use Rattle.host_core.specs.Laws.{put_other}
+use Rattle.host_core.specs.Laws.{put_same, put_other}
 use Rattle.host_core.specs.Moments.{since_does, since_reads, since_then, since_weaker_if}
 use Rattle.host_core.specs.declared.fault.HostFault.{HostFault}
 use Rattle.host_core.specs.Nodes.{own_access}
 use Rattle.host_core.specs.declared.node.Node.{Node}
 use Rattle.host_core.specs.declared.node.Node.TheVariants.{File}
-use Rattle.administration.specs.Files.{IsReplaced, IsReplacing}
+use Rattle.administration.specs.Files.{KeepsBesideFile, IsReplaced, IsReplacing}
 use Rattle.administration.specs.Places.{home_path, diversions_path, temporary}
 use Rattle.administration.proofs.WholeFiles.{no_slash, no_directory_at, no_directory_file, no_directory_none}
-use Rattle.diversions.specs.Changes.{CanMove, IsTableReady, IsRecorded, IsRecording, IsUnderWay, moved_if}
+use Rattle.diversions.specs.Changes.{CanMove, IsMovedWhole, IsTableReady, IsRecorded, IsRecording, IsUnderWay, moved_if}
 use Rattle.diversions.specs.Entries.{IsTable}
 use Rattle.diversions.specs.Lines.{HasEntries}
 use Rattle.diversions.specs.Writing.{table_file, table_text}
@@ -93,13 +93,14 @@ recorded_by entries node old new is table ready replaced = record {
   rest = replaced.rest;
 }
 
-pub recording_by : (entries : List Diversion) (node : Node) (old now : World) → node ≡ table_file entries → IsTable entries → IsTableReady old → IsReplacing diversions_path node old now → IsRecording entries old now
-recording_by entries node old now is table ready replacing = record {
-  table = elim replacing.target [ inl same ↦ inl same | inr new ↦ inr (file_read entries node (now diversions_path) is table new) ];
+pub recording_by : (moves : World → World) (entries : List Diversion) (node : Node) (old now : World) → node ≡ table_file entries → IsTable entries → moves old diversions_path ≡ old diversions_path → IsTableReady (moves old)
+    → IsReplacing diversions_path node (moves old) now → IsRecording entries moves old now
+recording_by moves entries node old now is table home ready replacing = record {
+  table = elim replacing.target [ inl same ↦ inl (same ∙ home) | inr new ↦ inr (file_read entries node (now diversions_path) is table new) ];
   ready = record {
     home = subst IsDirectory (sym (replacing.rest home_path home_target home_spare)) ready.home;
     target = elim replacing.target [
-      | inl same ↦ no_directory_at (now diversions_path) (old diversions_path) same ready.target
+      | inl same ↦ no_directory_at (now diversions_path) (moves old diversions_path) same ready.target
       | inr new ↦ no_directory_at (now diversions_path) (Some node) new (no_directory_file node (table_is_file entries node is))
     ];
     spare = replacing.spare;
@@ -107,10 +108,14 @@ recording_by entries node old now is table ready replacing = record {
   rest = replacing.rest;
 }
 
-pub under_way_by : (moves : World → World) (entries : List Diversion) (node : Node) (old now : World) → node ≡ table_file entries → IsTable entries → IsTableReady (moves old) → (now ≡ old) ⊎ IsReplacing diversions_path node (moves old) now
-    → IsUnderWay moves entries old now
-under_way_by moves entries node old now is table ready (inl same) = inl same
-under_way_by moves entries node old now is table ready (inr replacing) = inr (recording_by entries node (moves old) now is table ready replacing)
+-- the file of the table stays where it is
+pub home_stays : (moves : Bool) (from to : Path) (w : World) → is_ship_text from ≡ true → is_ship_text to ≡ true → moved_if moves from to w diversions_path ≡ w diversions_path
+home_stays moves from to w ship_from ship_to = moved_away moves from to w diversions_path (λ t. own_other diversions_path from ship_from refl) (λ t. own_other diversions_path to ship_to refl)
+
+pub under_way_by : (moves : World → World) (entries : List Diversion) (node : Node) (old now : World) → node ≡ table_file entries → IsTable entries → moves old diversions_path ≡ old diversions_path → IsTableReady (moves old)
+    → (now ≡ old) ⊎ IsReplacing diversions_path node (moves old) now → IsUnderWay moves entries old now
+under_way_by moves entries node old now is table home ready (inl same) = inl same
+under_way_by moves entries node old now is table home ready (inr replacing) = inr (recording_by moves entries node old now is table home ready replacing)
 
 pub on_ok : {T E : Type 0} {P Q : Type 0} (result : Result T E) → (P → Q) → OnOk result P → OnOk result Q
 on_ok (Ok x) so there = so there
@@ -118,10 +123,22 @@ on_ok (Err e) so there = tt
 
 pub under_way_same : (moves over : World → World) (entries : List Diversion) (v w now : World) → v ≡ w → moves v ≡ over w → IsUnderWay moves entries v now → IsUnderWay over entries w now
 under_way_same moves over entries v w now same goes (inl start) = inl (start ∙ same)
-under_way_same moves over entries v w now same goes (inr recording) = inr (subst (λ u. IsRecording entries u now) goes recording)
+under_way_same moves over entries v w now same goes (inr recording) = inr record {
+  table = elim recording.table [ inl before ↦ inl (before ∙ ap (λ u. u diversions_path) same) | inr after ↦ inr after ];
+  ready = recording.ready;
+  rest = subst (λ u. KeepsBesideFile diversions_path u now) goes recording.rest;
+}
 
 -- the same where it was looked at before
 pub since_sight : (moves over : World → World) (entries : List Diversion) (a b c : State) → Reads a b → (IsTrue c.honest → moves b.world ≡ over a.world) → Since (λ so_far. IsUnderWay moves entries b.world) b c → Since (λ so_far. IsUnderWay over entries a.world) a c
 since_sight moves over entries a b c reads goes since =
     since_then (λ so_far. IsUnderWay over entries a.world) a b c (since_reads (λ so_far. IsUnderWay over entries a.world) a b reads (λ fs all. inl refl))
     (since_weaker_if _ _ b c (λ h so_far w is. under_way_same moves over entries b.world a.world w reads.world (goes h) is) since)
+
+-- a node is moved whole
+pub moved_whole : (moves : Bool) (from to : Path) (w : World) → from ≢ to → IsMovedWhole from to w (moved_if moves from to w)
+moved_whole true from to w other = record {
+  whole = inr (put_other (put w from None) to from (w from) other ∙ put_same w from from None refl, put_same (put w from None) to to (w from) refl);
+  rest = λ q no_from no_to. put_other (put w from None) to q (w from) no_to ∙ put_other w from q None no_from;
+}
+moved_whole false from to w other = record { whole = inl (refl, refl); rest = λ q no_from no_to. refl }

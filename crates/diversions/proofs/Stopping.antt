@@ -21,7 +21,7 @@ use Rattle.diversions.specs.declared.refusal.Refusal.{Refusal}
 use Rattle.diversions.specs.declared.refusal.Refusal.TheVariants.{Directory, AlreadyDiverted, TargetDiverted, Conffile, NotDiverted, OtherOwner}
 use Rattle.diversions.specs.declared.refusal.Seen.{Seen}
 use Rattle.diversions.specs.declared.sight.Sight.{Sight}
-use Rattle.diversions.proofs.Moving.{moved_away, own_other}
+use Rattle.diversions.proofs.Moving.{own_other}
 use Rattle.diversions.proofs.Owners.{same_owner_from}
 use Rattle.diversions.proofs.Passing.{none_holds}
 use Rattle.diversions.proofs.Tables.{apart}
@@ -69,20 +69,17 @@ module _ (rename listed : Bool) (from to : Path) (old now : World) (ship_from : 
       (rest to (λ e. own_other diversions_path to ship_to refl (sym e)) (λ e. own_other (temporary diversions_path) to ship_to refl (sym e)))
 
   finished : (entries : List Diversion) (refusal : World → Option Refusal) → refusal old ≡ None → (IsSettled rename listed from to old now → refusal now ≡ None)
-      → (now ≡ old) ⊎ IsRecording entries (moved_if (moves_node rename listed (sight_of old from to)) from to old) now
+      → (now ≡ old) ⊎ IsRecording entries (λ w. moved_if (moves_node rename listed (sight_of w from to)) from to w) old now
       → IsFinishedAgain entries refusal (λ w. moved_if (moves_node rename listed (sight_of w from to)) from to w) old now
   finished entries refusal free again (inl same) =
       inr (ap (λ w. w diversions_path) same, ap refusal same ∙ free, λ q no_file no_spare. ap (λ w. moved_if (moves_node rename listed (sight_of w from to)) from to w q) same)
   finished entries refusal free again (inr recording) = at recording.table
     where
-      home : moved_if (moves_node rename listed (sight_of old from to)) from to old diversions_path ≡ old diversions_path
-      home = moved_away (moves_node rename listed (sight_of old from to)) from to old diversions_path (λ t. own_other diversions_path from ship_from refl) (λ t. own_other diversions_path to ship_to refl)
-
-      at : (now diversions_path ≡ moved_if (moves_node rename listed (sight_of old from to)) from to old diversions_path) ⊎ HasDiversions now entries
+      at : (now diversions_path ≡ old diversions_path) ⊎ HasDiversions now entries
           → IsFinishedAgain entries refusal (λ w. moved_if (moves_node rename listed (sight_of w from to)) from to w) old now
       at (inl before) =
           let all = at_shipped recording.rest in
-          inr (before ∙ home, again all, λ q no_file no_spare. ap (λ w. w q) (not_moved (moves_node rename listed (sight_of now from to)) from to now all.still) ∙ recording.rest q no_file no_spare)
+          inr (before, again all, λ q no_file no_spare. ap (λ w. w q) (not_moved (moves_node rename listed (sight_of now from to)) from to now all.still) ∙ recording.rest q no_file no_spare)
       at (inr after) = inl (after, recording.rest)
 
 -- adding

@@ -1,5 +1,5 @@
 -- What adding a diversion and taking it away leave, in the end and at each moment.
-use Rattle.std.specs.Prelude.{◌≡◌, ◌⊎◌, Bool, true, false, cond, List, [], ◌∷◌, ◌++◌, Some, None, Result, Ok, Err, MatchBool, IsTrue}
+use Rattle.std.specs.Prelude.{◌≡◌, ◌≢◌, ◌⊎◌, Bool, true, false, cond, List, [], ◌∷◌, ◌++◌, Some, None, Result, Ok, Err, MatchBool, IsTrue}
 use Rattle.host_core.specs.Paths.{Path}
 use Rattle.host_core.specs.World.{World, moved, IsDirectory, IsLoose, HasParent}
 use Rattle.host_core.specs.Host.{State}
@@ -53,6 +53,11 @@ abbrev pub moved_if : Bool → Path → Path → World → World
 moved_if false from to w = w
 moved_if true from to w = moved w from to
 
+-- a node stands whole at one of the two names, and nothing else has changed
+pub record IsMovedWhole (from to : Path) (old new : World) : Type 0 where
+  pub whole : ((new from ≡ old from) × (new to ≡ old to)) ⊎ ((new from ≡ None) × (new to ≡ old from))
+  pub rest : (q : Path) → q ≢ from → q ≢ to → new q ≡ old q
+
 -- the file has these entries, and nothing else has changed
 pub record IsRecorded (entries : List Diversion) (old new : World) : Type 0 where
   pub table : HasDiversions new entries
@@ -60,15 +65,15 @@ pub record IsRecorded (entries : List Diversion) (old new : World) : Type 0 wher
   pub ready : IsTableReady new
   pub rest : KeepsBesideFile diversions_path old new
 
--- at each moment: the table of before, or these entries
-pub record IsRecording (entries : List Diversion) (old now : World) : Type 0 where
+-- at a moment behind the move: the table of before, or these entries; the node is where it is moved, and nothing else has changed
+pub record IsRecording (entries : List Diversion) (moves : World → World) (old now : World) : Type 0 where
   pub table : (now diversions_path ≡ old diversions_path) ⊎ HasDiversions now entries
   pub ready : IsTableReady now
-  pub rest : KeepsBesideFile diversions_path old now
+  pub rest : KeepsBesideFile diversions_path (moves old) now
 
--- the node is moved first, whole, and then the table is written
+-- at each moment: nothing is done, or the node is moved and the table being written
 abbrev pub IsUnderWay : (World → World) → List Diversion → World → World → Type 0
-IsUnderWay moves entries old now = (now ≡ old) ⊎ IsRecording entries (moves old) now
+IsUnderWay moves entries old now = (now ≡ old) ⊎ IsRecording entries moves old now
 
 -- adding
 

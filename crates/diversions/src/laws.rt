@@ -1,9 +1,9 @@
 // What follows from the definitions.
-ghost use Rattle.std.specs.Prelude.{◌≡◌, ◌++◌, ◌∷◌, [], true, Bool, List, None};
+ghost use Rattle.std.specs.Prelude.{◌≡◌, ◌≢◌, ◌++◌, ◌∷◌, [], true, Bool, List, None};
 ghost use Rattle.host_core.specs.Paths.{Path, is_ship_text};
 ghost use Rattle.host_core.specs.World.{World};
 ghost use Rattle.diversions.specs.Again.{IsFinishedAgain};
-ghost use Rattle.diversions.specs.Changes.{IsAdding, IsRemoving, diverted, restored};
+ghost use Rattle.diversions.specs.Changes.{IsAdding, IsMovedWhole, IsRemoving, diverted, moved_if, restored};
 ghost use Rattle.diversions.specs.Entries.{IsTable, IsWellFormed, without};
 ghost use Rattle.diversions.specs.Lines.{HasDiversions, ReadsAs};
 ghost use Rattle.diversions.specs.Places.{truename};
@@ -19,6 +19,11 @@ pub fn a_stopped_change_is_finished()
     ensures add { (entries : List Diversion) (d : Diversion) (rename : Bool) (seen : Seen) (old now : World) → IsWellFormed d → add_refusal old entries d rename seen ≡ None → IsAdding entries d rename seen old now → IsFinishedAgain (entries ++ d ∷ []) (λ w. add_refusal w entries d rename seen) (diverted d rename seen) old now }
     ensures there { (entries : List Diversion) (d : Diversion) (rename : Bool) (seen : Seen) (old : World) → add_refusal old entries d rename seen ≡ None → has_same (entries ++ d ∷ []) d ≡ true }
     ensures remove { (entries : List Diversion) (path : Path) (owner : Owner) (rename : Bool) (old now : World) → IsTable entries → is_ship_text path ≡ true → remove_refusal old entries path owner rename ≡ None → IsRemoving entries path rename old now → IsFinishedAgain (without path entries) (λ w. remove_refusal w entries path owner rename) (restored path (truename entries path) rename) old now }
+{}
+
+/// A node that is moved stands whole at one of the two names.
+pub fn a_node_is_moved_whole()
+    ensures { (moves : Bool) (from to : Path) (w : World) → from ≢ to → IsMovedWhole from to w (moved_if moves from to w) }
 {}
 
 /// A table that is written is read back as itself, and a file has one table.

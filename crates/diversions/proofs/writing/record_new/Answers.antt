@@ -1,7 +1,7 @@
 use Rattle.std.proofs.Common.{◌++◌, ◌∷◌, []}
 use Rattle.host_core.specs.Moments.{since_weaker_if}
 use Rattle.diversions.specs.Changes.{moved_if}
-use Rattle.diversions.proofs.Moving.{file_is, on_ok, ready_moved, recorded_by, under_way_by}
+use Rattle.diversions.proofs.Moving.{file_is, home_stays, on_ok, ready_moved, recorded_by, under_way_by}
 use Rattle.diversions.proofs.writing.record_new.Goals as goal
 
 pub returns-clause-done : goal.returns-clause-done
@@ -18,5 +18,5 @@ returns-clause-any_moment g c =
     since_weaker_if _ _ _ _ (λ h so_far w is.
     let b = c.carry_out.ensures.silent.honest h in
     under_way_by (moved_if c.args.moves d.path d.target) (c.args.table.now ++ d ∷ []) _ _ w (file_is (c.args.table.now ++ d ∷ []) _ _ c.file_of-node.ensures c.in_ok-text_with.ensures) c.requires.may
-    (ready_moved c.args.moves d.path d.target _ c.law.ensures c.law-2.ensures (c.requires.ready b) (c.requires.can b)) is)
+    (home_stays c.args.moves d.path d.target _ c.law.ensures c.law-2.ensures) (ready_moved c.args.moves d.path d.target _ c.law.ensures c.law-2.ensures (c.requires.ready b) (c.requires.can b)) is)
     c.carry_out.ensures.any_moment

@@ -4,7 +4,7 @@ use Rattle.host_core.specs.Paths.{Path}
 use Rattle.diversions.specs.Changes.{moved_if}
 use Rattle.diversions.specs.Entries.{without}
 use Rattle.diversions.specs.Writing.{table_text}
-use Rattle.diversions.proofs.Moving.{file_is, on_ok, ready_moved, recorded_by, under_way_by}
+use Rattle.diversions.proofs.Moving.{file_is, home_stays, on_ok, ready_moved, recorded_by, under_way_by}
 use Rattle.diversions.proofs.Tables.{table_without}
 use Rattle.diversions.proofs.writing.record_without.Goals as goal
 
@@ -22,5 +22,5 @@ returns-clause-any_moment g c =
     since_weaker_if _ _ _ _ (λ h so_far w is.
     let b = c.carry_out.ensures.silent.honest h in
     under_way_by (moved_if c.args.moves c.args.target.now c.args.path.now) left _ _ w (file_is left _ _ c.file_of-node.ensures (c.in_ok-text_without.ensures ∙ ap (λ (p : Path). table_text (without p c.args.table.now)) c.as_str.ensures)) (table_without c.args.path.now c.args.table.now c.law.ensures)
-    (ready_moved c.args.moves c.args.target.now c.args.path.now _ c.law-3.ensures c.law-2.ensures (c.requires.ready b) (c.requires.can b)) is)
+    (home_stays c.args.moves c.args.target.now c.args.path.now _ c.law-3.ensures c.law-2.ensures) (ready_moved c.args.moves c.args.target.now c.args.path.now _ c.law-3.ensures c.law-2.ensures (c.requires.ready b) (c.requires.can b)) is)
     c.carry_out.ensures.any_moment
