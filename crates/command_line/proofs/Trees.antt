@@ -9,7 +9,8 @@ use Rattle.package_tree.specs.declared.fault.TreeFault.{TreeFault}
 use Rattle.package_tree.specs.declared.package.Package.{Package}
 use Rattle.dpkg_session.specs.declared.report.Candidate.{Candidate}
 use Rattle.dpkg_session.specs.declared.report.Report.{Report}
-use Rattle.command_line.specs.Unpacks.{Around, HasRunTrees, IsLabelled, IsReadFor, IsUnpackedOn}
+use Rattle.command_line.specs.Roots.{Around}
+use Rattle.command_line.specs.Unpacks.{HasRunTrees, IsLabelled, IsReadFor, IsUnpackedOn}
 
 -- what is known of trees between two moments is known between an earlier one and a later one
 pub record Within (outer inner : Around) : Type 0 where
@@ -56,13 +57,13 @@ run_within outer inner within trees done places table s end ran = record {
 pub unpacked_within : (outer inner : Around) → Within outer inner → ((s : State) → inner.left s → outer.left s)
     → (begun : State) (trees : List (List ℕ)) (done : Report) → IsUnpackedOn inner begun trees done → IsUnpackedOn outer begun trees done
 unpacked_within outer inner within left begun trees done u = record {
-  places = u.places;
   table = u.table;
+  lists = u.lists;
+  entries = u.entries;
   state = u.state;
-  silent = u.silent;
-  opens = u.opens;
-  opening = u.opening;
   opened = u.opened;
+  places = u.places;
+  kept = u.kept;
   end = u.end;
   given = left u.end u.given;
   ran = run_within outer inner within trees done u.places u.table u.state u.end u.ran;

@@ -1,2 +1,4 @@
+pub mod Roots
 pub mod Unpacks
+pub mod Queries
 pub mod Reports

@@ -1,24 +1,26 @@
 -- What a command writes, and the status that it ends with.
-use Rattle.std.specs.Prelude.{ℕ, List, [], ◌++◌, ◌⊎◌, ◌≡◌, ◌≢◌, Bool, true, false, Option, Some, None, Result, Ok, Err, codes, if◌then◌else◌}
+use Rattle.std.specs.Prelude.{ℕ, List, [], ◌++◌, ◌⊎◌, ◌≡◌, ◌≢◌, Bool, true, false, Option, Some, None, Result, Ok, Err, codes, if◌then◌else◌, is_ok}
 use Rattle.std.specs.Option.{option_map_or}
 use Rattle.std.specs.Io.KnownBytes.{Appends, Keeps}
 use Rattle.version_order.specs.VersionOrder.{version_order}
 use Rattle.version_order.specs.declared.fault.VersionFault.{VersionFault}
 use Rattle.administration.specs.declared.fault.AdministrationFault.{AdministrationFault}
 use Rattle.dpkg_session.specs.declared.report.Report.{Report}
-use Rattle.report_lines.specs.Openings.{opening_line}
 use Rattle.report_lines.specs.Reports.{report_lines, report_status}
 use Rattle.command_words.specs.Comparisons.{bad_version, bad_version_line, holds}
 use Rattle.command_line.specs.declared.answer.Answer.{Answer}
-use Rattle.command_line.specs.Unpacks.{Around, HasUnpacked, IsRootFault}
+use Rattle.command_line.specs.Queries.{IsQueryAnswer, inquiry_of}
+use Rattle.command_line.specs.Roots.{Around, IsRootFault, opening_answer}
+use Rattle.command_line.specs.Unpacks.{HasUnpacked}
+use Rattle.command_words.specs.CommandLine.{lines, subcommand_names}
 use Rattle.command_words.specs.declared.comparison.Comparison.{Comparison}
 use Rattle.command_words.specs.declared.words.Asked.{Asked}
-use Rattle.command_words.specs.declared.words.Asked.TheVariants.{Names, CompareVersions, Unpack}
+use Rattle.command_words.specs.declared.words.Asked.TheVariants.{Names, CompareVersions, Query, Unpack}
 use Rattle.command_words.specs.declared.words.Unpacking.{Unpacking}
 
--- the names of the subcommands, one a line, in byte order
+-- the names of the subcommands, one a line
 abbrev pub names_answer : Answer
-names_answer = record { output = codes "compare-versions\nunpack\n"; error = []; status = 0 }
+names_answer = record { output = lines subcommand_names; error = []; status = 0 }
 
 -- a text that isn't a version is named on standard error
 abbrev pub bad_answer : List ℕ × VersionFault → Answer
@@ -34,10 +36,6 @@ comparison_answer c = option_map_or bad_answer
 abbrev pub report_answer : Report → Answer
 report_answer done = record { output = report_lines done; error = []; status = report_status done }
 
--- why the root can't be opened is told on standard error
-abbrev pub opening_answer : AdministrationFault → Answer
-opening_answer fault = record { output = []; error = opening_line fault; status = 2 }
-
 -- what came of an unpack: its report, or why the root couldn't be opened
 abbrev pub HasEndedAs : Around → Unpacking → Result Report AdministrationFault → Type 0
 HasEndedAs a u (Ok done) = HasUnpacked a u done
@@ -51,6 +49,7 @@ unpack_answer (Err fault) = opening_answer fault
 abbrev pub IsAnswerTo : Around → Asked → Answer → Type 0
 IsAnswerTo a Names answer = answer ≡ names_answer
 IsAnswerTo a (CompareVersions c) answer = answer ≡ comparison_answer c
+IsAnswerTo a (Query q) answer = IsQueryAnswer a q answer
 IsAnswerTo a (Unpack u) answer = (ended : Result Report AdministrationFault) × HasEndedAs a u ended × (answer ≡ unpack_answer ended)
 
 -- for want of memory
@@ -70,15 +69,17 @@ IsAnswerOf a None answer = (text : List ℕ) × (answer ≡ usage_answer text)
 abbrev pub prints : Option Asked → Bool
 prints (Some Names) = true
 prints (Some (CompareVersions c)) = false
+prints (Some (Query q)) = is_ok (inquiry_of q.question)
 prints (Some (Unpack u)) = true
 prints None = false
 
--- only for this is a host opened
-abbrev pub unpacks : Option Asked → Bool
-unpacks (Some Names) = false
-unpacks (Some (CompareVersions c)) = false
-unpacks (Some (Unpack u)) = true
-unpacks None = false
+-- only for these is a root opened: not for a question about a text that names no path
+abbrev pub opens_root : Option Asked → Bool
+opens_root (Some Names) = false
+opens_root (Some (CompareVersions c)) = false
+opens_root (Some (Query q)) = is_ok (inquiry_of q.question)
+opens_root (Some (Unpack u)) = true
+opens_root None = false
 
 -- an answer is written to what standard output and standard error held, and its status returned
 pub record IsWritten (answer : Answer) (output_old output_new error_old error_new : Option (List ℕ)) (ended : ℕ) : Type 0 where

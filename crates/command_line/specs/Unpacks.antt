@@ -1,13 +1,12 @@
 -- What the report on an unpack has to do with the words for the root and the trees.
-use Rattle.std.specs.Prelude.{◌≡◌, ◌⊎◌, ℕ, List, map, IsTrue, IsNone, Some, None, Result, Ok, Err}
+use Rattle.std.specs.Prelude.{◌≡◌, ◌⊎◌, ℕ, List, map, IsTrue, IsNone, Result, Ok, Err}
 use Rattle.std.specs.List.{All}
-use Rattle.host_core.specs.Host.{AtEachMoment, Needs, Reads, Silent, Since, State}
+use Rattle.host_core.specs.Host.{Reads, Silent, Since, State}
 use Rattle.host_core.specs.Paths.{Path}
 use Rattle.host_core.specs.World.{World}
-use Rattle.administration.specs.declared.fault.AdministrationFault.{AdministrationFault}
-use Rattle.administration.specs.declared.fault.AdministrationFault.TheVariants as opening_faults
-use Rattle.opening.specs.Opened.{IsOpened}
-use Rattle.opening.specs.Leaving.{IsOpening}
+use Rattle.diversions.specs.declared.entry.Diversion.{Diversion}
+use Rattle.file_lists.specs.Owners.{places_in}
+use Rattle.file_lists.specs.declared.paths.PackageList.{PackageList}
 use Rattle.status_db.specs.declared.record.Record.{Record}
 use Rattle.package_tree.specs.Fault.{CountsTree}
 use Rattle.package_tree.specs.Tree.{IsReadingFault, IsTreeOf}
@@ -15,32 +14,11 @@ use Rattle.package_tree.specs.declared.fault.TreeFault.{TreeFault}
 use Rattle.package_tree.specs.declared.fault.TreeFault.TheVariants as tree_faults
 use Rattle.package_tree.specs.declared.package.Package.{Package}
 use Rattle.dpkg_session.specs.Run.{HasRun, IsAmidRun, IsRun}
-use Rattle.dpkg_session.specs.Standing.{CountsRefusal, OpensAll}
 use Rattle.dpkg_session.specs.Units.{CountsLast, TellsCalls}
 use Rattle.dpkg_session.specs.declared.report.Candidate.{Candidate}
 use Rattle.dpkg_session.specs.declared.report.Report.{Report}
 use Rattle.command_words.specs.declared.words.Unpacking.{Unpacking}
-
--- which states the hosts have that are opened for a word
-abbrev pub Behind : Type 1
-Behind = List ℕ → State → Type 0
-
--- in which states hosts were given back
-abbrev pub Given : Type 1
-Given = State → Type 0
-
--- What is known of the hosts of a command: the states behind words for the root and for trees before it, the states in
--- which they were given back by its end, and whether the device failed on opening one and no root was opened.
-pub record Around : Type 1 where
-  pub root : Behind
-  pub tree : Behind
-  pub left : Given
-  pub seen : Given
-  pub failed : Type 0
-  pub unopened : Type 0
-
-abbrev pub around : Behind → Behind → Given → Given → Type 0 → Type 0 → Around
-around root tree left seen failed unopened = record { root = root; tree = tree; left = left; seen = seen; failed = failed; unopened = unopened }
+use Rattle.command_line.specs.Roots.{Around, IsOpenedOn}
 
 -- what a tree reads as: its package, its first fault, or one of the host
 abbrev pub IsReadAs : World → Result Package TreeFault → Type 0
@@ -84,16 +62,16 @@ pub record HasRunTrees (a : Around) (trees : List (List ℕ)) (done : Report) (p
   pub told : TellsCalls s end done
   pub any_moment : Since (IsAmidRun candidates places table s) s end
 
--- the same, from the records and kept places of the administration that was opened on a host, to the state in which
--- this host was given back
+-- the same, from the records of the administration that was opened on a host, where the places of all listed paths are kept,
+-- to the state in which this host was given back
 pub record IsUnpackedOn (a : Around) (begun : State) (trees : List (List ℕ)) (done : Report) : Type 0 where
-  pub places : List Path
   pub table : List Record
+  pub lists : List PackageList
+  pub entries : List Diversion
   pub state : State
-  pub silent : Silent begun state
-  pub opens : OpensAll None begun state
-  pub opening : AtEachMoment IsOpening begun state
-  pub opened : Needs state (IsOpened table places)
+  pub opened : IsOpenedOn begun state table lists entries
+  pub places : List Path
+  pub kept : places ≡ places_in entries lists
   pub end : State
   pub given : a.left end
   pub ran : HasRunTrees a trees done places table state end
@@ -101,26 +79,3 @@ pub record IsUnpackedOn (a : Around) (begun : State) (trees : List (List ℕ)) (
 -- the same, on a host behind the root's word
 abbrev pub HasUnpacked : Around → Unpacking → Report → Type 0
 HasUnpacked a u done = (begun : State) × a.root u.root begun × IsUnpackedOn a begun u.trees done
-
--- the administration of a host couldn't be opened, for this fault; no script was called, and the host was given back
-pub record IsRefusedOn (left : Given) (begun : State) (fault : AdministrationFault) : Type 0 where
-  pub end : State
-  pub given : left end
-  pub silent : Silent begun end
-  pub opens : OpensAll (Some fault) begun end
-  pub opening : AtEachMoment IsOpening begun end
-  pub counts : CountsRefusal fault begun end
-
--- the administration of a host was opened, and the host given back for want of memory to read the trees
-pub record IsStoppedOn (left : Given) (begun : State) : Type 0 where
-  pub end : State
-  pub given : left end
-  pub silent : Silent begun end
-  pub opens : OpensAll None begun end
-  pub opening : AtEachMoment IsOpening begun end
-
--- so it went on a host behind the root's word, unless none could be opened: the device failed, or memory was wanting
-abbrev pub IsRootFault : Around → List ℕ → AdministrationFault → Type 0
-IsRootFault a word fault =
-    ((begun : State) × a.root word begun × (IsRefusedOn a.left begun fault ⊎ ((fault ≡ opening_faults.NoMemory) × IsStoppedOn a.left begun)))
-    ⊎ (a.unopened × (((fault ≡ opening_faults.Device) × a.failed) ⊎ (fault ≡ opening_faults.NoMemory)))

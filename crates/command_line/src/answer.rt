@@ -1,52 +1,61 @@
 // What the words ask for, carried out, and what is to be written for it.
-ghost use Rattle.std.specs.Prelude.{◌≡◌, ◌<◌, ◌≤◌, ◌⊎◌, IfOk, Result, map, string_bytes, true, []};
+ghost use Rattle.std.specs.Prelude.{◌≡◌, ◌<◌, ◌≤◌, ◌⊎◌, IfOk, Result, is_ok, map, string_bytes, true, []};
 ghost use Rattle.command_words.specs.Commands.{asked_of};
 ghost use Rattle.administration.specs.declared.fault.AdministrationFault.{AdministrationFault as AFault};
 ghost use Rattle.dpkg_session.specs.declared.report.Report.{Report as AReport};
 ghost use Rattle.command_line.specs.declared.answer.Answer.{Answer as AnAnswer};
-ghost use Rattle.command_line.specs.Reports.{HasEndedAs, IsAnswerOf, comparison_answer, memory_answer, names_answer, opening_answer, prints, report_answer, unpack_answer, unpacks};
-ghost use Rattle.command_line.specs.Unpacks.{around};
+ghost use Rattle.command_line.specs.Queries.{IsInquired, IsQueryAnswer, bad_path_answer, inquiry_of};
+ghost use Rattle.command_line.specs.Reports.{HasEndedAs, IsAnswerOf, comparison_answer, memory_answer, names_answer, opens_root, prints, report_answer, unpack_answer};
+ghost use Rattle.command_line.specs.Roots.{around, opening_answer};
 
 use crate::hosts::Hosts;
+use crate::questions::{Inquiry, bad_path, inquire_under, inquiry_of};
 use crate::unpacking::unpack;
 use administration::AdministrationFault;
 use command_words::{
-    Asked, Comparison, Unpacking, Verdict, WordsFault, bad_version_line, command_of,
+    Asked, Comparison, Query, Unpacking, Verdict, WordsFault, bad_version_line, command_of,
+    subcommand_names,
 };
 use dpkg_session::Report;
 use report_lines::{opening_line, report_status, report_text};
 use std::alloc::{AllocError, Global};
-use texts::Text;
+use texts::{Bytes, Text};
 
 /// The status of usage faults, bad texts, roots that can't be opened, want of memory and writes that fail.
 pub const FAILED: u8 = 2;
 
-// The names of the subcommands, one a line, in byte order.
-const NAMES: &str = "compare-versions\nunpack\n";
-
 /// What is to be written to standard output and to standard error, and the status.
 #[derive(Drop)]
 pub(crate) struct Answer {
-    pub(crate) output: Text,
+    pub(crate) output: Bytes,
     pub(crate) error: Text,
     pub(crate) status: u8,
 }
 
-fn printed(alloc: Global, output: String, status: u8) -> Answer
-    ensures { result ≡ record { output = string_bytes output; error = []; status = status } }
+/// Bytes for standard output alone.
+pub(crate) fn told(alloc: Global, output: Bytes, status: u8) -> Answer
+    ensures { result ≡ record { output = output; error = []; status = status } }
 {
     Answer {
-        output: Text::new(output),
+        output,
         error: Text::new(String::new(alloc)),
         status,
     }
 }
 
-fn complained(alloc: Global, error: String) -> Answer
+/// A text for standard output alone.
+pub(crate) fn printed(alloc: Global, output: String, status: u8) -> Answer
+    ensures { result ≡ record { output = string_bytes output; error = []; status = status } }
+{
+    told(alloc, Bytes::new(output.into_bytes()), status)
+}
+
+/// A text for standard error alone.
+pub(crate) fn complained(alloc: Global, error: String) -> Answer
     ensures { result ≡ record { output = []; error = string_bytes error; status = 2 } }
 {
     Answer {
-        output: Text::new(String::new(alloc)),
+        output: Bytes::new(Vec::new(alloc)),
         error: Text::new(error),
         status: FAILED,
     }
@@ -61,7 +70,7 @@ fn quiet(alloc: Global, status: u8) -> Answer
 fn names(alloc: Global) -> Result<Answer, AllocError>
     ensures { IfOk result (λ answer. answer ≡ names_answer) }
 {
-    Ok(printed(alloc, String::from_str(alloc, NAMES)?, 0))
+    Ok(printed(alloc, subcommand_names(alloc)?, 0))
 }
 
 fn compared(alloc: Global, comparison: &Comparison) -> Result<Answer, AllocError>
@@ -109,6 +118,39 @@ fn unpacked<S: Hosts>(
     }
 }
 
+fn inquired<S: Hosts>(
+    alloc: Global,
+    hosts: &mut S,
+    root: &Text,
+    asked: &Inquiry,
+) -> Result<Answer, AllocError>
+    ensures answered { (answer : AnAnswer)
+        × IsInquired (around (S.root hosts.old) (S.tree hosts.old) (S.left hosts.new) (S.seen hosts.new) (S.faults hosts.old < S.faults hosts.new) (S.unopened hosts.old hosts.new)) root.now asked.now answer
+        × IfOk result (λ told. told ≡ answer) }
+    ensures bound { IfOk result (λ answer. answer.status ≤ 2) }
+{
+    match inquire_under(alloc, hosts, root, asked) {
+        Ok(answer) => Ok(answer),
+        Err(fault) => not_opened(alloc, &fault),
+    }
+}
+
+fn queried<S: Hosts>(alloc: Global, hosts: &mut S, query: Query) -> Result<Answer, AllocError>
+    ensures answered { (answer : AnAnswer)
+        × (IsQueryAnswer (around (S.root hosts.old) (S.tree hosts.old) (S.left hosts.new) (S.seen hosts.new) (S.faults hosts.old < S.faults hosts.new) (S.unopened hosts.old hosts.new)) query answer ⊎ ((answer ≡ memory_answer) × (hosts.new ≡ hosts.old)))
+        × IfOk result (λ told. told ≡ answer) }
+    ensures bound { IfOk result (λ answer. answer.status ≤ 2) }
+    ensures quiet { IfOk result (λ answer. (answer.output ≡ []) ⊎ (is_ok (inquiry_of query.question) ≡ true)) }
+    ensures unopened { (hosts.new ≡ hosts.old) ⊎ (is_ok (inquiry_of query.question) ≡ true) }
+{
+    let Query { root, question } = query;
+    match inquiry_of(alloc, question) {
+        Ok(Ok(asked)) => inquired(alloc, hosts, &root, &asked),
+        Ok(Err(text)) => bad_path(alloc, &text),
+        Err(_) => Err(AllocError),
+    }
+}
+
 /// The answer to the words, the first of which is the program's name.
 pub(crate) fn answer_to<S: Hosts>(
     alloc: Global,
@@ -120,11 +162,12 @@ pub(crate) fn answer_to<S: Hosts>(
         × IfOk result (λ told. told ≡ answer) }
     ensures bound { IfOk result (λ answer. answer.status ≤ 2) }
     ensures quiet { IfOk result (λ answer. (answer.output ≡ []) ⊎ (prints (asked_of (map string_bytes words.now)) ≡ true)) }
-    ensures unopened { (hosts.new ≡ hosts.old) ⊎ (unpacks (asked_of (map string_bytes words.now)) ≡ true) }
+    ensures unopened { (hosts.new ≡ hosts.old) ⊎ (opens_root (asked_of (map string_bytes words.now)) ≡ true) }
 {
     match command_of(alloc, words) {
         Ok(Asked::Names) => names(alloc),
         Ok(Asked::CompareVersions(comparison)) => compared(alloc, &comparison),
+        Ok(Asked::Query(query)) => queried(alloc, hosts, query),
         Ok(Asked::Unpack(unpacking)) => unpacked(alloc, hosts, &unpacking),
         Err(WordsFault::Usage(text)) => Ok(complained(alloc, text)),
         Err(WordsFault::NoMemory) => Err(AllocError),

@@ -2,8 +2,8 @@
 ghost use Rattle.std.specs.Prelude.{◌≡◌, ◌<◌, ◌≤◌, ◌⊎◌, map, string_bytes, true};
 ghost use Rattle.command_words.specs.Commands.{asked_of};
 ghost use Rattle.command_line.specs.declared.answer.Answer.{Answer};
-ghost use Rattle.command_line.specs.Reports.{IsAnswerOf, IsGiven, memory_answer, prints, unpacks};
-ghost use Rattle.command_line.specs.Unpacks.{around};
+ghost use Rattle.command_line.specs.Reports.{IsAnswerOf, IsGiven, memory_answer, opens_root, prints};
+ghost use Rattle.command_line.specs.Roots.{around};
 
 use crate::answer::answer_to;
 use crate::hosts::Hosts;
@@ -24,7 +24,7 @@ pub fn run_words<S: Hosts, O: Write, E: Write>(
         × (IsAnswerOf (around (S.root hosts.old) (S.tree hosts.old) (S.left hosts.new) (S.seen hosts.new) (S.faults hosts.old < S.faults hosts.new) (S.unopened hosts.old hosts.new)) (asked_of (map string_bytes words.now)) answer ⊎ ((answer ≡ memory_answer) × (hosts.new ≡ hosts.old)))
         × (IsGiven answer (O.contents out.old) (O.contents out.new) (E.contents err.old) (E.contents err.new) result ⊎ IsGiven memory_answer (O.contents out.old) (O.contents out.new) (E.contents err.old) (E.contents err.new) result) }
     ensures quiet { (out.new ≡ out.old) ⊎ (prints (asked_of (map string_bytes words.now)) ≡ true) }
-    ensures unopened { (hosts.new ≡ hosts.old) ⊎ (unpacks (asked_of (map string_bytes words.now)) ≡ true) }
+    ensures unopened { (hosts.new ≡ hosts.old) ⊎ (opens_root (asked_of (map string_bytes words.now)) ≡ true) }
 {
     match answer_to(alloc, hosts, words) {
         Ok(answer) => give(&answer, out, err),

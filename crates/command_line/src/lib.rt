@@ -4,6 +4,7 @@
 mod answer;
 mod command;
 mod hosts;
+mod questions;
 mod unpacking;
 mod writing;
 

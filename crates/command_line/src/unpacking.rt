@@ -1,6 +1,7 @@
 // An unpack: the root is opened, the trees are read, and the units are run.
 ghost use Rattle.std.specs.Prelude.{◌≡◌, ◌<◌, ◌≤◌, ◌⊎◌, IfOk, map, List, ℕ, IfErr, OnErr, false};
-ghost use Rattle.command_line.specs.Unpacks.{around, HasRunTrees, HasUnpacked, IsLabelled, IsReadFor, IsRefusedOn, IsRootFault, IsStoppedOn, IsUnpackedOn};
+ghost use Rattle.command_line.specs.Roots.{around, IsRefusedOn, IsRootFault, IsStoppedOn};
+ghost use Rattle.command_line.specs.Unpacks.{HasRunTrees, HasUnpacked, IsLabelled, IsReadFor, IsUnpackedOn};
 ghost use Rattle.std.specs.List.{All};
 ghost use Rattle.host_core.specs.Host.{State};
 ghost use Rattle.administration.specs.declared.fault.AdministrationFault.TheVariants.{NoMemory};

@@ -42,7 +42,7 @@ fn write_answer<O: Write, E: Write>(answer: &Answer, out: &mut O, err: &mut E) -
     ensures written { MatchBool result (Appends (O.contents out.old) (O.contents out.new) answer.now.output × Appends (E.contents err.old) (E.contents err.new) answer.now.error) (IsCut answer.now (O.contents out.old) (O.contents out.new) (E.contents err.old) (E.contents err.new)) }
     ensures quiet { answer.now.output ≡ [] → out.new ≡ out.old }
 {
-    if !write_whole(out, answer.output.as_str().as_bytes()) {
+    if !write_whole(out, answer.output.as_slice()) {
         return false;
     }
     write_whole(err, answer.error.as_str().as_bytes())

@@ -3,7 +3,8 @@ use Rattle.std.proofs.Common.{arith, ◌≡◌, ◌<◌, ◌≤◌, List, [], �
 use Rattle.clap.specs.Words.{App, HasMatchesOf, IsAmong, Kinds, Text, fault_of, is_simple_and_free, subcommand_rows_of}
 use Rattle.clap.specs.declared.error.kind.ErrorKind.{ErrorKind}
 use Rattle.clap.specs.declared.parser.matches.ArgMatches.{ArgMatches}
-use Rattle.command_words.specs.Commands.{asked_in, asked_of, entered, unless_faulty, whole_app}
+use Rattle.command_words.specs.CommandLine.{whole_app}
+use Rattle.command_words.specs.Commands.{asked_in, asked_of, entered, unless_faulty}
 use Rattle.command_words.specs.declared.words.Asked.{Asked}
 use Rattle.command_words.specs.declared.words.Asked.TheVariants.{Names}
 

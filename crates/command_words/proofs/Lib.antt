@@ -1,2 +1,2 @@
 mod Asking
-mod Turns
+mod Adding

@@ -1,42 +1,17 @@
--- The command line, as clap's rules, and what words ask for.
-use Rattle.std.specs.Prelude.{ℕ, Bool, false, List, [], ◌∷◌, length, map, Option, Some, None, option_and_then, option_map, codes, true, if◌then◌else◌, nat_eq, nat_le}
+-- What the words of a command line ask for.
+use Rattle.std.specs.Prelude.{List, [], ◌∷◌, length, map, Option, Some, None, option_and_then, option_map, codes, if◌then◌else◌, nat_le}
 use Rattle.std.specs.Str.{bytes_eq}
-use Rattle.clap.specs.Words.{App, Kinds, Row, Rule, Text, all_of, fault_of, first_of, new_app, new_rule, subcommand_of, with_rule, with_subcommand}
-use Rattle.clap.specs.declared.builder.ArgAction.TheVariants.{Append, Set}
+use Rattle.clap.specs.Words.{Kinds, Row, Text, all_of, fault_of, first_of, subcommand_of}
+use Rattle.command_words.specs.CommandLine.{whole_app}
 use Rattle.command_words.specs.Comparisons.{operator_of}
+use Rattle.command_words.specs.Queries.{query_of}
+use Rattle.command_words.specs.Roots.{is_absolute}
 use Rattle.command_words.specs.declared.comparison.Comparison.{Comparison}
 use Rattle.command_words.specs.declared.words.Asked.{Asked}
 use Rattle.command_words.specs.declared.words.Compared.{Compared}
 use Rattle.command_words.specs.declared.words.Rooted.{Rooted}
 use Rattle.command_words.specs.declared.words.Unpacking.{Unpacking}
-use Rattle.command_words.specs.declared.words.Asked.TheVariants.{Names, CompareVersions, Unpack}
-
--- a word that has to be given, at its place
-abbrev pub word_rule : Text → Rule
-word_rule id = record (new_rule id) { action = Some Set; required = true }
-
--- `compare-versions A OP B`
-abbrev pub compare_versions_app : App
-compare_versions_app = with_rule (with_rule (with_rule (new_app (codes "compare-versions")) (word_rule (codes "A"))) (word_rule (codes "OP"))) (word_rule (codes "B"))
-
--- `--root DIR`, `/` if it isn't given
-abbrev pub root_rule : Rule
-root_rule = record (new_rule (codes "root")) { long = Some (codes "root"); action = Some Set; defaults = codes "/" ∷ [] }
-
--- one or more trees
-abbrev pub trees_rule : Rule
-trees_rule = record (new_rule (codes "TREE")) { action = Some Append; required = true }
-
--- `unpack [--root DIR] TREE..`
-abbrev pub unpack_app : App
-unpack_app = with_rule (with_rule (new_app (codes "unpack")) root_rule) trees_rule
-
--- no flag and no subcommand asks for help
-abbrev pub without_help : App → App
-without_help a = record a { top = record a.top { disable_help_flag = true; disable_help_subcommand = true } }
-
-abbrev pub whole_app : App
-whole_app = with_subcommand (with_subcommand (without_help (new_app (codes "dpkg_cli"))) compare_versions_app.top) unpack_app.top
+use Rattle.command_words.specs.declared.words.Asked.TheVariants.{Names, CompareVersions, Unpack, Query}
 
 -- the subcommand that the words enter, with the texts of its arguments
 abbrev pub entered : List Text → Option (Text × List Row)
@@ -55,11 +30,6 @@ comparison_from _ _ _ = None
 abbrev pub comparison_of : List Row → Option Comparison
 comparison_of rows = comparison_from (first_of (codes "A") rows) (first_of (codes "OP") rows) (first_of (codes "B") rows)
 
--- an absolute path begins with a slash
-abbrev pub is_absolute : List ℕ → Bool
-is_absolute [] = false
-is_absolute (c ∷ cs) = nat_eq c 47
-
 -- the root and the trees that clap found
 abbrev pub unpacking_in : Rooted → Unpacking
 unpacking_in r = record { root = r.root.now; trees = map (λ t. t.now) r.trees.now }
@@ -77,7 +47,7 @@ abbrev pub asked_by : Text → List Row → Option Asked
 asked_by name rows =
     if bytes_eq name (codes "compare-versions") then option_map CompareVersions (comparison_of rows)
     else if bytes_eq name (codes "unpack") then option_map Unpack (unpacking_of rows)
-    else None
+    else option_map Query (query_of name rows)
 
 abbrev pub asked_in : Option (Text × List Row) → Option Asked
 asked_in sub = option_and_then (λ p. asked_by p.0 p.1) sub

@@ -1,28 +1,29 @@
 // The command line, as clap's commands and arguments.
-ghost use Rattle.std.specs.Prelude.{◌≡◌, IfOk, codes, false};
-ghost use Rattle.clap.specs.Words.{app_of, new_app, rule_of, with_subcommand};
+ghost use Rattle.std.specs.Prelude.{◌≡◌, IfOk, codes, false, string_bytes, true};
+ghost use Rattle.clap.specs.Words.{app_of, new_app, rule_of, with_rule, with_subcommand};
 ghost use Rattle.clap.specs.declared.builder.command.Command.TheViews.{out-Command as fields_of};
-ghost use Rattle.command_words.specs.Commands.{compare_versions_app, root_rule, trees_rule, unpack_app, whole_app, without_help, word_rule};
+ghost use Rattle.command_words.specs.CommandLine.{are_ascending, asking_app, compare_versions_app, first_apps, last_apps, lines, middle_apps, package_rule, root_rule, rooted_app, subcommand_names, trees_rule, truename_app, unpack_app, whole_app, with_all, without_help, word_rule};
 
 use clap::{Arg, ArgAction, Command};
 use std::alloc::{AllocError, Global};
+
+// The names of the subcommands that the command below has, one a line.
+const NAMES: &str = "audit\ncompare-versions\ndiversions\nlist\nlistfiles\nsearch\nstatus\n\
+truename\nunpack\n";
+
+/// The names of the subcommands, one a line, in the order of their bytes.
+pub fn subcommand_names(alloc: Global) -> Result<String, AllocError>
+    ensures names { IfOk result (λ text. string_bytes text ≡ lines subcommand_names) }
+    ensures order { are_ascending subcommand_names ≡ true }
+{
+    String::from_str(alloc, NAMES)
+}
 
 // A word that has to be given.
 fn word<'a>(alloc: Global, id: &'a str) -> Arg<'a>
     ensures { rule_of result ≡ word_rule id.entry.now }
 {
     Arg::new(alloc, id).required(true).action(ArgAction::Set)
-}
-
-fn compare_versions_command<'a>(alloc: Global) -> Result<Command<'a>, AllocError>
-    ensures app { IfOk result (λ c. app_of c ≡ compare_versions_app) }
-    ensures local { IfOk result (λ c. (fields_of c).has_globals ≡ false) }
-{
-    let mut words = Vec::with_capacity(alloc, 3)?;
-    words.push_reserved(word(alloc, "A"));
-    words.push_reserved(word(alloc, "OP"));
-    words.push_reserved(word(alloc, "B"));
-    Command::new(alloc, "compare-versions").args(words)
 }
 
 // The root is the whole system's if it isn't given.
@@ -43,38 +44,107 @@ fn trees<'a>(alloc: Global) -> Arg<'a>
         .action(ArgAction::Append)
 }
 
+fn package<'a>(alloc: Global) -> Arg<'a>
+    ensures { rule_of result ≡ package_rule }
+{
+    Arg::new(alloc, "package")
+        .long("package")
+        .action(ArgAction::Set)
+}
+
+// Adds an argument that is not global.
+fn with_arg<'a>(command: Command<'a>, arg: Arg<'a>) -> Result<Command<'a>, AllocError>
+    requires { (rule_of arg).is_simple ≡ true }
+    ensures app { IfOk result (λ c. app_of c ≡ with_rule (app_of command.entry) (rule_of arg.entry)) }
+    ensures local { IfOk result (λ c. (fields_of c).has_globals ≡ (fields_of command.entry).has_globals) }
+{
+    command.arg(arg)
+}
+
+fn compare_versions_command<'a>(alloc: Global) -> Result<Command<'a>, AllocError>
+    ensures app { IfOk result (λ c. app_of c ≡ compare_versions_app) }
+    ensures local { IfOk result (λ c. (fields_of c).has_globals ≡ false) }
+{
+    let command = with_arg(Command::new(alloc, "compare-versions"), word(alloc, "A"))?;
+    let command = with_arg(command, word(alloc, "OP"))?;
+    with_arg(command, word(alloc, "B"))
+}
+
+// A subcommand under a root.
+fn rooted<'a>(alloc: Global, name: &'a str) -> Result<Command<'a>, AllocError>
+    ensures app { IfOk result (λ c. app_of c ≡ rooted_app name.entry.now) }
+    ensures local { IfOk result (λ c. (fields_of c).has_globals ≡ false) }
+{
+    with_arg(Command::new(alloc, name), root(alloc))
+}
+
+// A subcommand under a root that asks for one word.
+fn asking<'a>(alloc: Global, name: &'a str, id: &'a str) -> Result<Command<'a>, AllocError>
+    ensures app { IfOk result (λ c. app_of c ≡ asking_app name.entry.now id.entry.now) }
+    ensures local { IfOk result (λ c. (fields_of c).has_globals ≡ false) }
+{
+    with_arg(rooted(alloc, name)?, word(alloc, id))
+}
+
+fn truename_command<'a>(alloc: Global) -> Result<Command<'a>, AllocError>
+    ensures app { IfOk result (λ c. app_of c ≡ truename_app) }
+    ensures local { IfOk result (λ c. (fields_of c).has_globals ≡ false) }
+{
+    let command = with_arg(rooted(alloc, "truename")?, package(alloc))?;
+    with_arg(command, word(alloc, "PATH"))
+}
+
 fn unpack_command<'a>(alloc: Global) -> Result<Command<'a>, AllocError>
     ensures app { IfOk result (λ c. app_of c ≡ unpack_app) }
     ensures local { IfOk result (λ c. (fields_of c).has_globals ≡ false) }
 {
-    let mut args = Vec::with_capacity(alloc, 2)?;
-    args.push_reserved(root(alloc));
-    args.push_reserved(trees(alloc));
-    Command::new(alloc, "unpack").args(args)
+    with_arg(rooted(alloc, "unpack")?, trees(alloc))
 }
 
 // Help is no subcommand and no flag, so a call for it is a usage fault.
 fn without_help<'a>(command: Command<'a>) -> Command<'a>
-    ensures app { app_of result ≡ without_help (app_of command.entry) }
-    ensures local { (fields_of result).has_globals ≡ (fields_of command.entry).has_globals }
+    ensures { app_of result ≡ without_help (app_of command.entry) }
 {
     command
         .disable_help_flag(true)
         .disable_help_subcommand(true)
 }
 
-// The program's command with its first subcommand.
-fn comparing_command<'a>(alloc: Global) -> Result<Command<'a>, AllocError>
-    ensures { IfOk result (λ c. app_of c ≡ with_subcommand (without_help (new_app (codes "dpkg_cli"))) compare_versions_app.top) }
+fn with<'a>(whole: Command<'a>, subcommand: Command<'a>) -> Result<Command<'a>, AllocError>
+    requires { (fields_of subcommand).has_globals ≡ false }
+    ensures { IfOk result (λ c. app_of c ≡ with_subcommand (app_of whole.entry) (app_of subcommand.entry).top) }
 {
-    let compare_versions = compare_versions_command(alloc)?;
-    without_help(Command::new(alloc, "dpkg_cli")).subcommand(compare_versions)
+    whole.subcommand(subcommand)
+}
+
+fn with_first<'a>(alloc: Global, whole: Command<'a>) -> Result<Command<'a>, AllocError>
+    ensures { IfOk result (λ c. app_of c ≡ with_all (app_of whole.entry) first_apps) }
+{
+    let whole = with(whole, rooted(alloc, "audit")?)?;
+    let whole = with(whole, compare_versions_command(alloc)?)?;
+    with(whole, rooted(alloc, "diversions")?)
+}
+
+fn with_middle<'a>(alloc: Global, whole: Command<'a>) -> Result<Command<'a>, AllocError>
+    ensures { IfOk result (λ c. app_of c ≡ with_all (app_of whole.entry) middle_apps) }
+{
+    let whole = with(whole, rooted(alloc, "list")?)?;
+    let whole = with(whole, asking(alloc, "listfiles", "PKG")?)?;
+    with(whole, asking(alloc, "search", "PATH")?)
+}
+
+fn with_last<'a>(alloc: Global, whole: Command<'a>) -> Result<Command<'a>, AllocError>
+    ensures { IfOk result (λ c. app_of c ≡ with_all (app_of whole.entry) last_apps) }
+{
+    let whole = with(whole, asking(alloc, "status", "PKG")?)?;
+    let whole = with(whole, truename_command(alloc)?)?;
+    with(whole, unpack_command(alloc)?)
 }
 
 /// The program's command with its subcommands.
 pub(crate) fn whole_command<'a>(alloc: Global) -> Result<Command<'a>, AllocError>
     ensures { IfOk result (λ c. app_of c ≡ whole_app) }
 {
-    let unpack = unpack_command(alloc)?;
-    comparing_command(alloc)?.subcommand(unpack)
+    let whole = with_first(alloc, without_help(Command::new(alloc, "dpkg_cli")))?;
+    with_last(alloc, with_middle(alloc, whole)?)
 }

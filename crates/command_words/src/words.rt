@@ -1,12 +1,15 @@
 // What the words of a command line ask for.
 ghost use Rattle.std.specs.Prelude.{◌≡◌, ◌⊎◌, IfErr, IfOk, None, Some, map, option_map, string_bytes};
-ghost use Rattle.clap.specs.Words.{all_of, first_of, found_of, kind_of, rows_of, subcommand_rows_of};
+ghost use Rattle.clap.specs.Words.{found_of, kind_of, rows_of, subcommand_rows_of};
 ghost use Rattle.clap.specs.declared.error.kind.ErrorKind.TheVariants.{OutOfMemory};
-ghost use Rattle.command_words.specs.Commands.{asked_by, asked_in, asked_of, comparison_from, comparison_in, comparison_of, is_absolute, unpacking_from, unpacking_in, unpacking_of};
+ghost use Rattle.command_words.specs.Commands.{asked_by, asked_in, asked_of, comparison_from, comparison_in, comparison_of, unpacking_from, unpacking_in, unpacking_of};
+ghost use Rattle.command_words.specs.Queries.{query_of};
 ghost use Rattle.command_words.specs.declared.words.WordsFault.TheVariants.{NoMemory};
 
 use crate::command::whole_command;
 use crate::comparison::{Comparison, Operator};
+use crate::found::{all_texts_of, is_absolute, text_of};
+use crate::query::{Query, query_of};
 use clap::ArgMatches;
 use clap::error::ErrorKind;
 use std::alloc::{AllocError, Global};
@@ -22,6 +25,31 @@ const COMPARE_VERSIONS_USAGE: &str =
 const UNPACK_USAGE: &str =
     "error: DIR is an absolute path\n\nUsage: dpkg_cli unpack [--root <DIR>] <TREE>...\n";
 
+// What follows a query whose words ask for nothing.
+fn query_usage(name: &str) -> &'static str {
+    match name {
+        "audit" => "error: DIR is an absolute path\n\nUsage: dpkg_cli audit [--root <DIR>]\n",
+        "diversions" => {
+            "error: DIR is an absolute path\n\nUsage: dpkg_cli diversions [--root <DIR>]\n"
+        }
+        "list" => "error: DIR is an absolute path\n\nUsage: dpkg_cli list [--root <DIR>]\n",
+        "listfiles" => {
+            "error: DIR is an absolute path\n\nUsage: dpkg_cli listfiles [--root <DIR>] <PKG>\n"
+        }
+        "search" => {
+            "error: DIR is an absolute path\n\nUsage: dpkg_cli search [--root <DIR>] <PATH>\n"
+        }
+        "status" => {
+            "error: DIR is an absolute path\n\nUsage: dpkg_cli status [--root <DIR>] <PKG>\n"
+        }
+        "truename" => {
+            "error: DIR is an absolute path, and P the name of a package\n\n\
+Usage: dpkg_cli truename [--root <DIR>] [--package <P>] <PATH>\n"
+        }
+        _ => SUBCOMMAND_USAGE,
+    }
+}
+
 /// A root directory, and trees to be unpacked under it.
 #[derive(Drop)]
 pub struct Unpacking {
@@ -36,6 +64,7 @@ pub enum Asked {
     Names,
     CompareVersions(Comparison),
     Unpack(Unpacking),
+    Query(Query),
 }
 
 /// Why words ask for nothing: a text that says how they are used, or want of memory.
@@ -120,12 +149,6 @@ fn read_comparison<'a>(
     }
 }
 
-fn text_of<'a>(found: &ArgMatches<'a>, id: &str) -> Option<&'a str>
-    ensures { option_map (λ s. s.now) result ≡ first_of id.now (rows_of (found_of found.now)) }
-{
-    found.get_str(id)
-}
-
 fn texts_compared<'a>(found: &ArgMatches<'a>) -> Option<Compared<'a>>
     ensures { option_map comparison_in result ≡ comparison_of (rows_of (found_of found.now)) }
 {
@@ -134,15 +157,6 @@ fn texts_compared<'a>(found: &ArgMatches<'a>) -> Option<Compared<'a>>
         text_of(found, "OP"),
         text_of(found, "B"),
     )
-}
-
-fn is_absolute(path: &str) -> bool
-    ensures { result ≡ is_absolute path.now }
-{
-    match path.as_bytes().first() {
-        Some(first) => *first == b'/',
-        None => false,
-    }
 }
 
 /// The texts that clap found for an unpack.
@@ -164,12 +178,6 @@ fn read_unpacking<'a>(root: Option<&'a str>, trees: Option<&'a [&'a str]>) -> Op
     } else {
         None
     }
-}
-
-fn all_texts_of<'a>(found: &'a ArgMatches<'_>, id: &str) -> Option<&'a [&'a str]>
-    ensures { option_map (λ s. map (λ t. t.now) s.now) result ≡ all_of id.now (rows_of (found_of found.now)) }
-{
-    found.get_strs(id)
 }
 
 fn texts_unpacked<'a>(found: &'a ArgMatches<'_>) -> Option<Rooted<'a>>
@@ -218,6 +226,16 @@ fn unpack_asked(alloc: Global, found: &ArgMatches<'_>) -> Result<Asked, WordsFau
     }
 }
 
+fn query_asked(alloc: Global, name: &str, found: &ArgMatches<'_>) -> Result<Asked, WordsFault>
+    ensures asked { IfOk result (λ asked. option_map Asked.Query (query_of name.now (rows_of (found_of found.now))) ≡ Some asked) }
+    ensures usage { IfErr result (λ fault. (fault ≡ NoMemory) ⊎ (query_of name.now (rows_of (found_of found.now)) ≡ None)) }
+{
+    match query_of(alloc, name, found)? {
+        Some(query) => Ok(Asked::Query(query)),
+        None => Err(usage(alloc, query_usage(name))),
+    }
+}
+
 // What a subcommand asks for.
 fn asked_by(alloc: Global, name: &str, found: &ArgMatches<'_>) -> Result<Asked, WordsFault>
     ensures asked { IfOk result (λ asked. asked_by name.now (rows_of (found_of found.now)) ≡ Some asked) }
@@ -226,7 +244,7 @@ fn asked_by(alloc: Global, name: &str, found: &ArgMatches<'_>) -> Result<Asked, 
     match name {
         "compare-versions" => comparison_asked(alloc, found),
         "unpack" => unpack_asked(alloc, found),
-        _ => Err(usage(alloc, SUBCOMMAND_USAGE)),
+        _ => query_asked(alloc, name, found),
     }
 }
 

@@ -3,6 +3,7 @@ ghost use Rattle.std.specs.Prelude.{◌≡◌, ⊤, IsTrue, Some, option_map};
 ghost use Rattle.host_memory.specs.Memory.{memory_state};
 
 mod memory_rows;
+mod query_rows;
 mod tree_rows;
 mod unpack_rows;
 mod word_rows;

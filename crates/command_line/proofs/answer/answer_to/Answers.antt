@@ -1,6 +1,6 @@
 use Rattle.std.proofs.Common.{rules, ◌≡◌, map, string_bytes, Some, refl, inl, inr}
 use Rattle.command_words.specs.Commands.{asked_of}
-use Rattle.command_words.specs.declared.words.Asked.TheVariants.{CompareVersions, Names, Unpack}
+use Rattle.command_words.specs.declared.words.Asked.TheVariants.{CompareVersions, Names, Query, Unpack}
 use Rattle.command_line.specs.Reports.{comparison_answer, memory_answer, names_answer, unpack_answer}
 use Rattle.command_line.proofs.answer.answer_to.Goals as goal
 
@@ -13,6 +13,12 @@ pub returns-in-Ok-CompareVersions-clause-answered : goal.returns-in-Ok-CompareVe
 returns-in-Ok-CompareVersions-clause-answered g c =
     let asked : asked_of (map string_bytes c.args.words.now) ≡ Some (CompareVersions c.in-Ok-CompareVersions.comparison) = search rules in
     (comparison_answer c.in-Ok-CompareVersions.comparison, rw asked (inl refl), c.compared.ensures)
+
+pub returns-in-Ok-Query-clause-answered : goal.returns-in-Ok-Query-clause-answered
+returns-in-Ok-Query-clause-answered g c =
+    let asked : asked_of (map string_bytes c.args.words.now) ≡ Some (Query c.in-Ok-Query.query) = search rules in
+    let told = c.queried.ensures.answered in
+    (told.0, rw asked told.1, told.2)
 
 pub returns-in-Ok-Unpack-clause-answered : goal.returns-in-Ok-Unpack-clause-answered
 returns-in-Ok-Unpack-clause-answered g c =

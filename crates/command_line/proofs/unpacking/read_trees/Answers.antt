@@ -1,6 +1,7 @@
 use Rattle.std.proofs.Common.{rules, arith, ◌≡◌, ◌<◌, subst}
 use Rattle.std.proofs.lemmas.Grind.{common_steps}
-use Rattle.command_line.specs.Unpacks.{Around, IsReadFor, around}
+use Rattle.command_line.specs.Roots.{Around, around}
+use Rattle.command_line.specs.Unpacks.{IsReadFor}
 use Rattle.command_line.proofs.Trees.{labelled_push}
 use Rattle.command_line.proofs.unpacking.read_trees.Goals as goal
 

@@ -1,7 +1,8 @@
 use Rattle.std.proofs.Common.{◌≡◌, ◌≤◌, ◌<◌, List, ℕ, map, take}
 use Rattle.std.specs.List.{All}
 use Rattle.host_core.specs.Host.{State}
-use Rattle.command_line.specs.Unpacks.{IsLabelled, around}
+use Rattle.command_line.specs.Roots.{around}
+use Rattle.command_line.specs.Unpacks.{IsLabelled}
 use Rattle.dpkg_session.specs.declared.report.Candidate.{Candidate}
 use Rattle.command_line.proofs.unpacking.read_trees.Given as goal
 

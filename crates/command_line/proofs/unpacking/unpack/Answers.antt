@@ -1,6 +1,7 @@
 use Rattle.std.proofs.Common.{◌<◌, arith, subst}
 use Rattle.std.proofs.lemmas.Result.{IfOk-weaker}
-use Rattle.command_line.specs.Unpacks.{Around, HasUnpacked, IsUnpackedOn, around}
+use Rattle.command_line.specs.Roots.{Around, around}
+use Rattle.command_line.specs.Unpacks.{HasUnpacked, IsUnpackedOn}
 use Rattle.command_line.proofs.Trees.{unpacked_within}
 use Rattle.command_line.proofs.unpacking.unpack.Goals as goal
 

@@ -1,5 +1,6 @@
 use Rattle.std.proofs.Common.{◌<◌, arith, subst, sym}
-use Rattle.command_line.specs.Unpacks.{Around, HasRunTrees, around}
+use Rattle.command_line.specs.Roots.{Around, around}
+use Rattle.command_line.specs.Unpacks.{HasRunTrees}
 use Rattle.command_line.proofs.Trees.{run_within}
 use Rattle.command_line.proofs.unpacking.unpack_on.Goals as goal
 
@@ -13,13 +14,18 @@ returns-in_ok-done-in-Ok-clause-done g c =
     let session = c.in-Ok.session in
     let begun = g.S.Opened.Host.state session.host in
     record {
-      places = session.places;
       table = session.database;
+      lists = session.lists.lists;
+      entries = session.diversions.entries;
       state = begun;
-      silent = c.in-Ok.ensures.silent;
-      opens = c.in-Ok.ensures.opens;
-      opening = c.in-Ok.ensures.any_moment;
-      opened = c.in-Ok.ensures.opened;
+      opened = record {
+        silent = c.in-Ok.ensures.silent;
+        opens = c.in-Ok.ensures.opens;
+        opening = c.in-Ok.ensures.any_moment;
+        opened = c.in-Ok.ensures.opened;
+      };
+      places = session.places;
+      kept = session.kept;
       end = g.S.Opened.Host.state c.into_host.result;
       given = c.close_root.ensures.given;
       ran = subst (λ host. HasRunTrees outer c.args.trees.now c.in_ok-done-in-Ok.field-0 session.places session.database begun (g.S.Opened.Host.state host)) (sym c.into_host.ensures)

@@ -1,7 +1,7 @@
 // The same answers where an allocation is refused, which scripts/refused_memory does at each one in turn: in place of
 // the row only a want of memory may come. Where the test's own memory is refused, there is no answer.
 use super::unpack_rows::{DAMAGING, REFUSALS, TREES, WITH_POSTRM, WITH_PREINST};
-use super::word_rows::FAULTS;
+use super::word_rows::{FAULTS, NAMES};
 use super::{MemoryHosts, TreeFile, hosts, is_usage, worded};
 use crate::answers::control_rows::{ONE_PARAGRAPH_ROWS, ROWS};
 use crate::answers::relation_rows::{FIELD_ROWS, PROVIDES_ROWS};
@@ -148,6 +148,21 @@ fn unpacked_package_is_refused(rt: HostRuntime) {
 }
 
 #[test]
+fn unpacked_package_is_asked_about(rt: HostRuntime) {
+    let before = ("dpkg_cli unpack t", UNPACKED.0, UNPACKED.1);
+    let rows = [
+        ("dpkg_cli list", "alpha 1.0 unpacked\n||0\n"),
+        ("dpkg_cli search /usr/bin/x", "||1\n"),
+        ("dpkg_cli status gamma", "refused gamma Unknown\n||1\n"),
+        ("dpkg_cli truename usr", "|bad path usr\n|2\n"),
+    ];
+    for (line, row) in rows {
+        let told = told_after(rt.alloc(), WITH_PREINST, &[], &before, line);
+        check(&rt, told, "", row);
+    }
+}
+
+#[test]
 fn trees_are_refused(rt: HostRuntime) {
     for (line, row) in REFUSALS {
         check(&rt, told(rt.alloc(), TREES, &[], line), "", row);
@@ -185,7 +200,7 @@ fn line_without_colon_is_damage(rt: HostRuntime) {
 #[test]
 fn no_words_name_the_subcommands(rt: HostRuntime) {
     let told = worded(rt.alloc(), "dpkg_cli");
-    check(&rt, told, "", "compare-versions\nunpack\n||0\n");
+    check(&rt, told, "", NAMES);
 }
 
 #[test]

@@ -17,18 +17,30 @@ pub(crate) const FAULTS: &[&str] = &[
     "dpkg_cli unpack",
     "dpkg_cli unpack --root rel t",
     "dpkg_cli compare-versions 1 is 1",
+    "dpkg_cli list --root rel",
+    "dpkg_cli status",
+    "dpkg_cli truename --package A /usr/bin/v",
     "dpkg_cli --help",
 ];
 
+/// The names of the subcommands, and nothing on standard error.
+pub(crate) const NAMES: &str = "audit
+compare-versions
+diversions
+list
+listfiles
+search
+status
+truename
+unpack
+||0
+";
+
 #[test]
 fn no_words_name_the_subcommands(rt: HostRuntime) -> Result<(), Fail> {
-    check(
-        &rt,
-        &[],
-        &[],
-        &["dpkg_cli"],
-        "compare-versions\nunpack\n||0\n||||||",
-    )
+    let alloc = rt.alloc();
+    let row = format!(in alloc; "{NAMES}||||||")?;
+    check(&rt, &[], &[], &["dpkg_cli"], row.as_str())
 }
 
 #[test]

@@ -1,0 +1,69 @@
+-- How the root of a command is opened, and what is known of its hosts.
+use Rattle.std.specs.Prelude.{◌≡◌, ◌⊎◌, ℕ, List, [], Some, None}
+use Rattle.host_core.specs.Host.{AtEachMoment, Needs, Silent, State}
+use Rattle.administration.specs.declared.fault.AdministrationFault.{AdministrationFault}
+use Rattle.administration.specs.declared.fault.AdministrationFault.TheVariants as opening_faults
+use Rattle.diversions.specs.declared.entry.Diversion.{Diversion}
+use Rattle.file_lists.specs.declared.paths.PackageList.{PackageList}
+use Rattle.opening.specs.Opened.{IsOpened}
+use Rattle.opening.specs.Leaving.{IsOpening}
+use Rattle.status_db.specs.declared.record.Record.{Record}
+use Rattle.dpkg_session.specs.Standing.{CountsRefusal, OpensAll}
+use Rattle.report_lines.specs.Openings.{opening_line}
+use Rattle.command_line.specs.declared.answer.Answer.{Answer}
+
+-- which states the hosts have that are opened for a word
+abbrev pub Behind : Type 1
+Behind = List ℕ → State → Type 0
+
+-- in which states hosts were given back
+abbrev pub Given : Type 1
+Given = State → Type 0
+
+-- What is known of the hosts of a command: the states behind words for the root and for trees before it, the states in
+-- which they were given back by its end, and whether the device failed on opening one and no root was opened.
+pub record Around : Type 1 where
+  pub root : Behind
+  pub tree : Behind
+  pub left : Given
+  pub seen : Given
+  pub failed : Type 0
+  pub unopened : Type 0
+
+abbrev pub around : Behind → Behind → Given → Given → Type 0 → Type 0 → Around
+around root tree left seen failed unopened = record { root = root; tree = tree; left = left; seen = seen; failed = failed; unopened = unopened }
+
+-- The administration on a host was opened: no script was called, and nothing but what opening changes has changed. These are
+-- its records, the lists of their packages, and its diversions.
+pub record IsOpenedOn (begun state : State) (table : List Record) (lists : List PackageList) (entries : List Diversion) : Type 0 where
+  pub silent : Silent begun state
+  pub opens : OpensAll None begun state
+  pub opening : AtEachMoment IsOpening begun state
+  pub opened : Needs state (IsOpened table lists entries)
+
+-- the administration of a host couldn't be opened, for this fault; no script was called, and the host was given back
+pub record IsRefusedOn (left : Given) (begun : State) (fault : AdministrationFault) : Type 0 where
+  pub end : State
+  pub given : left end
+  pub silent : Silent begun end
+  pub opens : OpensAll (Some fault) begun end
+  pub opening : AtEachMoment IsOpening begun end
+  pub counts : CountsRefusal fault begun end
+
+-- the administration of a host was opened, and the host given back for want of memory
+pub record IsStoppedOn (left : Given) (begun : State) : Type 0 where
+  pub end : State
+  pub given : left end
+  pub silent : Silent begun end
+  pub opens : OpensAll None begun end
+  pub opening : AtEachMoment IsOpening begun end
+
+-- so it went on a host behind the root's word, unless none could be opened: the device failed, or memory was wanting
+abbrev pub IsRootFault : Around → List ℕ → AdministrationFault → Type 0
+IsRootFault a word fault =
+    ((begun : State) × a.root word begun × (IsRefusedOn a.left begun fault ⊎ ((fault ≡ opening_faults.NoMemory) × IsStoppedOn a.left begun)))
+    ⊎ (a.unopened × (((fault ≡ opening_faults.Device) × a.failed) ⊎ (fault ≡ opening_faults.NoMemory)))
+
+-- why the root can't be opened is told on standard error
+abbrev pub opening_answer : AdministrationFault → Answer
+opening_answer fault = record { output = []; error = opening_line fault; status = 2 }

@@ -1,0 +1,82 @@
+-- The command line, as clap's rules: the subcommands with their flags and words.
+use Rattle.std.specs.Prelude.{ℕ, Bool, true, List, [], ◌∷◌, ◌++◌, ◌&&◌, map, fold, Some, codes}
+use Rattle.std.specs.Cmp.Lexicographic.{slice_cmp}
+use Rattle.std.specs.List.{flat_map}
+use Rattle.std.specs.Ordering.{is_lt, nat_cmp}
+use Rattle.clap.specs.Words.{App, Rule, Shape, Text, new_app, new_rule, with_rule, with_subcommand}
+use Rattle.clap.specs.declared.builder.ArgAction.TheVariants.{Append, Set}
+
+-- a word that has to be given, at its place
+abbrev pub word_rule : Text → Rule
+word_rule id = record (new_rule id) { action = Some Set; required = true }
+
+-- `--root DIR`, `/` if it isn't given
+abbrev pub root_rule : Rule
+root_rule = record (new_rule (codes "root")) { long = Some (codes "root"); action = Some Set; defaults = codes "/" ∷ [] }
+
+-- `--package P`
+abbrev pub package_rule : Rule
+package_rule = record (new_rule (codes "package")) { long = Some (codes "package"); action = Some Set }
+
+-- one or more trees
+abbrev pub trees_rule : Rule
+trees_rule = record (new_rule (codes "TREE")) { action = Some Append; required = true }
+
+-- `compare-versions A OP B`
+abbrev pub compare_versions_app : App
+compare_versions_app = with_rule (with_rule (with_rule (new_app (codes "compare-versions")) (word_rule (codes "A"))) (word_rule (codes "OP"))) (word_rule (codes "B"))
+
+-- a subcommand that has a root
+abbrev pub rooted_app : Text → App
+rooted_app name = with_rule (new_app name) root_rule
+
+-- and one word besides
+abbrev pub asking_app : Text → Text → App
+asking_app name id = with_rule (rooted_app name) (word_rule id)
+
+-- `truename [--root DIR] [--package P] PATH`
+abbrev pub truename_app : App
+truename_app = with_rule (with_rule (rooted_app (codes "truename")) package_rule) (word_rule (codes "PATH"))
+
+-- `unpack [--root DIR] TREE..`
+abbrev pub unpack_app : App
+unpack_app = with_rule (rooted_app (codes "unpack")) trees_rule
+
+-- no flag and no subcommand asks for help
+abbrev pub without_help : App → App
+without_help a = record a { top = record a.top { disable_help_flag = true; disable_help_subcommand = true } }
+
+-- a command to which subcommands are added in turn
+abbrev pub with_all : App → List App → App
+with_all whole apps = fold (λ a s. with_subcommand a s.top) whole apps
+
+-- the subcommands, in the order of their names' bytes
+abbrev pub first_apps : List App
+first_apps = rooted_app (codes "audit") ∷ compare_versions_app ∷ rooted_app (codes "diversions") ∷ []
+
+abbrev pub middle_apps : List App
+middle_apps = rooted_app (codes "list") ∷ asking_app (codes "listfiles") (codes "PKG") ∷ asking_app (codes "search") (codes "PATH") ∷ []
+
+abbrev pub last_apps : List App
+last_apps = asking_app (codes "status") (codes "PKG") ∷ truename_app ∷ unpack_app ∷ []
+
+abbrev pub whole_app : App
+whole_app = with_all (with_all (with_all (without_help (new_app (codes "dpkg_cli"))) first_apps) middle_apps) last_apps
+
+-- the names that clap knows the subcommands by
+abbrev pub subcommand_names : List Text
+subcommand_names = map (λ (s : Shape). s.name) whole_app.subs
+
+-- a line for each text
+abbrev pub lines : List Text → List ℕ
+lines texts = flat_map (λ text. text ++ codes "\n") texts
+
+-- whether a text comes before the first of others in the order of bytes
+abbrev pub is_before : Text → List Text → Bool
+is_before x [] = true
+is_before x (y ∷ ys) = is_lt (slice_cmp nat_cmp x y)
+
+-- whether each text comes before the next
+abbrev pub are_ascending : List Text → Bool
+are_ascending [] = true
+are_ascending (x ∷ xs) = is_before x xs && are_ascending xs
