@@ -4,6 +4,8 @@ pub mod Kept
 pub mod ControlValues
 pub mod Lines
 pub mod ConffileReading
+pub mod ConfigReading
+pub mod NameSets
 pub mod Parsing
 pub mod Sayings
 pub mod Standing

@@ -1,5 +1,5 @@
 -- Look-ups in a table of records.
-use Rattle.std.proofs.Common.{◌≡◌, ◌≢◌, ℕ, ◌+◌, ◌<◌, Bool, true, false, cond, not, List, [], ◌∷◌, Option, Some, None, drop, get_or, length, refl, sym, ap, ◌∙◌, add-one, suc}
+use Rattle.std.proofs.Common.{◌≡◌, ◌≢◌, ℕ, ◌+◌, ◌<◌, Bool, true, false, cond, not, List, [], ◌∷◌, Option, Some, None, drop, get_or, length, refl, sym, ap, ◌∙◌, add-one, suc, zero, arith}
 use Rattle.std.specs.Prelude.{filter}
 use Rattle.std.specs.Map.{update}
 use Rattle.std.specs.Str.{bytes_eq}
@@ -21,6 +21,21 @@ passed_over rs r name ne = ap (λ b. cond b (Some r) (record_in rs name)) (false
 -- what is left of the table begins with the record at hand
 pub left_here : (rs : List Record) (i : ℕ) (r : Record) → i < length rs → r ≡ get_or rs i r → drop i rs ≡ r ∷ drop (i + 1) rs
 left_here rs i r lt e = drop-cons rs i r lt ∙ ap (λ x. x ∷ drop (suc i) rs) (sym e) ∙ ap (λ k. r ∷ drop k rs) (sym (add-one i))
+
+-- the record of a name, by its place
+
+lacks_at : (rs : List Record) (i : ℕ) (d : Record) (name : List ℕ) → IsWithout name rs → i < length rs → bytes_eq (get_or rs i d).name name ≡ false
+lacks_at [] i d name without lt = absurd (omega arith)
+lacks_at (r ∷ rs) zero d name without lt = without.0
+lacks_at (r ∷ rs) (suc i) d name without lt = lacks_at rs i d name without.1 (omega arith)
+
+pub record_at : (rs : List Record) (i : ℕ) (d : Record) (name : List ℕ) → AreApart rs → i < length rs → (get_or rs i d).name ≡ name → record_in rs name ≡ Some (get_or rs i d)
+record_at [] i d name apart lt named = absurd (omega arith)
+record_at (r ∷ rs) zero d name apart lt named = found_here rs r name named
+record_at (r ∷ rs) (suc i) d name apart lt named =
+    let other = lacks_at rs i d r.name apart.0 (omega arith) in
+    passed_over rs r name (λ same. true≢false (sym ((bytes_eq-Decides (get_or rs i d).name r.name).1 (named ∙ sym same)) ∙ other))
+    ∙ record_at rs i d name apart.1 (omega arith) named
 
 -- without a name
 

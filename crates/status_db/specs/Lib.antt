@@ -6,6 +6,7 @@ pub mod Writable
 pub mod Records
 pub mod Paragraphs
 pub mod Conffiles
+pub mod Configured
 pub mod Damage
 pub mod Faults
 pub mod Status

@@ -34,6 +34,14 @@ is_not_installed state.Unpacked = false
 is_not_installed state.HalfConfigured = false
 is_not_installed state.Installed = false
 
+abbrev pub is_installed : State → Bool
+is_installed state.NotInstalled = false
+is_installed state.ConfigFiles = false
+is_installed state.HalfInstalled = false
+is_installed state.Unpacked = false
+is_installed state.HalfConfigured = false
+is_installed state.Installed = true
+
 -- the value of the field: three words with one blank between two
 abbrev pub status_text : Want → Flag → State → List ℕ
 status_text want flag state = want_word want ++ 32 ∷ (flag_word flag ++ 32 ∷ state_word state)

@@ -1,5 +1,5 @@
 // The table of records, and the status file that holds it.
-ghost use Rattle.std.specs.Prelude.{◌≡◌, ◌≤◌, List, [], length, not, IfOk, IfErr, OnOk, OnErr, IsTrue, IsErrOf};
+ghost use Rattle.std.specs.Prelude.{◌≡◌, ◌<◌, ◌≤◌, List, [], length, not, slice_index_or, IfOk, IfErr, IfSome, OnOk, OnErr, IsTrue, IsErrOf};
 ghost use Rattle.std.specs.Cmp.Lexicographic.{slice_cmp};
 ghost use Rattle.std.specs.List.{insert, list_any};
 ghost use Rattle.std.specs.Option.{option_copied};
@@ -57,6 +57,30 @@ fn place_of(records: &[Record], name: &Text) -> usize
         }
     }
     records.len()
+}
+
+// The first record of a name, one after another.
+fn first_of<'a>(records: &'a [Record], name: &Text) -> Option<&'a Record>
+    ensures { option_copied result ≡ record_in records.now name.now }
+{
+    for record in records {
+        if record.name.is(name) {
+            return Some(record);
+        }
+    }
+    None
+}
+
+// The index of a record of this name, as far as halving finds it.
+fn halved(records: &[Record], name: &Text) -> Option<usize>
+    ensures within { IfSome result (λ i. i < length records.now) }
+    ensures named { IfSome result (λ i. (r : ARecord) → (slice_index_or records.now i r).name ≡ name.now) }
+{
+    let key = name.as_str().as_bytes();
+    match records.binary_search_by(|record| record.name.as_str().as_bytes().cmp(key)) {
+        Ok(i) if records[i].name.is(name) => Some(i),
+        _ => None,
+    }
 }
 
 fn is_of_other(entry: &Record, name: &Text) -> bool
@@ -174,16 +198,16 @@ impl Database {
         self.records.as_slice()
     }
 
-    /// The record of a package.
+    /// The record of a package. Where the records stand in the order of names, one that is there is
+    /// found by halves.
     pub fn get(&self, name: &Text) -> Option<&Record>
         ensures { option_copied result ≡ record_in self.now name.now }
     {
-        for record in &self.records {
-            if record.name.is(name) {
-                return Some(record);
-            }
+        let records = self.records.as_slice();
+        match halved(records, name) {
+            Some(i) => Some(&records[i]),
+            None => first_of(records, name),
         }
-        None
     }
 
     /// Whether a path is one of a conffile, of any record. Takes no memory.

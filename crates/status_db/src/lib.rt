@@ -3,8 +3,10 @@
 
 mod conffile_fields;
 mod conffile_lists;
+mod configured;
 mod database;
 mod laws;
+mod names;
 mod reading;
 mod record;
 mod values;

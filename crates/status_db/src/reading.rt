@@ -20,11 +20,12 @@ ghost use Rattle.status_db.specs.Damage.{IsMissing, IsTaken, IsFaultyWhole, IsBa
 ghost use Rattle.status_db.specs.Faults.{IsEntryFault, IsTableFault, IsTextFault, IsEndFault, IsSound};
 ghost use Rattle.status_db.specs.Status.{IsStatus};
 
+use crate::names::Names;
 use crate::record::{Record, is_first};
 use crate::values::{Status, is_readable, one_line, read_status, read_version};
 use control_fields::{ControlFault, Field, Located, Paragraph, read_located};
 use std::alloc::{AllocError, AllocFailed, Global};
-use texts::{Text, Texts, package_name};
+use texts::{Text, package_name};
 use version_order::Version;
 
 /// Why the text has no records: its first faulty line.
@@ -116,22 +117,16 @@ fn is_missing(fields: &Paragraph) -> bool
     field_in(fields, b"version").is_none() && !is_gone(fields)
 }
 
-fn stands_in(names: &Texts, name: &str) -> bool
-    ensures { result ≡ list_any (bytes_eq name.now) names.now }
-{
-    names.as_slice().iter().any(|other| name == other.as_str())
-}
-
-fn is_taken(names: &Texts, fields: &Paragraph) -> bool
+fn is_taken(names: &Names, fields: &Paragraph) -> bool
     ensures { IsTrue result ↔ IsTaken names.now fields.now }
 {
     match name_in(fields) {
-        Some(name) => stands_in(names, name),
+        Some(name) => names.has(name),
         None => false,
     }
 }
 
-fn is_faulty_whole(names: &Texts, fields: &Paragraph) -> bool
+fn is_faulty_whole(names: &Names, fields: &Paragraph) -> bool
     ensures { IsTrue result ↔ IsFaultyWhole names.now fields.now }
 {
     is_missing(fields) || is_taken(names, fields)
@@ -231,7 +226,7 @@ fn read_entry(alloc: Global, fields: &Paragraph) -> Result<Option<Entry>, AllocE
 }
 
 // Judges a paragraph after those of other packages.
-fn entry_of(alloc: Global, names: &Texts, located: &Located) -> Result<Entry, StatusFault>
+fn entry_of(alloc: Global, names: &Names, located: &Located) -> Result<Entry, StatusFault>
     requires { IsSound located.now }
     ensures entry { IfOk result (λ e. IsEntry names.now located.now.paragraph e.name (option_to_list e.kept)) }
     ensures fault { IfErr result (IsEntryFault names.now located.now) }
@@ -251,7 +246,7 @@ fn entry_of(alloc: Global, names: &Texts, located: &Located) -> Result<Entry, St
 // The names and records of the paragraphs so far.
 #[derive(Drop)]
 struct Table {
-    names: Texts,
+    names: Names,
     records: Vec<Record>,
 }
 
@@ -272,7 +267,7 @@ fn read_entries(alloc: Global, paragraphs: &[Located]) -> Result<Table, StatusFa
     ensures fault { IfErr result (IsTableFault paragraphs.now) }
 {
     let mut table = Table {
-        names: Texts::new(alloc),
+        names: Names::new(alloc),
         records: Vec::new(alloc),
     };
     for located in paragraphs {

@@ -1,6 +1,6 @@
 // The words of the field `Status`: want, flag and state.
 ghost use Rattle.std.specs.Prelude.{◌≡◌};
-ghost use Rattle.status_db.specs.Words.{want_word, flag_word, state_word, is_not_installed};
+ghost use Rattle.status_db.specs.Words.{want_word, flag_word, state_word, is_not_installed, is_installed};
 
 /// What is wanted of a package.
 #[derive(Clone, Copy)]
@@ -83,6 +83,20 @@ impl State {
             State::Unpacked => false,
             State::HalfConfigured => false,
             State::Installed => false,
+        }
+    }
+
+    /// Whether the package is unpacked and configured.
+    pub fn is_installed(self) -> bool
+        ensures { result ≡ is_installed self }
+    {
+        match self {
+            State::Installed => true,
+            State::NotInstalled
+            | State::ConfigFiles
+            | State::HalfInstalled
+            | State::Unpacked
+            | State::HalfConfigured => false,
         }
     }
 }

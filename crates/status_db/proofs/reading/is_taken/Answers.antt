@@ -5,4 +5,4 @@ pub returns-in-None : goal.returns-in-None
 returns-in-None c = not_taken c.args.names.now c.args.fields.now c.in-None.ensures.none
 
 pub returns-in-Some : goal.returns-in-Some
-returns-in-Some c = taken_by c.args.names.now c.args.fields.now c.in-Some.name.now c.stands_in.result c.in-Some.ensures.some c.stands_in.ensures
+returns-in-Some c = taken_by c.args.names.now c.args.fields.now c.in-Some.name.now c.has.result c.in-Some.ensures.some c.has.ensures

@@ -1,26 +1,13 @@
-use Rattle.std.proofs.Common.{sym, ap, ◌∙◌, ◌+◌, drop}
-use Rattle.std.proofs.lemmas.Bool.{true≢false}
+use Rattle.std.proofs.Common.{Some, List, sym, ap, subst, ◌∙◌}
 use Rattle.status_db.specs.declared.record.Record.{Record}
-use Rattle.std.proofs.Common.{List}
-use Rattle.status_db.specs.Records.{record_in}
-use Rattle.status_db.proofs.Tables.{found_here, passed_over, left_here}
+use Rattle.status_db.specs.Records.{AreApart, record_in}
+use Rattle.status_db.proofs.Tables.{record_at}
 use Rattle.status_db.proofs.database.Database.get.Goals as goal
 
-pub returns-then-is : goal.returns-then-is
-returns-then-is c =
-    let items = c.deref-record-items.result.now in
-    let i = c.loop-record.record-index in
-    let name = c.args.name.now in
-    sym (found_here (drop (i + 1) items) c.record-item.result name (c.is.ensures.0 c.if-is.true))
-    ∙ ap (λ (l : List Record). record_in l name) (sym (left_here items i c.record-item.result c.loop-record-test.true c.record-item.is))
-    ∙ sym c.loop-record.invariant
-    ∙ ap (λ (l : List Record). record_in l name) (c.deref-record-items.ensures.value ∙ c.self.view_is)
-
-pub loop-record-preserved : goal.loop-record-preserved
-loop-record-preserved c =
-    let items = c.deref-record-items.result.now in
-    let i = c.loop-record.record-index in
-    let name = c.args.name.now in
-    c.loop-record.invariant
-    ∙ ap (λ (l : List Record). record_in l name) (left_here items i c.record-item.result c.loop-record-test.true c.record-item.is)
-    ∙ passed_over (drop (i + 1) items) c.record-item.result name (λ same. true≢false (sym (c.is.ensures.1 same) ∙ c.if-is.false))
+pub returns-in-Some : goal.returns-in-Some
+returns-in-Some c =
+    let found = c.index-records-i.result in
+    let records = c.as_slice-records.result.now in
+    let apart : AreApart records = subst AreApart (sym c.as_slice-records.ensures.value) c.self.invariant in
+    ap (λ (r : Record). Some r) c.index-records-i.is ∙ sym (record_at records c.in-Some.i found c.args.name.now apart c.in-Some.ensures.within (c.in-Some.ensures.named found))
+    ∙ ap (λ (l : List Record). record_in l c.args.name.now) (c.as_slice-records.ensures.value ∙ c.self.view_is)
