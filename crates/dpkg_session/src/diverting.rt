@@ -1,42 +1,29 @@
-// Adding diversions and taking them away, each as one unit.
-ghost use Rattle.std.specs.Prelude.{◌≡◌, ◌⊎◌, [], true, false, IsErrOf, IsNone, IsTrue, IfOk, IfSome, OnOk, is_some, vec_len, vec_capacity, ◌<◌};
+// A session adds a diversion as one unit.
+ghost use Rattle.std.specs.Prelude.{◌≡◌, ◌⊎◌, [], true, false, IsErrOf, IsNone, IfOk, IfSome, OnOk, is_some};
 ghost use Rattle.std.specs.List.{list_any};
 ghost use Rattle.std.specs.Str.{bytes_eq};
-ghost use Rattle.host_core.specs.Host.{AtEachMoment, Counts, Gives, Needs, Silent, Tells};
-ghost use Rattle.host_core.specs.Loss.{IsAnswered, IsOnDisk};
-ghost use Rattle.diversions.specs.Changes.{HasAdded, HasRemoved, IsAdding, IsRemoving, IsTableReady, with_entry};
-ghost use Rattle.diversions.specs.Entries.{without};
+ghost use Rattle.host_core.specs.Host.{AtEachMoment, Gives, Needs, Silent, Tells};
+ghost use Rattle.host_core.specs.Loss.{IsAnswered};
+ghost use Rattle.diversions.specs.Changes.{HasAdded, IsAdding, IsTableReady, with_entry};
 ghost use Rattle.diversions.specs.Fault.{CountsDiversion};
-ghost use Rattle.diversions.specs.Refusals.{add_answer, remove_answer};
+ghost use Rattle.diversions.specs.Refusals.{add_answer};
 ghost use Rattle.diversions.specs.declared.fault.DiversionFault.TheVariants as fault;
-ghost use Rattle.diversions.specs.declared.refusal.Answer.TheVariants as answered;
 ghost use Rattle.file_lists.specs.Owners.{places_in};
-ghost use Rattle.dpkg_session.specs.Diversions.{AnswersDiversion, HasBroken, IsDiverted, IsOneUnit, IsReportOf, IsUndiverted, LeavesAnswer, asked_entry, by_answer, is_listed, seen_of, table_breakage};
+ghost use Rattle.dpkg_session.specs.Diversions.{HasBroken, IsDiverted, IsOneUnit, LeavesAnswer, asked_entry, by_answer, is_listed, seen_of};
 ghost use Rattle.dpkg_session.specs.PowerLoss.{LosesLikeAStop, StandsOnceAnswered};
 ghost use Rattle.dpkg_session.specs.Units.{CountsLast, CountsReply, IsBroken, IsBrokenBy, IsClosedReport, TellsCalls, calls_told};
-ghost use Rattle.dpkg_session.specs.declared.report.Breakage.TheVariants.{Closed, NoMemory};
+ghost use Rattle.dpkg_session.specs.declared.report.Breakage.TheVariants.{Closed};
 
-use crate::asked::{Diverting, Undiverting};
-use crate::refusal::{Refusal, Rule};
-use crate::report::{Breakage, Reply, Report, Unit};
+use crate::asked::Diverting;
+use crate::report::{Report, Unit};
 use crate::session::{Session, closed_report};
-use crate::units::{broken, is_broken};
+use crate::table_units::{breakage_of, flush_done, no_memory, report_of, unit_of};
+use crate::units::broken;
 use diversions::{Answer, DiversionFault, Diversions, Owner, Seen};
 use file_lists::FileLists;
-use host_core::{Host, HostFault, Places, RootPath, ShipPath};
+use host_core::{Host, Places, RootPath, ShipPath};
 use status_db::Database;
-use std::alloc::{AllocError, Global};
-use texts::Text;
-
-fn breakage_of(fault: DiversionFault) -> Breakage
-    ensures { result ≡ table_breakage fault }
-{
-    match fault {
-        DiversionFault::Device => Breakage::Device,
-        DiversionFault::NoMemory => Breakage::NoMemory,
-        DiversionFault::Closed => Breakage::Closed,
-    }
-}
+use std::alloc::Global;
 
 fn has_path(paths: &[RootPath], path: &ShipPath) -> bool
     ensures { result ≡ list_any (bytes_eq path.now) paths.now }
@@ -61,96 +48,6 @@ fn seen_of(database: &Database, lists: &FileLists, owner: &Owner, path: &ShipPat
     Seen {
         conffile: database.has_conffile(path),
         listed: is_listed(lists, owner, path),
-    }
-}
-
-// The unit that a refusal makes.
-fn refused(alloc: Global, path: &ShipPath, refusal: diversions::Refusal) -> Unit
-    ensures unit { IsBrokenBy NoMemory result.reply ⊎ AnswersDiversion path.now (answered.Refused refusal) result }
-    ensures calls { result.calls.items ≡ [] }
-    ensures touched { result.touched.items ≡ [] }
-{
-    match Text::from_str(alloc, path.as_str()) {
-        Ok(package) => Unit {
-            calls: Vec::new(alloc),
-            touched: Vec::new(alloc),
-            reply: Reply::Refused(Refusal {
-                rule: Rule::Divert(refusal),
-                package,
-            }),
-        },
-        Err(_) => broken(alloc, Vec::new(alloc), Breakage::NoMemory),
-    }
-}
-
-// Computes the places anew.
-fn refresh(
-    alloc: Global,
-    lists: &FileLists,
-    diversions: &Diversions,
-    places: &mut Places,
-) -> Result<(), AllocError>
-    ensures { OnOk result (places.new ≡ places_in diversions.now.entries lists.now.lists) }
-{
-    *places = lists.places(alloc, diversions)?;
-    Ok(())
-}
-
-// The unit of a change that is done, once the kept places are those of the table that it left.
-fn done(
-    alloc: Global,
-    lists: &FileLists,
-    diversions: &Diversions,
-    places: &mut Places,
-    path: &ShipPath,
-) -> Unit
-    ensures unit { IsBrokenBy NoMemory result.reply ⊎ AnswersDiversion path.now answered.Done result }
-    ensures places { IsBrokenBy NoMemory result.reply ⊎ (places.new ≡ places_in diversions.now.entries lists.now.lists) }
-    ensures calls { result.calls.items ≡ [] }
-    ensures touched { result.touched.items ≡ [] }
-{
-    match refresh(alloc, lists, diversions, places) {
-        Ok(()) => Unit {
-            calls: Vec::new(alloc),
-            touched: Vec::new(alloc),
-            reply: Reply::Done,
-        },
-        Err(_) => broken(alloc, Vec::new(alloc), Breakage::NoMemory),
-    }
-}
-
-// The unit of an answer.
-fn unit_of(
-    alloc: Global,
-    lists: &FileLists,
-    diversions: &Diversions,
-    places: &mut Places,
-    path: &ShipPath,
-    answer: Answer,
-) -> Unit
-    ensures unit { IsBrokenBy NoMemory result.reply ⊎ AnswersDiversion path.now answer result }
-    ensures places { IsBrokenBy NoMemory result.reply ⊎ (places.new ≡ by_answer answer places.old (places_in diversions.now.entries lists.now.lists)) }
-    ensures calls { result.calls.items ≡ [] }
-    ensures touched { result.touched.items ≡ [] }
-{
-    match answer {
-        Answer::Done => done(alloc, lists, diversions, places, path),
-        Answer::Refused(refusal) => refused(alloc, path, refusal),
-    }
-}
-
-// Brings what was done to the disk; a refusal did nothing.
-fn flush_done<H: Host>(host: &mut H, answer: Answer) -> Result<(), HostFault>
-    ensures done { OnOk result (answer ≡ answered.Done → IsOnDisk (H.state host.new).events) }
-    ensures refused { answer ≡ answered.Done ⊎ (H.state host.new ≡ H.state host.old) }
-    ensures world { IsTrue (H.state host.new).honest → (H.state host.new).world ≡ (H.state host.old).world }
-    ensures any_moment { AtEachMoment (λ old now. now ≡ old) (H.state host.old) (H.state host.new) }
-    ensures silent { Silent (H.state host.old) (H.state host.new) }
-    ensures counts { Counts (H.state host.old) (H.state host.new) result }
-{
-    match answer {
-        Answer::Done => host.barrier(),
-        Answer::Refused(_) => Ok(()),
     }
 }
 
@@ -186,29 +83,6 @@ fn add_to_disk<H: Host>(
     Ok(answer)
 }
 
-// Takes a diversion away, and brings that to the disk.
-fn remove_to_disk<H: Host>(
-    alloc: Global,
-    host: &mut H,
-    diversions: &mut Diversions,
-    asked: &Undiverting,
-) -> Result<Answer, DiversionFault>
-    requires ready { Needs (H.state host.old) IsTableReady }
-    requires writable { diversions.old.closed ≡ false }
-    ensures answer { Tells result (λ answer w. answer ≡ remove_answer w diversions.old.entries asked.now.path asked.now.owner asked.now.rename) (H.state host.old) (H.state host.new) }
-    ensures table { IfOk result (λ answer. diversions.new ≡ record diversions.old { entries = by_answer answer diversions.old.entries (without asked.now.path diversions.old.entries) }) }
-    ensures left { Gives result (λ answer. LeavesAnswer answer (HasRemoved diversions.old.entries asked.now.path asked.now.rename)) (H.state host.old) (H.state host.new) }
-    ensures answered { OnOk result (IsAnswered (H.state host.old) (H.state host.new)) }
-    ensures any_moment { AtEachMoment (IsRemoving diversions.old.entries asked.now.path asked.now.rename) (H.state host.old) (H.state host.new) }
-    ensures silent { Silent (H.state host.old) (H.state host.new) }
-    ensures counts { CountsDiversion (H.state host.old) (H.state host.new) result }
-    ensures not_closed { IsErrOf result fault.Closed → ⊥ }
-{
-    let answer = diversions.remove(alloc, host, &asked.path, &asked.owner, asked.rename)?;
-    flush_done(host, answer)?;
-    Ok(answer)
-}
-
 // The unit that adds a diversion.
 fn add_unit<H: Host>(
     alloc: Global,
@@ -237,65 +111,6 @@ fn add_unit<H: Host>(
     match add_to_disk(alloc, host, diversions, asked, seen) {
         Ok(answer) => unit_of(alloc, lists, diversions, places, &asked.path, answer),
         Err(fault) => broken(alloc, Vec::new(alloc), breakage_of(fault)),
-    }
-}
-
-// The unit that takes a diversion away.
-fn remove_unit<H: Host>(
-    alloc: Global,
-    host: &mut H,
-    lists: &FileLists,
-    diversions: &mut Diversions,
-    places: &mut Places,
-    asked: &Undiverting,
-) -> Unit
-    requires ready { Needs (H.state host.old) IsTableReady }
-    requires writable { diversions.old.closed ≡ false }
-    requires kept { places.old ≡ places_in diversions.old.entries lists.now.lists }
-    ensures unit { IsBroken result.reply ⊎ IsUndiverted asked.now diversions.old.entries diversions.new.entries result (H.state host.old) (H.state host.new) }
-    ensures writable { IsBroken result.reply ⊎ (diversions.new.closed ≡ false) }
-    ensures kept { IsBroken result.reply ⊎ (places.new ≡ places_in diversions.new.entries lists.now.lists) }
-    ensures calls { result.calls.items ≡ [] }
-    ensures touched { result.touched.items ≡ [] }
-    ensures any_moment { AtEachMoment (IsRemoving diversions.old.entries asked.now.path asked.now.rename) (H.state host.old) (H.state host.new) }
-    ensures silent { Silent (H.state host.old) (H.state host.new) }
-    ensures counts { CountsReply (H.state host.old) (H.state host.new) result.reply }
-    ensures not_closed { IsBrokenBy Closed result.reply → ⊥ }
-{
-    asked.path.law();
-    diversions.law();
-    match remove_to_disk(alloc, host, diversions, asked) {
-        Ok(answer) => unit_of(alloc, lists, diversions, places, &asked.path, answer),
-        Err(fault) => broken(alloc, Vec::new(alloc), breakage_of(fault)),
-    }
-}
-
-// The report of one unit; there is room for it.
-fn report_of(mut units: Vec<Unit>, unit: Unit) -> Report
-    requires none { units.items ≡ [] }
-    requires room { vec_len units < vec_capacity units }
-    ensures { IsReportOf unit result }
-{
-    if is_broken(&unit) {
-        return Report {
-            units,
-            last: Some(unit),
-        };
-    }
-    units.push(unit).unwrap();
-    Report { units, last: None }
-}
-
-// The report where there was no memory for a unit.
-fn no_memory(alloc: Global) -> Report
-    ensures broken { HasBroken result }
-    ensures last { IfSome result.last (λ u. IsBrokenBy NoMemory u.reply) }
-    ensures calls { calls_told result ≡ [] }
-    ensures some { is_some result.last ≡ true }
-{
-    Report {
-        units: Vec::new(alloc),
-        last: Some(broken(alloc, Vec::new(alloc), Breakage::NoMemory)),
     }
 }
 
@@ -331,36 +146,6 @@ fn divert_on<H: Host>(
     report_of(units, unit)
 }
 
-// The report of the unit that takes a diversion away.
-fn undivert_on<H: Host>(
-    alloc: Global,
-    host: &mut H,
-    lists: &FileLists,
-    diversions: &mut Diversions,
-    places: &mut Places,
-    asked: &Undiverting,
-) -> Report
-    requires ready { Needs (H.state host.old) IsTableReady }
-    requires writable { diversions.old.closed ≡ false }
-    requires kept { places.old ≡ places_in diversions.old.entries lists.now.lists }
-    ensures whole { IsNone result.last → IsOneUnit (λ u. IsUndiverted asked.now diversions.old.entries diversions.new.entries u (H.state host.old) (H.state host.new)) result.units.items }
-    ensures broken { HasBroken result }
-    ensures calls { calls_told result ≡ [] }
-    ensures writable { IsNone result.last → diversions.new.closed ≡ false }
-    ensures kept { IsNone result.last → places.new ≡ places_in diversions.new.entries lists.now.lists }
-    ensures any_moment { AtEachMoment (IsRemoving diversions.old.entries asked.now.path asked.now.rename) (H.state host.old) (H.state host.new) }
-    ensures silent { Silent (H.state host.old) (H.state host.new) }
-    ensures counts { CountsLast (H.state host.old) (H.state host.new) result.last }
-    ensures not_closed { IfSome result.last (λ unit. IsBrokenBy Closed unit.reply → ⊥) }
-{
-    let mut units = Vec::new(alloc);
-    if units.reserve(1).is_err() {
-        return no_memory(alloc);
-    }
-    let unit = remove_unit(alloc, host, lists, diversions, places, asked);
-    report_of(units, unit)
-}
-
 impl<H: Host> Session<H> {
     /// Adds a diversion: one unit. One that is broken off closes the session.
     pub fn divert(&mut self, asked: &Diverting) -> Report
@@ -388,40 +173,6 @@ impl<H: Host> Session<H> {
             self.alloc,
             &mut self.host,
             &self.database,
-            &self.lists,
-            &mut self.diversions,
-            &mut self.places,
-            asked,
-        );
-        self.closed = report.last.is_some();
-        report
-    }
-
-    /// Takes a diversion away: one unit. One that is broken off closes the session.
-    pub fn undivert(&mut self, asked: &Undiverting) -> Report
-        ensures whole { self.old.closed ≡ false → IsNone result.last → IsOneUnit (λ u. IsUndiverted asked.now self.old.diversions.entries self.new.diversions.entries u (H.state self.old.host) (H.state self.new.host)) result.units.items }
-        ensures broken { HasBroken result }
-        ensures told { TellsCalls (H.state self.old.host) (H.state self.new.host) result }
-        ensures any_moment { self.old.closed ≡ false → AtEachMoment (IsRemoving self.old.diversions.entries asked.now.path asked.now.rename) (H.state self.old.host) (H.state self.new.host) }
-        ensures loss { self.old.closed ≡ false → LosesLikeAStop (λ so_far. IsRemoving self.old.diversions.entries asked.now.path asked.now.rename (H.state self.old.host).world) (H.state self.old.host) (H.state self.new.host) }
-        ensures stands { self.old.closed ≡ false → IsNone result.last → StandsOnceAnswered (H.state self.old.host) (H.state self.new.host) }
-        ensures answered { self.old.closed ≡ false → IsNone result.last → IsAnswered (H.state self.old.host) (H.state self.new.host) }
-        ensures closes { self.new.closed ≡ is_some result.last }
-        ensures refused { self.old.closed ≡ true → IsClosedReport result }
-        ensures same { self.old.closed ≡ true → H.state self.new.host ≡ H.state self.old.host }
-        ensures same_table { self.old.closed ≡ true → self.new.diversions ≡ self.old.diversions }
-        ensures database { self.new.database ≡ self.old.database }
-        ensures lists { self.new.lists ≡ self.old.lists }
-        ensures silent { Silent (H.state self.old.host) (H.state self.new.host) }
-        ensures counts { self.old.closed ≡ false → CountsLast (H.state self.old.host) (H.state self.new.host) result.last }
-        ensures not_closed { self.old.closed ≡ false → IfSome result.last (λ unit. IsBrokenBy Closed unit.reply → ⊥) }
-    {
-        if self.closed {
-            return closed_report(self.alloc);
-        }
-        let report = undivert_on(
-            self.alloc,
-            &mut self.host,
             &self.lists,
             &mut self.diversions,
             &mut self.places,

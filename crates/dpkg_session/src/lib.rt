@@ -8,6 +8,8 @@ mod questions;
 mod refusal;
 mod report;
 mod session;
+mod table_units;
+mod undiverting;
 mod units;
 
 pub use asked::{Diverting, Undiverting};

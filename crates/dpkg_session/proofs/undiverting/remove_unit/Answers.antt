@@ -3,7 +3,7 @@ use Rattle.diversions.specs.Diverted.{Diverted}
 use Rattle.dpkg_session.specs.declared.report.Breakage.TheVariants.{NoMemory}
 use Rattle.dpkg_session.proofs.TableUnits.{truename_shipped}
 use Rattle.dpkg_session.proofs.Runs.{broken_by}
-use Rattle.dpkg_session.proofs.diverting.remove_unit.Goals as goal
+use Rattle.dpkg_session.proofs.undiverting.remove_unit.Goals as goal
 
 pub returns-in-Ok-clause-unit : goal.returns-in-Ok-clause-unit
 returns-in-Ok-clause-unit g c = elim c.unit_of.ensures.unit [
