@@ -19,10 +19,11 @@ use Rattle.status_db.specs.Status.{IsFileOrNothing, StandsFor}
 use Rattle.status_db.proofs.StatusNode.{file_no_directory, stands_file}
 use Rattle.dpkg_session.specs.declared.report.Candidate.{Candidate}
 use Rattle.dpkg_session.specs.declared.report.Unit.{Unit as AUnit}
-use Rattle.dpkg_session.specs.History.{Ran, IsCommand, IsHistory, Stands}
+use Rattle.dpkg_session.specs.History.{Diverted, HasDone, Held, IsCommand, IsHistory, Ran, Stands, Undiverted, Unpacked}
+use Rattle.dpkg_session.proofs.Retabled.{opened_diverted, opened_undiverted}
 use Rattle.dpkg_session.specs.Run.{IsRun}
 use Rattle.dpkg_session.proofs.Listed.{listed_run}
-use Rattle.dpkg_session.proofs.Readable.{IsReadableBeside, diverted_run, readable_run}
+use Rattle.dpkg_session.proofs.Readable.{IsReadableBeside, diverted_run, diverted_spare_run, readable_run}
 use Rattle.dpkg_session.proofs.Runs.{Ready, ready_after}
 
 -- the administration is read from its own paths alone
@@ -36,6 +37,7 @@ opened_outside table lists entries old new same opened = record {
   status = subst IsFileOrNothing (sym (same status_path refl)) opened.status;
   diversions = subst (λ n. HasEntries n entries) (sym (same diversions_path refl)) opened.diversions;
   status_spare = no_directory_at _ _ (same (temporary status_path) refl) opened.status_spare;
+  diversions_spare = no_directory_at _ _ (same (temporary diversions_path) refl) opened.diversions_spare;
   tmp = same tmp_path refl ∙ opened.tmp;
   records = subst (λ n. StandsFor n table) (sym (same status_path refl)) opened.records;
   standing = opened.standing;
@@ -79,24 +81,33 @@ opened_run cs us places lists entries before after s t run h opened =
       status = stands_file (t.world status_path) after (ready.records h);
       status_spare = (ready.order h).status_spare;
       diversions = subst (λ n. HasEntries n entries) (sym (diverted_run places cs us before after s t run h)) opened.diversions;
+      diversions_spare = no_directory_at (t.world (temporary diversions_path)) (s.world (temporary diversions_path)) (diverted_spare_run places cs us before after s t run h) opened.diversions_spare;
       tmp = (ready.order h).tmp;
       records = ready.records h;
       standing = beside.standing;
       listed = record { sound = beside.sound; lists = listed_run places lists cs us before after s t run h opened.listed.lists };
     }
 
-pub stands_outside : (table : List Record) (lists : List PackageList) (entries : List Diversion) (old new : World) → SameOn is_own old new → Stands table lists entries old → Stands table lists entries new
-stands_outside table lists entries old new same stands = opened_outside table lists entries old new same stands
+pub stands_outside : (held : Held) (lists : List PackageList) (old new : World) → SameOn is_own old new → Stands held lists old → Stands held lists new
+stands_outside held lists old new same stands = opened_outside held.records lists held.entries old new same stands
 
-stands_command : (ran : Ran) (before after : List Record) (lists : List PackageList) (entries : List Diversion) (old new : World) → IsCommand ran before after old new → Stands before lists entries old → Stands after lists entries new
-stands_command ran before after lists entries old new command stands =
-    subst (IsOpened after lists entries) command.to
-    (opened_run ran.candidates ran.units (places_in command.entries command.lists) lists entries before after command.start command.end command.run command.honest
-    (subst (IsOpened before lists entries) (sym command.from) stands))
+-- one command
 
-pub stands_history : (commands : List Ran) (before after : List Record) (lists : List PackageList) (entries : List Diversion) (old new : World) → IsHistory commands before after old new → Stands before lists entries old → Stands after lists entries new
-stands_history [] before after lists entries old new history stands =
-    subst (λ (x : List Record). Stands x lists entries new) (sym history.0) (stands_outside before lists entries old new history.1 stands)
-stands_history (ran ∷ rest) before after lists entries old new history stands =
-    stands_history rest history.1 after lists entries history.2 new history.5
-    (stands_command ran before history.1 lists entries history.0 history.2 history.4 (stands_outside before lists entries old history.0 history.3 stands))
+done_stands : (ran : Ran) (found lists : List PackageList) (before after : Held) (s t : State) → HasDone ran found before after s t → IsTrue t.honest → Stands before lists s.world → Stands after lists t.world
+done_stands (Unpacked candidates units) found lists before after s t done h stands =
+    subst (λ (entries : List Diversion). IsOpened after.records lists entries t.world) (sym done.1) (opened_run candidates units (places_in before.entries found) lists before.entries before.records after.records s t done.0 h stands)
+done_stands (Diverted asked unit) found lists before after s t done h stands =
+    subst (λ (table : List Record). IsOpened table lists after.entries t.world) (sym done.1) (opened_diverted before.records lists asked _ before.entries after.entries unit s t done.0 h stands)
+done_stands (Undiverted asked unit) found lists before after s t done h stands =
+    subst (λ (table : List Record). IsOpened table lists after.entries t.world) (sym done.1) (opened_undiverted before.records lists asked before.entries after.entries unit s t done.0 h stands)
+
+stands_command : (ran : Ran) (before after : Held) (lists : List PackageList) (old new : World) → IsCommand ran before after old new → Stands before lists old → Stands after lists new
+stands_command ran before after lists old new command stands =
+    subst (Stands after lists) command.to
+    (done_stands ran command.lists lists before after command.start command.end command.done command.honest (subst (Stands before lists) (sym command.from) stands))
+
+pub stands_history : (commands : List Ran) (before after : Held) (lists : List PackageList) (old new : World) → IsHistory commands before after old new → Stands before lists old → Stands after lists new
+stands_history [] before after lists old new history stands = subst (λ (x : Held). Stands x lists new) (sym history.0) (stands_outside before lists old new history.1 stands)
+stands_history (ran ∷ rest) before after lists old new history stands =
+    stands_history rest history.1 after lists history.2 new history.5
+    (stands_command ran before history.1 lists history.0 history.2 history.4 (stands_outside before lists old history.0 history.3 stands))

@@ -41,6 +41,9 @@ run_answered [] (u ∷ us) places before after s t run = absurd run
 run_answered (c ∷ cs) [] places before after s t run = absurd run
 run_answered (c ∷ cs) (u ∷ us) places before after s t run = answered_then s run.0 t run.2.answered (run_answered cs us places run.1 after run.0 t run.3)
 
+pub answered_stands : (P : List Event → World → Type 0) (s t : State) → Since P s t → IsAnswered s t → StandsOnceAnswered s t
+answered_stands P s t since answered = λ begun new left later loses.
+    loses_in_part begun s t new left (since_weaker P (λ so_far w. Unit {0}) s t (λ so_far w is. tt) since) later answered loses
+
 pub run_stands : (P : List Event → World → Type 0) (cs : List Candidate) (us : List AUnit) (places : List Path) (before after : List Record) (s t : State) → Since P s t → IsRun cs us places before after s t → StandsOnceAnswered s t
-run_stands P cs us places before after s t since run = λ begun new left later loses.
-    loses_in_part begun s t new left (since_weaker P (λ so_far w. Unit {0}) s t (λ so_far w is. tt) since) later (run_answered cs us places before after s t run) loses
+run_stands P cs us places before after s t since run = answered_stands P s t since (run_answered cs us places before after s t run)

@@ -124,6 +124,9 @@ updates_outside name rest = elsewhere name (updates_path ++ rest) (λ e. absurd 
 diversions_outside : (name : List ℕ) → IsOutside name diversions_path
 diversions_outside name = elsewhere name diversions_path (λ e. absurd (omega (arith, e))) (λ e. absurd (omega (arith, e))) refl
 
+diversions_spare_outside : (name : List ℕ) → IsOutside name (temporary diversions_path)
+diversions_spare_outside name = elsewhere name (temporary diversions_path) (λ e. absurd (omega (arith, e))) (λ e. absurd (omega (arith, e))) refl
+
 -- a unit that was carried out
 
 module _ (p : Package) (places : List Path) (before after : List Record) (ended : Ended) (ts : List Ran) (old new : World) (records : HasEnded p before after ended) (left : IsLeft p places after ended ts old new) where
@@ -201,27 +204,32 @@ module _ (p : Package) (places : List Path) (before after : List Record) (ended 
     standing = records.standing was.standing;
   }
 
-  pub diverted_left : new diversions_path ≡ old diversions_path
-  diverted_left = stays diversions_path (diversions_outside p.name) refl
+-- units, and a run of them: what is no unit's, and no script's
 
--- units, and a run of them
+module _ (places : List Path) (q : Path) (out : (name : List ℕ) → IsOutside name q) (kept : is_kept places q ≡ true) where
+  apart_word : (p : Package) (word : Option Word) (before after : List Record) (u : AUnit) (s t : State) → IsUnitByWord p word places before after u s t → IsTrue t.honest → t.world q ≡ s.world q
+  apart_word p (Some word) before after u s t unit h = ap (λ w. w q) unit.state.world
+  apart_word p None before after u s t unit h = stays p places before after unit.unpacked.ended unit.unpacked.ts s.world t.world unit.unpacked.unit.records (unit.unpacked.unit.leaves h) q (out p.name) kept
+
+  apart_unit : (label : List ℕ) (tree : Result Package TreeFault) (before after : List Record) (u : AUnit) (s t : State) → IsUnitOf label tree places before after u s t → IsTrue t.honest → t.world q ≡ s.world q
+  apart_unit label (Err fault) before after u s t unit h = ap (λ w. w q) unit.state.world
+  apart_unit label (Ok p) before after u s t unit h = apart_word p (word_of p before) before after u s t unit h
+
+  apart_run : (cs : List Candidate) (us : List AUnit) (before after : List Record) (s t : State) → IsRun cs us places before after s t → IsTrue t.honest → t.world q ≡ s.world q
+  apart_run [] [] before after s t run h = ap (λ (x : State). x.world q) run.0
+  apart_run [] (u ∷ us) before after s t run h = absurd run
+  apart_run (c ∷ cs) [] before after s t run h = absurd run
+  apart_run (c ∷ cs) (u ∷ us) before after s t run h =
+      apart_run cs us run.1 after run.0 t run.3 h ∙ apart_unit c.label c.tree before run.1 u s run.0 run.2.is (falls_run cs us places run.1 after run.0 t run.3 h)
 
 module _ (places : List Path) where
-  diverted_word : (p : Package) (word : Option Word) (before after : List Record) (u : AUnit) (s t : State) → IsUnitByWord p word places before after u s t → IsTrue t.honest → t.world diversions_path ≡ s.world diversions_path
-  diverted_word p (Some word) before after u s t unit h = ap (λ w. w diversions_path) unit.state.world
-  diverted_word p None before after u s t unit h = diverted_left p places before after unit.unpacked.ended unit.unpacked.ts s.world t.world unit.unpacked.unit.records (unit.unpacked.unit.leaves h)
+  -- the file of diversions isn't touched, nor its temporary name
 
-  diverted_unit : (label : List ℕ) (tree : Result Package TreeFault) (before after : List Record) (u : AUnit) (s t : State) → IsUnitOf label tree places before after u s t → IsTrue t.honest → t.world diversions_path ≡ s.world diversions_path
-  diverted_unit label (Err fault) before after u s t unit h = ap (λ w. w diversions_path) unit.state.world
-  diverted_unit label (Ok p) before after u s t unit h = diverted_word p (word_of p before) before after u s t unit h
-
-  -- the file of diversions isn't touched
   pub diverted_run : (cs : List Candidate) (us : List AUnit) (before after : List Record) (s t : State) → IsRun cs us places before after s t → IsTrue t.honest → t.world diversions_path ≡ s.world diversions_path
-  diverted_run [] [] before after s t run h = ap (λ (x : State). x.world diversions_path) run.0
-  diverted_run [] (u ∷ us) before after s t run h = absurd run
-  diverted_run (c ∷ cs) [] before after s t run h = absurd run
-  diverted_run (c ∷ cs) (u ∷ us) before after s t run h =
-      diverted_run cs us run.1 after run.0 t run.3 h ∙ diverted_unit c.label c.tree before run.1 u s run.0 run.2.is (falls_run cs us places run.1 after run.0 t run.3 h)
+  diverted_run cs us before after s t run h = apart_run places diversions_path diversions_outside refl cs us before after s t run h
+
+  pub diverted_spare_run : (cs : List Candidate) (us : List AUnit) (before after : List Record) (s t : State) → IsRun cs us places before after s t → IsTrue t.honest → t.world (temporary diversions_path) ≡ s.world (temporary diversions_path)
+  diverted_spare_run cs us before after s t run h = apart_run places (temporary diversions_path) diversions_spare_outside refl cs us before after s t run h
 
   readable_word : (p : Package) (word : Option Word) (before after : List Record) (u : AUnit) (s t : State) → IsUnitByWord p word places before after u s t → IsTrue t.honest → IsReadableBeside s.world before → IsReadableBeside t.world after
   readable_word p (Some word) before after u s t unit h was = subst (IsReadableBeside t.world) (sym unit.table) (subst (λ w. IsReadableBeside w before) (sym unit.state.world) was)

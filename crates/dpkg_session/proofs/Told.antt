@@ -36,6 +36,10 @@ tells_last a b c us u first second = tells_then a b c [] (calls_of us) (calls_of
 pub tells_whole : (a b : State) (us : List AUnit) → TellsAll a b [] (calls_of us) → TellsAll a b [] (calls_of us ++ [])
 tells_whole a b us told = (told.0, told.1, append-nil (calls_of us) ∙ told.2)
 
+-- where no script was called no call is told
+pub tells_silent : (s t : State) (told : List Called) → Silent s t → told ≡ [] → TellsAll s t [] told
+tells_silent s t told silent none = tells_none s t [] told (silent_calls s t silent) none
+
 -- what a unit tells is in step with the host's own list, whatever its answer
 
 no_calls_tell : (u : AUnit) (s t : State) → HasNoCalls u s t → TellsAll s t [] u.calls.items

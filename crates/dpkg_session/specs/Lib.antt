@@ -6,3 +6,4 @@ pub mod Commands
 pub mod History
 pub mod PowerLoss
 pub mod Queries
+pub mod Diversions

@@ -4,7 +4,7 @@ use Rattle.host_core.specs.World.{World, is_directory}
 use Rattle.host_core.specs.Host.{State}
 use Rattle.administration.specs.Fault.{CountsAdministration}
 use Rattle.administration.specs.declared.fault.AdministrationFault.{AdministrationFault}
-use Rattle.administration.specs.Places.{home_path, info_path, status_path, tmp_path, temporary}
+use Rattle.administration.specs.Places.{home_path, info_path, status_path, diversions_path, tmp_path, temporary}
 use Rattle.administration.specs.Files.{NoDirectory}
 use Rattle.diversions.specs.declared.entry.Diversion.{Diversion}
 use Rattle.diversions.specs.Lines.{HasDiversions}
@@ -24,6 +24,8 @@ IsStanding table lists entries w =
     × AreLoose w
     × NoDirectory (w status_path)
     × NoDirectory (w (temporary status_path))
+    × NoDirectory (w diversions_path)
+    × NoDirectory (w (temporary diversions_path))
     × (w tmp_path ≡ None)
     × HasRecords w table
     × ∥ HasLists w (names_of table) lists ∥₁

@@ -1,4 +1,4 @@
-// Why an unpack is refused.
+// Why a unit is refused.
 ghost use Rattle.std.specs.Prelude.{◌≡◌, ◌||◌, codes};
 ghost use Rattle.dpkg_session.specs.Refusals.{any_has, has_relation, relation_word, word_of};
 
@@ -21,9 +21,10 @@ pub enum Word {
 pub enum Rule {
     Tree(TreeFault),
     NotYet(Word),
+    Divert(diversions::Refusal),
 }
 
-/// A refused unit: the rule, and the package, or for a tree's fault the word that named the tree.
+/// A refused unit: the rule, and the package; for a tree's fault the word that named the tree, and for a diversion its path.
 #[derive(Drop)]
 pub struct Refusal {
     pub rule: Rule,

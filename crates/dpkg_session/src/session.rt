@@ -42,23 +42,25 @@ impl Command {
 }
 
 /// A root whose administration is open. After a unit that was broken off it is closed. A running
-/// script leaves alone the places of all listed paths, which are computed once.
+/// script leaves alone the places of all listed paths, which are computed anew as diversions change.
 pub struct Session<H: Host> {
     pub(crate) alloc: Global,
-    host: H,
+    pub(crate) host: H,
     pub(crate) database: Database,
     pub(crate) lists: FileLists,
     pub(crate) diversions: Diversions,
-    places: Places,
+    pub(crate) places: Places,
     pub(crate) closed: bool,
     pub ghost ready: { closed ≡ false → Needs (H.state host) (IsStanding database lists.lists diversions.entries) },
-    pub ghost kept: { places ≡ places_in diversions.entries lists.lists },
+    pub ghost kept: { closed ≡ false → places ≡ places_in diversions.entries lists.lists },
+    pub ghost writable: { closed ≡ false → diversions.closed ≡ false },
 }
 
 // Opens the administration, and brings all that was done to the disk.
 fn open_to_disk<H: Host>(alloc: Global, host: &mut H) -> Result<Opened, AdministrationFault>
     ensures opens { IsTrue (H.state host.new).honest → Opens parts (fault_in result) (H.state host.old).world (H.state host.new).world }
     ensures opened { Gives result (λ opened old new. IsOpened opened.database opened.lists.lists opened.diversions.entries new) (H.state host.old) (H.state host.new) }
+    ensures writable { IfOk result (λ opened. opened.diversions.closed ≡ false) }
     ensures on_disk { OnOk result (IsOnDisk (H.state host.new).events) }
     ensures any_moment { AtEachMoment IsOpening (H.state host.old) (H.state host.new) }
     ensures silent { Silent (H.state host.old) (H.state host.new) }
@@ -74,7 +76,7 @@ fn open_to_disk<H: Host>(alloc: Global, host: &mut H) -> Result<Opened, Administ
 }
 
 // The answer of a session that is closed.
-fn closed_report(alloc: Global) -> Report
+pub(crate) fn closed_report(alloc: Global) -> Report
     ensures { IsClosedReport result }
 {
     Report {

@@ -256,7 +256,7 @@ fn unit_of<H: Host>(
     }
 }
 
-fn is_broken(unit: &Unit) -> bool
+pub(crate) fn is_broken(unit: &Unit) -> bool
     ensures { MatchBool result (IsBroken unit.now.reply) (IsBroken unit.now.reply → ⊥) }
 {
     match &unit.reply {

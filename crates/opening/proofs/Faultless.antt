@@ -64,7 +64,7 @@ faultless : (part : Part) (w : World) (file : Path) (line : ℕ) → IsTree w �
 faultless Root w file line tree status fine faulty = faulty.2 fine
 faultless (Way path) w file line tree status fine faulty = faulty.2.1 fine
 faultless Status w file line tree status fine faulty = not_damaged (w status_path) fine.1.0 line fine.0 fine.1.1.records faulty.1
-faultless Spare w file line tree status fine faulty = fine (subst (λ (p : Path). IsDirectory (w p)) faulty.0 faulty.2)
+faultless (Spare path) w file line tree status fine faulty = fine faulty.2
 faultless Updates w file line tree status fine faulty = empty_updates w file fine faulty.1
 faultless Info w file line tree status fine faulty = readable_info w file line status fine faulty
 faultless Diversions w file line tree status fine faulty = not_faulty (w diversions_path) fine.0 line fine.1 faulty.1

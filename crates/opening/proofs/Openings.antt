@@ -15,7 +15,7 @@ use Rattle.host_core.specs.Moments.{since_reads, since_then, since_weaker, since
 use Rattle.host_core.specs.declared.fault.HostFault.{HostFault}
 use Rattle.host_core.specs.declared.fault.HostFault.TheVariants as host
 use Rattle.host_core.specs.Nodes.{own_access}
-use Rattle.administration.specs.Places.{home_path, info_path, status_path, diversions_path, updates_path, tmp_path, list_path, temporary, is_within}
+use Rattle.administration.specs.Places.{home_path, info_path, status_path, diversions_path, updates_path, tmp_path, list_path, is_within}
 use Rattle.administration.specs.Directories.{new_directory, HasBadName, IsMade, IsMaking, IsRemoved, IsTaking}
 use Rattle.administration.specs.Fault.{fault_of}
 use Rattle.administration.specs.Files.{NoDirectory, KeepsBeside}
@@ -156,7 +156,7 @@ abbrev pub IsEarly : Part → Type 0
 IsEarly Root = Unit {0}
 IsEarly (Way path) = is_within tmp_path path ≡ false
 IsEarly Status = Unit {0}
-IsEarly Spare = Unit {0}
+IsEarly (Spare path) = (is_within tmp_path path ≡ false) × (is_way path ≡ false)
 IsEarly Updates = Unit {0}
 IsEarly Info = Unit {0}
 IsEarly Diversions = Unit {0}
@@ -174,8 +174,7 @@ fine_kept (Way path) u v early opening fine = directory_kept path u v (opening.r
 fine_kept Status u v early opening fine =
     let e = plain_kept status_path u v refl (opening.rest status_path refl) in
     (subst IsFileOrNothing (sym e) fine.0, (fine.1.0, table_kept fine.1.0 u v e fine.1.1))
-fine_kept Spare u v early opening fine =
-    no_directory_at (v (temporary status_path)) (u (temporary status_path)) (plain_kept (temporary status_path) u v refl (opening.rest (temporary status_path) refl)) fine
+fine_kept (Spare path) u v early opening fine = no_directory_at (v path) (u path) (plain_kept path u v early.1 (opening.rest path early.0)) fine
 fine_kept Updates u v early opening fine = λ name plain.
     plain_kept (updates_path ++ 47 ∷ name) u v refl (opening.rest (updates_path ++ 47 ∷ name) refl) ∙ fine name plain
 fine_kept Info u v early opening fine = record {
@@ -227,7 +226,7 @@ early_spares (part ∷ among) early = ap (λ t. t || list_any is_leftovers among
     at Root is = refl
     at (Way path) is = refl
     at Status is = refl
-    at Spare is = refl
+    at (Spare path) is = refl
     at Updates is = refl
     at Info is = refl
     at Diversions is = refl
@@ -350,11 +349,11 @@ root_lacking p fault u v e is same lacks = opens_read (Root ∷ []) (Some fault)
     (subst (IsDamage (Root ∷ []) u) (sym is) (inl (e, refl, no_directory_at (u root_path) (u p) (ap u (sym e)) lacks)))
 
 -- nothing stands at the temporary name, or a file
-pub spare_fine : (p : Path) (u v : World) → p ≡ temporary status_path → v ≡ u → NoDirectory (u p) → Opens (Spare ∷ []) None u v
-spare_fine p u v e same loose = opens_read (Spare ∷ []) None u v same (no_directory_at (u (temporary status_path)) (u p) (ap u (sym e)) loose, tt)
+pub spare_fine : (p place : Path) (u v : World) → p ≡ place → v ≡ u → NoDirectory (u p) → Opens (Spare place ∷ []) None u v
+spare_fine p place u v e same loose = opens_read (Spare place ∷ []) None u v same (no_directory_at (u place) (u p) (ap u (sym e)) loose, tt)
 
-pub spare_taken : (p : Path) (fault : AdministrationFault) (u v : World) → p ≡ temporary status_path → fault ≡ Damaged p 0 → v ≡ u → IsDirectory (u p) → Opens (Spare ∷ []) (Some fault) u v
-spare_taken p fault u v e is same there = opens_read (Spare ∷ []) (Some fault) u v same (subst (IsDamage (Spare ∷ []) u) (sym is) (inl (e, refl, there)))
+pub spare_taken : (p place : Path) (fault : AdministrationFault) (u v : World) → p ≡ place → fault ≡ Damaged p 0 → v ≡ u → IsDirectory (u p) → Opens (Spare place ∷ []) (Some fault) u v
+spare_taken p place fault u v e is same there = opens_read (Spare place ∷ []) (Some fault) u v same (subst (IsDamage (Spare place ∷ []) u) (sym is) (inl (e, refl, subst (λ q. IsDirectory (u q)) e there)))
 
 -- `tmp.ci`
 
@@ -481,7 +480,8 @@ opened_of table lists entries u v opens is listed diverted = record {
   status = opens.finds.1.1.1.1.0.0;
   status_spare = opens.finds.1.1.1.1.1.0;
   diversions = diverted;
-  tmp = opens.finds.1.1.1.1.1.1.1.1.1.1.1.0;
+  diversions_spare = opens.finds.1.1.1.1.1.1.1.1.1.1.1.0;
+  tmp = opens.finds.1.1.1.1.1.1.1.1.1.1.1.1.0;
   records = is.records;
   standing = is.standing;
   listed = listed;

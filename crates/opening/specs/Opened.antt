@@ -1,7 +1,7 @@
 -- An administration that is open.
 use Rattle.std.specs.Prelude.{◌≡◌, ℕ, List, None}
 use Rattle.host_core.specs.World.{World, IsDirectory}
-use Rattle.administration.specs.Places.{home_path, info_path, status_path, updates_path, tmp_path, temporary}
+use Rattle.administration.specs.Places.{home_path, info_path, status_path, diversions_path, updates_path, tmp_path, temporary}
 use Rattle.administration.specs.Directories.{HasBadName}
 use Rattle.administration.specs.Files.{NoDirectory}
 use Rattle.diversions.specs.declared.entry.Diversion.{Diversion}
@@ -30,6 +30,7 @@ pub record IsOpened (table : List Record) (lists : List PackageList) (entries : 
   pub status : IsFileOrNothing (w status_path)
   pub status_spare : NoDirectory (w (temporary status_path))
   pub diversions : HasDiversions w entries
+  pub diversions_spare : NoDirectory (w (temporary diversions_path))
   pub tmp : w tmp_path ≡ None
   pub records : HasRecords w table
   pub standing : standing table ≡ table

@@ -4,7 +4,7 @@ use Rattle.std.specs.List.{AllByRecursion, list_any}
 use Rattle.host_core.specs.Paths.{Path}
 use Rattle.host_core.specs.Tree.{has_slash}
 use Rattle.host_core.specs.World.{World, IsDirectory, IsLoose, SameOn}
-use Rattle.administration.specs.Places.{home_path, info_path, status_path, updates_path, tmp_path, temporary, is_within}
+use Rattle.administration.specs.Places.{home_path, info_path, status_path, diversions_path, updates_path, tmp_path, temporary, is_within}
 use Rattle.administration.specs.Directories.{HasBadName}
 use Rattle.administration.specs.Files.{NoDirectory}
 use Rattle.administration.specs.Least.{IsLeastIn}
@@ -26,9 +26,10 @@ pub data Part : Type 0 where
   Root : Part
   -- a directory of the administration, or one above it
   Way : (path : Path) → Part
-  -- the status file, and its temporary name
+  -- the status file
   Status : Part
-  Spare : Part
+  -- the name at which a file is written before it is renamed to its place
+  Spare : (path : Path) → Part
   -- noted records
   Updates : Part
   -- file lists and stored scripts
@@ -38,7 +39,7 @@ pub data Part : Type 0 where
   Leftovers : Part
 
 abbrev pub parts : List Part
-parts = Root ∷ Way var_path ∷ Way lib_path ∷ Way home_path ∷ Status ∷ Spare ∷ Way updates_path ∷ Updates ∷ Way info_path ∷ Info ∷ Diversions ∷ Leftovers ∷ []
+parts = Root ∷ Way var_path ∷ Way lib_path ∷ Way home_path ∷ Status ∷ Spare (temporary status_path) ∷ Way updates_path ∷ Updates ∷ Way info_path ∷ Info ∷ Diversions ∷ Spare (temporary diversions_path) ∷ Leftovers ∷ []
 
 -- nothing stands in a directory
 abbrev pub IsEmptyIn : World → Path → Type 0
@@ -61,7 +62,7 @@ abbrev pub IsFine : World → Part → Type 0
 IsFine w Root = IsDirectory (w root_path)
 IsFine w (Way path) = IsDirectory (w path)
 IsFine w Status = IsFileOrNothing (w status_path) × ((table : List Record) × IsTable w table)
-IsFine w Spare = NoDirectory (w (temporary status_path))
+IsFine w (Spare path) = NoDirectory (w path)
 IsFine w Updates = IsEmptyIn w updates_path
 IsFine w Info = IsReadableInfo w
 IsFine w Diversions = (entries : List Diversion) × HasDiversions w entries
@@ -81,7 +82,7 @@ abbrev pub IsFaulty : World → Part → Path → ℕ → Type 0
 IsFaulty w Root file line = (file ≡ root_path) × (line ≡ 0) × NoDirectory (w root_path)
 IsFaulty w (Way path) file line = (file ≡ path) × (line ≡ 0) × IsLoose (w path)
 IsFaulty w Status file line = IsStatusDamage w (Damaged file line)
-IsFaulty w Spare file line = (file ≡ temporary status_path) × (line ≡ 0) × IsDirectory (w file)
+IsFaulty w (Spare path) file line = (file ≡ path) × (line ≡ 0) × IsDirectory (w path)
 IsFaulty w Updates file line = (line ≡ 0) × IsEntryFault w updates_path file
 IsFaulty w Info file line = (table : List Record) × IsTable w table × IsInfoDamage w (names_of table) (Damaged file line)
 IsFaulty w Diversions file line = IsDiversionsDamage w (Damaged file line)
@@ -111,7 +112,7 @@ abbrev pub is_leftovers : Part → Bool
 is_leftovers Root = false
 is_leftovers (Way path) = false
 is_leftovers Status = false
-is_leftovers Spare = false
+is_leftovers (Spare path) = false
 is_leftovers Updates = false
 is_leftovers Info = false
 is_leftovers Diversions = false

@@ -1,10 +1,11 @@
 // The administration as a whole, part by part in the order in which they are opened.
-ghost use Rattle.std.specs.Prelude.{◌≡◌, ◌∷◌, [], true, IsTrue, Some, option_copied, IfOk, MatchBool};
+ghost use Rattle.std.specs.Prelude.{◌≡◌, ◌∷◌, [], true, false, IsTrue, Some, option_copied, IfOk, MatchBool};
 ghost use Rattle.host_core.specs.Host.{AtEachMoment, Counts, Gives, Needs, Reads, Silent, Tells};
+ghost use Rattle.host_core.specs.Paths.{is_path};
 ghost use Rattle.host_core.specs.World.{HasParent, World, IsDirectory};
 ghost use Rattle.administration.specs.Fault.{CountsAdministration};
 ghost use Rattle.administration.specs.Files.{NoDirectory};
-ghost use Rattle.administration.specs.Places.{home_path, updates_path, info_path, tmp_path};
+ghost use Rattle.administration.specs.Places.{diversions_path, home_path, status_path, temporary, updates_path, info_path, tmp_path};
 ghost use Rattle.administration.specs.declared.fault.AdministrationFault.TheVariants.{Damaged, Device};
 ghost use Rattle.diversions.specs.Lines.{HasDiversions};
 ghost use Rattle.opening.specs.Leaving.{is_way, IsOpening, var_path, lib_path};
@@ -32,8 +33,10 @@ pub struct Opened {
     pub diversions: Diversions,
 }
 
-// Where the status file is written before it is renamed to its place.
+// Where the status file and that of diversions are written before they are renamed to their places.
 const STATUS_SPARE: &str = "/var/lib/dpkg/status.dpkg-inst";
+
+const DIVERSIONS_SPARE: &str = "/var/lib/dpkg/diversions.dpkg-inst";
 
 fn damaged(file: RootPath, line: u64) -> AdministrationFault
     ensures { result ≡ Damaged file line }
@@ -97,13 +100,14 @@ fn open_ways<H: Host>(alloc: Global, host: &mut H) -> Result<(), AdministrationF
     make_way(alloc, host, "/var/lib/dpkg")
 }
 
-fn check_spare<H: Host>(alloc: Global, host: &mut H) -> Result<(), AdministrationFault>
-    ensures opens { IsTrue (H.state host.new).honest → Opens (Spare ∷ []) (fault_in result) (H.state host.old).world (H.state host.new).world }
+fn check_spare<H: Host>(alloc: Global, host: &mut H, place: &str) -> Result<(), AdministrationFault>
+    requires { is_path place.now ≡ true }
+    ensures opens { IsTrue (H.state host.new).honest → Opens (Spare place.now ∷ []) (fault_in result) (H.state host.old).world (H.state host.new).world }
     ensures reads { Reads (H.state host.old) (H.state host.new) }
     ensures silent { Silent (H.state host.old) (H.state host.new) }
     ensures counts { CountsAdministration (H.state host.old) (H.state host.new) result }
 {
-    let spare = RootPath::from_str(alloc, STATUS_SPARE)?;
+    let spare = RootPath::from_str(alloc, place)?;
     if is_directory(host, &spare)? {
         return Err(damaged(spare, 0));
     }
@@ -235,19 +239,30 @@ fn clear_leftovers<H: Host>(alloc: Global, host: &mut H) -> Result<(), Administr
     }
 }
 
-// Removes what a unit left behind; the diversions that were read go through.
+// Nothing may be in the way of the file of diversions; then what a unit left behind is removed.
+fn settle_rest<H: Host>(alloc: Global, host: &mut H) -> Result<(), AdministrationFault>
+    ensures opens { IsTrue (H.state host.new).honest → Opens (Spare (temporary diversions_path) ∷ Leftovers ∷ []) (fault_in result) (H.state host.old).world (H.state host.new).world }
+    ensures any_moment { AtEachMoment IsOpening (H.state host.old) (H.state host.new) }
+    ensures silent { Silent (H.state host.old) (H.state host.new) }
+    ensures counts { CountsAdministration (H.state host.old) (H.state host.new) result }
+{
+    check_spare(alloc, host, DIVERSIONS_SPARE)?;
+    clear_leftovers(alloc, host)
+}
+
+// The parts behind the diversions; those that were read go through.
 fn settle_with<H: Host>(
     alloc: Global,
     host: &mut H,
     diversions: Diversions,
 ) -> Result<Diversions, AdministrationFault>
-    ensures opens { IsTrue (H.state host.new).honest → Opens (Leftovers ∷ []) (fault_in result) (H.state host.old).world (H.state host.new).world }
+    ensures opens { IsTrue (H.state host.new).honest → Opens (Spare (temporary diversions_path) ∷ Leftovers ∷ []) (fault_in result) (H.state host.old).world (H.state host.new).world }
     ensures diversions { IfOk result (λ kept. kept ≡ diversions) }
     ensures any_moment { AtEachMoment IsOpening (H.state host.old) (H.state host.new) }
     ensures silent { Silent (H.state host.old) (H.state host.new) }
     ensures counts { CountsAdministration (H.state host.old) (H.state host.new) result }
 {
-    match clear_leftovers(alloc, host) {
+    match settle_rest(alloc, host) {
         Ok(()) => {
             return Ok(diversions);
         }
@@ -259,8 +274,9 @@ fn settle_with<H: Host>(
 
 // The diversions, and after them what a unit left behind.
 fn settle<H: Host>(alloc: Global, host: &mut H) -> Result<Diversions, AdministrationFault>
-    ensures opens { IsTrue (H.state host.new).honest → Opens (ItsDiversions ∷ Leftovers ∷ []) (fault_in result) (H.state host.old).world (H.state host.new).world }
+    ensures opens { IsTrue (H.state host.new).honest → Opens (ItsDiversions ∷ Spare (temporary diversions_path) ∷ Leftovers ∷ []) (fault_in result) (H.state host.old).world (H.state host.new).world }
     ensures diverted { Gives result (λ d old new. HasDiversions new d.entries) (H.state host.old) (H.state host.new) }
+    ensures writable { IfOk result (λ d. d.closed ≡ false) }
     ensures any_moment { AtEachMoment IsOpening (H.state host.old) (H.state host.new) }
     ensures silent { Silent (H.state host.old) (H.state host.new) }
     ensures counts { CountsAdministration (H.state host.old) (H.state host.new) result }
@@ -275,9 +291,10 @@ fn open_settled<H: Host>(
     host: &mut H,
     lists: FileLists,
 ) -> Result<(FileLists, Diversions), AdministrationFault>
-    ensures opens { IsTrue (H.state host.new).honest → Opens (ItsDiversions ∷ Leftovers ∷ []) (fault_in result) (H.state host.old).world (H.state host.new).world }
+    ensures opens { IsTrue (H.state host.new).honest → Opens (ItsDiversions ∷ Spare (temporary diversions_path) ∷ Leftovers ∷ []) (fault_in result) (H.state host.old).world (H.state host.new).world }
     ensures lists { IfOk result (λ read. read.0 ≡ lists) }
     ensures diverted { Gives result (λ read old new. HasDiversions new read.1.entries) (H.state host.old) (H.state host.new) }
+    ensures writable { IfOk result (λ read. read.1.closed ≡ false) }
     ensures any_moment { AtEachMoment IsOpening (H.state host.old) (H.state host.new) }
     ensures silent { Silent (H.state host.old) (H.state host.new) }
     ensures counts { CountsAdministration (H.state host.old) (H.state host.new) result }
@@ -300,14 +317,15 @@ fn open_rest<H: Host>(
 ) -> Result<(FileLists, Diversions), AdministrationFault>
     requires home { Needs (H.state host.old) (λ w. IsDirectory (w home_path)) }
     requires table { Needs (H.state host.old) (λ w. IsTable w database.now) }
-    ensures opens { IsTrue (H.state host.new).honest → Opens (Spare ∷ Way updates_path ∷ Updates ∷ Way info_path ∷ Info ∷ ItsDiversions ∷ Leftovers ∷ []) (fault_in result) (H.state host.old).world (H.state host.new).world }
+    ensures opens { IsTrue (H.state host.new).honest → Opens (Spare (temporary status_path) ∷ Way updates_path ∷ Updates ∷ Way info_path ∷ Info ∷ ItsDiversions ∷ Spare (temporary diversions_path) ∷ Leftovers ∷ []) (fault_in result) (H.state host.old).world (H.state host.new).world }
     ensures listed { Gives result (λ read old new. IsListed new (names_of database.now) read.0.lists) (H.state host.old) (H.state host.new) }
     ensures diverted { Gives result (λ read old new. HasDiversions new read.1.entries) (H.state host.old) (H.state host.new) }
+    ensures writable { IfOk result (λ read. read.1.closed ≡ false) }
     ensures any_moment { AtEachMoment IsOpening (H.state host.old) (H.state host.new) }
     ensures silent { Silent (H.state host.old) (H.state host.new) }
     ensures counts { CountsAdministration (H.state host.old) (H.state host.new) result }
 {
-    check_spare(alloc, host)?;
+    check_spare(alloc, host, STATUS_SPARE)?;
     open_updates(alloc, host)?;
     let lists = open_info(alloc, host, database)?;
     open_settled(alloc, host, lists)
@@ -320,10 +338,11 @@ fn open_with<H: Host>(
 ) -> Result<Opened, AdministrationFault>
     requires home { Needs (H.state host.old) (λ w. IsDirectory (w home_path)) }
     requires table { Needs (H.state host.old) (λ w. IsTable w database) }
-    ensures opens { IsTrue (H.state host.new).honest → Opens (Spare ∷ Way updates_path ∷ Updates ∷ Way info_path ∷ Info ∷ ItsDiversions ∷ Leftovers ∷ []) (fault_in result) (H.state host.old).world (H.state host.new).world }
+    ensures opens { IsTrue (H.state host.new).honest → Opens (Spare (temporary status_path) ∷ Way updates_path ∷ Updates ∷ Way info_path ∷ Info ∷ ItsDiversions ∷ Spare (temporary diversions_path) ∷ Leftovers ∷ []) (fault_in result) (H.state host.old).world (H.state host.new).world }
     ensures database { IfOk result (λ opened. opened.database ≡ database) }
     ensures listed { Gives result (λ opened old new. IsListed new (names_of opened.database) opened.lists.lists) (H.state host.old) (H.state host.new) }
     ensures diverted { Gives result (λ opened old new. HasDiversions new opened.diversions.entries) (H.state host.old) (H.state host.new) }
+    ensures writable { IfOk result (λ opened. opened.diversions.closed ≡ false) }
     ensures any_moment { AtEachMoment IsOpening (H.state host.old) (H.state host.new) }
     ensures silent { Silent (H.state host.old) (H.state host.new) }
     ensures counts { CountsAdministration (H.state host.old) (H.state host.new) result }
@@ -350,6 +369,7 @@ pub fn open_administration<H: Host>(
 ) -> Result<Opened, AdministrationFault>
     ensures opens { IsTrue (H.state host.new).honest → Opens parts (fault_in result) (H.state host.old).world (H.state host.new).world }
     ensures opened { Gives result (λ opened old new. IsOpened opened.database opened.lists.lists opened.diversions.entries new) (H.state host.old) (H.state host.new) }
+    ensures writable { IfOk result (λ opened. opened.diversions.closed ≡ false) }
     ensures any_moment { AtEachMoment IsOpening (H.state host.old) (H.state host.new) }
     ensures silent { Silent (H.state host.old) (H.state host.new) }
     ensures counts { CountsAdministration (H.state host.old) (H.state host.new) result }

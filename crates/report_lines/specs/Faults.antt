@@ -9,8 +9,10 @@ use Rattle.package_tree.specs.declared.fault.FieldName.TheVariants as field
 use Rattle.package_tree.specs.declared.fault.TreeFault.{TreeFault}
 use Rattle.package_tree.specs.declared.fault.TreeFault.TheVariants.{NoControl, Control, FieldMissing, FieldBad, PathBad, Device, NoMemory}
 use Rattle.relation_fields.specs.RelationFields.{relation_name}
+use Rattle.diversions.specs.declared.refusal.Refusal.{Refusal as ItsRefusal}
+use Rattle.diversions.specs.declared.refusal.Refusal.TheVariants as diverted
 use Rattle.dpkg_session.specs.declared.refusal.Rule.{Rule}
-use Rattle.dpkg_session.specs.declared.refusal.Rule.TheVariants.{Tree, NotYet}
+use Rattle.dpkg_session.specs.declared.refusal.Rule.TheVariants.{Tree, NotYet, Divert}
 use Rattle.dpkg_session.specs.declared.refusal.Word.{Word}
 use Rattle.dpkg_session.specs.declared.refusal.Word.TheVariants.{Files, Record as ItsRecord, Conffiles, Relation}
 
@@ -52,7 +54,19 @@ word_text ItsRecord = codes "record"
 word_text Conffiles = codes "conffiles"
 word_text (Relation field) = relation_name field
 
+-- why a diversion isn't added or taken away
+abbrev pub divert_word : ItsRefusal → List ℕ
+divert_word diverted.Directory = codes "Directory"
+divert_word diverted.AlreadyDiverted = codes "AlreadyDiverted"
+divert_word diverted.TargetDiverted = codes "TargetDiverted"
+divert_word diverted.Conffile = codes "Conffile"
+divert_word diverted.NotDiverted = codes "NotDiverted"
+divert_word diverted.OtherOwner = codes "OtherOwner"
+divert_word diverted.TargetExists = codes "TargetExists"
+divert_word diverted.NoParent = codes "NoParent"
+
 -- the rule of a refusal with its detail; of a tree's fault the fault is the rule
 abbrev pub rule_text : Rule → List ℕ
 rule_text (Tree fault) = tree_text fault
 rule_text (NotYet word) = codes "NotYet " ++ word_text word
+rule_text (Divert refusal) = divert_word refusal

@@ -1,6 +1,6 @@
 // Faults and refusals in the program's own words.
 ghost use Rattle.std.specs.Prelude.{◌≡◌, IfOk, string_bytes};
-ghost use Rattle.report_lines.specs.Faults.{control_text, field_word, path_text, rule_text, tree_text, word_text};
+ghost use Rattle.report_lines.specs.Faults.{control_text, divert_word, field_word, path_text, rule_text, tree_text, word_text};
 ghost use Rattle.report_lines.specs.Openings.{opening_line};
 
 use administration::AdministrationFault;
@@ -81,6 +81,21 @@ fn word_text(word: Word) -> &'static str
     }
 }
 
+fn divert_word(refusal: diversions::Refusal) -> &'static str
+    ensures { result.now ≡ divert_word refusal }
+{
+    match refusal {
+        diversions::Refusal::Directory => "Directory",
+        diversions::Refusal::AlreadyDiverted => "AlreadyDiverted",
+        diversions::Refusal::TargetDiverted => "TargetDiverted",
+        diversions::Refusal::Conffile => "Conffile",
+        diversions::Refusal::NotDiverted => "NotDiverted",
+        diversions::Refusal::OtherOwner => "OtherOwner",
+        diversions::Refusal::TargetExists => "TargetExists",
+        diversions::Refusal::NoParent => "NoParent",
+    }
+}
+
 /// The rule of a refusal with its detail.
 pub(crate) fn rule_text(alloc: Global, rule: &Rule) -> Result<String, AllocError>
     ensures { IfOk result (λ text. string_bytes text ≡ rule_text rule.now) }
@@ -91,6 +106,7 @@ pub(crate) fn rule_text(alloc: Global, rule: &Rule) -> Result<String, AllocError
             let word = word_text(*word);
             format!(in alloc; "NotYet {word}")
         }
+        Rule::Divert(refusal) => String::from_str(alloc, divert_word(*refusal)),
     }
 }
 

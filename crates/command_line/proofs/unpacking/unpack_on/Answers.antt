@@ -25,7 +25,7 @@ returns-in_ok-done-in-Ok-clause-done g c =
         opened = c.in-Ok.ensures.opened;
       };
       places = session.places;
-      kept = session.kept;
+      kept = session.kept c.in-Ok.ensures.closed;
       end = g.S.Opened.Host.state c.into_host.result;
       given = c.close_root.ensures.given;
       ran = subst (λ host. HasRunTrees outer c.args.trees.now c.in_ok-done-in-Ok.field-0 session.places session.database begun (g.S.Opened.Host.state host)) (sym c.into_host.ensures)

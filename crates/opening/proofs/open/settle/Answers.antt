@@ -1,18 +1,19 @@
 use Rattle.std.proofs.Common.{◌∷◌, []}
-use Rattle.opening.specs.Parts.{Diversions, Leftovers}
+use Rattle.administration.specs.Places.{diversions_path, temporary}
+use Rattle.opening.specs.Parts.{Diversions, Leftovers, Spare}
 use Rattle.opening.proofs.Openings.{diversions_damaged, diversions_read, diverted_here, diverted_through, moments_read, moments_then, opens_then, stopped_before}
 use Rattle.opening.proofs.open.settle.Goals as goal
 
 pub returns-in_err-diversions-clause-opens : goal.returns-in_err-diversions-clause-opens
 returns-in_err-diversions-clause-opens g c = λ h.
-    stopped_before (Diversions ∷ []) (Leftovers ∷ []) _ c.from_residual.result _ _ c.from_residual.ensures.1 (diversions_damaged _ _ _ c.open.ensures.reads.world (c.in_err-diversions.ensures.damage h))
+    stopped_before (Diversions ∷ []) (Spare (temporary diversions_path) ∷ Leftovers ∷ []) _ c.from_residual.result _ _ c.from_residual.ensures.1 (diversions_damaged _ _ _ c.open.ensures.reads.world (c.in_err-diversions.ensures.damage h))
 
 pub returns-in_err-diversions-clause-any_moment : goal.returns-in_err-diversions-clause-any_moment
 returns-in_err-diversions-clause-any_moment g c = moments_read _ _ c.open.ensures.reads
 
 pub returns-clause-opens : goal.returns-clause-opens
 returns-clause-opens g c = λ h.
-    opens_then (Diversions ∷ []) (Leftovers ∷ []) _ _ _ _ (tt, tt)
+    opens_then (Diversions ∷ []) (Spare (temporary diversions_path) ∷ Leftovers ∷ []) _ _ _ _ (tt, tt)
     (diversions_read _ _ _ c.open.ensures.reads.world (c.in_ok-diversions.ensures.entries (c.settle_with.ensures.silent.honest h))) (c.settle_with.ensures.opens h)
 
 pub returns-clause-diverted : goal.returns-clause-diverted

@@ -12,7 +12,8 @@ invariant_of-self g c = record {
       let units = c.run_units-report.ensures in
       let run = units.whole left in
       standing_run _ _ _ _ _ _ _ _ _ run h (units.order left h) (units.records left h) (c.args.self.now.ready c.if-self.false (falls_run _ _ _ _ _ _ _ run h));
-  kept = c.args.self.now.kept;
+  kept = λ open_still. c.args.self.now.kept c.if-self.false;
+  writable = λ open_still. c.args.self.now.writable c.if-self.false;
 }
 
 pub returns-clause-loss : goal.returns-clause-loss

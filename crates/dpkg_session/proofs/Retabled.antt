@@ -1,0 +1,142 @@
+-- What the administration holds after its diversions have changed.
+use Rattle.std.proofs.Common.{◌≡◌, ◌≢◌, ◌&&◌, Bool, true, false, not, List, [], ◌∷◌, ◌++◌, IsTrue, codes, arith, get_or, refl, sym, ap, subst, ◌∙◌}
+use Rattle.std.specs.Prelude.{IsSome, MatchBool, cond}
+use Rattle.std.proofs.Math.Logic.{∥∥₁_map}
+use Rattle.std.proofs.lemmas.Bool.{and_right}
+use Rattle.std.specs.Str.{bytes_eq}
+use Rattle.host_core.proofs.Nodes.{directory_is}
+use Rattle.host_core.specs.Paths.{Path, is_path_text, has_room, has_reserved_suffix, is_below_administration, is_ship_text}
+use Rattle.host_core.specs.World.{World, IsDirectory, is_directory}
+use Rattle.host_core.specs.Host.{State}
+use Rattle.administration.specs.Places.{home_path, info_path, status_path, diversions_path, updates_path, tmp_path, list_path, temporary}
+use Rattle.administration.proofs.WholeFiles.{no_directory_at}
+use Rattle.diversions.specs.Changes.{HasAdded, HasRemoved, IsRecorded, IsTableReady, moved_if}
+use Rattle.diversions.specs.Entries.{without}
+use Rattle.diversions.specs.Places.{truename}
+use Rattle.diversions.specs.Refusals.{has_same}
+use Rattle.diversions.specs.Sights.{moves_node, sight_of}
+use Rattle.diversions.specs.declared.entry.Diversion.{Diversion}
+use Rattle.diversions.specs.declared.refusal.Answer.{Answer}
+use Rattle.diversions.specs.declared.refusal.Answer.TheVariants as answered
+use Rattle.diversions.specs.declared.refusal.Seen.{Seen}
+use Rattle.diversions.proofs.Moving.{moved_away, own_other}
+use Rattle.file_lists.specs.Info.{AreLoose, IsSound, entry_path}
+use Rattle.file_lists.specs.declared.paths.PackageList.{PackageList}
+use Rattle.opening.proofs.KeptLists.{has_lists_kept}
+use Rattle.opening.specs.Opened.{IsOpened}
+use Rattle.opening.specs.Parts.{names_of}
+use Rattle.status_db.specs.declared.record.Record.{Record}
+use Rattle.status_db.specs.Status.{IsFileOrNothing, StandsFor}
+use Rattle.dpkg_session.specs.declared.asked.Diverting.{Diverting}
+use Rattle.dpkg_session.specs.declared.asked.Undiverting.{Undiverting}
+use Rattle.dpkg_session.specs.declared.report.Unit.{Unit as AUnit}
+use Rattle.dpkg_session.specs.Diversions.{IsDiverted, IsUndiverted, LeavesAnswer, asked_entry, by_answer}
+use Rattle.dpkg_session.specs.Standing.{IsStanding}
+
+-- no shipped path is below the administration's directory
+
+below_not_ship : (q : Path) → is_below_administration q ≡ true → is_ship_text q ≡ false
+below_not_ship q below =
+    and_right (is_path_text q) (has_room q && (not (bytes_eq q (codes "/")) && (not (has_reserved_suffix q) && not (is_below_administration q))))
+    (and_right (has_room q) (not (bytes_eq q (codes "/")) && (not (has_reserved_suffix q) && not (is_below_administration q)))
+    (and_right (not (bytes_eq q (codes "/"))) (not (has_reserved_suffix q) && not (is_below_administration q))
+    (and_right (not (has_reserved_suffix q)) (not (is_below_administration q)) (ap not below))))
+
+-- a node may have moved from one shipped path to another, and the table is recorded
+record IsRetabled (entries : List Diversion) (old new : World) : Type 0 where
+  pub moves : Bool
+  pub from : Path
+  pub to : Path
+  pub ship_from : is_ship_text from ≡ true
+  pub ship_to : is_ship_text to ≡ true
+  pub recorded : IsRecorded entries (moved_if moves from to old) new
+
+module _ (table : List Record) (lists : List PackageList) (before after : List Diversion) (old new : World) (is : IsRetabled after old new) where
+  same : (q : Path) → is_below_administration q ≡ true → get_or q 14 0 ≢ 100 → new q ≡ old q
+  same q below no_d =
+      is.recorded.rest q (λ e. no_d (ap (λ (l : Path). get_or l 14 0) e)) (λ e. no_d (ap (λ (l : Path). get_or l 14 0) e))
+      ∙ moved_away is.moves is.from is.to old q (λ t. own_other q is.from is.ship_from (below_not_ship q below)) (λ t. own_other q is.to is.ship_to (below_not_ship q below))
+
+  same_info : (rest : Path) → new (info_path ++ rest) ≡ old (info_path ++ rest)
+  same_info rest = same (info_path ++ rest) refl (λ e. absurd (omega (arith, e)))
+
+  same_updates : (rest : Path) → new (updates_path ++ rest) ≡ old (updates_path ++ rest)
+  same_updates rest = same (updates_path ++ rest) refl (λ e. absurd (omega (arith, e)))
+
+  same_status : (rest : Path) → new (status_path ++ rest) ≡ old (status_path ++ rest)
+  same_status rest = same (status_path ++ rest) refl (λ e. absurd (omega (arith, e)))
+
+  same_tmp : new tmp_path ≡ old tmp_path
+  same_tmp = same tmp_path refl (λ e. absurd (omega (arith, e)))
+
+  standing_retabled : IsStanding table lists before old → IsStanding table lists after new
+  standing_retabled standing = (
+    directory_is (new home_path) is.recorded.ready.home,
+    ap is_directory (same_info []) ∙ standing.1,
+    (λ name plain there. standing.2 name plain (subst IsDirectory (same_info (47 ∷ name)) there)),
+    no_directory_at (new status_path) (old status_path) (same_status []) standing.3,
+    no_directory_at (new (temporary status_path)) (old (temporary status_path)) (same_status (codes ".dpkg-inst")) standing.4,
+    is.recorded.ready.target,
+    is.recorded.ready.spare,
+    same_tmp ∙ standing.7,
+    subst (λ n. StandsFor n table) (sym (same_status [])) standing.8,
+    ∥∥₁_map standing.9 (λ has. has_lists_kept old new (names_of table) lists (λ name known. same_info (47 ∷ name ++ codes ".list")) has),
+    ∣ is.recorded.table ∣₁,
+  )
+
+  opened_retabled : IsOpened table lists before old → IsOpened table lists after new
+  opened_retabled opened = record {
+    home = is.recorded.ready.home;
+    info = subst IsDirectory (sym (same_info [])) opened.info;
+    updates = subst IsDirectory (sym (same_updates [])) opened.updates;
+    empty = λ name plain. same_updates (47 ∷ name) ∙ opened.empty name plain;
+    text = λ bad. opened.text (bad.0, bad.1, bad.2, subst IsSome (same_info (47 ∷ bad.0)) bad.3);
+    status = subst IsFileOrNothing (sym (same_status [])) opened.status;
+    status_spare = no_directory_at (new (temporary status_path)) (old (temporary status_path)) (same_status (codes ".dpkg-inst")) opened.status_spare;
+    diversions = is.recorded.table;
+    diversions_spare = is.recorded.ready.spare;
+    tmp = same_tmp ∙ opened.tmp;
+    records = subst (λ n. StandsFor n table) (sym (same_status [])) opened.records;
+    standing = opened.standing;
+    listed = record {
+      sound = λ entry plain. subst (IsSound (names_of table) entry) (sym (same_info (47 ∷ entry))) (opened.listed.sound entry plain);
+      lists = has_lists_kept old new (names_of table) lists (λ name known. same_info (47 ∷ name ++ codes ".list")) opened.listed.lists;
+    };
+  }
+
+-- what holds of a table and a world goes on to hold where the table is recorded
+
+module _ (X : List Diversion → World → Type 0) (keep : (before after : List Diversion) (old new : World) → IsRetabled after old new → X before old → X after new) where
+  answered_kept : (answer : Answer) (before more after : List Diversion) (P : World → World → Type 0) (old new : World) → after ≡ by_answer answer before more → LeavesAnswer answer P old new → (P old new → X before old → X more new) → X before old → X after new
+  answered_kept answered.Done before more after P old new e left goes x = subst (λ l. X l new) (sym e) (goes left x)
+  answered_kept (answered.Refused refusal) before more after P old new e left goes x = subst (λ l. X l new) (sym e) (subst (X before) (sym left) x)
+
+  added_kept : (there : Bool) (before more : List Diversion) (moves : Bool) (from to : Path) (old new : World) → is_ship_text from ≡ true → is_ship_text to ≡ true → MatchBool there (new ≡ old) (IsRecorded more (moved_if moves from to old) new) → X before old → X (cond there before more) new
+  added_kept true before more moves from to old new ship_from ship_to left x = subst (X before) (sym left) x
+  added_kept false before more moves from to old new ship_from ship_to left x =
+      keep before more old new (record { moves = moves; from = from; to = to; ship_from = ship_from; ship_to = ship_to; recorded = left }) x
+
+  diverted_kept : (asked : Diverting) (seen : Seen) (before after : List Diversion) (u : AUnit) (s t : State) → IsDiverted asked seen before after u s t → IsTrue t.honest → X before s.world → X after t.world
+  diverted_kept asked seen before after u s t is h =
+      let d = asked_entry asked in
+      answered_kept is.answer before (cond (has_same before d) before (before ++ d ∷ [])) after (HasAdded before d asked.rename seen) s.world t.world is.table (is.left h)
+      (added_kept (has_same before d) before (before ++ d ∷ []) (moves_node asked.rename seen.listed (sight_of s.world asked.path asked.target)) asked.path asked.target s.world t.world is.shipped.path is.shipped.target)
+
+  undiverted_kept : (asked : Undiverting) (before after : List Diversion) (u : AUnit) (s t : State) → IsUndiverted asked before after u s t → IsTrue t.honest → X before s.world → X after t.world
+  undiverted_kept asked before after u s t is h =
+      let target = truename before asked.path in
+      answered_kept is.answer before (without asked.path before) after (HasRemoved before asked.path asked.rename) s.world t.world is.table (is.left h)
+      (λ left. keep before (without asked.path before) s.world t.world (record { moves = moves_node asked.rename false (sight_of s.world target asked.path); from = target; to = asked.path; ship_from = is.shipped.target; ship_to = is.shipped.path; recorded = left }))
+
+module _ (table : List Record) (lists : List PackageList) where
+  pub standing_diverted : (asked : Diverting) (seen : Seen) (before after : List Diversion) (u : AUnit) (s t : State) → IsDiverted asked seen before after u s t → IsTrue t.honest → IsStanding table lists before s.world → IsStanding table lists after t.world
+  standing_diverted = diverted_kept (IsStanding table lists) (λ before after old new is. standing_retabled table lists before after old new is)
+
+  pub standing_undiverted : (asked : Undiverting) (before after : List Diversion) (u : AUnit) (s t : State) → IsUndiverted asked before after u s t → IsTrue t.honest → IsStanding table lists before s.world → IsStanding table lists after t.world
+  standing_undiverted = undiverted_kept (IsStanding table lists) (λ before after old new is. standing_retabled table lists before after old new is)
+
+  pub opened_diverted : (asked : Diverting) (seen : Seen) (before after : List Diversion) (u : AUnit) (s t : State) → IsDiverted asked seen before after u s t → IsTrue t.honest → IsOpened table lists before s.world → IsOpened table lists after t.world
+  opened_diverted = diverted_kept (IsOpened table lists) (λ before after old new is. opened_retabled table lists before after old new is)
+
+  pub opened_undiverted : (asked : Undiverting) (before after : List Diversion) (u : AUnit) (s t : State) → IsUndiverted asked before after u s t → IsTrue t.honest → IsOpened table lists before s.world → IsOpened table lists after t.world
+  opened_undiverted = undiverted_kept (IsOpened table lists) (λ before after old new is. opened_retabled table lists before after old new is)

@@ -1,0 +1,34 @@
+-- Units that change the diversions.
+use Rattle.std.proofs.Common.{◌≡◌, ◌⊎◌, inl, inr, Bool, true, false, List, [], ◌∷◌, sym, subst}
+use Rattle.std.specs.Prelude.{IsNone, Some, cond}
+use Rattle.std.specs.Str.{bytes_eq}
+use Rattle.host_core.specs.Paths.{Path, is_ship_text}
+use Rattle.host_core.specs.World.{World}
+use Rattle.host_core.specs.Host.{State, Since}
+use Rattle.host_core.specs.Moments.{since_now, since_then, since_weaker_if}
+use Rattle.diversions.specs.Entries.{IsTable, entry_of}
+use Rattle.diversions.specs.Places.{target_of, truename}
+use Rattle.diversions.specs.declared.entry.Diversion.{Diversion}
+use Rattle.dpkg_session.specs.declared.report.Report.{Report}
+use Rattle.dpkg_session.specs.declared.report.Unit.{Unit as AUnit}
+use Rattle.dpkg_session.specs.Diversions.{IsOneUnit, IsReportOf}
+use Rattle.dpkg_session.specs.Units.{IsBroken}
+
+-- what holds at each moment goes on to hold while nothing changes
+pub since_still : (P : World → Type 0) (a b c : State) → Since (λ so_far. P) a b → Since (λ so_far now. now ≡ b.world) b c → Since (λ so_far. P) a c
+since_still P a b c first second =
+    since_then (λ so_far. P) a b c first
+    (since_weaker_if (λ so_far now. now ≡ b.world) (λ so_far. P) b c (λ h so_far w same. subst P (sym same) (since_now (λ so_far. P) a b first (second.honest h))) second)
+
+-- each target of a table is a shipped path
+pub truename_shipped : (entries : List Diversion) (path : Path) → IsTable entries → is_ship_text path ≡ true → is_ship_text (truename entries path) ≡ true
+truename_shipped [] path table ship = ship
+truename_shipped (d ∷ entries) path table ship = at (truename_shipped entries path table.3 ship) (bytes_eq path d.path)
+  where
+    at : is_ship_text (target_of (entry_of entries path) path) ≡ true → (b : Bool) → is_ship_text (target_of (cond b (Some d) (entry_of entries path)) path) ≡ true
+    at later true = table.0.target.path
+    at later false = later
+
+-- a report of one unit that wasn't broken off
+pub one_unit : (P : AUnit → Type 0) (u : AUnit) (report : Report) → IsReportOf u report → IsBroken u.reply ⊎ P u → IsNone report.last → IsOneUnit P report.units.items
+one_unit P u report is either none = (u, (is.whole none).0, elim either [ inl broken ↦ absurd ((is.whole none).1 broken) | inr holds ↦ holds ])

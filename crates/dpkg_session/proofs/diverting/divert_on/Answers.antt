@@ -1,0 +1,14 @@
+use Rattle.std.proofs.Common.{◌⊎◌, subst}
+use Rattle.diversions.specs.declared.refusal.Seen.{Seen}
+use Rattle.dpkg_session.specs.Diversions.{IsDiverted}
+use Rattle.dpkg_session.specs.Units.{IsBroken}
+use Rattle.dpkg_session.proofs.TableUnits.{one_unit}
+use Rattle.dpkg_session.proofs.diverting.divert_on.Goals as goal
+
+pub returns-clause-whole : goal.returns-clause-whole
+returns-clause-whole g c =
+    let unit = c.add_unit-unit.result in
+    let old = g.H.Host.state c.args.host.now in
+    let new = g.H.Host.state c.add_unit-unit.new.host in
+    one_unit _ unit c.report_of.result c.report_of.ensures
+    (subst (λ (seen : Seen). IsBroken unit.reply ⊎ IsDiverted c.args.asked.now seen c.args.diversions.now.entries c.add_unit-unit.new.diversions.entries unit old new) c.seen_of-seen.ensures c.add_unit-unit.ensures.unit)

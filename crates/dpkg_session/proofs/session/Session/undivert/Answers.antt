@@ -1,0 +1,25 @@
+use Rattle.std.proofs.Common.{sym, ◌∙◌}
+use Rattle.dpkg_session.proofs.Outlasting.{answered_stands, loses_like}
+use Rattle.dpkg_session.proofs.Told.{tells_silent}
+use Rattle.dpkg_session.proofs.Retabled.{standing_undiverted}
+use Rattle.dpkg_session.proofs.session.Session.undivert.Goals as goal
+
+pub invariant_of-self : goal.invariant_of-self
+invariant_of-self g c =
+    let report = c.undivert_on-report.ensures in
+    record {
+      ready = λ open_still h.
+          let one = report.whole (sym c.is_some-self.ensures ∙ open_still) in
+          standing_undiverted _ _ _ _ _ one.0 _ _ one.2 h (c.args.self.now.ready c.if-self.false (report.silent.honest h));
+      kept = λ open_still. report.kept (sym c.is_some-self.ensures ∙ open_still);
+      writable = λ open_still. report.writable (sym c.is_some-self.ensures ∙ open_still);
+    }
+
+pub returns-clause-told : goal.returns-clause-told
+returns-clause-told g c = tells_silent _ _ _ c.undivert_on-report.ensures.silent c.undivert_on-report.ensures.calls
+
+pub returns-clause-loss : goal.returns-clause-loss
+returns-clause-loss g c = λ open_before. loses_like _ _ _ (g.H.Host.settled c.undivert_on-report.new.host) c.undivert_on-report.ensures.any_moment
+
+pub returns-clause-stands : goal.returns-clause-stands
+returns-clause-stands g c = λ open_before whole. answered_stands _ _ _ c.undivert_on-report.ensures.any_moment (c.undivert_on-report.ensures.whole whole).2.answered

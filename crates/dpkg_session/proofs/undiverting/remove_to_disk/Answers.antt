@@ -1,0 +1,8 @@
+use Rattle.dpkg_session.proofs.TableUnits.{since_still}
+use Rattle.dpkg_session.proofs.undiverting.remove_to_disk.Goals as goal
+
+pub returns-in_err-flush_done-clause-any_moment : goal.returns-in_err-flush_done-clause-any_moment
+returns-in_err-flush_done-clause-any_moment g c = since_still _ _ _ _ c.remove.ensures.any_moment c.flush_done.ensures.any_moment
+
+pub returns-clause-any_moment : goal.returns-clause-any_moment
+returns-clause-any_moment g c = since_still _ _ _ _ c.remove.ensures.any_moment c.flush_done.ensures.any_moment

@@ -1,0 +1,143 @@
+// A session takes a diversion away as one unit.
+ghost use Rattle.std.specs.Prelude.{◌≡◌, ◌⊎◌, [], true, false, IsErrOf, IsNone, IfOk, IfSome, OnOk, is_some};
+ghost use Rattle.host_core.specs.Host.{AtEachMoment, Gives, Needs, Silent, Tells};
+ghost use Rattle.host_core.specs.Loss.{IsAnswered};
+ghost use Rattle.diversions.specs.Changes.{HasRemoved, IsRemoving, IsTableReady};
+ghost use Rattle.diversions.specs.Entries.{without};
+ghost use Rattle.diversions.specs.Fault.{CountsDiversion};
+ghost use Rattle.diversions.specs.Refusals.{remove_answer};
+ghost use Rattle.diversions.specs.declared.fault.DiversionFault.TheVariants as fault;
+ghost use Rattle.file_lists.specs.Owners.{places_in};
+ghost use Rattle.dpkg_session.specs.Diversions.{HasBroken, IsOneUnit, IsUndiverted, LeavesAnswer, by_answer};
+ghost use Rattle.dpkg_session.specs.PowerLoss.{LosesLikeAStop, StandsOnceAnswered};
+ghost use Rattle.dpkg_session.specs.Units.{CountsLast, CountsReply, IsBroken, IsBrokenBy, IsClosedReport, TellsCalls, calls_told};
+ghost use Rattle.dpkg_session.specs.declared.report.Breakage.TheVariants.{Closed};
+
+use crate::asked::Undiverting;
+use crate::report::{Report, Unit};
+use crate::session::{Session, closed_report};
+use crate::table_units::{breakage_of, flush_done, no_memory, report_of, unit_of};
+use crate::units::broken;
+use diversions::{Answer, DiversionFault, Diversions};
+use file_lists::FileLists;
+use host_core::{Host, Places};
+use std::alloc::Global;
+
+// Takes a diversion away, and brings that to the disk.
+fn remove_to_disk<H: Host>(
+    alloc: Global,
+    host: &mut H,
+    diversions: &mut Diversions,
+    asked: &Undiverting,
+) -> Result<Answer, DiversionFault>
+    requires ready { Needs (H.state host.old) IsTableReady }
+    requires writable { diversions.old.closed ≡ false }
+    ensures answer { Tells result (λ answer w. answer ≡ remove_answer w diversions.old.entries asked.now.path asked.now.owner asked.now.rename) (H.state host.old) (H.state host.new) }
+    ensures table { IfOk result (λ answer. diversions.new ≡ record diversions.old { entries = by_answer answer diversions.old.entries (without asked.now.path diversions.old.entries) }) }
+    ensures left { Gives result (λ answer. LeavesAnswer answer (HasRemoved diversions.old.entries asked.now.path asked.now.rename)) (H.state host.old) (H.state host.new) }
+    ensures answered { OnOk result (IsAnswered (H.state host.old) (H.state host.new)) }
+    ensures any_moment { AtEachMoment (IsRemoving diversions.old.entries asked.now.path asked.now.rename) (H.state host.old) (H.state host.new) }
+    ensures silent { Silent (H.state host.old) (H.state host.new) }
+    ensures counts { CountsDiversion (H.state host.old) (H.state host.new) result }
+    ensures not_closed { IsErrOf result fault.Closed → ⊥ }
+{
+    let answer = diversions.remove(alloc, host, &asked.path, &asked.owner, asked.rename)?;
+    flush_done(host, answer)?;
+    Ok(answer)
+}
+
+// The unit that takes a diversion away.
+fn remove_unit<H: Host>(
+    alloc: Global,
+    host: &mut H,
+    lists: &FileLists,
+    diversions: &mut Diversions,
+    places: &mut Places,
+    asked: &Undiverting,
+) -> Unit
+    requires ready { Needs (H.state host.old) IsTableReady }
+    requires writable { diversions.old.closed ≡ false }
+    requires kept { places.old ≡ places_in diversions.old.entries lists.now.lists }
+    ensures unit { IsBroken result.reply ⊎ IsUndiverted asked.now diversions.old.entries diversions.new.entries result (H.state host.old) (H.state host.new) }
+    ensures writable { IsBroken result.reply ⊎ (diversions.new.closed ≡ false) }
+    ensures kept { IsBroken result.reply ⊎ (places.new ≡ places_in diversions.new.entries lists.now.lists) }
+    ensures calls { result.calls.items ≡ [] }
+    ensures touched { result.touched.items ≡ [] }
+    ensures any_moment { AtEachMoment (IsRemoving diversions.old.entries asked.now.path asked.now.rename) (H.state host.old) (H.state host.new) }
+    ensures silent { Silent (H.state host.old) (H.state host.new) }
+    ensures counts { CountsReply (H.state host.old) (H.state host.new) result.reply }
+    ensures not_closed { IsBrokenBy Closed result.reply → ⊥ }
+{
+    asked.path.law();
+    diversions.law();
+    match remove_to_disk(alloc, host, diversions, asked) {
+        Ok(answer) => unit_of(alloc, lists, diversions, places, &asked.path, answer),
+        Err(fault) => broken(alloc, Vec::new(alloc), breakage_of(fault)),
+    }
+}
+
+// The report of the unit that takes a diversion away.
+fn undivert_on<H: Host>(
+    alloc: Global,
+    host: &mut H,
+    lists: &FileLists,
+    diversions: &mut Diversions,
+    places: &mut Places,
+    asked: &Undiverting,
+) -> Report
+    requires ready { Needs (H.state host.old) IsTableReady }
+    requires writable { diversions.old.closed ≡ false }
+    requires kept { places.old ≡ places_in diversions.old.entries lists.now.lists }
+    ensures whole { IsNone result.last → IsOneUnit (λ u. IsUndiverted asked.now diversions.old.entries diversions.new.entries u (H.state host.old) (H.state host.new)) result.units.items }
+    ensures broken { HasBroken result }
+    ensures calls { calls_told result ≡ [] }
+    ensures writable { IsNone result.last → diversions.new.closed ≡ false }
+    ensures kept { IsNone result.last → places.new ≡ places_in diversions.new.entries lists.now.lists }
+    ensures any_moment { AtEachMoment (IsRemoving diversions.old.entries asked.now.path asked.now.rename) (H.state host.old) (H.state host.new) }
+    ensures silent { Silent (H.state host.old) (H.state host.new) }
+    ensures counts { CountsLast (H.state host.old) (H.state host.new) result.last }
+    ensures not_closed { IfSome result.last (λ unit. IsBrokenBy Closed unit.reply → ⊥) }
+{
+    let mut units = Vec::new(alloc);
+    if units.reserve(1).is_err() {
+        return no_memory(alloc);
+    }
+    let unit = remove_unit(alloc, host, lists, diversions, places, asked);
+    report_of(units, unit)
+}
+
+impl<H: Host> Session<H> {
+    /// Takes a diversion away: one unit. One that is broken off closes the session.
+    pub fn undivert(&mut self, asked: &Undiverting) -> Report
+        ensures whole { self.old.closed ≡ false → IsNone result.last → IsOneUnit (λ u. IsUndiverted asked.now self.old.diversions.entries self.new.diversions.entries u (H.state self.old.host) (H.state self.new.host)) result.units.items }
+        ensures broken { HasBroken result }
+        ensures told { TellsCalls (H.state self.old.host) (H.state self.new.host) result }
+        ensures any_moment { self.old.closed ≡ false → AtEachMoment (IsRemoving self.old.diversions.entries asked.now.path asked.now.rename) (H.state self.old.host) (H.state self.new.host) }
+        ensures loss { self.old.closed ≡ false → LosesLikeAStop (λ so_far. IsRemoving self.old.diversions.entries asked.now.path asked.now.rename (H.state self.old.host).world) (H.state self.old.host) (H.state self.new.host) }
+        ensures stands { self.old.closed ≡ false → IsNone result.last → StandsOnceAnswered (H.state self.old.host) (H.state self.new.host) }
+        ensures answered { self.old.closed ≡ false → IsNone result.last → IsAnswered (H.state self.old.host) (H.state self.new.host) }
+        ensures closes { self.new.closed ≡ is_some result.last }
+        ensures refused { self.old.closed ≡ true → IsClosedReport result }
+        ensures same { self.old.closed ≡ true → H.state self.new.host ≡ H.state self.old.host }
+        ensures same_table { self.old.closed ≡ true → self.new.diversions ≡ self.old.diversions }
+        ensures database { self.new.database ≡ self.old.database }
+        ensures lists { self.new.lists ≡ self.old.lists }
+        ensures silent { Silent (H.state self.old.host) (H.state self.new.host) }
+        ensures counts { self.old.closed ≡ false → CountsLast (H.state self.old.host) (H.state self.new.host) result.last }
+        ensures not_closed { self.old.closed ≡ false → IfSome result.last (λ unit. IsBrokenBy Closed unit.reply → ⊥) }
+    {
+        if self.closed {
+            return closed_report(self.alloc);
+        }
+        let report = undivert_on(
+            self.alloc,
+            &mut self.host,
+            &self.lists,
+            &mut self.diversions,
+            &mut self.places,
+            asked,
+        );
+        self.closed = report.last.is_some();
+        report
+    }
+}
