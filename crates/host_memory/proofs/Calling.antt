@@ -16,8 +16,8 @@ use Rattle.host_memory.proofs.Recorded.{same}
 
 module _ (kept : Path → Bool) (call : Call) (old new : MemoryHost) where
   pub runs_so : (result : Result Outcome HostFault) → CallsAsPlanned kept call old new result → Runs kept call (memory_state old) (memory_state new) result
-  runs_so (Ok outcome) ended = (ended.change, λ h. carries_avoids kept (memory_state old).world (change_of (next_change (planned_of old))) ended.change ended.carries, ended.happened)
-  runs_so (Err Device) (inl stopped) = inl stopped.happened
+  runs_so (Ok outcome) ended = (ended.change, λ h. carries_avoids kept (memory_state old).world (change_of (next_change (planned_of old))) ended.change ended.carries, ended.goes.happened)
+  runs_so (Err Device) (inl stopped) = inl stopped.goes.happened
   runs_so (Err Device) (inr cut) = inr (cut.change, λ h. carries_avoids kept (memory_state old).world (change_of (next_change (planned_of old))) cut.change cut.carries, cut.happened)
   runs_so (Err NoMemory) is = same old new is
 

@@ -1,8 +1,9 @@
 // What was done on a root, one thing after another.
 ghost use Rattle.std.specs.Prelude.{◌≡◌, option_map, IfOk};
-ghost use Rattle.host_memory.specs.Doings.{cut_short, step_of, part_left};
+ghost use Rattle.host_memory.specs.Changes.{change_of};
+ghost use Rattle.host_memory.specs.Doings.{cut_short, event_of, how_ended, step_of, part_left};
 
-use crate::change::Entry;
+use crate::change::{Ending, Entry};
 use crate::fault_plan::Effect;
 use host_core::{Access, Call, Node, Outcome, RootPath};
 use std::alloc::{AllocError, Global};
@@ -38,6 +39,20 @@ pub enum Done {
     Finished(Made),
     Cut(Call, Vec<Entry>),
     Failed,
+}
+
+// A call that was made and ended so.
+pub(crate) fn done_of(call: Call, ending: Ending, change: Vec<Entry>) -> Done
+    ensures { event_of result ≡ how_ended call ending (change_of change.items) }
+{
+    match ending {
+        Ending::Ended(outcome) => Done::Finished(Made {
+            call,
+            outcome,
+            change,
+        }),
+        Ending::CutOff => Done::Cut(call, change),
+    }
 }
 
 // The first bytes of a file.

@@ -1,15 +1,11 @@
 // The host in memory.
-ghost use Rattle.std.specs.Prelude.{◌≡◌, map};
-ghost use Rattle.host_core.specs.Unsynced.{IsSettled};
-ghost use Rattle.host_memory.specs.Doings.{event_of};
+ghost use Rattle.std.specs.Prelude.{◌≡◌};
 ghost use Rattle.host_memory.specs.Endings.{next_ending, next_change};
 
-use crate::change::{Ending, Entry, Planned, carry_out};
-use crate::done::{DeviceStep, Done, Made, part_of};
+use crate::change::{Ending, Entry, Planned};
+use crate::done::{DeviceStep, Done, part_of};
 use crate::fault_plan::{Effect, Fate, FaultPlan, StepFault};
-use crate::files::Files;
-use crate::placing::place;
-use crate::step::perform;
+use crate::history::History;
 use host_core::{Access, Call, Host, HostFault, Keep, Kind, Listing, Node, Outcome, RootPath};
 use std::alloc::{AllocError, Global};
 use std::collections::VecDeque;
@@ -44,50 +40,46 @@ fn next_of(pending: &VecDeque<Planned>) -> Next<'_>
 #[derive(Drop)]
 pub struct MemoryHost {
     alloc: Global,
-    files: Files,
+    history: History,
     pending: VecDeque<Planned>,
     faults: FaultPlan,
-    events: Vec<Done>,
-    ghost settled: { IsSettled (map event_of events.items) },
 }
 
 impl MemoryHost {
     ghost use Rattle.std.specs.Prelude.{◌≡◌, ◌++◌, ◌∷◌, [], Some, true, false, map, IfOk, OnOk, OnErr, MatchBool};
+    ghost use Rattle.host_memory.specs.Histories.{Breaks, IsAsBefore};
     ghost use Rattle.host_core.specs.World.{put, is_kept};
-    ghost use Rattle.host_core.specs.Events.{Did, Failed};
-    ghost use Rattle.host_core.specs.Host.{Happens};
     ghost use Rattle.host_core.specs.Unsynced.{KeepsSettled};
     ghost use Rattle.host_memory.specs.Able.{CanDo};
-    ghost use Rattle.host_memory.specs.Doings.{step_of, part_left};
-    ghost use Rattle.host_memory.specs.FaultPlans.{no_faults, behind_step};
-    ghost use Rattle.host_memory.specs.Trees.{CanPlace, HasPartWay, IsPlaced, new_directory, nothing};
-    ghost use Rattle.host_memory.specs.Memory.{memory_state, planned_of, faults_planned, is_stopped, broken_off, CallsAsPlanned, HasRoom, IsUnchanged, KeepsPlans, Looks, MakesStep, TouchesFilesAlone};
+    ghost use Rattle.host_memory.specs.Doings.{event_of, step_of, part_left};
+    ghost use Rattle.host_memory.specs.FaultPlans.{no_faults};
+    ghost use Rattle.host_memory.specs.Trees.{CanPlace, IsPlaced, new_directory, nothing};
+    ghost use Rattle.host_memory.specs.Memory.{memory_state, flushed_state, planned_of, faults_planned, is_stopped, CallsAsPlanned, KeepsPlans, Looks, MakesStep, TouchesFilesAlone};
 
     /// A root directory and nothing else.
     pub fn new(alloc: Global) -> Result<MemoryHost, AllocError>
         ensures state { IfOk result (λ host. memory_state host ≡ record { honest = true; world = put nothing [] (Some new_directory); events = [] }) }
+        ensures disk { IfOk result (λ host. flushed_state host ≡ memory_state host) }
         ensures planned { IfOk result (λ host. planned_of host ≡ []) }
         ensures faults { IfOk result (λ host. faults_planned host ≡ no_faults) }
     {
         Ok(MemoryHost {
             alloc,
-            files: Files::new(alloc)?,
+            history: History::new(alloc)?,
             pending: VecDeque::new(alloc),
             faults: FaultPlan::none(),
-            events: Vec::new(alloc),
         })
     }
 
     /// Sets what stands at a path, with the directories that are missing above it. False where a file
-    /// or link stands above, or the node would replace a directory that isn't empty. Where memory is
-    /// refused some of those directories may have been made.
+    /// or link stands above, or the node would replace a directory that isn't empty. What was done before is then on the disk.
     pub fn place(&mut self, path: &RootPath, node: Node) -> Result<bool, AllocError>
         ensures ok { IfOk result (λ done. MatchBool done (IsPlaced (memory_state self.old).world (memory_state self.new).world path.now node) ((CanPlace (memory_state self.old).world path.now node → ⊥) × ((memory_state self.new).world ≡ (memory_state self.old).world))) }
-        ensures err { OnErr result (HasPartWay (memory_state self.old).world (memory_state self.new).world path.now) }
+        ensures err { OnErr result (memory_state self.new ≡ memory_state self.old) }
+        ensures disk { OnOk result (flushed_state self.new ≡ memory_state self.new) }
         ensures alone { TouchesFilesAlone self.old self.new }
     {
-        path.law();
-        place(self.alloc, &mut self.files, path.as_str(), node)
+        self.history.place(path, node)
     }
 
     /// Adds how a later call ends, after those that were planned before.
@@ -159,47 +151,24 @@ impl MemoryHost {
     pub fn events(&self) -> &[Done]
         ensures { map event_of result.now ≡ (memory_state self.now).events }
     {
-        self.events.as_slice()
-    }
-
-    // Tells that the device failed.
-    fn tell_fault(&mut self)
-        requires { HasRoom self.old }
-        ensures happened { Happens (Failed ∷ []) (memory_state self.old) (memory_state self.new) }
-        ensures plans { KeepsPlans self.old self.new }
-    {
-        self.events.push_reserved(Done::Failed);
-    }
-
-    // Makes a step, and keeps room to tell one fault.
-    fn do_step(&mut self, step: DeviceStep) -> Result<(), AllocError>
-        requires can { CanDo (step_of step) (memory_state self.old).world }
-        requires settled { KeepsSettled (memory_state self.old).events (step_of step) }
-        ensures ok { OnOk result (Happens (Did (step_of step) ∷ []) (memory_state self.old) (memory_state self.new) × HasRoom self.new) }
-        ensures err { OnErr result (memory_state self.new ≡ memory_state self.old) }
-        ensures plans { KeepsPlans self.old self.new }
-    {
-        self.events.reserve(2)?;
-        perform(self.alloc, &mut self.files, &step)?;
-        self.events.push_reserved(Done::Did(step));
-        Ok(())
+        self.history.events()
     }
 
     // Does of a step what a fault leaves of it, and tells the fault.
     fn break_step(&mut self, step: DeviceStep, effect: Effect) -> Result<(), AllocError>
         requires can { CanDo (step_of step) (memory_state self.old).world }
         requires settled { KeepsSettled (memory_state self.old).events (step_of step) }
-        ensures ok { OnOk result (Happens (broken_off (part_left effect (step_of step))) (memory_state self.old) (memory_state self.new)) }
-        ensures err { OnErr result (memory_state self.new ≡ memory_state self.old) }
+        ensures ok { OnOk result (Breaks (part_left effect (step_of step)) self.old.history self.new.history) }
+        ensures err { OnErr result (IsAsBefore self.old.history self.new.history) }
         ensures plans { KeepsPlans self.old self.new }
     {
         let Some(part) = part_of(self.alloc, step, effect)? else {
-            self.events.reserve(1)?;
-            self.tell_fault();
+            self.history.make_room_for_fault()?;
+            self.history.tell_fault();
             return Ok(());
         };
-        self.do_step(part)?;
-        self.tell_fault();
+        self.history.do_step(part)?;
+        self.history.tell_fault();
         Ok(())
     }
 
@@ -211,7 +180,7 @@ impl MemoryHost {
     {
         match self.faults.fate() {
             Fate::Made => {
-                self.do_step(step)?;
+                self.history.do_step(step)?;
                 self.faults = self.faults.behind_step();
                 Ok(())
             }
@@ -228,8 +197,8 @@ impl MemoryHost {
         ensures { Looks self.old self.new result }
     {
         if self.faults.read_fails() {
-            self.events.reserve(1)?;
-            self.tell_fault();
+            self.history.make_room_for_fault()?;
+            self.history.tell_fault();
             self.faults = self.faults.behind_read();
             return Err(HostFault::Device);
         }
@@ -242,24 +211,14 @@ impl MemoryHost {
         requires { is_stopped self.old ≡ false }
         ensures { CallsAsPlanned (is_kept keep.now) call.now self.old self.new result }
     {
-        self.events.reserve(2)?;
-        let call = call.copy()?;
         let next = next_of(&self.pending);
-        let change = carry_out(self.alloc, &mut self.files, keep, next.change)?;
         let ending = next.ending;
+        self.history.run(call, keep, ending, next.change)?;
         self.pending.pop_front();
         match ending {
-            Ending::Ended(outcome) => {
-                self.events.push_reserved(Done::Finished(Made {
-                    call,
-                    outcome,
-                    change,
-                }));
-                Ok(outcome)
-            }
+            Ending::Ended(outcome) => Ok(outcome),
             Ending::CutOff => {
-                self.events.push_reserved(Done::Cut(call, change));
-                self.tell_fault();
+                self.history.tell_fault();
                 Err(HostFault::Device)
             }
         }
@@ -284,7 +243,7 @@ impl Host for MemoryHost {
         ensures found { IfOk result (λ node. node ≡ (memory_state self.old).world path.now) }
         ensures looks { Looks self.old self.new result }
     {
-        let node = self.files.copy_at(path)?;
+        let node = self.history.files().copy_at(path)?;
         self.look()?;
         Ok(node)
     }
@@ -293,7 +252,7 @@ impl Host for MemoryHost {
         ensures found { IfOk result (λ kind. kind ≡ kind_of ((memory_state self.old).world path.now)) }
         ensures looks { Looks self.old self.new result }
     {
-        let kind = self.files.kind_at(path);
+        let kind = self.history.files().kind_at(path);
         self.look()?;
         Ok(kind)
     }
@@ -302,7 +261,7 @@ impl Host for MemoryHost {
         ensures listed { IfOk result (λ listing. IsListing (memory_state self.old).world path.now listing.names listing.bad) }
         ensures looks { Looks self.old self.new result }
     {
-        let names = self.files.names_in(self.alloc, path)?;
+        let names = self.history.files().names_in(self.alloc, path)?;
         self.look()?;
         Ok(Listing { names, bad: false })
     }
@@ -391,8 +350,8 @@ impl Host for MemoryHost {
         ensures planned { CallsAsPlanned (is_kept keep.now) call.now self.old self.new result }
     {
         if self.faults.is_stopped {
-            self.events.reserve(1)?;
-            self.tell_fault();
+            self.history.make_room_for_fault()?;
+            self.history.tell_fault();
             return Err(HostFault::Device);
         }
         self.end_call(call, keep)
