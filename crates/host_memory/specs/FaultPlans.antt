@@ -1,5 +1,5 @@
 -- What is planned of faults of the device, and what comes of it.
-use Rattle.std.specs.Prelude.{ℕ, ◌-◌, Bool, false, ◌||◌, Option, Some, None, cond, nat_eq}
+use Rattle.std.specs.Prelude.{ℕ, ◌-◌, Bool, false, ◌||◌, Option, Some, None, cond, nat_eq, is_some}
 use Rattle.host_memory.specs.declared.fault_plan.Effect.TheVariants.{None as Nothing}
 use Rattle.host_memory.specs.declared.fault_plan.StepFault.{StepFault}
 use Rattle.host_memory.specs.declared.fault_plan.FaultPlan.{FaultPlan}
@@ -51,3 +51,7 @@ behind_read plan = cond plan.is_stopped plan (record { step = plan.step; read = 
 -- nothing is planned
 abbrev pub no_faults : FaultPlan
 no_faults = record { step = None; read = None; is_stopped = false }
+
+-- a fault is to come
+abbrev pub awaits : FaultPlan → Bool
+awaits plan = is_some plan.step || is_some plan.read

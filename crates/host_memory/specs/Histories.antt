@@ -1,14 +1,16 @@
 -- What a history tells.
-use Rattle.std.specs.Prelude.{◌≡◌, ◌<◌, ◌≤◌, ◌+◌, Bool, true, List, [], ◌∷◌, ◌++◌, Option, Some, None, map, take, drop, vec_len, vec_capacity}
+use Rattle.std.specs.Prelude.{◌≡◌, ◌<◌, ◌≤◌, ◌+◌, ℕ, Bool, true, List, [], ◌∷◌, ◌++◌, Option, Some, None, map, take, drop, vec_len, vec_capacity}
 use Rattle.std.specs.BTreeMap.{get_by_text}
 use Rattle.host_core.specs.Paths.{Path}
-use Rattle.host_core.specs.World.{Change, Step, Write, Move, Take, MakeDir, RemoveDir, HardLink, MakeLink, Sync, Barrier}
-use Rattle.host_core.specs.Events.{Event, Did, Failed}
+use Rattle.host_core.specs.World.{World, Change, Step, Write, Move, Take, MakeDir, RemoveDir, HardLink, MakeLink, Sync, Barrier}
+use Rattle.host_core.specs.Events.{Event, Did, Failed, follow_all}
+use Rattle.host_core.specs.Unsynced.{unsynced}
 use Rattle.host_core.specs.Host.{State, Happens}
 use Rattle.host_core.specs.declared.call.Call.{Call}
 use Rattle.host_memory.specs.declared.change.Ending.{Ending}
 use Rattle.host_memory.specs.Changes.{Carries}
 use Rattle.host_memory.specs.Doings.{event_of, how_ended}
+use Rattle.host_memory.specs.Losing.{Survives, left_of}
 use Rattle.host_memory.specs.declared.history.History.{History}
 
 abbrev pub history_state : History → State
@@ -89,3 +91,10 @@ pub record RunsSo (kept : Path → Bool) (call : Call) (ending : Ending) (planne
   pub change : Change
   pub carries : Carries kept (history_state old).world planned change
   pub goes : Goes (how_ended call ending change) old new
+
+-- A loss leaves what stood behind some events since all was on the disk, with at most `keep` steps on names; a file that was
+-- written and not synced until then has one byte throughout.
+pub record IsLeft (keep fill : ℕ) (h : History) (world : World) : Type 0 where
+  pub count : ℕ
+  pub survives : Survives keep (since_disk h) count
+  pub left : (q : Path) → world q ≡ left_of fill (unsynced ((disk_state h).events ++ take count (since_disk h)) q) (follow_all (take count (since_disk h)) (disk_state h).world q)

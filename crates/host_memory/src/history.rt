@@ -12,9 +12,17 @@ use crate::files::Files;
 use crate::past::Past;
 use crate::placing::place;
 use crate::step::perform;
+use crate::unsynced::fill_unsynced;
 use host_core::{Call, Keep, Node, RootPath};
 use std::alloc::{AllocError, Global};
 use std::mem;
+
+// What survives a loss of power: so many events since all was on the disk, and what stood behind them.
+#[derive(Clone, Copy)]
+struct Survivors<'a> {
+    count: usize,
+    files: &'a Files,
+}
 
 // The files that stand, and those that stood when all was on the disk: behind that many events. Of the steps on names since
 // then it is kept what stood before each.
@@ -35,7 +43,8 @@ pub(crate) struct History {
 }
 
 impl History {
-    ghost use Rattle.std.specs.Prelude.{◌≡◌, [], Some, true, false, map, IfOk, OnOk, OnErr, MatchBool};
+    ghost use Rattle.host_core.specs.Events.{follow_all};
+    ghost use Rattle.std.specs.Prelude.{◌≡◌, take, [], Some, true, false, map, IfOk, OnOk, OnErr, MatchBool};
     ghost use Rattle.std.specs.BTreeMap.{get_by_text};
     ghost use Rattle.host_core.specs.Events.{Did, Failed};
     ghost use Rattle.host_core.specs.Unsynced.{KeepsSettled};
@@ -43,9 +52,9 @@ impl History {
     ghost use Rattle.host_memory.specs.Able.{CanDo};
     ghost use Rattle.host_memory.specs.Changes.{change_of};
     ghost use Rattle.host_memory.specs.Doings.{event_of, step_of};
-    ghost use Rattle.host_memory.specs.Losing.{names};
+    ghost use Rattle.host_memory.specs.Losing.{names, naming_steps, Survives};
     ghost use Rattle.host_memory.specs.Trees.{CanPlace, IsPlaced, new_directory, nothing};
-    ghost use Rattle.host_memory.specs.Histories.{HasAllRoom, HasRoom, Goes, IsAsBefore, IsOnDisk, RunsSo, Steps, history_state};
+    ghost use Rattle.host_memory.specs.Histories.{HasAllRoom, HasRoom, Goes, IsAsBefore, IsLeft, IsOnDisk, RunsSo, Steps, disk_state, history_state, since_disk};
 
     // A root directory and nothing else.
     pub(crate) fn new(alloc: Global) -> Result<History, AllocError>
@@ -74,6 +83,13 @@ impl History {
         ensures { map event_of result.now ≡ (history_state self.now).events }
     {
         self.events.as_slice()
+    }
+
+    // How many steps on names aren't on the disk.
+    pub(crate) fn names_since(&self) -> usize
+        ensures { result ≡ naming_steps (since_disk self.now) }
+    {
+        self.pasts.len()
     }
 
     // Sets what stands at a path, and all is on the disk.
@@ -189,6 +205,49 @@ impl History {
         let change = carry_each(self.alloc, &mut files, keep, planned)?;
         self.files = files;
         self.events.push_reserved(done_of(call, ending, change));
+        Ok(())
+    }
+
+    // What survives a loss that leaves at most so many of the steps on names since all was on the disk.
+    fn survivors(&self, keep: usize) -> Survivors<'_>
+        ensures survives { Survives keep (since_disk self.now) result.count }
+        ensures files { get_by_text result.files.now.nodes ≡ follow_all (take result.count (since_disk self.now)) (disk_state self.now).world }
+    {
+        match self.pasts.get(keep) {
+            Some(past) => Survivors {
+                count: past.count,
+                files: &past.files,
+            },
+            None => Survivors {
+                count: self.events.len() - self.flushed,
+                files: &self.files,
+            },
+        }
+    }
+
+    // The files that it leaves, of which those that weren't synced are filled.
+    fn left_by_loss(&self, keep: usize, fill: u8) -> Result<Files, AllocError>
+        ensures { IfOk result (λ files. IsLeft keep fill self.now (get_by_text files.nodes)) }
+    {
+        let survivors = self.survivors(keep);
+        let mut files = survivors.files.copy()?;
+        let events = &self.events[..self.flushed + survivors.count];
+        fill_unsynced(self.alloc, &mut files, events, fill)?;
+        Ok(files)
+    }
+
+    // Loses what isn't on the disk, but for some steps on names; what is left is on the disk.
+    pub(crate) fn lose(&mut self, keep: usize, fill: u8) -> Result<(), AllocError>
+        ensures ok { OnOk result (IsLeft keep fill self.old (history_state self.new).world) }
+        ensures disk { OnOk result (IsOnDisk self.new) }
+        ensures events { OnOk result ((history_state self.new).events ≡ (history_state self.old).events) }
+        ensures err { OnErr result (self.new ≡ self.old) }
+    {
+        let files = self.left_by_loss(keep, fill)?;
+        self.disk = files.copy()?;
+        self.files = files;
+        self.flushed = self.events.len();
+        self.pasts = Vec::new(self.alloc);
         Ok(())
     }
 }

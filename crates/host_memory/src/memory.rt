@@ -46,15 +46,16 @@ pub struct MemoryHost {
 }
 
 impl MemoryHost {
-    ghost use Rattle.std.specs.Prelude.{◌≡◌, ◌++◌, ◌∷◌, [], Some, true, false, map, IfOk, OnOk, OnErr, MatchBool};
-    ghost use Rattle.host_memory.specs.Histories.{Breaks, IsAsBefore};
+    ghost use Rattle.std.specs.Prelude.{◌≡◌, ◌++◌, ◌∷◌, [], Some, true, false, map, IfErr, IfOk, OnOk, OnErr, MatchBool};
+    ghost use Rattle.host_memory.specs.Histories.{Breaks, IsAsBefore, since_disk};
+    ghost use Rattle.host_memory.specs.Losing.{naming_steps};
     ghost use Rattle.host_core.specs.World.{put, is_kept};
     ghost use Rattle.host_core.specs.Unsynced.{KeepsSettled};
     ghost use Rattle.host_memory.specs.Able.{CanDo};
     ghost use Rattle.host_memory.specs.Doings.{event_of, step_of, part_left};
-    ghost use Rattle.host_memory.specs.FaultPlans.{no_faults};
+    ghost use Rattle.host_memory.specs.FaultPlans.{awaits, no_faults};
     ghost use Rattle.host_memory.specs.Trees.{CanPlace, IsPlaced, new_directory, nothing};
-    ghost use Rattle.host_memory.specs.Memory.{memory_state, flushed_state, planned_of, faults_planned, is_stopped, CallsAsPlanned, KeepsPlans, Looks, MakesStep, TouchesFilesAlone};
+    ghost use Rattle.host_memory.specs.Memory.{memory_state, flushed_state, planned_of, faults_planned, is_stopped, CallsAsPlanned, KeepsPlans, Looks, Loses, MakesStep, TouchesFilesAlone};
 
     /// A root directory and nothing else.
     pub fn new(alloc: Global) -> Result<MemoryHost, AllocError>
@@ -132,12 +133,41 @@ impl MemoryHost {
     /// The host started again, with no fault planned. What it holds and has done is as before.
     pub fn restart(self) -> MemoryHost
         ensures state { memory_state result ≡ memory_state self }
+        ensures disk { flushed_state result ≡ flushed_state self }
         ensures planned { planned_of result ≡ planned_of self }
         ensures faults { faults_planned result ≡ no_faults }
     {
         let mut host = self;
         host.faults = FaultPlan::none();
         host
+    }
+
+    /// Loses power, and is started again with no fault planned: of the steps since all was on the disk the first `keep` that
+    /// make, move or remove a name survive (all, if there are fewer), and what was done before the next one; a file that a
+    /// step wrote and that wasn't synced until then has the byte `fill` throughout. What the host has done is told as before.
+    pub fn lose(self, keep: usize, fill: u8) -> Result<MemoryHost, (MemoryHost, AllocError)>
+        ensures ok { IfOk result (λ host. Loses keep fill self host) }
+        ensures err { IfErr result (λ back. back.0 ≡ self) }
+    {
+        let mut host = self;
+        match host.history.lose(keep, fill) {
+            Ok(()) => Ok(host.restart()),
+            Err(error) => Err((host, error)),
+        }
+    }
+
+    /// How many steps since all was on the disk made, moved or removed a name: those that a loss may undo.
+    pub fn names_since_barrier(&self) -> usize
+        ensures { result ≡ naming_steps (since_disk self.now.history) }
+    {
+        self.history.names_since()
+    }
+
+    /// Whether a fault that was planned hasn't come yet.
+    pub fn awaits_fault(&self) -> bool
+        ensures { result ≡ awaits (faults_planned self.now) }
+    {
+        self.faults.step.is_some() || self.faults.read.is_some()
     }
 
     /// Whether the device has stopped.
