@@ -1,153 +1,86 @@
 // The host in memory.
-ghost use Rattle.std.specs.Prelude.{◌≡◌, None, map, OnOk, OnErr};
-ghost use Rattle.std.specs.BTreeMap.{get_by_text};
-ghost use Rattle.host_core.specs.World.{moved, put, HasParent, IsDirectory, IsLoose};
-ghost use Rattle.host_core.specs.Unsynced.{IsSettled};
-ghost use Rattle.host_memory.specs.Doings.{event_of};
-ghost use Rattle.host_memory.specs.Endings.{next_outcome, next_change};
+ghost use Rattle.std.specs.Prelude.{◌≡◌};
+ghost use Rattle.host_memory.specs.Endings.{next_ending, next_change};
 
-use crate::change::{Entry, Planned, carry_out};
-use crate::files::Files;
-use crate::placing::place;
+use crate::change::{Ending, Entry, Planned};
+use crate::done::{DeviceStep, Done, part_of};
+use crate::fault_plan::{Effect, Fate, FaultPlan, StepFault};
+use crate::history::History;
 use host_core::{Access, Call, Host, HostFault, Keep, Kind, Listing, Node, Outcome, RootPath};
 use std::alloc::{AllocError, Global};
 use std::collections::VecDeque;
 use texts::Text;
 
-/// A call that was made, with what it changed.
-#[derive(Drop)]
-pub struct Made {
-    pub call: Call,
-    pub outcome: Outcome,
-    pub change: Vec<Entry>,
-}
-
-/// What was done: a step of the device, or a script call.
-#[derive(Drop)]
-pub enum Done {
-    Wrote(RootPath, Node),
-    Moved(RootPath, RootPath),
-    Took(RootPath),
-    MadeDir(RootPath, Access),
-    RemovedDir(RootPath),
-    Linked(RootPath, RootPath),
-    MadeLink(RootPath, Text),
-    Synced(RootPath),
-    Flushed,
-    Ran(Made),
-}
-
 // What the first plan says, lent.
 #[derive(Clone, Copy)]
-struct Ending<'a> {
-    outcome: Outcome,
+struct Next<'a> {
+    ending: Ending,
     change: &'a [Entry],
 }
 
 // How the next call ends.
-fn ending_of(pending: &VecDeque<Planned>) -> Ending<'_>
-    ensures outcome { result.outcome ≡ next_outcome pending.now.items }
+fn next_of(pending: &VecDeque<Planned>) -> Next<'_>
+    ensures ending { result.ending ≡ next_ending pending.now.items }
     ensures change { result.change.now ≡ next_change pending.now.items }
 {
     match pending.front() {
-        Some(planned) => Ending {
-            outcome: planned.outcome,
+        Some(planned) => Next {
+            ending: planned.ending,
             change: planned.change.as_slice(),
         },
-        None => Ending {
-            outcome: Outcome::Exit(0),
+        None => Next {
+            ending: Ending::Ended(Outcome::Exit(0)),
             change: &[],
         },
     }
 }
 
-// The node is copied to its new name, and then the old one goes: so memory is refused before anything is changed.
-fn move_node(
-    alloc: Global,
-    files: &mut Files,
-    from: &RootPath,
-    to: &RootPath,
-) -> Result<(), AllocError>
-    requires there { IsLoose (get_by_text files.old.nodes from.now) }
-    requires over { IsDirectory (get_by_text files.old.nodes to.now) → ⊥ }
-    requires parent { HasParent (get_by_text files.old.nodes) to.now }
-    ensures ok { OnOk result (get_by_text files.new.nodes ≡ moved (get_by_text files.old.nodes) from.now to.now) }
-    ensures err { OnErr result (get_by_text files.new.nodes ≡ get_by_text files.old.nodes) }
-{
-    let node = match files.copy_at(from)? {
-        Some(node) => node,
-        None => unreachable!(),
-    };
-    to.law();
-    files.put(alloc, to.as_str(), node)?;
-    if !from.is(to) {
-        files.take(from.as_str());
-    }
-    Ok(())
-}
-
-// The node is copied to its second name.
-fn link_node(
-    alloc: Global,
-    files: &mut Files,
-    from: &RootPath,
-    to: &RootPath,
-) -> Result<(), AllocError>
-    requires there { IsLoose (get_by_text files.old.nodes from.now) }
-    requires absent { get_by_text files.old.nodes to.now ≡ None }
-    requires parent { HasParent (get_by_text files.old.nodes) to.now }
-    ensures ok { OnOk result (get_by_text files.new.nodes ≡ put (get_by_text files.old.nodes) to.now (get_by_text files.old.nodes from.now)) }
-    ensures err { OnErr result (get_by_text files.new.nodes ≡ get_by_text files.old.nodes) }
-{
-    let node = match files.copy_at(from)? {
-        Some(node) => node,
-        None => unreachable!(),
-    };
-    to.law();
-    files.put(alloc, to.as_str(), node)?;
-    Ok(())
-}
-
-/// A root in memory. Its calls end as planned, in order, and when none is left with exit status 0.
-/// It answers NoMemory where an allocation is refused, and then nothing has changed.
+/// A root in memory. Its calls end as planned, in order, and when none is left with exit status 0; its device fails where
+/// that is planned. It answers NoMemory where an allocation is refused, and then nothing has changed.
 #[derive(Drop)]
 pub struct MemoryHost {
     alloc: Global,
-    files: Files,
+    history: History,
     pending: VecDeque<Planned>,
-    events: Vec<Done>,
-    ghost settled: { IsSettled (map event_of events.items) },
+    faults: FaultPlan,
 }
 
 impl MemoryHost {
-    ghost use Rattle.std.specs.Prelude.{◌≡◌, ◌++◌, ◌∷◌, [], Some, true, map, IfOk, OnOk, OnErr, MatchBool};
+    ghost use Rattle.std.specs.Prelude.{◌≡◌, ◌++◌, ◌∷◌, [], Some, true, false, map, IfErr, IfOk, OnOk, OnErr, MatchBool};
+    ghost use Rattle.host_memory.specs.Histories.{Breaks, IsAsBefore, since_disk};
+    ghost use Rattle.host_memory.specs.Losing.{naming_steps};
     ghost use Rattle.host_core.specs.World.{put, is_kept};
-    ghost use Rattle.host_memory.specs.Trees.{CanPlace, HasPartWay, IsPlaced, new_directory, nothing};
-    ghost use Rattle.host_memory.specs.Memory.{memory_state, planned_of, HasEnded, TouchesFilesAlone};
+    ghost use Rattle.host_core.specs.Unsynced.{KeepsSettled};
+    ghost use Rattle.host_memory.specs.Able.{CanDo};
+    ghost use Rattle.host_memory.specs.Doings.{event_of, step_of, part_left};
+    ghost use Rattle.host_memory.specs.FaultPlans.{awaits, no_faults};
+    ghost use Rattle.host_memory.specs.Trees.{CanPlace, IsPlaced, new_directory, nothing};
+    ghost use Rattle.host_memory.specs.Memory.{memory_state, flushed_state, planned_of, faults_planned, is_stopped, CallsAsPlanned, KeepsPlans, Looks, Loses, MakesStep, TouchesFilesAlone};
 
     /// A root directory and nothing else.
     pub fn new(alloc: Global) -> Result<MemoryHost, AllocError>
         ensures state { IfOk result (λ host. memory_state host ≡ record { honest = true; world = put nothing [] (Some new_directory); events = [] }) }
+        ensures disk { IfOk result (λ host. flushed_state host ≡ memory_state host) }
         ensures planned { IfOk result (λ host. planned_of host ≡ []) }
+        ensures faults { IfOk result (λ host. faults_planned host ≡ no_faults) }
     {
         Ok(MemoryHost {
             alloc,
-            files: Files::new(alloc)?,
+            history: History::new(alloc)?,
             pending: VecDeque::new(alloc),
-            events: Vec::new(alloc),
+            faults: FaultPlan::none(),
         })
     }
 
     /// Sets what stands at a path, with the directories that are missing above it. False where a file
-    /// or link stands above, or the node would replace a directory that isn't empty. Where memory is
-    /// refused some of those directories may have been made.
+    /// or link stands above, or the node would replace a directory that isn't empty. What was done before is then on the disk.
     pub fn place(&mut self, path: &RootPath, node: Node) -> Result<bool, AllocError>
         ensures ok { IfOk result (λ done. MatchBool done (IsPlaced (memory_state self.old).world (memory_state self.new).world path.now node) ((CanPlace (memory_state self.old).world path.now node → ⊥) × ((memory_state self.new).world ≡ (memory_state self.old).world))) }
-        ensures err { OnErr result (HasPartWay (memory_state self.old).world (memory_state self.new).world path.now) }
+        ensures err { OnErr result (memory_state self.new ≡ memory_state self.old) }
+        ensures disk { OnOk result (flushed_state self.new ≡ memory_state self.new) }
         ensures alone { TouchesFilesAlone self.old self.new }
     {
-        path.law();
-        place(self.alloc, &mut self.files, path.as_str(), node)
+        self.history.place(path, node)
     }
 
     /// Adds how a later call ends, after those that were planned before.
@@ -155,45 +88,180 @@ impl MemoryHost {
         ensures ok { OnOk result (planned_of self.new ≡ planned_of self.old ++ planned ∷ []) }
         ensures err { OnErr result (planned_of self.new ≡ planned_of self.old) }
         ensures state { memory_state self.new ≡ memory_state self.old }
+        ensures faults { faults_planned self.new ≡ faults_planned self.old }
     {
         self.pending.push_back(planned)?;
         Ok(())
     }
 
-    // Ends a call as the first plan says, which is then used up.
-    fn end_call(&mut self, call: &Call, keep: &Keep<'_>) -> Result<Outcome, AllocError>
-        ensures ended { IfOk result (λ outcome. HasEnded (is_kept keep.now) call.now outcome self.old self.new) }
-        ensures err { OnErr result ((memory_state self.new ≡ memory_state self.old) × (planned_of self.new ≡ planned_of self.old)) }
+    /// From now on `before` steps are made, and at the next one the device fails once. This stands in place of what was planned
+    /// for steps before.
+    pub fn fail_step(&mut self, before: usize, effect: Effect)
+        ensures faults { faults_planned self.new ≡ record (faults_planned self.old) { step = Some (record { before = before; effect = effect; stops = false }) } }
+        ensures planned { planned_of self.new ≡ planned_of self.old }
+        ensures state { memory_state self.new ≡ memory_state self.old }
     {
-        self.events.reserve(1)?;
-        let called = call.copy()?;
-        let ending = ending_of(&self.pending);
-        let carried = carry_out(self.alloc, &mut self.files, keep, ending.change)?;
-        let outcome = ending.outcome;
-        self.pending.pop_front();
-        self.events.push_reserved(Done::Ran(Made {
-            call: called,
-            outcome,
-            change: carried,
-        }));
-        Ok(outcome)
+        self.faults.step = Some(StepFault {
+            before,
+            effect,
+            stops: false,
+        });
+    }
+
+    /// The same, and the device stops at that step: until the host is started again each call fails and does nothing.
+    pub fn stop_step(&mut self, before: usize, effect: Effect)
+        ensures faults { faults_planned self.new ≡ record (faults_planned self.old) { step = Some (record { before = before; effect = effect; stops = true }) } }
+        ensures planned { planned_of self.new ≡ planned_of self.old }
+        ensures state { memory_state self.new ≡ memory_state self.old }
+    {
+        self.faults.step = Some(StepFault {
+            before,
+            effect,
+            stops: true,
+        });
+    }
+
+    /// From now on so many nodes, kinds and lists are told, and at the next one the device fails once.
+    pub fn fail_read(&mut self, before: usize)
+        ensures faults { faults_planned self.new ≡ record (faults_planned self.old) { read = Some before } }
+        ensures planned { planned_of self.new ≡ planned_of self.old }
+        ensures state { memory_state self.new ≡ memory_state self.old }
+    {
+        self.faults.read = Some(before);
+    }
+
+    /// The host started again, with no fault planned. What it holds and has done is as before.
+    pub fn restart(self) -> MemoryHost
+        ensures state { memory_state result ≡ memory_state self }
+        ensures disk { flushed_state result ≡ flushed_state self }
+        ensures planned { planned_of result ≡ planned_of self }
+        ensures faults { faults_planned result ≡ no_faults }
+    {
+        let mut host = self;
+        host.faults = FaultPlan::none();
+        host
+    }
+
+    /// Loses power, and is started again with no fault planned: of the steps since all was on the disk the first `keep` that
+    /// make, move or remove a name survive (all, if there are fewer), and what was done before the next one; a file that a
+    /// step wrote and that wasn't synced until then has the byte `fill` throughout. What the host has done is told as before.
+    pub fn lose(self, keep: usize, fill: u8) -> Result<MemoryHost, (MemoryHost, AllocError)>
+        ensures ok { IfOk result (λ host. Loses keep fill self host) }
+        ensures err { IfErr result (λ back. back.0 ≡ self) }
+    {
+        let mut host = self;
+        match host.history.lose(keep, fill) {
+            Ok(()) => Ok(host.restart()),
+            Err(error) => Err((host, error)),
+        }
+    }
+
+    /// How many steps since all was on the disk made, moved or removed a name: those that a loss may undo.
+    pub fn names_since_barrier(&self) -> usize
+        ensures { result ≡ naming_steps (since_disk self.now.history) }
+    {
+        self.history.names_since()
+    }
+
+    /// Whether a fault that was planned hasn't come yet.
+    pub fn awaits_fault(&self) -> bool
+        ensures { result ≡ awaits (faults_planned self.now) }
+    {
+        self.faults.step.is_some() || self.faults.read.is_some()
+    }
+
+    /// Whether the device has stopped.
+    pub fn is_stopped(&self) -> bool
+        ensures { result ≡ is_stopped self.now }
+    {
+        self.faults.is_stopped
     }
 
     /// All that was done so far.
     pub fn events(&self) -> &[Done]
         ensures { map event_of result.now ≡ (memory_state self.now).events }
     {
-        self.events.as_slice()
+        self.history.events()
+    }
+
+    // Does of a step what a fault leaves of it, and tells the fault.
+    fn break_step(&mut self, step: DeviceStep, effect: Effect) -> Result<(), AllocError>
+        requires can { CanDo (step_of step) (memory_state self.old).world }
+        requires settled { KeepsSettled (memory_state self.old).events (step_of step) }
+        ensures ok { OnOk result (Breaks (part_left effect (step_of step)) self.old.history self.new.history) }
+        ensures err { OnErr result (IsAsBefore self.old.history self.new.history) }
+        ensures plans { KeepsPlans self.old self.new }
+    {
+        let Some(part) = part_of(self.alloc, step, effect)? else {
+            self.history.make_room_for_fault()?;
+            self.history.tell_fault();
+            return Ok(());
+        };
+        self.history.do_step(part)?;
+        self.history.tell_fault();
+        Ok(())
+    }
+
+    // Makes a step, or fails at it as planned.
+    fn make_step(&mut self, step: DeviceStep) -> Result<(), HostFault>
+        requires can { CanDo (step_of step) (memory_state self.old).world }
+        requires settled { KeepsSettled (memory_state self.old).events (step_of step) }
+        ensures { MakesStep (step_of step) self.old self.new result }
+    {
+        match self.faults.fate() {
+            Fate::Made => {
+                self.history.do_step(step)?;
+                self.faults = self.faults.behind_step();
+                Ok(())
+            }
+            Fate::Failed(effect) => {
+                self.break_step(step, effect)?;
+                self.faults = self.faults.behind_step();
+                Err(HostFault::Device)
+            }
+        }
+    }
+
+    // Lets a read be answered, or fail as planned.
+    fn look(&mut self) -> Result<(), HostFault>
+        ensures { Looks self.old self.new result }
+    {
+        if self.faults.read_fails() {
+            self.history.make_room_for_fault()?;
+            self.history.tell_fault();
+            self.faults = self.faults.behind_read();
+            return Err(HostFault::Device);
+        }
+        self.faults = self.faults.behind_read();
+        Ok(())
+    }
+
+    // Ends a call as the first plan says, which is then used up.
+    fn end_call(&mut self, call: &Call, keep: &Keep<'_>) -> Result<Outcome, HostFault>
+        requires { is_stopped self.old ≡ false }
+        ensures { CallsAsPlanned (is_kept keep.now) call.now self.old self.new result }
+    {
+        let next = next_of(&self.pending);
+        let ending = next.ending;
+        self.history.run(call, keep, ending, next.change)?;
+        self.pending.pop_front();
+        match ending {
+            Ending::Ended(outcome) => Ok(outcome),
+            Ending::CutOff => {
+                self.history.tell_fault();
+                Err(HostFault::Device)
+            }
+        }
     }
 }
 
 impl Host for MemoryHost {
-    ghost use Rattle.std.specs.Prelude.{◌≡◌, ◌≤◌, None, true, false, IfOk, OnOk, OnErr};
-    ghost use Rattle.host_core.specs.World.{Write, Move, Take, MakeDir, RemoveDir, HardLink, MakeLink, Sync, Barrier, kind_of, IsBare, IsFile, is_kept};
+    ghost use Rattle.std.specs.Prelude.{◌≡◌, ◌≤◌, None, true, false, IfOk, OnOk};
+    ghost use Rattle.host_core.specs.World.{Write, Move, Take, MakeDir, RemoveDir, HardLink, MakeLink, Sync, Barrier, kind_of, HasParent, IsBare, IsDirectory, IsFile, IsLoose, is_kept};
     ghost use Rattle.host_core.specs.Host.{Runs, Counts, Falls};
     ghost use Rattle.host_core.specs.Tree.{IsListing};
     ghost use Rattle.host_core.specs.Unsynced.{is_temporary, unsynced};
-    ghost use Rattle.host_memory.specs.Memory.{memory_state, memory_tree, memory_settled, HasEnded, IsUnchanged, MakesStep};
+    ghost use Rattle.host_memory.specs.Memory.{memory_state, memory_tree, memory_settled, CallsAsPlanned, Looks, MakesStep};
 
     ghost state = { memory_state };
 
@@ -203,29 +271,28 @@ impl Host for MemoryHost {
 
     fn node(&mut self, path: &RootPath) -> Result<Option<Node>, HostFault>
         ensures found { IfOk result (λ node. node ≡ (memory_state self.old).world path.now) }
-        ensures unchanged { IsUnchanged self.old self.new }
-        ensures counts { Counts (memory_state self.old) (memory_state self.new) result }
+        ensures looks { Looks self.old self.new result }
     {
-        Ok(self.files.copy_at(path)?)
+        let node = self.history.files().copy_at(path)?;
+        self.look()?;
+        Ok(node)
     }
 
     fn kind(&mut self, path: &RootPath) -> Result<Option<Kind>, HostFault>
         ensures found { IfOk result (λ kind. kind ≡ kind_of ((memory_state self.old).world path.now)) }
-        ensures unchanged { IsUnchanged self.old self.new }
-        ensures counts { Counts (memory_state self.old) (memory_state self.new) result }
+        ensures looks { Looks self.old self.new result }
     {
-        match self.files.get(path.as_str()) {
-            Some(node) => Ok(Some(node.kind())),
-            None => Ok(None),
-        }
+        let kind = self.history.files().kind_at(path);
+        self.look()?;
+        Ok(kind)
     }
 
     fn list(&mut self, path: &RootPath) -> Result<Listing, HostFault>
         ensures listed { IfOk result (λ listing. IsListing (memory_state self.old).world path.now listing.names listing.bad) }
-        ensures unchanged { IsUnchanged self.old self.new }
-        ensures counts { Counts (memory_state self.old) (memory_state self.new) result }
+        ensures looks { Looks self.old self.new result }
     {
-        let names = self.files.names_in(self.alloc, path)?;
+        let names = self.history.files().names_in(self.alloc, path)?;
+        self.look()?;
         Ok(Listing { names, bad: false })
     }
 
@@ -236,13 +303,7 @@ impl Host for MemoryHost {
         requires parent { HasParent (memory_state self.old).world path.now }
         ensures { MakesStep (Write path.now node.now) self.old self.new result }
     {
-        self.events.reserve(1)?;
-        let at = path.copy()?;
-        let written = node.copy()?;
-        path.law();
-        self.files.put(self.alloc, path.as_str(), node.copy()?)?;
-        self.events.push_reserved(Done::Wrote(at, written));
-        Ok(())
+        self.make_step(DeviceStep::Write(path.copy()?, node.copy()?))
     }
 
     fn make_dir(&mut self, path: &RootPath, access: Access) -> Result<(), HostFault>
@@ -250,13 +311,7 @@ impl Host for MemoryHost {
         requires parent { HasParent (memory_state self.old).world path.now }
         ensures { MakesStep (MakeDir path.now access) self.old self.new result }
     {
-        self.events.reserve(1)?;
-        let at = path.copy()?;
-        path.law();
-        self.files
-            .put(self.alloc, path.as_str(), Node::Dir { access })?;
-        self.events.push_reserved(Done::MadeDir(at, access));
-        Ok(())
+        self.make_step(DeviceStep::MakeDir(path.copy()?, access))
     }
 
     fn make_link(&mut self, path: &RootPath, target: &Text) -> Result<(), HostFault>
@@ -265,15 +320,7 @@ impl Host for MemoryHost {
         ensures makes { MakesStep (MakeLink path.now target.now) self.old self.new result }
         ensures synced { OnOk result (unsynced (memory_state self.new).events path.now ≡ false) }
     {
-        self.events.reserve(1)?;
-        let at = path.copy()?;
-        let told = target.copy()?;
-        let stored = target.copy()?;
-        path.law();
-        self.files
-            .put(self.alloc, path.as_str(), Node::Link { target: stored })?;
-        self.events.push_reserved(Done::MadeLink(at, told));
-        Ok(())
+        self.make_step(DeviceStep::MakeLink(path.copy()?, target.copy()?))
     }
 
     fn link(&mut self, from: &RootPath, to: &RootPath) -> Result<(), HostFault>
@@ -283,12 +330,7 @@ impl Host for MemoryHost {
         requires parent { HasParent (memory_state self.old).world to.now }
         ensures { MakesStep (HardLink from.now to.now) self.old self.new result }
     {
-        self.events.reserve(1)?;
-        let first = from.copy()?;
-        let second = to.copy()?;
-        link_node(self.alloc, &mut self.files, from, to)?;
-        self.events.push_reserved(Done::Linked(first, second));
-        Ok(())
+        self.make_step(DeviceStep::HardLink(from.copy()?, to.copy()?))
     }
 
     fn sync(&mut self, path: &RootPath) -> Result<(), HostFault>
@@ -296,18 +338,13 @@ impl Host for MemoryHost {
         ensures makes { MakesStep (Sync path.now) self.old self.new result }
         ensures synced { OnOk result (unsynced (memory_state self.new).events path.now ≡ false) }
     {
-        self.events.reserve(1)?;
-        let at = path.copy()?;
-        self.events.push_reserved(Done::Synced(at));
-        Ok(())
+        self.make_step(DeviceStep::Sync(path.copy()?))
     }
 
     fn barrier(&mut self) -> Result<(), HostFault>
         ensures { MakesStep Barrier self.old self.new result }
     {
-        self.events.reserve(1)?;
-        self.events.push_reserved(Done::Flushed);
-        Ok(())
+        self.make_step(DeviceStep::Barrier)
     }
 
     fn rename(&mut self, from: &RootPath, to: &RootPath) -> Result<(), HostFault>
@@ -317,23 +354,14 @@ impl Host for MemoryHost {
         requires parent { HasParent (memory_state self.old).world to.now }
         ensures { MakesStep (Move from.now to.now) self.old self.new result }
     {
-        self.events.reserve(1)?;
-        let left = from.copy()?;
-        let reached = to.copy()?;
-        move_node(self.alloc, &mut self.files, from, to)?;
-        self.events.push_reserved(Done::Moved(left, reached));
-        Ok(())
+        self.make_step(DeviceStep::Move(from.copy()?, to.copy()?))
     }
 
     fn remove(&mut self, path: &RootPath) -> Result<(), HostFault>
         requires { IsLoose ((memory_state self.old).world path.now) }
         ensures { MakesStep (Take path.now) self.old self.new result }
     {
-        self.events.reserve(1)?;
-        let at = path.copy()?;
-        self.files.take(path.as_str());
-        self.events.push_reserved(Done::Took(at));
-        Ok(())
+        self.make_step(DeviceStep::Take(path.copy()?))
     }
 
     fn remove_dir(&mut self, path: &RootPath) -> Result<(), HostFault>
@@ -341,11 +369,7 @@ impl Host for MemoryHost {
         requires bare { IsBare (memory_state self.old).world path.now }
         ensures { MakesStep (RemoveDir path.now) self.old self.new result }
     {
-        self.events.reserve(1)?;
-        let at = path.copy()?;
-        self.files.take(path.as_str());
-        self.events.push_reserved(Done::RemovedDir(at));
-        Ok(())
+        self.make_step(DeviceStep::RemoveDir(path.copy()?))
     }
 
     /// The call ends as the first plan says, which is then used up.
@@ -353,9 +377,13 @@ impl Host for MemoryHost {
         ensures runs { Runs (is_kept keep.now) call.now (memory_state self.old) (memory_state self.new) result }
         ensures honest { Falls (memory_state self.old) (memory_state self.new) }
         ensures counts { Counts (memory_state self.old) (memory_state self.new) result }
-        ensures ended { IfOk result (λ outcome. HasEnded (is_kept keep.now) call.now outcome self.old self.new) }
-        ensures unchanged { OnErr result (IsUnchanged self.old self.new) }
+        ensures planned { CallsAsPlanned (is_kept keep.now) call.now self.old self.new result }
     {
-        Ok(self.end_call(call, keep)?)
+        if self.faults.is_stopped {
+            self.history.make_room_for_fault()?;
+            self.history.tell_fault();
+            return Err(HostFault::Device);
+        }
+        self.end_call(call, keep)
     }
 }

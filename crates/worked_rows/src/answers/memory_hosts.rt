@@ -11,7 +11,7 @@ mod word_rows;
 use super::{answer, expect, path_of, text_of};
 use command_line::Hosts;
 use host_core::{Access, Host, HostFault, Node, Outcome, RootPath};
-use host_memory::{Entry, MemoryHost, Planned};
+use host_memory::{Ending, Entry, MemoryHost, Planned};
 use std::alloc::{AllocError, Global};
 use std::process::Abort;
 use std::test::Fail;
@@ -61,7 +61,8 @@ fn planned(alloc: Global, outcome: Outcome) -> Result<Planned, AllocError> {
     change.push(Entry { path, node })?;
     let path = RootPath::from_str(alloc, "/var/lib/dpkg/status")?;
     change.push(Entry { path, node: None })?;
-    Ok(Planned { outcome, change })
+    let ending = Ending::Ended(outcome);
+    Ok(Planned { ending, change })
 }
 
 // An empty root whose calls end as told, and then with status 0.

@@ -1,0 +1,92 @@
+// What was done on a root, one thing after another.
+ghost use Rattle.std.specs.Prelude.{◌≡◌, option_map, IfOk};
+ghost use Rattle.host_memory.specs.Changes.{change_of};
+ghost use Rattle.host_memory.specs.Doings.{cut_short, event_of, how_ended, step_of, part_left};
+
+use crate::change::{Ending, Entry};
+use crate::fault_plan::Effect;
+use host_core::{Access, Call, Node, Outcome, RootPath};
+use std::alloc::{AllocError, Global};
+use texts::{Bytes, Text};
+
+/// A call that was made, with what it changed.
+#[derive(Drop)]
+pub struct Made {
+    pub call: Call,
+    pub outcome: Outcome,
+    pub change: Vec<Entry>,
+}
+
+/// A step of the device.
+#[derive(Drop)]
+pub enum DeviceStep {
+    Write(RootPath, Node),
+    Move(RootPath, RootPath),
+    Take(RootPath),
+    MakeDir(RootPath, Access),
+    RemoveDir(RootPath),
+    HardLink(RootPath, RootPath),
+    MakeLink(RootPath, Text),
+    Sync(RootPath),
+    Barrier,
+}
+
+/// What was done: a step or the part of one that was, a script call that ended, one that a fault cut off, or nothing
+/// where the device failed.
+#[derive(Drop)]
+pub enum Done {
+    Did(DeviceStep),
+    Finished(Made),
+    Cut(Call, Vec<Entry>),
+    Failed,
+}
+
+// A call that was made and ended so.
+pub(crate) fn done_of(call: Call, ending: Ending, change: Vec<Entry>) -> Done
+    ensures { event_of result ≡ how_ended call ending (change_of change.items) }
+{
+    match ending {
+        Ending::Ended(outcome) => Done::Finished(Made {
+            call,
+            outcome,
+            change,
+        }),
+        Ending::CutOff => Done::Cut(call, change),
+    }
+}
+
+// The first bytes of a file.
+fn front_of(alloc: Global, node: &Node, count: usize) -> Result<Node, AllocError>
+    ensures { IfOk result (λ front. front ≡ cut_short count node.now) }
+{
+    match node {
+        Node::File { bytes, access } => {
+            let bytes = bytes.as_slice();
+            let front = bytes.get(..count).unwrap_or(bytes);
+            Ok(Node::File {
+                bytes: Bytes::from_slice(alloc, front)?,
+                access: *access,
+            })
+        }
+        Node::Dir { .. } | Node::Link { .. } => node.copy(),
+    }
+}
+
+// What is done of a step at which the device fails.
+pub(crate) fn part_of(
+    alloc: Global,
+    step: DeviceStep,
+    effect: Effect,
+) -> Result<Option<DeviceStep>, AllocError>
+    ensures { IfOk result (λ part. option_map step_of part ≡ part_left effect (step_of step)) }
+{
+    match (effect, step) {
+        (Effect::None, _) => Ok(None),
+        (Effect::Whole, step) => Ok(Some(step)),
+        (Effect::Prefix(count), DeviceStep::Write(path, node)) => {
+            let node = front_of(alloc, &node, count)?;
+            Ok(Some(DeviceStep::Write(path, node)))
+        }
+        (Effect::Prefix(_), _) => Ok(None),
+    }
+}
