@@ -1,6 +1,6 @@
 -- A list as it is written, and the lists with another list of one package.
-use Rattle.std.specs.Prelude.{ℕ, List, [], ◌∷◌, ◌++◌, map, cond, codes, Option, Some, None, Contains, get_or, slice_set}
-use Rattle.std.specs.List.{flat_map}
+use Rattle.std.specs.Prelude.{ℕ, List, [], ◌∷◌, ◌++◌, map, filter, cond, not, codes, Option, Some, None, Contains, get_or, slice_set}
+use Rattle.std.specs.List.{flat_map, list_any}
 use Rattle.std.specs.Str.{bytes_eq}
 use Rattle.std.specs.Ordering.{nat_cmp, match_ordering}
 use Rattle.std.specs.Cmp.Lexicographic.{slice_cmp}
@@ -11,10 +11,12 @@ use Rattle.host_core.specs.declared.node.Node.{Node}
 use Rattle.host_core.specs.declared.node.Node.TheVariants.{File}
 use Rattle.administration.specs.Files.{NoDirectory}
 use Rattle.administration.specs.Places.{info_path, list_path, temporary}
+use Rattle.diversions.specs.declared.entry.Diversion.{Diversion}
+use Rattle.diversions.specs.Places.{place}
 use Rattle.file_lists.specs.declared.paths.PackageList.{PackageList}
 use Rattle.file_lists.specs.Index.{row_of, KeepsRows}
 use Rattle.file_lists.specs.Lists.{root_line}
-use Rattle.file_lists.specs.Owners.{names_of}
+use Rattle.file_lists.specs.Owners.{names_of, paths_of}
 
 -- the line of a path; that of the root is `/`
 abbrev pub line_of : Path → List ℕ
@@ -38,6 +40,14 @@ package_list name paths = record { name = name; paths = paths }
 abbrev pub with_list : List ℕ → List Path → List PackageList → List PackageList
 with_list name paths [] = package_list name paths ∷ []
 with_list name paths (l ∷ lists) = match_ordering (slice_cmp nat_cmp name l.name) (package_list name paths ∷ l ∷ lists) (package_list name paths ∷ lists) (l ∷ with_list name paths lists)
+
+-- of a package's paths those that lie at none of these places
+abbrev pub left_paths : List Diversion → List Path → List ℕ → List Path → List Path
+left_paths entries places name paths = filter (λ path. not (list_any (bytes_eq (place entries name path)) places)) paths
+
+-- without what a package lists at these places
+abbrev pub without_places : List Diversion → List Path → List ℕ → List PackageList → List PackageList
+without_places entries places name lists = with_list name (left_paths entries places name (paths_of lists name)) lists
 
 -- with other paths in the list that stands there
 abbrev pub with_paths_at : ℕ → List Path → List PackageList → List PackageList

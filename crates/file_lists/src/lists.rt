@@ -7,7 +7,7 @@ ghost use Rattle.administration.specs.Directories.{HasBadName};
 ghost use Rattle.administration.specs.Fault.{CountsAdministration};
 ghost use Rattle.administration.specs.Places.{info_path, list_path};
 ghost use Rattle.file_lists.specs.Fault.{CountsList};
-ghost use Rattle.file_lists.specs.Writing.{list_file, with_list, IsListReady};
+ghost use Rattle.file_lists.specs.Writing.{left_paths, list_file, with_list, without_places, IsListReady};
 ghost use Rattle.file_lists.specs.declared.list_fault.ListFault.TheVariants.{Closed};
 ghost use Rattle.file_lists.specs.Lists.{HasLists};
 ghost use Rattle.file_lists.specs.Info.{AreSound, IsInfoDamage};
@@ -19,6 +19,7 @@ use crate::list_fault::ListFault;
 use crate::owners::{Owners, look_up, scan};
 use crate::paths::Paths;
 use crate::table::Table;
+use crate::taking::take_paths;
 use crate::writing::replace_list;
 use administration::AdministrationFault;
 use diversions::Diversions;
@@ -143,6 +144,47 @@ impl FileLists {
             return Err(ListFault::Closed);
         }
         match replace_list(alloc, host, &mut self.table, &mut self.index, name, paths) {
+            Ok(()) => Ok(()),
+            Err(fault) => {
+                self.closed = true;
+                Err(ListFault::from(fault))
+            }
+        }
+    }
+
+    /// Takes the paths that lie at these places out of the list of a package, which is written anew.
+    /// After an error the value is closed.
+    pub fn take_from<H: Host>(
+        &mut self,
+        alloc: Global,
+        host: &mut H,
+        diversions: &Diversions,
+        places: &[RootPath],
+        name: &Text,
+    ) -> Result<(), ListFault>
+        requires named { is_package_name name.now ≡ true }
+        requires ready { Needs (H.state host.old) (IsListReady name.now) }
+        ensures lists { OnOk result (self.new ≡ record self.old { lists = without_places diversions.now.entries places.now name.now self.old.lists }) }
+        ensures err { OnErr result (self.new ≡ record self.old { closed = true }) }
+        ensures closed { IsErrOf result Closed ↔ (self.old.closed ≡ true) }
+        ensures shut { self.old.closed ≡ true → H.state host.new ≡ H.state host.old }
+        ensures replaced { Leaves result (IsReplaced (list_path name.now) (list_file (left_paths diversions.now.entries places.now name.now (paths_of self.old.lists name.now)))) (H.state host.old) (H.state host.new) }
+        ensures any_moment { AtEachMoment (IsReplacing (list_path name.now) (list_file (left_paths diversions.now.entries places.now name.now (paths_of self.old.lists name.now)))) (H.state host.old) (H.state host.new) }
+        ensures silent { Silent (H.state host.old) (H.state host.new) }
+        ensures counts { CountsList (H.state host.old) (H.state host.new) result }
+    {
+        if self.closed {
+            return Err(ListFault::Closed);
+        }
+        match take_paths(
+            alloc,
+            host,
+            &mut self.table,
+            &mut self.index,
+            diversions,
+            places,
+            name,
+        ) {
             Ok(()) => Ok(()),
             Err(fault) => {
                 self.closed = true;
