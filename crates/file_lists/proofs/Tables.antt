@@ -13,10 +13,8 @@ use Rattle.file_lists.specs.declared.paths.PackageList.{PackageList}
 use Rattle.file_lists.specs.Increasing.{IsBefore, AreIncreasing}
 use Rattle.file_lists.specs.Owners.{AreListPaths, AreLists, names_of, paths_of}
 use Rattle.file_lists.specs.Table.{IsSet}
+use Rattle.file_lists.specs.Writing.{package_list}
 use Rattle.file_lists.proofs.Increasing.{all_at, not_before_itself}
-
-abbrev pub with_paths : List ℕ → List Path → PackageList
-with_paths name paths = record { name = name; paths = paths }
 
 pub within_names : (lists : List PackageList) (i : ℕ) → i < length lists → i < length (names_of lists)
 within_names [] i less = less
@@ -33,7 +31,7 @@ pub name_at : (lists : List PackageList) (i : ℕ) (l : PackageList) → i < len
 name_at lists i l lt is = get_or-map (λ (x : PackageList). x.name) lists i l [] lt ∙ ap (λ (x : PackageList). x.name) (sym is)
 
 -- of names in order the first isn't among the others
-apart : (name other : List ℕ) (names : List (List ℕ)) → AllByRecursion (λ n. IsBefore name n) names → (i : ℕ) → i < length names → bytes_eq other (get_or names i []) ≡ true → bytes_eq other name ≡ false
+pub apart : (name other : List ℕ) (names : List (List ℕ)) → AllByRecursion (λ n. IsBefore name n) names → (i : ℕ) → i < length names → bytes_eq other (get_or names i []) ≡ true → bytes_eq other name ≡ false
 apart name other names below i lt is = at (bytes_eq other name) refl
   where
     at : (b : Bool) → bytes_eq other name ≡ b → bytes_eq other name ≡ false
@@ -42,7 +40,7 @@ apart name other names below i lt is = at (bytes_eq other name) refl
 
 -- the list at i has other paths
 pub paths_set : (lists : List PackageList) (i : ℕ) (paths : List Path) (name : List ℕ) → AreIncreasing (names_of lists) → i < length lists
-    → paths_of (set lists i (with_paths (get_or (names_of lists) i []) paths)) name ≡ cond (bytes_eq name (get_or (names_of lists) i [])) paths (paths_of lists name)
+    → paths_of (set lists i (package_list (get_or (names_of lists) i []) paths)) name ≡ cond (bytes_eq name (get_or (names_of lists) i [])) paths (paths_of lists name)
 paths_set [] i paths name order lt = absurd (omega (arith, lt))
 paths_set (l ∷ lists) zero paths name order lt = at (bytes_eq name l.name)
   where
@@ -63,19 +61,19 @@ all_set P [] i x all here = tt
 all_set P (y ∷ xs) zero x all here = (here, all.1)
 all_set P (y ∷ xs) (suc i) x all here = (all.0, all_set P xs i x all.1 here)
 
-names_set : (lists : List PackageList) (i : ℕ) (paths : List Path) → names_of (set lists i (with_paths (get_or (names_of lists) i []) paths)) ≡ names_of lists
+names_set : (lists : List PackageList) (i : ℕ) (paths : List Path) → names_of (set lists i (package_list (get_or (names_of lists) i []) paths)) ≡ names_of lists
 names_set [] i paths = refl
 names_set (l ∷ lists) zero paths = refl
 names_set (l ∷ lists) (suc i) paths = ap (λ (ns : List (List ℕ)). l.name ∷ ns) (names_set lists i paths)
 
-pub lists_set : (lists : List PackageList) (i : ℕ) (paths : List Path) (name : List ℕ) → name ≡ get_or (names_of lists) i [] → AreLists lists → AreListPaths paths → AreLists (set lists i (with_paths name paths))
-lists_set lists i paths name is are ok = subst (λ (n : List ℕ). AreLists (set lists i (with_paths n paths))) (sym is) record {
+pub lists_set : (lists : List PackageList) (i : ℕ) (paths : List Path) (name : List ℕ) → name ≡ get_or (names_of lists) i [] → AreLists lists → AreListPaths paths → AreLists (set lists i (package_list name paths))
+lists_set lists i paths name is are ok = subst (λ (n : List ℕ). AreLists (set lists i (package_list n paths))) (sym is) record {
   names = subst AreIncreasing (sym (names_set lists i paths)) are.names;
-  paths = all_set (λ (l : PackageList). AreListPaths l.paths) lists i (with_paths (get_or (names_of lists) i []) paths) are.paths ok;
+  paths = all_set (λ (l : PackageList). AreListPaths l.paths) lists i (package_list (get_or (names_of lists) i []) paths) are.paths ok;
 }
 
-pub is_set : (lists : List PackageList) (i : ℕ) (paths : List Path) (name : List ℕ) → name ≡ get_or (names_of lists) i [] → AreLists lists → i < length lists → IsSet i paths lists (set lists i (with_paths name paths))
-is_set lists i paths name is are lt = subst (λ (n : List ℕ). IsSet i paths lists (set lists i (with_paths n paths))) (sym is) record {
+pub is_set : (lists : List PackageList) (i : ℕ) (paths : List Path) (name : List ℕ) → name ≡ get_or (names_of lists) i [] → AreLists lists → i < length lists → IsSet i paths lists (set lists i (package_list name paths))
+is_set lists i paths name is are lt = subst (λ (n : List ℕ). IsSet i paths lists (set lists i (package_list n paths))) (sym is) record {
   names = names_set lists i paths;
   each = λ n. paths_set lists i paths n are.names lt;
 }

@@ -1,17 +1,26 @@
 // The open lists.
-ghost use Rattle.std.specs.Prelude.{◌≡◌, IfOk, IfErr, IsTrue, false};
-ghost use Rattle.host_core.specs.Host.{Reads, Silent, Tells};
+ghost use Rattle.std.specs.Prelude.{◌≡◌, ◌↔◌, IfOk, OnOk, OnErr, IfErr, IsErrOf, IsTrue, true, false};
+ghost use Rattle.host_core.specs.Host.{AtEachMoment, Leaves, Needs, Reads, Silent, Tells};
+ghost use Rattle.texts.specs.PackageNames.{is_package_name};
+ghost use Rattle.administration.specs.Files.{IsReplaced, IsReplacing};
 ghost use Rattle.administration.specs.Directories.{HasBadName};
 ghost use Rattle.administration.specs.Fault.{CountsAdministration};
-ghost use Rattle.administration.specs.Places.{info_path};
+ghost use Rattle.administration.specs.Places.{info_path, list_path};
+ghost use Rattle.file_lists.specs.Fault.{CountsList};
+ghost use Rattle.file_lists.specs.Writing.{left_paths, list_file, with_list, without_places, IsListReady};
+ghost use Rattle.file_lists.specs.declared.list_fault.ListFault.TheVariants.{Closed};
 ghost use Rattle.file_lists.specs.Lists.{HasLists};
 ghost use Rattle.file_lists.specs.Info.{AreSound, IsInfoDamage};
-ghost use Rattle.file_lists.specs.Owners.{AreLists, paths_of, owners_of, places_in};
+ghost use Rattle.file_lists.specs.Owners.{AreLists, AreListPaths, paths_of, owners_of, places_in};
 
 use crate::index::Index;
 use crate::info::read_info;
+use crate::list_fault::ListFault;
 use crate::owners::{Owners, look_up, scan};
+use crate::paths::Paths;
 use crate::table::Table;
+use crate::taking::take_paths;
+use crate::writing::replace_list;
 use administration::AdministrationFault;
 use diversions::Diversions;
 use host_core::{Host, Places, RootPath};
@@ -109,5 +118,78 @@ impl FileLists {
         ensures { IfOk result (λ ps. ps ≡ places_in diversions.now.entries self.now.lists) }
     {
         self.table.places(alloc, diversions)
+    }
+
+    /// Writes the list of a package. After an error the value is closed.
+    pub fn replace<H: Host>(
+        &mut self,
+        alloc: Global,
+        host: &mut H,
+        name: &Text,
+        paths: Paths,
+    ) -> Result<(), ListFault>
+        requires named { is_package_name name.now ≡ true }
+        requires paths { AreListPaths paths }
+        requires ready { Needs (H.state host.old) (IsListReady name.now) }
+        ensures lists { OnOk result (self.new ≡ record self.old { lists = with_list name.now paths self.old.lists }) }
+        ensures err { OnErr result (self.new ≡ record self.old { closed = true }) }
+        ensures closed { IsErrOf result Closed ↔ (self.old.closed ≡ true) }
+        ensures shut { self.old.closed ≡ true → H.state host.new ≡ H.state host.old }
+        ensures replaced { Leaves result (IsReplaced (list_path name.now) (list_file paths)) (H.state host.old) (H.state host.new) }
+        ensures any_moment { AtEachMoment (IsReplacing (list_path name.now) (list_file paths)) (H.state host.old) (H.state host.new) }
+        ensures silent { Silent (H.state host.old) (H.state host.new) }
+        ensures counts { CountsList (H.state host.old) (H.state host.new) result }
+    {
+        if self.closed {
+            return Err(ListFault::Closed);
+        }
+        match replace_list(alloc, host, &mut self.table, &mut self.index, name, paths) {
+            Ok(()) => Ok(()),
+            Err(fault) => {
+                self.closed = true;
+                Err(ListFault::from(fault))
+            }
+        }
+    }
+
+    /// Takes the paths that lie at these places out of the list of a package, which is written anew.
+    /// After an error the value is closed.
+    pub fn take_from<H: Host>(
+        &mut self,
+        alloc: Global,
+        host: &mut H,
+        diversions: &Diversions,
+        places: &[RootPath],
+        name: &Text,
+    ) -> Result<(), ListFault>
+        requires named { is_package_name name.now ≡ true }
+        requires ready { Needs (H.state host.old) (IsListReady name.now) }
+        ensures lists { OnOk result (self.new ≡ record self.old { lists = without_places diversions.now.entries places.now name.now self.old.lists }) }
+        ensures err { OnErr result (self.new ≡ record self.old { closed = true }) }
+        ensures closed { IsErrOf result Closed ↔ (self.old.closed ≡ true) }
+        ensures shut { self.old.closed ≡ true → H.state host.new ≡ H.state host.old }
+        ensures replaced { Leaves result (IsReplaced (list_path name.now) (list_file (left_paths diversions.now.entries places.now name.now (paths_of self.old.lists name.now)))) (H.state host.old) (H.state host.new) }
+        ensures any_moment { AtEachMoment (IsReplacing (list_path name.now) (list_file (left_paths diversions.now.entries places.now name.now (paths_of self.old.lists name.now)))) (H.state host.old) (H.state host.new) }
+        ensures silent { Silent (H.state host.old) (H.state host.new) }
+        ensures counts { CountsList (H.state host.old) (H.state host.new) result }
+    {
+        if self.closed {
+            return Err(ListFault::Closed);
+        }
+        match take_paths(
+            alloc,
+            host,
+            &mut self.table,
+            &mut self.index,
+            diversions,
+            places,
+            name,
+        ) {
+            Ok(()) => Ok(()),
+            Err(fault) => {
+                self.closed = true;
+                Err(ListFault::from(fault))
+            }
+        }
     }
 }

@@ -55,7 +55,7 @@ fn sources_of(alloc: Global, diversions: &Diversions, at: &RootPath) -> Result<P
     Ok(sources)
 }
 
-fn is_among(sources: &[RootPath], path: &RootPath) -> bool
+pub(crate) fn is_among(sources: &[RootPath], path: &RootPath) -> bool
     ensures { result ≡ list_any (bytes_eq path.now) sources.now }
 {
     sources

@@ -1,9 +1,12 @@
 // The table of the lists.
-ghost use Rattle.std.specs.Prelude.{◌≡◌, ◌++◌, [], ◌∷◌, List, ℕ, IfOk, OnOk, IfSome, IfNone, ◌<◌, length, Contains, ◌↔◌, false, cond};
+ghost use Rattle.std.specs.Prelude.{◌≡◌, ◌++◌, [], ◌∷◌, List, ℕ, IfOk, OnOk, OnErr, IfSome, IfNone, ◌<◌, length, Contains, ◌↔◌, false, cond};
 ghost use Rattle.std.specs.Str.{bytes_eq};
 ghost use Rattle.file_lists.specs.declared.paths.PackageList.{PackageList as AList};
 ghost use Rattle.file_lists.specs.Owners.{AreLists, AreListPaths, names_of, paths_of, places_of_list, places_in};
-ghost use Rattle.file_lists.specs.Table.{IsAt, IsSet};
+ghost use Rattle.std.specs.Ordering.{nat_cmp, is_lt};
+ghost use Rattle.std.specs.Cmp.Lexicographic.{slice_cmp};
+ghost use Rattle.file_lists.specs.Table.{IsAt, IsSet, IsPlaceFor};
+ghost use Rattle.file_lists.specs.Writing.{with_list, with_paths_at};
 
 use crate::ordering::sorted;
 use crate::paths::{PackageList, Paths};
@@ -45,6 +48,25 @@ fn find(lists: &[PackageList], name: &[u8]) -> Option<usize>
         }
     }
     None
+}
+
+fn is_before(list: &PackageList, name: &Text) -> bool
+    ensures { result ≡ is_lt (slice_cmp nat_cmp list.now.name name.now) }
+{
+    list.name.as_str().as_bytes().cmp(name.as_str().as_bytes()) == Ordering::Less
+}
+
+// Where the list of a name comes in.
+fn place_for(lists: &[PackageList], name: &Text) -> usize
+    requires { Contains (names_of lists.now) name.now → ⊥ }
+    ensures { IsPlaceFor lists.now name.now result }
+{
+    for at in 0..lists.len() {
+        if !is_before(&lists[at], name) {
+            return at;
+        }
+    }
+    lists.len()
 }
 
 // Adds the places of one list.
@@ -99,9 +121,22 @@ impl Table {
     pub(crate) fn set(&mut self, at: usize, paths: Paths)
         requires at { at < length self.old }
         requires paths { AreListPaths paths }
-        ensures { IsSet at paths self.old self.new }
+        ensures value { self.new ≡ with_paths_at at paths self.old }
+        ensures set { IsSet at paths self.old self.new }
     {
         self.lists[at].paths = paths;
+    }
+
+    /// Takes a list of a package that had none.
+    pub(crate) fn insert(&mut self, name: Text, paths: Paths) -> Result<(), AllocError>
+        requires other { Contains (names_of self.old) name → ⊥ }
+        requires paths { AreListPaths paths }
+        ensures ok { OnOk result (self.new ≡ with_list name paths self.old) }
+        ensures err { OnErr result (self.new ≡ self.old) }
+    {
+        let at = place_for(self.lists.as_slice(), &name);
+        self.lists.insert(at, PackageList { name, paths })?;
+        Ok(())
     }
 
     pub(crate) fn list_of(&self, name: &Text) -> &[RootPath]

@@ -20,4 +20,4 @@ pub returns-in-Some-list_at-clause-taken : goal.returns-in-Some-list_at-clause-t
 returns-in-Some-list_at-clause-taken g c = λ h.
     let w = (g.H.Host.state c.args.host.now).world in
     let at = subst (λ (e : Path). IsListAt c.args.table.now e c.in-Some-list_at.at) c.as_bytes.ensures.value c.in-Some-list_at.ensures.some in
-    taken_list c.args.entry.now (w (entry_path c.args.entry.now)) c.in-Some-list_at.at c.in_ok-paths-in-Some-list_at.paths c.args.table.now c.set.new.self at c.set.ensures (c.in_ok-paths-in-Some-list_at.ensures.lists h)
+    taken_list c.args.entry.now (w (entry_path c.args.entry.now)) c.in-Some-list_at.at c.in_ok-paths-in-Some-list_at.paths c.args.table.now c.set.new.self at c.set.ensures.set (c.in_ok-paths-in-Some-list_at.ensures.lists h)

@@ -1,0 +1,150 @@
+-- Lists of which one is another.
+use Rattle.std.proofs.Common.{◌≡◌, ◌+◌, ◌<◌, inl, inr, ℕ, zero, suc, Bool, true, false, cond, List, [], ◌∷◌, map, length, get_or, Option, Some, None, refl, sym, ap, subst, ◌∙◌, arith, Contains}
+use Rattle.std.proofs.Math.ListN.{set}
+use Rattle.std.specs.List.{AllByRecursion, insert}
+use Rattle.std.specs.Prelude.{nat_eq}
+use Rattle.std.specs.Ordering.{nat_cmp, is_lt, match_ordering, ordering_reverse}
+use Rattle.std.specs.Cmp.Lexicographic.{slice_cmp}
+use Rattle.std.specs.declared.cmp.Ordering.{Ordering}
+use Rattle.std.specs.declared.cmp.Ordering.TheVariants.{Less, Equal, Greater}
+use Rattle.std.proofs.lemmas.Bool.{cases_lt, true≢false, false≢true}
+use Rattle.std.proofs.lemmas.Bool.Decides.{Decides-eqb}
+use Rattle.std.proofs.lemmas.Cmp.{tied_itself, nat_list_cmp_total}
+use Rattle.std.proofs.lemmas.List.{map-set, get_or-set_same, get_or-set_other}
+use Rattle.std.proofs.lemmas.Map.Lookups.{exact_bytes}
+use Rattle.host_core.specs.Paths.{Path}
+use Rattle.file_lists.specs.declared.paths.PackageList.{PackageList}
+use Rattle.file_lists.specs.Increasing.{IsBefore, AreIncreasing}
+use Rattle.file_lists.specs.Index.{row_of, paths_of_slot, IsComplete, KeepsRows, IsIndexed}
+use Rattle.file_lists.specs.Owners.{AreListPaths, AreLists, names_of}
+use Rattle.file_lists.specs.Table.{IsAt, IsPlaceFor}
+use Rattle.file_lists.specs.Writing.{package_list, with_list, with_paths_at, IsEntered}
+use Rattle.file_lists.proofs.Finding.{behind}
+use Rattle.file_lists.proofs.Increasing.{all_at, get_or_any}
+use Rattle.file_lists.proofs.Tables.{name_at, within_names}
+
+-- a name that is behind another compares as greater
+greater : (name other : Path) → IsBefore other name → slice_cmp nat_cmp name other ≡ Greater
+greater name other less = nat_list_cmp_total.antisymm name other ∙ ap ordering_reverse less
+
+same_name : (name other : Path) → other ≡ name → slice_cmp nat_cmp name other ≡ Equal
+same_name name other is = ap (slice_cmp nat_cmp name) is ∙ tied_itself nat_list_cmp_total name
+
+-- the list of a name that stands there is the one that is changed
+pub with_there : (lists : List PackageList) (name : List ℕ) (paths : List Path) (at : ℕ) → AreIncreasing (names_of lists) → IsAt lists name at → with_paths_at at paths lists ≡ with_list name paths lists
+with_there [] name paths at order is = absurd (omega (arith, is.within))
+with_there (l ∷ lists) name paths zero order is =
+    ap (λ (n : List ℕ). package_list n paths ∷ lists) is.is ∙ sym (ap (λ o. match_ordering o (package_list name paths ∷ l ∷ lists) (package_list name paths ∷ lists) (l ∷ with_list name paths lists)) (same_name name l.name is.is))
+with_there (l ∷ lists) name paths (suc i) order is =
+    let lt : i < length lists = omega (arith, is.within) in
+    let less = subst (IsBefore l.name) is.is (all_at (IsBefore l.name) (names_of lists) i [] order.0 (within_names lists i lt)) in
+    ap (λ (ls : List PackageList). l ∷ ls) (with_there lists name paths i order.1 record { within = lt; is = is.is })
+    ∙ sym (ap (λ o. match_ordering o (package_list name paths ∷ l ∷ lists) (package_list name paths ∷ lists) (l ∷ with_list name paths lists)) (greater name l.name less))
+
+-- a list that comes in
+pub with_inserted : (lists : List PackageList) (name : List ℕ) (paths : List Path) (at : ℕ) → IsPlaceFor lists name at → insert lists at (package_list name paths) ≡ with_list name paths lists
+with_inserted [] name paths zero is = refl
+with_inserted [] name paths (suc i) is = absurd (omega (arith, is.within))
+with_inserted (l ∷ lists) name paths zero is =
+    sym (ap (λ o. match_ordering o (package_list name paths ∷ l ∷ lists) (package_list name paths ∷ lists) (l ∷ with_list name paths lists)) (is.behind (omega arith)))
+with_inserted (l ∷ lists) name paths (suc i) is =
+    ap (λ (ls : List PackageList). l ∷ ls) (with_inserted lists name paths i record {
+      within = omega (arith, is.within);
+      before = λ k less. is.before (suc k) (omega (arith, less));
+      behind = λ less. is.behind (omega (arith, less));
+    })
+    ∙ sym (ap (λ o. match_ordering o (package_list name paths ∷ l ∷ lists) (package_list name paths ∷ lists) (l ∷ with_list name paths lists)) (greater name l.name (is.before zero (omega arith))))
+
+-- they are lists as before
+
+among_with : (P : List ℕ → Type 0) (lists : List PackageList) (name : List ℕ) (paths : List Path) → AllByRecursion P (names_of lists) → P name → AllByRecursion P (names_of (with_list name paths lists))
+among_with P [] name paths all here = (here, tt)
+among_with P (l ∷ lists) name paths all here = by (slice_cmp nat_cmp name l.name) (among_with P lists name paths all.1 here)
+  where
+    by : (o : Ordering) → AllByRecursion P (names_of (with_list name paths lists)) → AllByRecursion P (names_of (match_ordering o (package_list name paths ∷ l ∷ lists) (package_list name paths ∷ lists) (l ∷ with_list name paths lists)))
+    by Less rest = (here, all)
+    by Equal rest = (here, all.1)
+    by Greater rest = (all.0, rest)
+
+later_than : (name other : Path) (names : List Path) → IsBefore name other → AllByRecursion (IsBefore other) names → AllByRecursion (IsBefore name) names
+later_than name other [] less all = tt
+later_than name other (n ∷ names) less all = (nat_list_cmp_total.trans name other n less all.0, later_than name other names less all.1)
+
+with_increasing : (lists : List PackageList) (name : List ℕ) (paths : List Path) → AreIncreasing (names_of lists) → AreIncreasing (names_of (with_list name paths lists))
+with_increasing [] name paths order = (tt, tt)
+with_increasing (l ∷ lists) name paths order = by (slice_cmp nat_cmp name l.name) refl (with_increasing lists name paths order.1)
+  where
+    by : (o : Ordering) → slice_cmp nat_cmp name l.name ≡ o → AreIncreasing (names_of (with_list name paths lists)) → AreIncreasing (names_of (match_ordering o (package_list name paths ∷ l ∷ lists) (package_list name paths ∷ lists) (l ∷ with_list name paths lists)))
+    by Less e rest = ((e, later_than name l.name (names_of lists) e order.0), order)
+    by Equal e rest = (subst (λ (n : List ℕ). AllByRecursion (IsBefore n) (names_of lists)) (sym (exact_bytes name l.name e)) order.0, order.1)
+    by Greater e rest = (among_with (IsBefore l.name) lists name paths order.0 (behind l.name name e), rest)
+
+with_paths_of : (lists : List PackageList) (name : List ℕ) (paths : List Path) → AllByRecursion (λ l. AreListPaths l.paths) lists → AreListPaths paths → AllByRecursion (λ l. AreListPaths l.paths) (with_list name paths lists)
+with_paths_of [] name paths all here = (here, tt)
+with_paths_of (l ∷ lists) name paths all here = by (slice_cmp nat_cmp name l.name) (with_paths_of lists name paths all.1 here)
+  where
+    by : (o : Ordering) → AllByRecursion (λ l. AreListPaths l.paths) (with_list name paths lists) → AllByRecursion (λ l. AreListPaths l.paths) (match_ordering o (package_list name paths ∷ l ∷ lists) (package_list name paths ∷ lists) (l ∷ with_list name paths lists))
+    by Less rest = (here, all)
+    by Equal rest = (here, all.1)
+    by Greater rest = (all.0, rest)
+
+pub with_lists : (lists : List PackageList) (name : List ℕ) (paths : List Path) → AreLists lists → AreListPaths paths → AreLists (with_list name paths lists)
+with_lists lists name paths are ok = record { names = with_increasing lists name paths are.names; paths = with_paths_of lists name paths are.paths ok }
+
+-- what isn't before a name, and isn't it, is behind it
+pub behind_other : (name other : Path) → is_lt (slice_cmp nat_cmp other name) ≡ false → (other ≡ name → ⊥) → IsBefore name other
+behind_other name other not_less differs = by (slice_cmp nat_cmp other name) refl not_less
+  where
+    by : (o : Ordering) → slice_cmp nat_cmp other name ≡ o → is_lt o ≡ false → IsBefore name other
+    by Less e is = absurd (true≢false is)
+    by Equal e is = absurd (differs (exact_bytes other name e))
+    by Greater e is = behind name other e
+
+pub told_before : (o : Ordering) → is_lt o ≡ true → o ≡ Less
+told_before Less is = refl
+told_before Equal is = absurd (false≢true is)
+told_before Greater is = absurd (false≢true is)
+
+-- The index of lists of which one has other paths.
+
+paths_there : (lists : List PackageList) (at s : ℕ) (paths : List Path) → at < length lists → (b : Bool) → nat_eq s at ≡ b → paths_of_slot (with_paths_at at paths lists) s ≡ cond b paths (paths_of_slot lists s)
+paths_there lists at s paths lt true e =
+    let same = (Decides-eqb s at).0 e in
+    ap (λ (l : List (List Path)). get_or l s []) (map-set (λ (l : PackageList). l.paths) lists at (package_list (get_or (names_of lists) at []) paths))
+    ∙ ap (λ (k : ℕ). get_or (set (map (λ (l : PackageList). l.paths) lists) at paths) k []) same ∙ get_or-set_same (map (λ (l : PackageList). l.paths) lists) at paths [] (within_paths lists at lt)
+  where
+    within_paths : (ls : List PackageList) (i : ℕ) → i < length ls → i < length (map (λ (l : PackageList). l.paths) ls)
+    within_paths [] i less = less
+    within_paths (l ∷ ls) zero less = omega arith
+    within_paths (l ∷ ls) (suc i) less = (let rest = within_paths ls i (omega (arith, less)) in omega (arith, rest))
+paths_there lists at s paths lt false e =
+    ap (λ (l : List (List Path)). get_or l s []) (map-set (λ (l : PackageList). l.paths) lists at (package_list (get_or (names_of lists) at []) paths))
+    ∙ get_or-set_other (map (λ (l : PackageList). l.paths) lists) at s paths [] (λ same. false≢true (sym e ∙ (Decides-eqb s at).1 same))
+
+complete_with : (lists : List PackageList) (at : ℕ) (paths : List Path) (old rows : List (List ℕ)) → at < length lists → IsComplete old lists → KeepsRows old rows → ((path : Path) → Contains paths path → Contains (row_of rows path) at) → IsComplete rows (with_paths_at at paths lists)
+complete_with lists at paths old rows lt complete kept here s path has = by (nat_eq s at) refl
+  where
+    by : (b : Bool) → nat_eq s at ≡ b → Contains (row_of rows path) s
+    by true e = subst (λ (k : ℕ). Contains (row_of rows path) k) (sym ((Decides-eqb s at).0 e)) (here path (subst (λ (l : List Path). Contains l path) (paths_there lists at s paths lt true e) has))
+    by false e = kept path s (complete s path (subst (λ (l : List Path). Contains l path) (paths_there lists at s paths lt false e) has))
+
+pub indexed_with : (lists : List PackageList) (at : ℕ) (paths : List Path) (old new : Option (List (List ℕ))) → at < length lists → IsIndexed old lists → IsEntered old paths at new → IsIndexed new (with_paths_at at paths lists)
+indexed_with lists at paths old None lt indexed entered = tt
+indexed_with lists at paths None (Some rows) lt indexed entered = absurd entered
+indexed_with lists at paths (Some old) (Some rows) lt indexed entered = complete_with lists at paths old rows lt indexed entered.0 entered.1
+
+-- Where a list comes in.
+
+pub place_here : (lists : List PackageList) (name : List ℕ) (at : ℕ) (l : PackageList) → at < length lists → l ≡ get_or lists at l → ((k : ℕ) → k < at → IsBefore (get_or (names_of lists) k []) name) → is_lt (slice_cmp nat_cmp l.name name) ≡ false → (Contains (names_of lists) name → ⊥) → IsPlaceFor lists name at
+place_here lists name at l lt is before not_less other = record {
+  within = omega (arith, lt);
+  before = before;
+  behind = λ less. subst (IsBefore name) (sym (name_at lists at l lt is)) (behind_other name l.name not_less (λ same. other (at, within_names lists at lt, get_or_any (names_of lists) at name [] (within_names lists at lt) ∙ name_at lists at l lt is ∙ same)));
+}
+
+pub place_later : (lists : List PackageList) (name : List ℕ) (at : ℕ) (l : PackageList) → at < length lists → l ≡ get_or lists at l → ((k : ℕ) → k < at → IsBefore (get_or (names_of lists) k []) name) → is_lt (slice_cmp nat_cmp l.name name) ≡ true → (k : ℕ) → k < at + 1 → IsBefore (get_or (names_of lists) k []) name
+place_later lists name at l lt is before less k small = elim (cases_lt k at) [
+  | inl lower ↦ before k lower
+  | inr here ↦ (let same : at ≡ k = omega (arith, here, small) in
+      subst (λ (i : ℕ). IsBefore (get_or (names_of lists) i []) name) same (subst (λ (n : Path). IsBefore n name) (sym (name_at lists at l lt is)) (told_before (slice_cmp nat_cmp l.name name) less)))
+]

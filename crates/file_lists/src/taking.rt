@@ -1,0 +1,84 @@
+// Taking paths out of a list.
+ghost use Rattle.std.specs.Prelude.{◌≡◌, ◌++◌, ◌∷◌, [], not, cond, true, IfOk, OnOk, OnErr};
+ghost use Rattle.std.specs.List.{list_any};
+ghost use Rattle.std.specs.Str.{bytes_eq};
+ghost use Rattle.host_core.specs.Host.{AtEachMoment, Counts, Leaves, Needs, Silent};
+ghost use Rattle.texts.specs.PackageNames.{is_package_name};
+ghost use Rattle.administration.specs.Files.{IsReplaced, IsReplacing};
+ghost use Rattle.administration.specs.Places.{list_path};
+ghost use Rattle.diversions.specs.Places.{place};
+ghost use Rattle.file_lists.specs.Index.{IsIndexed};
+ghost use Rattle.file_lists.specs.Owners.{paths_of};
+ghost use Rattle.file_lists.specs.Writing.{left_paths, list_file, without_places, IsListReady};
+
+use crate::index::Index;
+use crate::owners::is_among;
+use crate::paths::Paths;
+use crate::table::Table;
+use crate::writing::replace_list;
+use diversions::Diversions;
+use host_core::{Host, HostFault, RootPath};
+use std::alloc::{AllocError, Global};
+use texts::Text;
+
+// Keeps a path that lies at none of the places.
+fn keep_path(
+    diversions: &Diversions,
+    places: &[RootPath],
+    name: &Text,
+    path: &RootPath,
+    left: &mut Paths,
+) -> Result<(), AllocError>
+    ensures { OnOk result (left.new ≡ left.old ++ cond (not (list_any (bytes_eq (place diversions.now.entries name.now path.now)) places.now)) (path.now ∷ []) []) }
+{
+    let there = diversions.place(name, path)?;
+    if is_among(places, &there) {
+        return Ok(());
+    }
+    left.items.push(path.copy()?)?;
+    Ok(())
+}
+
+fn left_paths(
+    alloc: Global,
+    diversions: &Diversions,
+    places: &[RootPath],
+    name: &Text,
+    paths: &[RootPath],
+) -> Result<Paths, AllocError>
+    ensures { IfOk result (λ left. left ≡ left_paths diversions.now.entries places.now name.now paths.now) }
+{
+    let mut left = Paths {
+        items: Vec::new(alloc),
+    };
+    for path in paths {
+        keep_path(diversions, places, name, path, &mut left)?;
+    }
+    Ok(left)
+}
+
+/// Writes the list of a package without the paths that lie at these places.
+pub(crate) fn take_paths<H: Host>(
+    alloc: Global,
+    host: &mut H,
+    table: &mut Table,
+    index: &mut Option<Index>,
+    diversions: &Diversions,
+    places: &[RootPath],
+    name: &Text,
+) -> Result<(), HostFault>
+    requires named { is_package_name name.now ≡ true }
+    requires ready { Needs (H.state host.old) (IsListReady name.now) }
+    requires indexed { IsIndexed index.old table.old }
+    ensures indexed { IsIndexed index.new table.new }
+    ensures table { OnOk result (table.new ≡ without_places diversions.now.entries places.now name.now table.old) }
+    ensures err { OnErr result (table.new ≡ table.old) }
+    ensures replaced { Leaves result (IsReplaced (list_path name.now) (list_file (left_paths diversions.now.entries places.now name.now (paths_of table.old name.now)))) (H.state host.old) (H.state host.new) }
+    ensures any_moment { AtEachMoment (IsReplacing (list_path name.now) (list_file (left_paths diversions.now.entries places.now name.now (paths_of table.old name.now)))) (H.state host.old) (H.state host.new) }
+    ensures silent { Silent (H.state host.old) (H.state host.new) }
+    ensures counts { Counts (H.state host.old) (H.state host.new) result }
+{
+    table.law();
+    let left = left_paths(alloc, diversions, places, name, table.list_of(name))?;
+    replace_list(alloc, host, table, index, name, left)
+}
