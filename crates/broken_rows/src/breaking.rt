@@ -8,12 +8,13 @@ use std::test::Fail;
 // A file, and the texts of which it may have one; an empty text where none may stand.
 pub(crate) type Found = (&'static str, &'static [&'static str]);
 
-// A command over an empty root, how its calls end, and what may be found wherever it is broken off.
+// A command over an empty root, how its calls end, what may be found wherever it is broken off, and what it leaves.
 pub(crate) struct Row {
     pub(crate) trees: &'static [TreeFile],
     pub(crate) endings: &'static [Ending],
     pub(crate) line: &'static str,
     pub(crate) found: &'static [Found],
+    pub(crate) left: &'static [Found],
 }
 
 // How the device fails: behind so many steps, for good or once, or behind so many reads.
@@ -129,21 +130,44 @@ impl Machine {
         Ok(())
     }
 
-    // Runs the row's command, which is broken off so, opens the root again and adds what may not be found.
-    fn run(
-        &mut self,
-        row: &Row,
-        how: Break,
-        loss: Option<Loss>,
-        text: &mut String,
-    ) -> Result<Ran, AllocError> {
+    // Runs a command, which is broken off so, and recovers the root.
+    fn run(&mut self, line: &str, how: Break, loss: Option<Loss>) -> Result<Ran, AllocError> {
         self.plan(how);
-        let _ = self.answer(row.line)?;
+        let _ = self.answer(line)?;
         let ran = self.ran();
         self.recover(loss)?;
-        self.judge(row.found, text)?;
         Ok(ran)
     }
+
+    // Opens the root again, and adds what is found that may not be.
+    fn try_row(
+        &mut self,
+        line: &str,
+        how: Break,
+        loss: Option<Loss>,
+        found: &[Found],
+        text: &mut String,
+    ) -> Result<Ran, AllocError> {
+        let ran = self.run(line, how, loss)?;
+        self.judge(found, text)?;
+        Ok(ran)
+    }
+}
+
+fn check_found(
+    rt: &(impl Abort + AllocGlobal),
+    row: &Row,
+    how: Break,
+    loss: Option<Loss>,
+    found: &[Found],
+) -> Result<Ran, Fail> {
+    let alloc = rt.alloc();
+    let mut text = String::new(alloc);
+    let ran = make_machine(alloc, row.trees, row.endings)?.try_row(
+        row.line, how, loss, found, &mut text,
+    )?;
+    assert!(rt; text.is_empty(), "{how:?} {loss:?}: {text}");
+    Ok(ran)
 }
 
 fn check(
@@ -152,11 +176,7 @@ fn check(
     how: Break,
     loss: Option<Loss>,
 ) -> Result<Ran, Fail> {
-    let alloc = rt.alloc();
-    let mut text = String::new(alloc);
-    let ran = make_machine(alloc, row.trees, row.endings)?.run(row, how, loss, &mut text)?;
-    assert!(rt; text.is_empty(), "{how:?} {loss:?}: {text}");
-    Ok(ran)
+    check_found(rt, row, how, loss, row.found)
 }
 
 // A stop behind so many steps, with each effect.
@@ -202,11 +222,18 @@ fn check_read(rt: &(impl Abort + AllocGlobal), row: &Row, before: usize) -> Resu
     Ok(check(rt, row, Break::Read(before), None)?.met)
 }
 
+// Power is lost behind the command, of which no name step survives that isn't on the disk.
+fn check_left(rt: &(impl Abort + AllocGlobal), row: &Row) -> Result<(), Fail> {
+    let loss = Some(Loss { keep: 0, fill: 255 });
+    check_found(rt, row, Break::Read(LIMIT), loss, row.left)?;
+    Ok(())
+}
+
 // Power is lost at each step of the row's command, and behind it.
 pub(crate) fn lose_at_each_step(rt: &(impl Abort + AllocGlobal), row: &Row) -> Result<(), Fail> {
     for before in 0..LIMIT {
         if !check_losses(rt, row, before)? {
-            return Ok(());
+            return check_left(rt, row);
         }
     }
     panic!(rt; "the command makes too many steps")

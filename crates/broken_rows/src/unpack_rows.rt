@@ -32,6 +32,8 @@ const ABORTED: &[Found] = &[(STATUS, &["", HALF]), LIST, PREINST, CI];
 
 const DONE: &[Found] = &[(STATUS, &["", HALF, UNPACKED]), LIST, PREINST, CI];
 
+const HALF_INSTALLED: &[Found] = &[(STATUS, &[HALF]), LIST, PREINST, CI];
+
 const FAILED: Ending = Ending::Ended(Outcome::Exit(1));
 
 const SUCCEEDS: Row = Row {
@@ -39,6 +41,7 @@ const SUCCEEDS: Row = Row {
     endings: &[],
     line: LINE,
     found: DONE,
+    left: &[(STATUS, &[UNPACKED]), LIST, PREINST, CI],
 };
 
 const FAILS: Row = Row {
@@ -46,6 +49,7 @@ const FAILS: Row = Row {
     endings: &[FAILED],
     line: LINE,
     found: ABORTED,
+    left: &[(STATUS, &[""]), LIST, PREINST, CI],
 };
 
 // The device fails while the script runs.
@@ -54,6 +58,7 @@ const CUT_OFF: Row = Row {
     endings: &[Ending::CutOff],
     line: LINE,
     found: ABORTED,
+    left: HALF_INSTALLED,
 };
 
 const UNDO_FAILS: Row = Row {
@@ -61,6 +66,7 @@ const UNDO_FAILS: Row = Row {
     endings: &[FAILED, Ending::Ended(Outcome::Killed)],
     line: LINE,
     found: ABORTED,
+    left: HALF_INSTALLED,
 };
 
 const ROWS: &[Row] = &[SUCCEEDS, FAILS, CUT_OFF, UNDO_FAILS];
