@@ -4,7 +4,7 @@ ghost use Rattle.host_memory.specs.FaultPlans.{fate_of, behind_step, read_fails,
 
 /// What is done of a step at which the device fails: nothing, all of it, or of a file that is written its first bytes and
 /// of another step nothing.
-#[derive(Clone, Copy)]
+#[derive(Clone, Copy, Debug)]
 pub enum Effect {
     None,
     Whole,

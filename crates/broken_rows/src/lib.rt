@@ -1,0 +1,9 @@
+//! What is found under a root in memory whose device failed, stopped or lost power within a command.
+#![tactic(auto)]
+
+#[cfg(test)]
+mod breaking;
+#[cfg(test)]
+mod machine;
+#[cfg(test)]
+mod unpack_rows;

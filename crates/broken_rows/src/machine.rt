@@ -1,0 +1,167 @@
+// A root in memory that goes from one command to the next, and trees that are made each time they are opened.
+ghost use Rattle.std.specs.Prelude.{◌≡◌, ⊤, IsTrue, Some, option_map};
+ghost use Rattle.host_memory.specs.Memory.{memory_state};
+
+use command_line::{Hosts, run_words};
+use host_core::{Access, Host, HostFault, Node, RootPath};
+use host_memory::{Ending, Entry, MemoryHost, Planned};
+use std::alloc::{AllocError, Global};
+use std::str;
+use texts::Bytes;
+
+// A file of a tree: the word that names the tree, the path under it, and what stands there.
+pub(crate) type TreeFile = (&'static str, &'static str, &'static str);
+
+#[derive(Drop)]
+pub(crate) struct Machine {
+    pub(crate) alloc: Global,
+    pub(crate) root: Option<MemoryHost>,
+    trees: &'static [TreeFile],
+    faults: u64,
+}
+
+fn path_of(alloc: Global, text: &str) -> Result<RootPath, AllocError> {
+    match RootPath::parse(alloc, text)? {
+        Some(path) => Ok(path),
+        None => Err(AllocError),
+    }
+}
+
+fn file(alloc: Global, text: &str) -> Result<Node, AllocError> {
+    let bytes = Bytes::from_slice(alloc, text.as_bytes())?;
+    let access = Access::own(0o755);
+    Ok(Node::File { bytes, access })
+}
+
+fn put(alloc: Global, host: &mut MemoryHost, path: &str, text: &str) -> Result<(), AllocError> {
+    host.place(&path_of(alloc, path)?, file(alloc, text)?)?;
+    Ok(())
+}
+
+// The host of the tree that a word names.
+fn tree_of(alloc: Global, files: &[TreeFile], tree: &str) -> Result<MemoryHost, AllocError> {
+    let mut host = MemoryHost::new(alloc)?;
+    for (name, path, text) in files {
+        if *name == tree {
+            put(alloc, &mut host, path, text)?;
+        }
+    }
+    Ok(host)
+}
+
+// A call that makes the directory /made, tries to remove the status file and ends so.
+fn planned(alloc: Global, ending: Ending) -> Result<Planned, AllocError> {
+    let mut change = Vec::new(alloc);
+    let path = RootPath::from_str(alloc, "/made")?;
+    let access = Access::own(0o755);
+    let node = Some(Node::Dir { access });
+    change.push(Entry { path, node })?;
+    let path = RootPath::from_str(alloc, "/var/lib/dpkg/status")?;
+    change.push(Entry { path, node: None })?;
+    Ok(Planned { ending, change })
+}
+
+fn root_of(alloc: Global, endings: &[Ending]) -> Result<MemoryHost, AllocError> {
+    let mut host = MemoryHost::new(alloc)?;
+    for ending in endings {
+        host.plan(planned(alloc, *ending)?)?;
+    }
+    Ok(host)
+}
+
+// An empty root whose calls end as told, and then with status 0.
+pub(crate) fn make_machine(
+    alloc: Global,
+    trees: &'static [TreeFile],
+    endings: &[Ending],
+) -> Result<Machine, AllocError> {
+    Ok(Machine {
+        alloc,
+        root: Some(root_of(alloc, endings)?),
+        trees,
+        faults: 0,
+    })
+}
+
+fn words_of(alloc: Global, line: &str) -> Result<Vec<String>, AllocError> {
+    let mut words = Vec::new(alloc);
+    for word in line.split(' ') {
+        words.push(String::from_str(alloc, word)?)?;
+    }
+    Ok(words)
+}
+
+fn text_of(bytes: &[u8]) -> &str {
+    str::from_utf8(bytes).unwrap_or("bytes that are no text")
+}
+
+// What a file holds; nothing where none stands.
+fn text_at(alloc: Global, host: &mut MemoryHost, path: &str) -> Result<String, AllocError> {
+    match host.node(&path_of(alloc, path)?) {
+        Ok(Some(Node::File { bytes, .. })) => String::from_str(alloc, text_of(bytes.as_slice())),
+        Ok(Some(_)) => String::from_str(alloc, "directory"),
+        Ok(None) => Ok(String::new(alloc)),
+        Err(_) => Err(AllocError),
+    }
+}
+
+impl Machine {
+    // What the program answers to a line of words, the first of which is its name: its output, behind the first bar what
+    // it writes to standard error, and behind the second its status.
+    pub(crate) fn answer(&mut self, line: &str) -> Result<String, AllocError> {
+        let alloc = self.alloc;
+        let words = words_of(alloc, line)?;
+        let mut out = Vec::new(alloc);
+        let mut err = Vec::new(alloc);
+        let status = run_words(alloc, self, words.as_slice(), &mut out, &mut err);
+        let out = text_of(out.as_slice());
+        let err = text_of(err.as_slice());
+        format!(in alloc; "{out}|{err}|{status}\n")
+    }
+
+    // What a file under the root holds.
+    pub(crate) fn text_at(&mut self, path: &str) -> Result<String, AllocError> {
+        match &mut self.root {
+            Some(host) => text_at(self.alloc, host, path),
+            None => String::from_str(self.alloc, "the root wasn't given back"),
+        }
+    }
+}
+
+impl Hosts for Machine {
+    type Opened = MemoryHost;
+
+    ghost faults = { λ h. h.faults };
+
+    // one root stands behind every word
+    ghost root = { λ h _ state. option_map memory_state h.root ≡ Some state };
+
+    // whatever stands in it, a tree holds what it tells
+    ghost tree = { λ _ _ state. IsTrue state.honest };
+
+    // the root is kept as it was given back
+    ghost left = { λ h state. option_map memory_state h.root ≡ Some state };
+
+    ghost seen = { λ _ _. ⊤ };
+
+    ghost unopened = { λ old new. option_map memory_state new.root ≡ option_map memory_state old.root };
+
+    fn open_root(&mut self, _directory: &str) -> Result<MemoryHost, HostFault> {
+        match self.root.take() {
+            Some(host) => Ok(host),
+            None => Err(HostFault::NoMemory),
+        }
+    }
+
+    fn open_tree(&mut self, tree: &str) -> Result<MemoryHost, HostFault> {
+        Ok(tree_of(self.alloc, self.trees, tree)?)
+    }
+
+    fn close_root(&mut self, host: MemoryHost) {
+        self.root = Some(host);
+    }
+
+    fn close_tree(&mut self, host: MemoryHost) {
+        let _ = host;
+    }
+}
