@@ -1,5 +1,5 @@
 // The open lists.
-ghost use Rattle.std.specs.Prelude.{◌≡◌, ◌↔◌, IfOk, OnOk, OnErr, IfErr, IsErrOf, IsTrue, true, false};
+ghost use Rattle.std.specs.Prelude.{◌≡◌, ◌↔◌, ℕ, List, Contains, IfOk, OnOk, OnErr, IfErr, IsErrOf, IsTrue, true, false};
 ghost use Rattle.host_core.specs.Host.{AtEachMoment, Leaves, Needs, Reads, Silent, Tells};
 ghost use Rattle.texts.specs.PackageNames.{is_package_name};
 ghost use Rattle.administration.specs.Files.{IsReplaced, IsReplacing};
@@ -7,6 +7,7 @@ ghost use Rattle.administration.specs.Directories.{HasBadName};
 ghost use Rattle.administration.specs.Fault.{CountsAdministration};
 ghost use Rattle.administration.specs.Places.{info_path, list_path};
 ghost use Rattle.file_lists.specs.Fault.{CountsList};
+ghost use Rattle.file_lists.specs.Taking.{without_all, IsTaking, HasTakenAll};
 ghost use Rattle.file_lists.specs.Writing.{left_paths, list_file, with_list, without_places, IsListReady};
 ghost use Rattle.file_lists.specs.declared.list_fault.ListFault.TheVariants.{Closed};
 ghost use Rattle.file_lists.specs.Lists.{HasLists};
@@ -19,7 +20,7 @@ use crate::list_fault::ListFault;
 use crate::owners::{Owners, look_up, scan};
 use crate::paths::Paths;
 use crate::table::Table;
-use crate::taking::take_paths;
+use crate::taking::{take_all, take_paths};
 use crate::writing::replace_list;
 use administration::AdministrationFault;
 use diversions::Diversions;
@@ -184,6 +185,46 @@ impl FileLists {
             diversions,
             places,
             name,
+        ) {
+            Ok(()) => Ok(()),
+            Err(fault) => {
+                self.closed = true;
+                Err(ListFault::from(fault))
+            }
+        }
+    }
+
+    /// The same of each of these packages, in this order. After an error the value is closed.
+    pub fn take<H: Host>(
+        &mut self,
+        alloc: Global,
+        host: &mut H,
+        diversions: &Diversions,
+        places: &[RootPath],
+        from: &[Text],
+    ) -> Result<(), ListFault>
+        requires named { (name : List ℕ) → Contains from.now name → is_package_name name ≡ true }
+        requires ready { Needs (H.state host.old) (λ w. (name : List ℕ) → Contains from.now name → IsListReady name w) }
+        ensures lists { OnOk result (self.new ≡ record self.old { lists = without_all diversions.now.entries places.now from.now self.old.lists }) }
+        ensures err { OnErr result (self.new.closed ≡ true) }
+        ensures closed { IsErrOf result Closed ↔ (self.old.closed ≡ true) }
+        ensures shut { self.old.closed ≡ true → H.state host.new ≡ H.state host.old }
+        ensures taken { Leaves result (HasTakenAll diversions.now.entries places.now from.now self.old.lists) (H.state host.old) (H.state host.new) }
+        ensures any_moment { AtEachMoment (IsTaking diversions.now.entries places.now from.now self.old.lists) (H.state host.old) (H.state host.new) }
+        ensures silent { Silent (H.state host.old) (H.state host.new) }
+        ensures counts { CountsList (H.state host.old) (H.state host.new) result }
+    {
+        if self.closed {
+            return Err(ListFault::Closed);
+        }
+        match take_all(
+            alloc,
+            host,
+            &mut self.table,
+            &mut self.index,
+            diversions,
+            places,
+            from,
         ) {
             Ok(()) => Ok(()),
             Err(fault) => {

@@ -1,5 +1,5 @@
 // Taking paths out of a list.
-ghost use Rattle.std.specs.Prelude.{◌≡◌, ◌++◌, ◌∷◌, [], not, cond, true, IfOk, OnOk, OnErr};
+ghost use Rattle.std.specs.Prelude.{◌≡◌, ◌++◌, ◌∷◌, [], ℕ, List, Contains, not, cond, true, IfOk, OnOk, OnErr};
 ghost use Rattle.std.specs.List.{list_any};
 ghost use Rattle.std.specs.Str.{bytes_eq};
 ghost use Rattle.host_core.specs.Host.{AtEachMoment, Counts, Leaves, Needs, Silent};
@@ -9,6 +9,7 @@ ghost use Rattle.administration.specs.Places.{list_path};
 ghost use Rattle.diversions.specs.Places.{place};
 ghost use Rattle.file_lists.specs.Index.{IsIndexed};
 ghost use Rattle.file_lists.specs.Owners.{paths_of};
+ghost use Rattle.file_lists.specs.Taking.{without_all, IsTaking, HasTakenAll};
 ghost use Rattle.file_lists.specs.Writing.{left_paths, list_file, without_places, IsListReady};
 
 use crate::index::Index;
@@ -81,4 +82,31 @@ pub(crate) fn take_paths<H: Host>(
     table.law();
     let left = left_paths(alloc, diversions, places, name, table.list_of(name))?;
     replace_list(alloc, host, table, index, name, left)
+}
+
+/// The same of each of these packages.
+#[tactic(auto, using(host_core::specs::Moments::silent_then))]
+pub(crate) fn take_all<H: Host>(
+    alloc: Global,
+    host: &mut H,
+    table: &mut Table,
+    index: &mut Option<Index>,
+    diversions: &Diversions,
+    places: &[RootPath],
+    from: &[Text],
+) -> Result<(), HostFault>
+    requires named { (name : List ℕ) → Contains from.now name → is_package_name name ≡ true }
+    requires ready { Needs (H.state host.old) (λ w. (name : List ℕ) → Contains from.now name → IsListReady name w) }
+    requires indexed { IsIndexed index.old table.old }
+    ensures indexed { IsIndexed index.new table.new }
+    ensures table { OnOk result (table.new ≡ without_all diversions.now.entries places.now from.now table.old) }
+    ensures taken { Leaves result (HasTakenAll diversions.now.entries places.now from.now table.old) (H.state host.old) (H.state host.new) }
+    ensures any_moment { AtEachMoment (IsTaking diversions.now.entries places.now from.now table.old) (H.state host.old) (H.state host.new) }
+    ensures silent { Silent (H.state host.old) (H.state host.new) }
+    ensures counts { Counts (H.state host.old) (H.state host.new) result }
+{
+    for name in from {
+        take_paths(alloc, host, table, index, diversions, places, name)?;
+    }
+    Ok(())
 }
