@@ -1,4 +1,6 @@
+pub mod Entries
 pub mod Readable
+pub mod Trims
 pub mod Shipped
 pub mod FieldsOnce
 pub mod RelationsInOrder

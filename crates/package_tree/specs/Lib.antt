@@ -1,3 +1,4 @@
+pub mod Conffiles
 pub mod ControlFile
 pub mod Debian
 pub mod Fault

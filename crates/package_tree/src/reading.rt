@@ -9,10 +9,12 @@ ghost use Rattle.host_core.specs.declared.call.Script.{Script as AScript};
 ghost use Rattle.host_core.specs.declared.node.Access.{Access};
 ghost use Rattle.administration.specs.Scripts.{script_of, file_of};
 ghost use Rattle.package_tree.specs.Fault.{CountsTree};
-ghost use Rattle.package_tree.specs.Debian.{is_wrong, is_white, is_entry, is_shipped, lists_conffiles, script_path, member_paths, Ships, HasNoneWrong, IsFirstWrong, AreContents};
+ghost use Rattle.package_tree.specs.Debian.{is_wrong, is_entry, is_shipped, lists_conffiles, script_path, conffiles_path, member_paths, Ships, HasNoneWrong, IsFirstWrong, AreContents};
+ghost use Rattle.package_tree.specs.Conffiles.{is_white, entries_at, HasNoEntry, IsFirstOdd, IsOdd};
 ghost use Rattle.package_tree.specs.ControlFile.{IsControlText};
 ghost use Rattle.package_tree.specs.Tree.{HasControl, HasGoodControl, IsTreeOf, IsReadingFault};
 
+use crate::conffile_lines::{entries_at, first_odd, is_white};
 use crate::control_file::{ControlFile, read_control};
 use crate::fault::TreeFault;
 use crate::package::Package;
@@ -101,12 +103,6 @@ fn is_wrong(node: &Option<Node>) -> bool
         Some(Node::Dir { .. }) => true,
         Some(Node::Link { .. }) => true,
     }
-}
-
-fn is_white(b: u8) -> bool
-    ensures { result ≡ is_white b }
-{
-    b == b' ' || b == b'\t' || b == 12 || b == 11 || b == b'\r'
 }
 
 fn is_blank(line: &[u8]) -> bool
@@ -273,21 +269,33 @@ fn read_contents<H: Host>(
     requires control { Needs (H.state host.old) HasGoodControl }
     ensures found { Leaves result (λ w now. AreContents w contents.new) (H.state host.old) (H.state host.new) }
     ensures files { Leaves result (λ w now. HasNoneWrong w member_paths) (H.state host.old) (H.state host.new) }
+    ensures lines { Leaves result (λ w now. HasNoEntry IsOdd (entries_at (w conffiles_path))) (H.state host.old) (H.state host.new) }
     ensures fault { IsTrue (H.state host.new).honest → IfErr result (IsReadingFault (H.state host.old).world) }
     ensures reads { Reads (H.state host.old) (H.state host.new) }
     ensures silent { Silent (H.state host.old) (H.state host.new) }
     ensures counts { CountsTree (H.state host.old) (H.state host.new) result }
 {
     look(alloc, host, contents)?;
-    match wrong_path(alloc, contents)? {
-        Some(path) => Err(TreeFault::PathBad(path)),
+    if let Some(path) = wrong_path(alloc, contents)? {
+        return Err(TreeFault::PathBad(path));
+    }
+    match odd_line(alloc, contents)? {
+        Some(line) => Err(TreeFault::ConffileFlag(line)),
         None => Ok(()),
     }
 }
 
+// The line of the first entry of `conffiles` that is neither a path nor a flagged one.
+fn odd_line(alloc: Global, contents: &Contents) -> Result<Option<u64>, AllocError>
+    ensures { IfOk result (λ found. MatchOption found (HasNoEntry IsOdd (entries_at contents.now.conffiles)) (IsFirstOdd (entries_at contents.now.conffiles))) }
+{
+    let entries = entries_at(alloc, &contents.conffiles)?;
+    Ok(first_odd(entries.as_slice()))
+}
+
 // The package of what was read.
 fn assemble(control: ControlFile, contents: Contents) -> Package
-    ensures { (w : World) (text : List ℕ) → HasControl w text → IsControlText text control.paragraph control.name control.version → AreContents w contents → HasNoneWrong w member_paths → IsTreeOf w result }
+    ensures { (w : World) (text : List ℕ) → HasControl w text → IsControlText text control.paragraph control.name control.version → AreContents w contents → HasNoneWrong w member_paths → HasNoEntry IsOdd (entries_at (w conffiles_path)) → IsTreeOf w result }
 {
     let ControlFile {
         name,
