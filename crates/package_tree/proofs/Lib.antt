@@ -1,4 +1,7 @@
 pub mod Entries
+pub mod PathOrder
+pub mod Sets
+pub mod Walks
 pub mod Readable
 pub mod Trims
 pub mod Shipped

@@ -2,4 +2,6 @@ pub mod Conffiles
 pub mod ControlFile
 pub mod Debian
 pub mod Fault
+pub mod Shipped
 pub mod Tree
+pub mod Walk

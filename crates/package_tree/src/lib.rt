@@ -8,6 +8,7 @@ mod laws;
 mod line_text;
 mod package;
 mod reading;
+mod walk;
 
 pub use fault::{FieldName, LineName, TreeFault};
 pub use laws::trees_are_of_one_package;
