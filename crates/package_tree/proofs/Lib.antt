@@ -1,3 +1,4 @@
+pub mod Firsts
 pub mod Entries
 pub mod PathOrder
 pub mod Sets

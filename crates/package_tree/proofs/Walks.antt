@@ -2,7 +2,7 @@
 use Rattle.std.proofs.Common.{◌≡◌, ◌≢◌, ◌⊎◌, ◌+◌, ◌<◌, Bool, true, false, not, cond, ℕ, zero, suc, List, [], ◌∷◌, ◌++◌, take, length, get_or, arith, Option, Some, None, refl, sym, ap, subst, ◌∙◌, inl, inr}
 use Rattle.std.specs.Prelude.{◌||◌, ◌&&◌, IsSome, IsTrue, Contains, codes, MatchBool}
 use Rattle.std.specs.List.{list_any}
-use Rattle.std.specs.Str.{bytes_eq}
+use Rattle.std.specs.Str.{bytes_eq, IsUtf8}
 use Rattle.std.proofs.lemmas.Bool.{or_left, or_right, or_cases, and_parts, false_from_ne_true, false≢true, true≢false}
 use Rattle.std.proofs.lemmas.Slice.Eq.{bytes_eq-Decides}
 use Rattle.std.proofs.lemmas.List.Folds.{Any-from_list_any, list_any_at, list_any_more}
@@ -16,7 +16,7 @@ use Rattle.host_core.specs.declared.node.Node.{Node}
 use Rattle.host_core.specs.declared.node.Node.TheVariants as node
 use Rattle.administration.specs.Directories.{HasBadName}
 use Rattle.administration.proofs.Within.{within_is, below_within, directory_within}
-use Rattle.package_tree.specs.Shipped.{is_control, IsBefore, AreInOrder, StandsBeside, IsShipped, IsLeftOut, AreShipped, IsBadBeside, IsFirstPath, HasNoPath}
+use Rattle.package_tree.specs.Shipped.{is_control, IsBefore, AreInOrder, StandsBeside, IsShipped, IsLeftOut, AreShipped, IsBadBeside, IsFirstPath, HasNoPath, ArePathTexts}
 use Rattle.package_tree.specs.Walk.{is_child_of, is_child, SeesTo, AreChildren, IsBadHere, HasLooked, IsAmid, IsOrderly, Takes}
 use Rattle.package_tree.specs.declared.walk.Sight.{Sight}
 use Rattle.package_tree.specs.declared.walk.Sight.TheVariants as look
@@ -68,7 +68,7 @@ pub listed_child : (dir : Path) (names : List Path) (name : Path) → Contains n
 listed_child dir names name listed path out =
     let q = dir ++ 47 ∷ name in
     list_any_at (is_child_of dir q) names listed.0 name listed.1
-      (subst (λ (n : Path). is_child_of dir q n ≡ true) (sym listed.2) (all3 (is_path q) (is_control q) (bytes_eq q q) path out ((bytes_eq-Decides q q).1 refl)))
+    (subst (λ (n : Path). is_child_of dir q n ≡ true) (sym listed.2) (all3 (is_path q) (is_control q) (bytes_eq q q) path out ((bytes_eq-Decides q q).1 refl)))
 
 joined : (a hit o : Bool) → (hit || (a || o)) ≡ ((a || hit) || o)
 joined true true o = refl
@@ -81,19 +81,19 @@ pub child_added : (dir : Path) (names : List Path) (i : ℕ) (name q : Path) (ne
     → new ≡ (is_child_of dir q name || mid) → mid ≡ (is_child dir (take i names) q || first) → new ≡ (is_child dir (take (i + 1) names) q || first)
 child_added dir names i name q new mid first lt is new_is mid_is =
     let more : is_child dir (take (i + 1) names) q ≡ (is_child dir (take i names) q || is_child_of dir q name) =
-        list_any_more (is_child_of dir q) names i name lt ∙ ap (λ (n : Path). is_child dir (take i names) q || is_child_of dir q n) (sym is) in
+    list_any_more (is_child_of dir q) names i name lt ∙ ap (λ (n : Path). is_child dir (take i names) q || is_child_of dir q n) (sym is) in
     new_is ∙ ap (λ b. is_child_of dir q name || b) mid_is ∙ joined (is_child dir (take i names) q) (is_child_of dir q name) first ∙ ap (λ t. t || first) (sym more)
 
 -- a name that makes no path, or a path in `DEBIAN`, adds none
 pub no_path : (dir name q : Path) (old : Bool) → is_path (dir ++ 47 ∷ name) ≡ false → old ≡ (is_child_of dir q name || old)
 no_path dir name q old none = ap (λ b. b || old) (sym (false_from_ne_true (is_child_of dir q name) (λ t.
     (let parts = and3 (is_path q) (is_control q) (bytes_eq (dir ++ 47 ∷ name) q) t in
-     true≢false (sym parts.0 ∙ ap is_path (sym ((bytes_eq-Decides (dir ++ 47 ∷ name) q).0 parts.2)) ∙ none)))))
+    true≢false (sym parts.0 ∙ ap is_path (sym ((bytes_eq-Decides (dir ++ 47 ∷ name) q).0 parts.2)) ∙ none)))))
 
 pub in_control : (dir name q path : Path) (told old : Bool) → path ≡ dir ++ 47 ∷ name → told ≡ is_control path → told ≡ true → old ≡ (is_child_of dir q name || old)
 in_control dir name q path told old is says within = ap (λ b. b || old) (sym (false_from_ne_true (is_child_of dir q name) (λ t.
     (let parts = and3 (is_path q) (is_control q) (bytes_eq (dir ++ 47 ∷ name) q) t in
-     true≢false (sym within ∙ says ∙ ap is_control (is ∙ (bytes_eq-Decides (dir ++ 47 ∷ name) q).0 parts.2) ∙ parts.1)))))
+    true≢false (sym within ∙ says ∙ ap is_control (is ∙ (bytes_eq-Decides (dir ++ 47 ∷ name) q).0 parts.2) ∙ parts.1)))))
 
 cond_or : (b old : Bool) → cond b true old ≡ (b || old)
 cond_or true old = refl
@@ -106,6 +106,7 @@ same_test p q path out = at (bytes_eq p q) refl
     dropped true true = refl
     dropped true false = refl
     dropped false b = refl
+
     at : (t : Bool) → bytes_eq p q ≡ t → (is_path q && (not (is_control q) && t)) ≡ t
     at true e = (let same = (bytes_eq-Decides p q).0 e in all3 (is_path q) (is_control q) true (ap is_path (sym same) ∙ path) (ap is_control (sym same) ∙ out) refl)
     at false e = dropped (is_path q) (is_control q)
@@ -134,7 +135,7 @@ sees_from_listing w dir names bad old new good listing is = record {
 
 pub none_bad : (w : World) (dir : Path) (names : List Path) (bad : Bool) → bad ≡ false → IsListing w dir names bad → HasBadName w dir → ⊥
 none_bad w dir names bad good listing (name, plain, odd, here) = elim (listing.whole name plain here) [
-  | inl m ↦ elim odd [ | inl no_text ↦ no_text (listing.text name m) | inr no_path ↦ true≢false (sym (listing.fits name m) ∙ no_path) ]
+  | inl m ↦ elim odd [ inl no_text ↦ no_text (listing.text name m) | inr no_path ↦ true≢false (sym (listing.fits name m) ∙ no_path) ]
   | inr b ↦ absurd (false≢true (sym good ∙ b.1))
 ]
 
@@ -164,7 +165,7 @@ is_dir (Some (node.Dir access)) e = (access, refl)
 is_dir (Some (node.Link target)) e = absurd (let o : kind.SymbolicLink ≡ kind.Directory = cc in cc)
 
 not_bad_here : (w : World) (q : Path) (told : Bool) → told ≡ has_room q → told ≡ true → (HasBadName w q → ⊥) → IsBadHere w q → ⊥
-not_bad_here w q told is room fine bad = elim bad [ | inl narrow ↦ true≢false (sym room ∙ is ∙ narrow) | inr name ↦ fine name ]
+not_bad_here w q told is room fine bad = elim bad [ inl narrow ↦ true≢false (sym room ∙ is ∙ narrow) | inr name ↦ fine name ]
 
 pub looked_shut : (w : World) (q : Path) (told dir : Bool) (found : Option Kind) (old : Path → Bool) → IsTree w → told ≡ has_room q → told ≡ true → found ≡ kind_of (w q) → (found ≡ Some kind.Directory → IsTrue dir) → dir ≡ false
     → HasLooked w q old old look.Shipped
@@ -198,13 +199,13 @@ same_at p q C false e alike apart = apart (λ s. false≢true (sym e ∙ (bytes_
 pub same_or_not : (p q : Path) (C : Type 0) → (p ≡ q → C) → (p ≢ q → C) → C
 same_or_not p q C alike apart = same_at p q C (bytes_eq p q) refl alike apart
 
-none_here : (q : Path) → Contains [] q → ⊥
+pub none_here : (q : Path) → Contains [] q → ⊥
 none_here q (n, lt, is) = absurd (omega (arith, lt))
 
 pub orderly_start : (old todo : Path → Bool) → ((q : Path) → old q ≡ false) → AreChildren [] old todo → IsOrderly [] todo
 orderly_start old todo none children = record {
-  paths = λ q e. elim (children q e) [ | inl o ↦ absurd (false≢true (sym (none q) ∙ o)) | inr c ↦ c.1 ];
-  beside = λ q e. elim (children q e) [ | inl o ↦ absurd (false≢true (sym (none q) ∙ o)) | inr c ↦ c.2 ];
+  paths = λ q e. elim (children q e) [ inl o ↦ absurd (false≢true (sym (none q) ∙ o)) | inr c ↦ c.1 ];
+  beside = λ q e. elim (children q e) [ inl o ↦ absurd (false≢true (sym (none q) ∙ o)) | inr c ↦ c.2 ];
   order = λ p q here e. absurd (none_here p here);
 }
 
@@ -216,9 +217,9 @@ amid_start w old todo tree none fine sees children = record {
     | inr b ↦ record { below = b.0; beside = (orderly_start old todo none children).beside q e; there = b.1 }
   ];
   covered = λ q stands.
-    (let t = descend w [] q tree stands.below stands.there in
-     let out : is_control (47 ∷ t.name) ≡ false = elim t.ends [ | inl e ↦ subst (λ (p : Path). is_control p ≡ false) e stands.beside | inr b ↦ beside_front (47 ∷ t.name) q b stands.beside ] in
-     inr (47 ∷ t.name, sees.each t.name t.plain out t.there, t.ends));
+      (let t = descend w [] q tree stands.below stands.there in
+      let out : is_control (47 ∷ t.name) ≡ false = elim t.ends [ inl e ↦ subst (λ (p : Path). is_control p ≡ false) e stands.beside | inr b ↦ beside_front (47 ∷ t.name) q b stands.beside ] in
+      inr (47 ∷ t.name, sees.each t.name t.plain out t.there, t.ends));
   root = fine;
 }
 
@@ -240,7 +241,7 @@ in_rest path todo rest took q e ne = took.less q ∙ ap (λ b. cond b false (tod
 
 -- what is to be looked at later comes after the path
 after_path : (path : Path) (todo rest later : Path → Bool) → Took path todo rest → AreChildren path rest later → (q : Path) → later q ≡ true → IsBefore path q
-after_path path todo rest later took children q e = elim (children q e) [ | inl o ↦ took.above q o | inr c ↦ before_below path q c.0 ]
+after_path path todo rest later took children q e = elim (children q e) [ inl o ↦ took.above q o | inr c ↦ before_below path q c.0 ]
 
 in_snoc : (found : List Path) (path p : Path) → Contains (found ++ path ∷ []) p → Contains found p ⊎ (path ≡ p)
 in_snoc found path p here = elim (Contains-append_cases found (path ∷ []) p here) [
@@ -254,8 +255,8 @@ in_snoc found path p here = elim (Contains-append_cases found (path ∷ []) p he
 
 pub orderly_on : (found : List Path) (path : Path) (todo rest later : Path → Bool) → IsOrderly found todo → Took path todo rest → AreChildren path rest later → IsOrderly found later
 orderly_on found path todo rest later orderly took children = record {
-  paths = λ q e. elim (children q e) [ | inl o ↦ orderly.paths q (in_todo path todo rest took q o) | inr c ↦ c.1 ];
-  beside = λ q e. elim (children q e) [ | inl o ↦ orderly.beside q (in_todo path todo rest took q o) | inr c ↦ c.2 ];
+  paths = λ q e. elim (children q e) [ inl o ↦ orderly.paths q (in_todo path todo rest took q o) | inr c ↦ c.1 ];
+  beside = λ q e. elim (children q e) [ inl o ↦ orderly.beside q (in_todo path todo rest took q o) | inr c ↦ c.2 ];
   order = λ p q here e. before_then p path q (orderly.order p path here took.popped) (after_path path todo rest later took children q e);
 }
 
@@ -279,33 +280,33 @@ amid_on : (w : World) (found next : List Path) (path : Path) (todo rest later : 
     → SeesTo w path rest later → (IsBadHere w path → ⊥) → ((q : Path) → Contains next q → Contains found q ⊎ ((path ≡ q) × IsShipped w q)) → ((q : Path) → Contains found q → Contains next q) → (IsShipped w path → Contains next path)
     → IsAmid w next later
 amid_on w found next path todo rest later tree amid orderly took children sees fine only kept here = record {
-  sound = λ q there. elim (only q there) [ | inl old ↦ amid.sound q old | inr new ↦ new.1 ];
+  sound = λ q there. elim (only q there) [ inl old ↦ amid.sound q old | inr new ↦ new.1 ];
   ahead = λ q e. elim (sees.only q e) [
     | inl o ↦ amid.ahead q (in_todo path todo rest took q o)
     | inr b ↦ record {
-        below = below_then [] path q (amid.ahead path took.popped).below b.0;
-        beside = (orderly_on found path todo rest later orderly took children).beside q e;
-        there = b.1;
-      }
+      below = below_then [] path q (amid.ahead path took.popped).below b.0;
+      beside = (orderly_on found path todo rest later orderly took children).beside q e;
+      there = b.1;
+    }
   ];
   covered = λ q stands.
-    (let Goal = ((IsShipped w q → Contains next q) × (IsBadHere w q → ⊥)) ⊎ ((a : Path) × (later a ≡ true) × ((q ≡ a) ⊎ IsBelow a q)) in
-     elim (amid.covered q stands) [
-      | inl done ↦ inl ((λ s. kept q (done.0 s)), done.1)
-      | inr a ↦ same_or_not path a.0 Goal
-          (λ s. elim a.2 [
-            | inl e ↦ (let is : path ≡ q = s ∙ sym e in
-                inl (subst (λ (x : Path). (IsShipped w x → Contains next x) × (IsBadHere w x → ⊥)) is (here, fine)))
-            | inr b ↦ (let b2 = subst (λ (p : Path). IsBelow p q) (sym s) b in
-                let t = descend w path q tree b2 stands.there in
-                let out : is_control (path ++ 47 ∷ t.name) ≡ false = elim t.ends [
-                  | inl e ↦ subst (λ (p : Path). is_control p ≡ false) e stands.beside
-                  | inr c ↦ beside_front (path ++ 47 ∷ t.name) q c stands.beside
-                ] in
-                inr (path ++ 47 ∷ t.name, sees.each t.name t.plain out t.there, t.ends))
-          ])
-          (λ ne. inr (a.0, sees.kept a.0 (in_rest path todo rest took a.0 a.1 ne), a.2))
-    ]);
+      (let Goal = ((IsShipped w q → Contains next q) × (IsBadHere w q → ⊥)) ⊎ ((a : Path) × (later a ≡ true) × ((q ≡ a) ⊎ IsBelow a q)) in
+      elim (amid.covered q stands) [
+        | inl done ↦ inl ((λ s. kept q (done.0 s)), done.1)
+        | inr a ↦ same_or_not path a.0 Goal
+            (λ s. elim a.2 [
+              | inl e ↦ (let is : path ≡ q = s ∙ sym e in
+                  inl (subst (λ (x : Path). (IsShipped w x → Contains next x) × (IsBadHere w x → ⊥)) is (here, fine)))
+              | inr b ↦ (let b2 = subst (λ (p : Path). IsBelow p q) (sym s) b in
+                  let t = descend w path q tree b2 stands.there in
+                  let out : is_control (path ++ 47 ∷ t.name) ≡ false = elim t.ends [
+                    | inl e ↦ subst (λ (p : Path). is_control p ≡ false) e stands.beside
+                    | inr c ↦ beside_front (path ++ 47 ∷ t.name) q c stands.beside
+                  ] in
+                  inr (path ++ 47 ∷ t.name, sees.each t.name t.plain out t.there, t.ends))
+            ])
+            (λ ne. inr (a.0, sees.kept a.0 (in_rest path todo rest took a.0 a.1 ne), a.2))
+      ]);
   root = amid.root;
 }
 
@@ -315,9 +316,9 @@ amid_found w found path todo rest later tree amid orderly took children looked =
     let shipped : IsShipped w path = record { stands = amid.ahead path took.popped; taken = looked.2 } in
     let last : Contains (found ++ path ∷ []) path = Contains-append_right found (path ∷ []) path (0, omega arith, refl) in
     amid_on w found (found ++ path ∷ []) path todo rest later tree amid orderly took children looked.1 looked.0
-      (λ q there. elim (in_snoc found path q there) [ | inl old ↦ inl old | inr same ↦ inr (same, subst (IsShipped w) same shipped) ])
-      (λ q there. Contains-append_left found (path ∷ []) q there)
-      (λ s. last)
+    (λ q there. elim (in_snoc found path q there) [ inl old ↦ inl old | inr same ↦ inr (same, subst (IsShipped w) same shipped) ])
+    (λ q there. Contains-append_left found (path ∷ []) q there)
+    (λ s. last)
 
 pub amid_left_out : (w : World) (found : List Path) (path : Path) (todo rest later : Path → Bool) → IsTree w → IsAmid w found todo → IsOrderly found todo → Took path todo rest → AreChildren path rest later
     → HasLooked w path rest later look.LeftOut → IsAmid w found later
@@ -344,6 +345,14 @@ in_order_next found next path todo rest look.Bad orderly order took takes = subs
 in_order_next found next path todo rest look.Shipped orderly order took takes = subst AreInOrder (sym takes) (in_order_found found path todo rest orderly order took)
 in_order_next found next path todo rest look.LeftOut orderly order took takes = subst AreInOrder (sym takes) order
 
+pub texts_next : (found next : List Path) (path : Path) (sight : Sight) → ArePathTexts found → IsUtf8 path → is_path path ≡ true → Takes found path sight next → ArePathTexts next
+texts_next found next path look.Bad texts text is takes = subst ArePathTexts (sym takes) texts
+texts_next found next path look.Shipped texts text is takes = subst ArePathTexts (sym takes) (λ q here. elim (in_snoc found path q here) [
+  | inl old ↦ texts q old
+  | inr same ↦ subst (λ (p : Path). IsUtf8 p × (is_path p ≡ true)) same (text, is)
+])
+texts_next found next path look.LeftOut texts text is takes = subst ArePathTexts (sym takes) texts
+
 -- the first bad path is met first
 pub first_bad : (w : World) (found : List Path) (path : Path) (todo rest : Path → Bool) → IsAmid w found todo → Took path todo rest → IsBadHere w path → IsFirstPath (IsBadBeside w) path
 first_bad w found path todo rest amid took bad = record {
@@ -351,18 +360,18 @@ first_bad w found path todo rest amid took bad = record {
   first = λ q is before. elim is [
     | inl root ↦ amid.root root.1
     | inr other ↦ elim (amid.covered q other.0) [
-        | inl done ↦ done.1 other.1
-        | inr a ↦ same_or_not path a.0 ⊥
-            (λ s. not_before_itself path (elim a.2 [
-              | inl e ↦ subst (λ (x : Path). IsBefore x path) (e ∙ sym s) before
-              | inr b ↦ before_then path q path (before_below path q (subst (λ (p : Path). IsBelow p q) (sym s) b)) before
-            ]))
-            (λ ne. (let later = took.above a.0 (in_rest path todo rest took a.0 a.1 ne) in
-              not_before_itself path (elim a.2 [
-                | inl e ↦ before_then path q path (subst (IsBefore path) (sym e) later) before
-                | inr b ↦ before_then path a.0 path later (before_then a.0 q path (before_below a.0 q b) before)
-              ])))
-      ]
+      | inl done ↦ done.1 other.1
+      | inr a ↦ same_or_not path a.0 ⊥
+          (λ s. not_before_itself path (elim a.2 [
+            | inl e ↦ subst (λ (x : Path). IsBefore x path) (e ∙ sym s) before
+            | inr b ↦ before_then path q path (before_below path q (subst (λ (p : Path). IsBelow p q) (sym s) b)) before
+          ]))
+          (λ ne. (let later = took.above a.0 (in_rest path todo rest took a.0 a.1 ne) in
+          not_before_itself path (elim a.2 [
+            | inl e ↦ before_then path q path (subst (IsBefore path) (sym e) later) before
+            | inr b ↦ before_then path a.0 path later (before_then a.0 q path (before_below a.0 q b) before)
+          ])))
+    ]
   ];
 }
 
@@ -391,14 +400,14 @@ pub path_fine : (w v : World) (found next : List Path) (path text : Path) (todo 
 path_fine w v found next path text todo rest later sight true tree same is amid orderly took fine says looked children takes = absurd (true≢false fine)
 path_fine w v found next path text todo rest later sight false tree same is amid orderly took fine says looked children takes =
     amid_next w found next text todo rest later sight tree amid orderly took (subst (λ (p : Path). AreChildren p rest later) is children) says
-      (subst (λ (p : Path). HasLooked w p rest later sight) is (subst (λ (x : World). HasLooked x path rest later sight) same looked))
-      (subst (λ (p : Path). Takes found p sight next) is takes)
+    (subst (λ (p : Path). HasLooked w p rest later sight) is (subst (λ (x : World). HasLooked x path rest later sight) same looked))
+    (subst (λ (p : Path). Takes found p sight next) is takes)
 
 -- where nothing is left to be looked at, all was
 pub all_done : (w : World) (found : List Path) (todo : Path → Bool) → IsAmid w found todo → AreInOrder found → ((q : Path) → todo q ≡ false) → HasNoPath (IsBadBeside w) × AreShipped w found
 all_done w found todo amid order none =
     let done : (q : Path) → StandsBeside w q → (IsShipped w q → Contains found q) × (IsBadHere w q → ⊥) = λ q stands.
-      elim (amid.covered q stands) [ | inl d ↦ d | inr a ↦ absurd (false≢true (sym (none a.0) ∙ a.1)) ] in (
-      (λ q is. elim is [ | inl root ↦ amid.root root.1 | inr other ↦ (done q other.0).1 other.1 ]),
+    elim (amid.covered q stands) [ inl d ↦ d | inr a ↦ absurd (false≢true (sym (none a.0) ∙ a.1)) ] in (
+      (λ q is. elim is [ inl root ↦ amid.root root.1 | inr other ↦ (done q other.0).1 other.1 ]),
       record { only = amid.sound; whole = λ q s. (done q s.stands).0 s; order = order },
     )

@@ -1,10 +1,11 @@
 -- What a tree ships: all that stands in it beside `DEBIAN`, but directories below the administration's.
 use Rattle.std.specs.Prelude.{◌≡◌, ◌⊎◌, ◌||◌, ◌∷◌, [], ℕ, Bool, true, false, List, IsSome, Contains, codes}
 use Rattle.std.specs.List.{AllByRecursion}
+use Rattle.std.specs.Str.{IsUtf8}
 use Rattle.std.specs.Cmp.Lexicographic.{slice_cmp}
 use Rattle.std.specs.Ordering.{nat_cmp}
 use Rattle.std.specs.declared.cmp.Ordering.TheVariants.{Less}
-use Rattle.host_core.specs.Paths.{Path, has_reserved_suffix, has_room, is_below_administration}
+use Rattle.host_core.specs.Paths.{Path, has_reserved_suffix, has_room, is_below_administration, is_path, is_ship_text}
 use Rattle.host_core.specs.Tree.{IsBelow}
 use Rattle.host_core.specs.World.{World, IsDirectory}
 use Rattle.administration.specs.Directories.{HasBadName}
@@ -43,6 +44,14 @@ pub record AreShipped (w : World) (paths : List Path) : Type 0 where
   pub only : (q : Path) → Contains paths q → IsShipped w q
   pub whole : (q : Path) → IsShipped w q → Contains paths q
   pub order : AreInOrder paths
+
+-- each is a text that names a path
+abbrev pub ArePathTexts : List Path → Type 0
+ArePathTexts paths = (q : Path) → Contains paths q → IsUtf8 q × (is_path q ≡ true)
+
+-- a text that names a path which a package may ship
+abbrev pub IsShipLine : List ℕ → Type 0
+IsShipLine text = IsUtf8 text × (is_ship_text text ≡ true)
 
 -- the first path in path order of which P holds
 pub record IsFirstPath (P : Path → Type 0) (path : Path) : Type 0 where

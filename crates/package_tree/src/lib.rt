@@ -7,6 +7,7 @@ mod fault;
 mod laws;
 mod line_text;
 mod package;
+mod path_faults;
 mod reading;
 mod walk;
 

@@ -6,7 +6,7 @@ ghost use Rattle.std.specs.BTreeSet.{contains_text};
 ghost use Rattle.host_core.specs.Host.{Counts, Needs, Reads, Silent, Tells};
 ghost use Rattle.host_core.specs.Paths.{is_below_administration};
 ghost use Rattle.administration.specs.Directories.{HasBadName};
-ghost use Rattle.package_tree.specs.Shipped.{is_control, AreInOrder, AreShipped, HasNoPath, IsBadBeside, IsFirstPath};
+ghost use Rattle.package_tree.specs.Shipped.{is_control, AreInOrder, ArePathTexts, AreShipped, HasNoPath, IsBadBeside, IsFirstPath};
 ghost use Rattle.package_tree.specs.Walk.{is_child, is_child_of, AreChildren, HasLooked, SeesTo, Takes};
 
 use host_core::{Host, HostFault, Kind, RootPath, has_room};
@@ -165,6 +165,7 @@ pub(crate) fn walk<H: Host>(
     requires { found.old.items ≡ [] }
     ensures found { IsTrue (H.state host.new).honest → IfOk result (λ bad. MatchOption bad (HasNoPath (IsBadBeside (H.state host.old).world) × AreShipped (H.state host.old).world found.new.items) (IsFirstPath (IsBadBeside (H.state host.old).world))) }
     ensures order { OnOk result (AreInOrder found.new.items) }
+    ensures texts { OnOk result (ArePathTexts found.new.items) }
     ensures reads { Reads (H.state host.old) (H.state host.new) }
     ensures silent { Silent (H.state host.old) (H.state host.new) }
     ensures counts { Counts (H.state host.old) (H.state host.new) result }

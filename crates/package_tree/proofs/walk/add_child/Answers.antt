@@ -23,5 +23,5 @@ returns c = λ q.
     let is = subst (λ o. MatchOption o (is_path (c.args.dir.now ++ 47 ∷ c.args.name.now) ≡ false) (λ (p : Path). p ≡ c.args.dir.now ++ 47 ∷ c.args.name.now)) c.in-Some.is c.in_ok-path.ensures in
     let key = string_bytes c.in_ok-from_str.field-0 in
     child_inserted c.args.dir.now c.args.name.now q c.in-Some.path key c.is_control.result (contains_text c.insert.new.self q) (contains_text c.args.todo.now q) is (subst (λ (p : Path). is_path p ≡ true) c.path.view_is c.path.invariant) (c.is_control.ensures ∙ ap is_control c.as_str.ensures) c.if-is_control.false
-      (c.in_ok-from_str.ensures.ok ∙ c.as_str-2.ensures)
-      (btree_set_updates_text key c.args.todo.now c.insert.new.self true c.in_ok-insert.ensures.updates q)
+    (c.in_ok-from_str.ensures.ok ∙ c.as_str-2.ensures)
+    (btree_set_updates_text key c.args.todo.now c.insert.new.self true c.in_ok-insert.ensures.updates q)

@@ -3,13 +3,14 @@ use Rattle.std.specs.Prelude.{IsTrue}
 use Rattle.std.specs.BTreeSet.{contains_text}
 use Rattle.std.specs.String.{string_bytes}
 use Rattle.std.proofs.lemmas.Bool.{false≢true}
+use Rattle.std.proofs.lemmas.Str.{IsUtf8-string_bytes}
 use Rattle.std.proofs.lemmas.Map.Text.{btree_set_updates_text}
 use Rattle.host_core.specs.Paths.{Path}
 use Rattle.host_core.specs.Moments.{reads_then}
-use Rattle.package_tree.specs.Shipped.{AreInOrder}
+use Rattle.package_tree.specs.Shipped.{AreInOrder, ArePathTexts}
 use Rattle.package_tree.specs.Walk.{AreChildren, IsAmid, IsOrderly, Takes}
 use Rattle.package_tree.proofs.Sets.{above_text, no_keys, nothing_left}
-use Rattle.package_tree.proofs.Walks.{Took, amid_start, orderly_start, start_seen, start_bad, path_bad, path_fine, orderly_next, in_order_next, all_done}
+use Rattle.package_tree.proofs.Walks.{Took, amid_start, orderly_start, start_seen, start_bad, path_bad, path_fine, orderly_next, in_order_next, none_here, texts_next, all_done}
 use Rattle.package_tree.proofs.walk.walk.Goals as goal
 
 pub returns-then-branch-clause-found : goal.returns-then-branch-clause-found
@@ -24,11 +25,12 @@ loop-init g c =
     let children : AreChildren [] old todo = subst (λ (p : Path). AreChildren p old todo) c.in_ok-root.ensures c.in_ok-look_into.ensures.children in
     record {
       amid = λ h.
-        (let w = (g.H.Host.state c.args.host.now).world in
-         let seen = start_seen w c.in_ok-root.root c.in_ok-look_into.field-0 old todo c.in_ok-root.ensures c.if-branch.false (c.in_ok-look_into.ensures.found h) in
-         subst (λ (l : List Path). IsAmid w l todo) (sym c.requires) (amid_start w old todo (g.H.Host.tree c.args.host.now (c.look_into.ensures.silent.honest h)) none seen.0 seen.1 children));
+          (let w = (g.H.Host.state c.args.host.now).world in
+          let seen = start_seen w c.in_ok-root.root c.in_ok-look_into.field-0 old todo c.in_ok-root.ensures c.if-branch.false (c.in_ok-look_into.ensures.found h) in
+          subst (λ (l : List Path). IsAmid w l todo) (sym c.requires) (amid_start w old todo (g.H.Host.tree c.args.host.now (c.look_into.ensures.silent.honest h)) none seen.0 seen.1 children));
       orderly = subst (λ (l : List Path). IsOrderly l todo) (sym c.requires) (orderly_start old todo none children);
       order = subst AreInOrder (sym c.requires) tt;
+      texts = subst ArePathTexts (sym c.requires) (λ q here. absurd (none_here q here));
       reads = c.look_into.ensures.reads;
       silent = c.look_into.ensures.silent;
       counts = c.in_ok-look_into.ensures.counts;
@@ -69,11 +71,12 @@ loop-preserved g c =
     let takes : Takes found path sight next = subst (λ (p : Path). Takes found p sight next) c.new-path.ensures c.in_ok-take.ensures in
     record {
       amid = λ h.
-        (let before = c.look.ensures.silent.honest h in
-         path_fine (g.H.Host.state c.args.host.now).world (g.H.Host.state c.loop.host).world found next c.new-path.result path todo rest later sight c.is_bad.result
-           (g.H.Host.tree c.args.host.now (c.loop.invariant.silent.honest before)) c.loop.invariant.reads.world c.new-path.ensures (c.loop.invariant.amid before) c.loop.invariant.orderly took c.if-is_bad.false c.is_bad.ensures
-           (c.in_ok-sight.ensures.found h) c.in_ok-sight.ensures.children c.in_ok-take.ensures);
+          (let before = c.look.ensures.silent.honest h in
+          path_fine (g.H.Host.state c.args.host.now).world (g.H.Host.state c.loop.host).world found next c.new-path.result path todo rest later sight c.is_bad.result
+          (g.H.Host.tree c.args.host.now (c.loop.invariant.silent.honest before)) c.loop.invariant.reads.world c.new-path.ensures (c.loop.invariant.amid before) c.loop.invariant.orderly took c.if-is_bad.false c.is_bad.ensures
+          (c.in_ok-sight.ensures.found h) c.in_ok-sight.ensures.children c.in_ok-take.ensures);
       orderly = orderly_next found next path todo rest later sight c.loop.invariant.orderly took children takes;
+      texts = texts_next found next path sight c.loop.invariant.texts (IsUtf8-string_bytes text) (c.loop.invariant.orderly.paths path c.in-Some.ensures.member) takes;
       order = in_order_next found next path todo rest sight c.loop.invariant.orderly c.loop.invariant.order took takes;
       reads = reads_then _ _ _ c.loop.invariant.reads c.look.ensures.reads;
       silent = search rules;
