@@ -1,4 +1,10 @@
+pub mod Firsts
+pub mod Entries
+pub mod PathOrder
+pub mod Sets
+pub mod Walks
 pub mod Readable
+pub mod Trims
 pub mod Shipped
 pub mod FieldsOnce
 pub mod RelationsInOrder

@@ -14,14 +14,18 @@ use Rattle.control_fields.specs.declared.field.Field.{Field}
 use Rattle.control_fields.proofs.OnlyOne.{reads_one_once, no_fault_of_one}
 use Rattle.administration.specs.Scripts.{script_of, file_of}
 use Rattle.package_tree.specs.ControlFile.{key_of, relation_order, HasValue, HasNoBad, HasNoBadRelation, HasBadValue}
-use Rattle.package_tree.specs.Debian.{is_wrong}
+use Rattle.package_tree.specs.Conffiles.{HasNoEntry, IsFirstEntry, IsOdd}
+use Rattle.package_tree.specs.PathFaults.{HasGoodPaths, IsBadPath}
+use Rattle.package_tree.specs.Shipped.{HasNoPath}
+use Rattle.package_tree.proofs.Firsts.{no_bad_path}
+use Rattle.package_tree.specs.declared.conffile_lines.Entry.{Entry}
 use Rattle.package_tree.specs.Tree.{HasControl, IsTreeOf, IsTreeFault}
 use Rattle.package_tree.specs.declared.package.Package.{Package}
 use Rattle.package_tree.specs.declared.fault.FieldName.{FieldName}
 use Rattle.package_tree.specs.declared.fault.FieldName.TheVariants as field
 use Rattle.relation_fields.specs.declared.relation_field.RelationField.{RelationField}
 use Rattle.package_tree.specs.declared.fault.TreeFault.{TreeFault}
-use Rattle.package_tree.specs.declared.fault.TreeFault.TheVariants.{NoControl, Control, FieldMissing, FieldBad, PathBad, Device, NoMemory}
+use Rattle.package_tree.specs.declared.fault.TreeFault.TheVariants.{NoControl, Control, FieldMissing, FieldBad, PathBad, Reserved, ConffileNotShipped, ConffileShipped, ConffileFlag, TooLarge, Device, NoMemory}
 use Rattle.package_tree.proofs.FieldsOnce.{lacked, one_value, not_bad, not_lacked}
 
 abbrev bytes_of : Option Node → List ℕ
@@ -45,9 +49,12 @@ relation_among : (before after : List RelationField) (relation : RelationField) 
 relation_among [] after relation fields all = all.0
 relation_among (r ∷ before) after relation fields all = relation_among before after relation fields all.1
 
-among : (w : World) (before after : List Path) (path : Path) → AllByRecursion (λ q. is_wrong (w q) ≡ false) (before ++ path ∷ after) → is_wrong (w path) ≡ false
-among w [] after path all = all.0
-among w (q ∷ before) after path all = among w before after path all.1
+none_of : (P : Entry → Type 0) (front rest : List Entry) (entry : Entry) → HasNoEntry P (front ++ entry ∷ rest) → P entry → ⊥
+none_of P [] rest entry all holds = all.0 holds
+none_of P (e ∷ front) rest entry all holds = none_of P front rest entry all.1 holds
+
+first_of_none : (P : Entry → Type 0) (entries : List Entry) (number : ℕ) (entry : Entry) → HasNoEntry P entries → IsFirstEntry P entries number entry → ⊥
+first_of_none P entries number entry all first = none_of P first.front first.rest entry (subst (HasNoEntry P) first.is all) first.holds
 
 pub no_fault : (w : World) (p : Package) (fault : TreeFault) → IsTreeOf w p → IsTreeFault w fault → ⊥
 no_fault w p NoControl t wrong = wrong t.text t.there
@@ -68,8 +75,12 @@ no_fault w p (FieldBad (field.Relation relation)) t wrong =
     let first = wrong.2.2.3 in
     let good = subst (HasNoBadRelation relation_order) (sym (one_control w p t wrong.0 wrong.2.0 wrong.1 wrong.2.1)) t.control.fields.relations in
     none_bad (field.Relation relation) wrong.2.0 (relation_among first.front first.rest relation wrong.2.0 (subst (λ (l : List RelationField). HasNoBadRelation l wrong.2.0) first.is good)) first.bad
-no_fault w p (PathBad path) t wrong =
-    true≢false (sym wrong.1.wrong ∙ among w wrong.1.before wrong.1.after path (subst (AllByRecursion (λ q. is_wrong (w q) ≡ false)) wrong.1.is t.files))
+no_fault w p (PathBad path) t wrong = no_bad_path w t.paths.files t.paths.beside path wrong.1.holds
+no_fault w p (Reserved path) t wrong = t.paths.reserved path wrong.2.holds
+no_fault w p (ConffileNotShipped name) t wrong = wrong
+no_fault w p (ConffileShipped path) t wrong = wrong
+no_fault w p (ConffileFlag line) t wrong = first_of_none IsOdd _ line wrong.2.0 t.lines wrong.2.1
+no_fault w p (TooLarge path) t wrong = wrong
 no_fault w p Device t wrong = wrong
 no_fault w p NoMemory t wrong = wrong
 

@@ -5,7 +5,7 @@ use Rattle.control_fields.specs.Grammar.{ReadsOne, lines_of}
 use Rattle.control_fields.specs.declared.field.Field.{Field}
 use Rattle.package_tree.specs.ControlFile.{IsFieldFault, IsTextFault}
 use Rattle.package_tree.specs.declared.fault.TreeFault.{TreeFault}
-use Rattle.package_tree.specs.declared.fault.TreeFault.TheVariants.{NoControl, Control, FieldMissing, FieldBad, PathBad, Device, NoMemory}
+use Rattle.package_tree.specs.declared.fault.TreeFault.TheVariants.{NoControl, Control, FieldMissing, FieldBad, PathBad, Reserved, ConffileNotShipped, ConffileShipped, ConffileFlag, TooLarge, Device, NoMemory}
 
 -- it is that of the call
 pub passed_fault : {T : Type 0} (P : TreeFault → Type 0) (r : Result T TreeFault) (fault : TreeFault) → IsErrAnd r (λ e. e ≡ fault) → P fault → IfErr r P
@@ -19,5 +19,10 @@ told_fields text paragraph (Control fault) reads is = absurd is
 told_fields text paragraph (FieldMissing name) reads is = (paragraph, reads, is)
 told_fields text paragraph (FieldBad name) reads is = (paragraph, reads, is)
 told_fields text paragraph (PathBad path) reads is = absurd is
+told_fields text paragraph (Reserved path) reads is = absurd is
+told_fields text paragraph (ConffileNotShipped name) reads is = absurd is
+told_fields text paragraph (ConffileShipped path) reads is = absurd is
+told_fields text paragraph (ConffileFlag line) reads is = absurd is
+told_fields text paragraph (TooLarge path) reads is = absurd is
 told_fields text paragraph Device reads is = absurd is
 told_fields text paragraph NoMemory reads is = tt

@@ -12,6 +12,7 @@ use Rattle.host_core.specs.declared.node.Access.{Access}
 use Rattle.host_core.specs.declared.node.Node.{Node}
 use Rattle.host_core.specs.declared.node.Node.TheVariants.{File, Dir, Link}
 use Rattle.std.specs.Str.{bytes_eq}
+use Rattle.package_tree.specs.Conffiles.{is_white}
 use Rattle.package_tree.specs.declared.reading.Contents.{Contents}
 
 abbrev pub control_path : Path
@@ -48,10 +49,6 @@ pub record IsFirstWrong (w : World) (paths : List Path) (path : Path) : Type 0 w
 -- at each of these paths a file stands, or nothing
 abbrev pub HasNoneWrong : World → List Path → Type 0
 HasNoneWrong w paths = AllByRecursion (λ path. is_wrong (w path) ≡ false) paths
-
--- space, tab, form feed, vertical tab and CR, which don't count in a line of `conffiles`
-abbrev pub is_white : ℕ → Bool
-is_white b = nat_eq b 32 || (nat_eq b 9 || (nat_eq b 12 || (nat_eq b 11 || nat_eq b 13)))
 
 -- a line that names a conffile (Policy 10.7.1)
 abbrev pub is_entry : List ℕ → Bool

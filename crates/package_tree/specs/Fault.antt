@@ -4,7 +4,7 @@ use Rattle.host_core.specs.Host.{State, faults, HasFailed}
 use Rattle.host_core.specs.declared.fault.HostFault.{HostFault}
 use Rattle.host_core.specs.declared.fault.HostFault.TheVariants as host
 use Rattle.package_tree.specs.declared.fault.TreeFault.{TreeFault}
-use Rattle.package_tree.specs.declared.fault.TreeFault.TheVariants.{NoControl, Control, FieldMissing, FieldBad, PathBad, Device, NoMemory}
+use Rattle.package_tree.specs.declared.fault.TreeFault.TheVariants.{NoControl, Control, FieldMissing, FieldBad, PathBad, Reserved, ConffileNotShipped, ConffileShipped, ConffileFlag, TooLarge, Device, NoMemory}
 
 abbrev pub fault_of : HostFault → TreeFault
 fault_of host.Device = Device
@@ -18,6 +18,11 @@ CountsTree old new (Err (Control fault)) = faults new ≡ faults old
 CountsTree old new (Err (FieldMissing name)) = faults new ≡ faults old
 CountsTree old new (Err (FieldBad name)) = faults new ≡ faults old
 CountsTree old new (Err (PathBad path)) = faults new ≡ faults old
+CountsTree old new (Err (Reserved path)) = faults new ≡ faults old
+CountsTree old new (Err (ConffileNotShipped name)) = faults new ≡ faults old
+CountsTree old new (Err (ConffileShipped path)) = faults new ≡ faults old
+CountsTree old new (Err (ConffileFlag line)) = faults new ≡ faults old
+CountsTree old new (Err (TooLarge path)) = faults new ≡ faults old
 CountsTree old new (Err Device) = HasFailed old new
 CountsTree old new (Err NoMemory) = faults new ≡ faults old
 
@@ -28,5 +33,10 @@ IsHostFault (Control fault) = ⊥
 IsHostFault (FieldMissing name) = ⊥
 IsHostFault (FieldBad name) = ⊥
 IsHostFault (PathBad path) = ⊥
+IsHostFault (Reserved path) = ⊥
+IsHostFault (ConffileNotShipped name) = ⊥
+IsHostFault (ConffileShipped path) = ⊥
+IsHostFault (ConffileFlag line) = ⊥
+IsHostFault (TooLarge path) = ⊥
 IsHostFault Device = Unit {0}
 IsHostFault NoMemory = Unit {0}

@@ -5,11 +5,14 @@ use Rattle.host_core.specs.declared.call.Script.{Script}
 use Rattle.control_fields.specs.declared.field.Field.{Field}
 use Rattle.administration.specs.Scripts.{script_of, file_of}
 use Rattle.package_tree.specs.ControlFile.{IsControlText, IsTextFault}
-use Rattle.package_tree.specs.Debian.{HasFile, HasNoneWrong, IsFirstWrong, Ships, control_path, conffiles_path, script_path, member_paths, lists_conffiles}
+use Rattle.package_tree.specs.Debian.{HasFile, Ships, control_path, conffiles_path, script_path, lists_conffiles}
+use Rattle.package_tree.specs.Conffiles.{entries_at, HasNoEntry, IsFirstOdd, IsOdd}
 use Rattle.package_tree.specs.Fault.{IsHostFault}
+use Rattle.package_tree.specs.PathFaults.{HasGoodPaths, IsBadPath}
+use Rattle.package_tree.specs.Shipped.{HasNoPath, IsFirstPath, IsReserved}
 use Rattle.package_tree.specs.declared.package.Package.{Package}
 use Rattle.package_tree.specs.declared.fault.TreeFault.{TreeFault}
-use Rattle.package_tree.specs.declared.fault.TreeFault.TheVariants.{NoControl, Control, FieldMissing, FieldBad, PathBad, Device, NoMemory}
+use Rattle.package_tree.specs.declared.fault.TreeFault.TheVariants.{NoControl, Control, FieldMissing, FieldBad, PathBad, Reserved, ConffileNotShipped, ConffileShipped, ConffileFlag, TooLarge, Device, NoMemory}
 
 -- the tree's control file has this text
 abbrev pub HasControl : World → List ℕ → Type 0
@@ -23,7 +26,8 @@ pub record IsTreeOf (w : World) (p : Package) : Type 0 where
   pub control : IsControlText text p.control p.name p.version
   -- each script is the file in `DEBIAN` by its name, or missing where there is none
   pub scripts : (script : Script) → file_of (script_of p.scripts script) ≡ w (script_path script)
-  pub files : HasNoneWrong w member_paths
+  pub paths : HasGoodPaths w
+  pub lines : HasNoEntry IsOdd (entries_at (w conffiles_path))
   pub has_conffiles : p.has_conffiles ≡ lists_conffiles (w conffiles_path)
   pub ships : IsTrue p.ships ↔ Ships w
 
@@ -41,7 +45,12 @@ IsTreeFault w NoControl = (text : List ℕ) → HasControl w text → ⊥
 IsTreeFault w (Control fault) = HasControlFault w (Control fault)
 IsTreeFault w (FieldMissing name) = HasControlFault w (FieldMissing name)
 IsTreeFault w (FieldBad name) = HasControlFault w (FieldBad name)
-IsTreeFault w (PathBad path) = HasGoodControl w × IsFirstWrong w member_paths path
+IsTreeFault w (PathBad path) = HasGoodControl w × IsFirstPath (IsBadPath w) path
+IsTreeFault w (Reserved path) = HasGoodControl w × HasNoPath (IsBadPath w) × IsFirstPath (IsReserved w) path
+IsTreeFault w (ConffileNotShipped name) = ⊥
+IsTreeFault w (ConffileShipped path) = ⊥
+IsTreeFault w (ConffileFlag line) = HasGoodControl w × HasGoodPaths w × IsFirstOdd (entries_at (w conffiles_path)) line
+IsTreeFault w (TooLarge path) = ⊥
 IsTreeFault w Device = ⊥
 IsTreeFault w NoMemory = ⊥
 

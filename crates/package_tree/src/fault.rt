@@ -3,10 +3,11 @@ ghost use Rattle.std.specs.Prelude.{◌≡◌};
 ghost use Rattle.package_tree.specs.declared.fault.TreeFault.TheVariants.{NoMemory};
 ghost use Rattle.package_tree.specs.Fault.{fault_of};
 
+use crate::line_text::LineText;
 use control_fields::ControlFault;
 use host_core::{HostFault, RootPath};
 use relation_fields::RelationField;
-use std::alloc::AllocError;
+use std::alloc::{AllocError, AllocFailed};
 use thiserror::Error;
 
 /// The fields of a control file that a tree's reading looks at.
@@ -16,6 +17,27 @@ pub enum FieldName {
     Version,
     Essential,
     Relation(RelationField),
+}
+
+/// What a line of `DEBIAN/conffiles` names, as its fault gives it: a line that isn't text is told by
+/// its number, counted from 1.
+#[derive(Debug, Drop)]
+pub enum LineName {
+    Text(LineText),
+    Number(u64),
+}
+
+impl LineName {
+    ghost use Rattle.std.specs.Prelude.{IfOk};
+
+    fn copy(&self) -> Result<LineName, AllocError>
+        ensures { IfOk result (λ copy. copy ≡ self.now) }
+    {
+        match self {
+            LineName::Text(text) => Ok(LineName::Text(text.copy()?)),
+            LineName::Number(number) => Ok(LineName::Number(*number)),
+        }
+    }
 }
 
 /// The faults of a tree, in the order in which they are looked for; Device and NoMemory stand where
@@ -32,9 +54,26 @@ pub enum TreeFault {
     FieldMissing(FieldName),
     #[error("FieldBad {0:?}")]
     FieldBad(FieldName),
-    /// A script or `DEBIAN/conffiles` isn't a file.
+    /// A script or `DEBIAN/conffiles` isn't a file; a path has no room for our endings; a name in a
+    /// directory isn't text or makes no path.
     #[error("PathBad {0}")]
     PathBad(RootPath),
+    /// A shipped path has a reserved suffix, or lies below the administration's directory.
+    #[error("Reserved {0}")]
+    Reserved(RootPath),
+    /// A line of `DEBIAN/conffiles` isn't the path of a shipped file, or its flagged path isn't one
+    /// that a package may ship.
+    #[error("ConffileNotShipped {0:?}")]
+    ConffileNotShipped(LineName),
+    /// A path flagged `remove-on-upgrade` is shipped.
+    #[error("ConffileShipped {0}")]
+    ConffileShipped(RootPath),
+    /// A line of `DEBIAN/conffiles` is neither a path nor a flagged one.
+    #[error("ConffileFlag {0}")]
+    ConffileFlag(u64),
+    /// A shipped file has more than 64 MiB, or this is the path after the first 65,536.
+    #[error("TooLarge {0}")]
+    TooLarge(RootPath),
     #[error("Device")]
     Device,
     #[error("NoMemory")]
@@ -54,6 +93,11 @@ impl TreeFault {
             TreeFault::FieldMissing(name) => Ok(TreeFault::FieldMissing(*name)),
             TreeFault::FieldBad(name) => Ok(TreeFault::FieldBad(*name)),
             TreeFault::PathBad(path) => Ok(TreeFault::PathBad(path.copy()?)),
+            TreeFault::Reserved(path) => Ok(TreeFault::Reserved(path.copy()?)),
+            TreeFault::ConffileNotShipped(name) => Ok(TreeFault::ConffileNotShipped(name.copy()?)),
+            TreeFault::ConffileShipped(path) => Ok(TreeFault::ConffileShipped(path.copy()?)),
+            TreeFault::ConffileFlag(line) => Ok(TreeFault::ConffileFlag(*line)),
+            TreeFault::TooLarge(path) => Ok(TreeFault::TooLarge(path.copy()?)),
             TreeFault::Device => Ok(TreeFault::Device),
             TreeFault::NoMemory => Ok(TreeFault::NoMemory),
         }
@@ -75,6 +119,14 @@ impl From<AllocError> for TreeFault {
     ghost from_gives = { λ _ e. e ≡ NoMemory };
 
     fn from(_: AllocError) -> Self {
+        TreeFault::NoMemory
+    }
+}
+
+impl<T: Drop> From<AllocFailed<T>> for TreeFault {
+    ghost from_gives = { λ _ e. e ≡ NoMemory };
+
+    fn from(_: AllocFailed<T>) -> Self {
         TreeFault::NoMemory
     }
 }

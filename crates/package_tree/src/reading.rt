@@ -1,5 +1,5 @@
 // Reading a tree: its control file, and what stands beside it.
-ghost use Rattle.std.specs.Prelude.{◌≡◌, ◌↔◌, ◌||◌, true, false, IsTrue, IfOk, IfErr, IfSome, MatchOption, ℕ, List, Some};
+ghost use Rattle.std.specs.Prelude.{◌≡◌, ◌↔◌, ◌||◌, true, false, IsTrue, IfOk, IfErr, IfSome, OnOk, MatchOption, ℕ, List, Some, []};
 ghost use Rattle.std.specs.List.{list_any, list_all};
 ghost use Rattle.control_fields.specs.Grammar.{lines_of};
 ghost use Rattle.host_core.specs.Paths.{is_path};
@@ -9,13 +9,19 @@ ghost use Rattle.host_core.specs.declared.call.Script.{Script as AScript};
 ghost use Rattle.host_core.specs.declared.node.Access.{Access};
 ghost use Rattle.administration.specs.Scripts.{script_of, file_of};
 ghost use Rattle.package_tree.specs.Fault.{CountsTree};
-ghost use Rattle.package_tree.specs.Debian.{is_wrong, is_white, is_entry, is_shipped, lists_conffiles, script_path, member_paths, Ships, HasNoneWrong, IsFirstWrong, AreContents};
+ghost use Rattle.package_tree.specs.Debian.{is_wrong, is_entry, is_shipped, lists_conffiles, script_path, conffiles_path, member_paths, Ships, HasNoneWrong, IsFirstWrong, AreContents};
+ghost use Rattle.package_tree.specs.Conffiles.{is_white, entries_at, HasNoEntry, IsFirstOdd, IsOdd};
 ghost use Rattle.package_tree.specs.ControlFile.{IsControlText};
+ghost use Rattle.package_tree.specs.PathFaults.{HasGoodPaths, IsBadPath};
+ghost use Rattle.package_tree.specs.Shipped.{AreInOrder, ArePathTexts, AreShipped, HasNoPath, IsBadBeside, IsFirstPath, IsShipLine, IsShipped};
 ghost use Rattle.package_tree.specs.Tree.{HasControl, HasGoodControl, IsTreeOf, IsReadingFault};
 
+use crate::conffile_lines::{entries_at, first_odd, is_white};
 use crate::control_file::{ControlFile, read_control};
 use crate::fault::TreeFault;
 use crate::package::Package;
+use crate::path_faults::{first_reserved, lesser};
+use crate::walk::walk;
 use administration::{ScriptFile, Scripts};
 use host_core::{Host, HostFault, Listing, Node, RootPath};
 use std::alloc::{AllocError, Global};
@@ -101,12 +107,6 @@ fn is_wrong(node: &Option<Node>) -> bool
         Some(Node::Dir { .. }) => true,
         Some(Node::Link { .. }) => true,
     }
-}
-
-fn is_white(b: u8) -> bool
-    ensures { result ≡ is_white b }
-{
-    b == b' ' || b == b'\t' || b == 12 || b == 11 || b == b'\r'
 }
 
 fn is_blank(line: &[u8]) -> bool
@@ -264,30 +264,97 @@ fn read_control_file<H: Host>(alloc: Global, host: &mut H) -> Result<ControlFile
     read_control(alloc, text.as_slice())
 }
 
+// The first bad path; where none is bad, the paths that are shipped.
+#[tactic(auto, using(host_core::specs::Moments::reads_then))]
+fn first_bad<H: Host>(
+    alloc: Global,
+    host: &mut H,
+    contents: &Contents,
+    paths: &mut Vec<RootPath>,
+) -> Result<Option<RootPath>, HostFault>
+    requires empty { paths.old.items ≡ [] }
+    requires contents { Needs (H.state host.old) (λ w. AreContents w contents.now) }
+    ensures found { IsTrue (H.state host.new).honest → IfOk result (λ bad. MatchOption bad (HasNoneWrong (H.state host.old).world member_paths × (HasNoPath (IsBadBeside (H.state host.old).world) × AreShipped (H.state host.old).world paths.new.items)) (IsFirstPath (IsBadPath (H.state host.old).world))) }
+    ensures texts { OnOk result (ArePathTexts paths.new.items) }
+    ensures order { OnOk result (AreInOrder paths.new.items) }
+    ensures reads { Reads (H.state host.old) (H.state host.new) }
+    ensures silent { Silent (H.state host.old) (H.state host.new) }
+    ensures counts { Counts (H.state host.old) (H.state host.new) result }
+{
+    let bad = walk(alloc, host, paths)?;
+    match wrong_path(alloc, contents) {
+        Ok(wrong) => Ok(lesser(wrong, bad)),
+        Err(_) => Err(HostFault::NoMemory),
+    }
+}
+
+// Finds the paths that are shipped, where none is bad or reserved.
+#[tactic(auto, using(host_core::specs::Moments::reads_then))]
+fn read_paths<H: Host>(
+    alloc: Global,
+    host: &mut H,
+    contents: &Contents,
+    paths: &mut Vec<RootPath>,
+) -> Result<(), TreeFault>
+    requires control { Needs (H.state host.old) HasGoodControl }
+    requires empty { paths.old.items ≡ [] }
+    requires contents { Needs (H.state host.old) (λ w. AreContents w contents.now) }
+    ensures paths { Leaves result (λ w now. HasGoodPaths w × AreShipped w paths.new.items) (H.state host.old) (H.state host.new) }
+    ensures texts { OnOk result (ArePathTexts paths.new.items) }
+    ensures order { OnOk result (AreInOrder paths.new.items) }
+    ensures fault { IsTrue (H.state host.new).honest → IfErr result (IsReadingFault (H.state host.old).world) }
+    ensures reads { Reads (H.state host.old) (H.state host.new) }
+    ensures silent { Silent (H.state host.old) (H.state host.new) }
+    ensures counts { CountsTree (H.state host.old) (H.state host.new) result }
+{
+    if let Some(path) = first_bad(alloc, host, contents, paths)? {
+        return Err(TreeFault::PathBad(path));
+    }
+    match first_reserved(paths.as_slice())? {
+        Some(path) => Err(TreeFault::Reserved(path)),
+        None => Ok(()),
+    }
+}
+
 // Reads what stands beside a control file in which nothing is wrong.
+#[tactic(auto, using(host_core::specs::Moments::reads_then))]
 fn read_contents<H: Host>(
     alloc: Global,
     host: &mut H,
     contents: &mut Contents,
+    paths: &mut Vec<RootPath>,
 ) -> Result<(), TreeFault>
     requires control { Needs (H.state host.old) HasGoodControl }
+    requires empty { paths.old.items ≡ [] }
     ensures found { Leaves result (λ w now. AreContents w contents.new) (H.state host.old) (H.state host.new) }
-    ensures files { Leaves result (λ w now. HasNoneWrong w member_paths) (H.state host.old) (H.state host.new) }
+    ensures paths { Leaves result (λ w now. HasGoodPaths w × AreShipped w paths.new.items) (H.state host.old) (H.state host.new) }
+    ensures texts { OnOk result (ArePathTexts paths.new.items) }
+    ensures order { OnOk result (AreInOrder paths.new.items) }
+    ensures lines { Leaves result (λ w now. HasNoEntry IsOdd (entries_at (w conffiles_path))) (H.state host.old) (H.state host.new) }
     ensures fault { IsTrue (H.state host.new).honest → IfErr result (IsReadingFault (H.state host.old).world) }
     ensures reads { Reads (H.state host.old) (H.state host.new) }
     ensures silent { Silent (H.state host.old) (H.state host.new) }
     ensures counts { CountsTree (H.state host.old) (H.state host.new) result }
 {
     look(alloc, host, contents)?;
-    match wrong_path(alloc, contents)? {
-        Some(path) => Err(TreeFault::PathBad(path)),
+    read_paths(alloc, host, contents, paths)?;
+    match odd_line(alloc, contents)? {
+        Some(line) => Err(TreeFault::ConffileFlag(line)),
         None => Ok(()),
     }
 }
 
+// The line of the first entry of `conffiles` that is neither a path nor a flagged one.
+fn odd_line(alloc: Global, contents: &Contents) -> Result<Option<u64>, AllocError>
+    ensures { IfOk result (λ found. MatchOption found (HasNoEntry IsOdd (entries_at contents.now.conffiles)) (IsFirstOdd (entries_at contents.now.conffiles))) }
+{
+    let entries = entries_at(alloc, &contents.conffiles)?;
+    Ok(first_odd(entries.as_slice()))
+}
+
 // The package of what was read.
 fn assemble(control: ControlFile, contents: Contents) -> Package
-    ensures { (w : World) (text : List ℕ) → HasControl w text → IsControlText text control.paragraph control.name control.version → AreContents w contents → HasNoneWrong w member_paths → IsTreeOf w result }
+    ensures { (w : World) (text : List ℕ) → HasControl w text → IsControlText text control.paragraph control.name control.version → AreContents w contents → HasGoodPaths w → HasNoEntry IsOdd (entries_at (w conffiles_path)) → IsTreeOf w result }
 {
     let ControlFile {
         name,
@@ -317,6 +384,7 @@ pub fn read_tree<H: Host>(alloc: Global, host: &mut H) -> Result<Package, TreeFa
 {
     let control = read_control_file(alloc, host)?;
     let mut contents = Contents::none();
-    read_contents(alloc, host, &mut contents)?;
+    let mut paths = Vec::new(alloc);
+    read_contents(alloc, host, &mut contents, &mut paths)?;
     Ok(assemble(control, contents))
 }

@@ -6,8 +6,10 @@ use Rattle.control_fields.specs.declared.fault.ControlFault.{ControlFault}
 use Rattle.control_fields.specs.declared.fault.ControlFault.TheVariants as control
 use Rattle.package_tree.specs.declared.fault.FieldName.{FieldName}
 use Rattle.package_tree.specs.declared.fault.FieldName.TheVariants as field
+use Rattle.package_tree.specs.declared.fault.LineName.{LineName}
+use Rattle.package_tree.specs.declared.fault.LineName.TheVariants as named
 use Rattle.package_tree.specs.declared.fault.TreeFault.{TreeFault}
-use Rattle.package_tree.specs.declared.fault.TreeFault.TheVariants.{NoControl, Control, FieldMissing, FieldBad, PathBad, Device, NoMemory}
+use Rattle.package_tree.specs.declared.fault.TreeFault.TheVariants.{NoControl, Control, FieldMissing, FieldBad, PathBad, Reserved, ConffileNotShipped, ConffileShipped, ConffileFlag, TooLarge, Device, NoMemory}
 use Rattle.relation_fields.specs.RelationFields.{relation_name}
 use Rattle.diversions.specs.declared.refusal.Refusal.{Refusal as ItsRefusal}
 use Rattle.diversions.specs.declared.refusal.Refusal.TheVariants as diverted
@@ -37,6 +39,11 @@ field_word (field.Relation relation) = relation_name relation
 abbrev pub path_text : List ℕ → List ℕ
 path_text path = if bytes_eq path (codes "") then codes "/" else path
 
+-- what a line of `DEBIAN/conffiles` names: its text, or the number of one that isn't text
+abbrev pub line_text : LineName → List ℕ
+line_text (named.Text text) = text
+line_text (named.Number number) = decimal number
+
 -- a tree's fault
 abbrev pub tree_text : TreeFault → List ℕ
 tree_text NoControl = codes "NoControl"
@@ -44,6 +51,11 @@ tree_text (Control fault) = codes "Control " ++ control_text fault
 tree_text (FieldMissing name) = codes "FieldMissing " ++ field_word name
 tree_text (FieldBad name) = codes "FieldBad " ++ field_word name
 tree_text (PathBad path) = codes "PathBad " ++ path_text path
+tree_text (Reserved path) = codes "Reserved " ++ path_text path
+tree_text (ConffileNotShipped name) = codes "ConffileNotShipped " ++ line_text name
+tree_text (ConffileShipped path) = codes "ConffileShipped " ++ path_text path
+tree_text (ConffileFlag line) = codes "ConffileFlag " ++ decimal line
+tree_text (TooLarge path) = codes "TooLarge " ++ path_text path
 tree_text Device = codes "Device"
 tree_text NoMemory = codes "NoMemory"
 

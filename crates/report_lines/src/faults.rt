@@ -1,13 +1,13 @@
 // Faults and refusals in the program's own words.
 ghost use Rattle.std.specs.Prelude.{◌≡◌, IfOk, string_bytes};
-ghost use Rattle.report_lines.specs.Faults.{control_text, divert_word, field_word, path_text, rule_text, tree_text, word_text};
+ghost use Rattle.report_lines.specs.Faults.{control_text, divert_word, field_word, line_text, path_text, rule_text, tree_text, word_text};
 ghost use Rattle.report_lines.specs.Openings.{opening_line};
 
 use administration::AdministrationFault;
 use control_fields::ControlFault;
 use dpkg_session::{Rule, Word};
 use host_core::RootPath;
-use package_tree::{FieldName, TreeFault};
+use package_tree::{FieldName, LineName, TreeFault};
 use std::alloc::{AllocError, Global};
 
 fn control_text(alloc: Global, fault: ControlFault) -> Result<String, AllocError>
@@ -44,6 +44,18 @@ fn path_text(path: &RootPath) -> &str
     }
 }
 
+fn line_text(alloc: Global, name: &LineName) -> Result<String, AllocError>
+    ensures { IfOk result (λ text. string_bytes text ≡ line_text name.now) }
+{
+    match name {
+        LineName::Text(text) => String::from_str(alloc, text.as_str()),
+        LineName::Number(number) => {
+            let number = *number;
+            format!(in alloc; "{number}")
+        }
+    }
+}
+
 fn tree_text(alloc: Global, fault: &TreeFault) -> Result<String, AllocError>
     ensures { IfOk result (λ text. string_bytes text ≡ tree_text fault.now) }
 {
@@ -64,6 +76,26 @@ fn tree_text(alloc: Global, fault: &TreeFault) -> Result<String, AllocError>
         TreeFault::PathBad(path) => {
             let path = path_text(path);
             format!(in alloc; "PathBad {path}")
+        }
+        TreeFault::Reserved(path) => {
+            let path = path_text(path);
+            format!(in alloc; "Reserved {path}")
+        }
+        TreeFault::ConffileNotShipped(name) => {
+            let name = line_text(alloc, name)?;
+            format!(in alloc; "ConffileNotShipped {name}")
+        }
+        TreeFault::ConffileShipped(path) => {
+            let path = path_text(path);
+            format!(in alloc; "ConffileShipped {path}")
+        }
+        TreeFault::ConffileFlag(line) => {
+            let line = *line;
+            format!(in alloc; "ConffileFlag {line}")
+        }
+        TreeFault::TooLarge(path) => {
+            let path = path_text(path);
+            format!(in alloc; "TooLarge {path}")
         }
         TreeFault::Device => String::from_str(alloc, "Device"),
         TreeFault::NoMemory => String::from_str(alloc, "NoMemory"),
