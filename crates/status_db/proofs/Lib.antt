@@ -5,6 +5,7 @@ pub mod ControlValues
 pub mod Lines
 pub mod ConffileReading
 pub mod ConfigReading
+pub mod Apart
 pub mod NameSets
 pub mod Parsing
 pub mod Sayings

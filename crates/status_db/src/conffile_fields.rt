@@ -1,5 +1,5 @@
 // Reading the lines of the fields `Conffiles` and `New-Conffiles`.
-ghost use Rattle.std.specs.Prelude.{◌≡◌, ◌≤◌, ◌↔◌, IsTrue, true, false, length, is_some, IfOk, IfSome, MatchOption};
+ghost use Rattle.std.specs.Prelude.{◌≡◌, ◌≤◌, ◌↔◌, ◌&&◌, ◌++◌, ◌∷◌, [], ◌==◌, not, OnOk, IsTrue, true, false, length, is_some, IfOk, IfSome, MatchOption};
 ghost use Rattle.std.specs.List.{list_any, list_all};
 ghost use Rattle.std.specs.Str.{bytes_eq};
 ghost use Rattle.hex.specs.Hex.{encode_lower};
@@ -7,12 +7,13 @@ ghost use Rattle.control_fields.specs.Names.{is_blank, trim_end};
 ghost use Rattle.conffiles.specs.Digests.{is_digest_text};
 ghost use Rattle.status_db.specs.ConffileFields.{word_start, last_word, words_before, without_word, line_text, text_before_removal, text_before_flags, conffile_words, pending_words, is_ship_path, is_recorded_text, is_conffile_line, is_pending_line, are_apart, conffile_paths, pending_paths, IsConffileField, IsPendingField, digest_word, words_of_conffile, words_of_pending};
 
+use crate::names::Names;
 use conffiles::Digest;
 use control_fields::Field;
 use host_core::ShipPath;
 use std::alloc::{AllocError, Global};
 use std::str;
-use texts::Bytes;
+use texts::{Bytes, Text};
 
 /// A conffile of a package: the digest of its last version settled, if there is one, whether the
 /// package's current version doesn't ship it, and whether an upgrade is to remove it.
@@ -196,23 +197,26 @@ pub(crate) fn pending_of(alloc: Global, line: &[u8]) -> Result<Option<PendingDig
     }
 }
 
-fn is_conffile_line(alloc: Global, line: &[u8]) -> Result<bool, AllocError>
-    ensures { IfOk result (λ good. good ≡ is_conffile_line line.now) }
+// Whether a path is new to those so far, which have it from now on.
+fn is_new(alloc: Global, seen: &mut Names, path: &ShipPath) -> Result<bool, AllocError>
+    ensures new { IfOk result (λ new. new ≡ not (list_any (bytes_eq path.now) seen.old)) }
+    ensures seen { OnOk result (seen.new ≡ seen.old ++ path.now ∷ []) }
 {
-    Ok(conffile_of(alloc, line)?.is_some())
+    let new = !seen.has(path.as_str());
+    seen.push(Text::from_str(alloc, path.as_str())?)?;
+    Ok(new)
 }
 
-fn is_pending_line(alloc: Global, line: &[u8]) -> Result<bool, AllocError>
-    ensures { IfOk result (λ good. good ≡ is_pending_line line.now) }
-{
-    Ok(pending_of(alloc, line)?.is_some())
-}
-
+// Whether each line can be read, and no path stands twice.
 fn are_conffile_lines(alloc: Global, lines: &[Bytes]) -> Result<bool, AllocError>
-    ensures { IfOk result (λ good. good ≡ list_all is_conffile_line lines.now) }
+    ensures { IfOk result (λ good. good ≡ (list_all is_conffile_line lines.now && are_apart (conffile_paths lines.now))) }
 {
+    let mut seen = Names::new(alloc);
     for line in lines {
-        if !is_conffile_line(alloc, line.as_slice())? {
+        let Some(entry) = conffile_of(alloc, line.as_slice())? else {
+            return Ok(false);
+        };
+        if !is_new(alloc, &mut seen, &entry.path)? {
             return Ok(false);
         }
     }
@@ -220,10 +224,14 @@ fn are_conffile_lines(alloc: Global, lines: &[Bytes]) -> Result<bool, AllocError
 }
 
 fn are_pending_lines(alloc: Global, lines: &[Bytes]) -> Result<bool, AllocError>
-    ensures { IfOk result (λ good. good ≡ list_all is_pending_line lines.now) }
+    ensures { IfOk result (λ good. good ≡ (list_all is_pending_line lines.now && are_apart (pending_paths lines.now))) }
 {
+    let mut seen = Names::new(alloc);
     for line in lines {
-        if !is_pending_line(alloc, line.as_slice())? {
+        let Some(pending) = pending_of(alloc, line.as_slice())? else {
+            return Ok(false);
+        };
+        if !is_new(alloc, &mut seen, &pending.path)? {
             return Ok(false);
         }
     }
@@ -239,58 +247,29 @@ pub(crate) fn has_conffile_path(lines: &[Bytes], path: &[u8]) -> bool
         .any(|line| path == conffile_path(line.as_slice()))
 }
 
-fn has_pending_path(lines: &[Bytes], path: &[u8]) -> bool
-    ensures { result ≡ list_any (bytes_eq path.now) (pending_paths lines.now) }
+// Whether nothing stands on the field's own line.
+fn begins_empty(field: &Field) -> bool
+    ensures { result ≡ (length field.now.first == 0) }
 {
-    lines
-        .iter()
-        .any(|line| path == pending_path(line.as_slice()))
-}
-
-fn are_conffiles_apart(lines: &[Bytes]) -> bool
-    ensures { result ≡ are_apart (conffile_paths lines.now) }
-{
-    let mut rest = lines;
-    while let [line, behind @ ..] = rest {
-        if has_conffile_path(behind, conffile_path(line.as_slice())) {
-            return false;
-        }
-        rest = behind;
-    }
-    true
-}
-
-fn are_pending_apart(lines: &[Bytes]) -> bool
-    ensures { result ≡ are_apart (pending_paths lines.now) }
-{
-    let mut rest = lines;
-    while let [line, behind @ ..] = rest {
-        if has_pending_path(behind, pending_path(line.as_slice())) {
-            return false;
-        }
-        rest = behind;
-    }
-    true
+    field.first.as_slice().is_empty()
 }
 
 /// Whether the value of a field `Conffiles` can be read.
 pub(crate) fn is_conffile_field(alloc: Global, field: &Field) -> Result<bool, AllocError>
     ensures { IfOk result (λ good. IsTrue good ↔ IsConffileField field.now) }
 {
-    let lines = field.more.as_slice();
-    if !field.first.as_slice().is_empty() || !are_conffiles_apart(lines) {
+    if !begins_empty(field) {
         return Ok(false);
     }
-    are_conffile_lines(alloc, lines)
+    are_conffile_lines(alloc, field.more.as_slice())
 }
 
 /// Whether the value of a field `New-Conffiles` can be read.
 pub(crate) fn is_pending_field(alloc: Global, field: &Field) -> Result<bool, AllocError>
     ensures { IfOk result (λ good. IsTrue good ↔ IsPendingField field.now) }
 {
-    let lines = field.more.as_slice();
-    if !field.first.as_slice().is_empty() || !are_pending_apart(lines) {
+    if !begins_empty(field) {
         return Ok(false);
     }
-    are_pending_lines(alloc, lines)
+    are_pending_lines(alloc, field.more.as_slice())
 }

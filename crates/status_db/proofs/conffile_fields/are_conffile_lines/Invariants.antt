@@ -1,7 +1,7 @@
-use Rattle.std.proofs.Common.{◌≡◌, true, take}
-use Rattle.std.specs.List.{list_all}
-use Rattle.status_db.specs.ConffileFields.{is_conffile_line}
+use Rattle.std.proofs.Common.{take}
+use Rattle.status_db.specs.ConffileFields.{is_conffile_line, conffile_words}
+use Rattle.status_db.proofs.Apart.{AreReadTo}
 use Rattle.status_db.proofs.conffile_fields.are_conffile_lines.Given as goal
 
 abbrev pub invariant-loop-line : goal.invariant-loop-line
-invariant-loop-line l = list_all is_conffile_line (take l.line-index l.lines) ≡ true
+invariant-loop-line l = AreReadTo is_conffile_line (λ line. (conffile_words line).path) (take l.line-index l.lines) l.seen
