@@ -4,7 +4,7 @@ use Rattle.std.specs.Cmp.Lexicographic.{slice_cmp}
 use Rattle.std.specs.List.{flat_map}
 use Rattle.std.specs.Ordering.{is_lt, nat_cmp}
 use Rattle.clap.specs.Words.{App, Rule, Shape, Text, new_app, new_rule, with_rule, with_subcommand}
-use Rattle.clap.specs.declared.builder.ArgAction.TheVariants.{Append, Set}
+use Rattle.clap.specs.declared.builder.ArgAction.TheVariants.{Append, Set, SetTrue}
 
 -- a word that has to be given, at its place
 abbrev pub word_rule : Text → Rule
@@ -14,9 +14,13 @@ word_rule id = record (new_rule id) { action = Some Set; required = true }
 abbrev pub root_rule : Rule
 root_rule = record (new_rule (codes "root")) { long = Some (codes "root"); action = Some Set; defaults = codes "/" ∷ [] }
 
--- `--package P`
-abbrev pub package_rule : Rule
-package_rule = record (new_rule (codes "package")) { long = Some (codes "package"); action = Some Set }
+-- an option with a value, as `--package P`
+abbrev pub option_rule : Text → Rule
+option_rule id = record (new_rule id) { long = Some id; action = Some Set }
+
+-- a flag, as `--rename`
+abbrev pub flag_rule : Text → Rule
+flag_rule id = record (new_rule id) { long = Some id; action = Some SetTrue }
 
 -- one or more trees
 abbrev pub trees_rule : Rule
@@ -36,7 +40,23 @@ asking_app name id = with_rule (rooted_app name) (word_rule id)
 
 -- `truename [--root DIR] [--package P] PATH`
 abbrev pub truename_app : App
-truename_app = with_rule (with_rule (rooted_app (codes "truename")) package_rule) (word_rule (codes "PATH"))
+truename_app = with_rule (with_rule (rooted_app (codes "truename")) (option_rule (codes "package"))) (word_rule (codes "PATH"))
+
+-- `--package P` and `--local`
+abbrev pub with_owner : App → App
+with_owner a = with_rule (with_rule a (option_rule (codes "package"))) (flag_rule (codes "local"))
+
+-- `--rename` and `PATH`
+abbrev pub with_diverted : App → App
+with_diverted a = with_rule (with_rule a (flag_rule (codes "rename"))) (word_rule (codes "PATH"))
+
+-- `divert [--root DIR] (--package P | --local) [--divert TARGET] [--rename] PATH`
+abbrev pub divert_app : App
+divert_app = with_diverted (with_rule (with_owner (rooted_app (codes "divert"))) (option_rule (codes "divert")))
+
+-- `undivert [--root DIR] (--package P | --local) [--rename] PATH`
+abbrev pub undivert_app : App
+undivert_app = with_diverted (with_owner (rooted_app (codes "undivert")))
 
 -- `unpack [--root DIR] TREE..`
 abbrev pub unpack_app : App
@@ -54,14 +74,17 @@ with_all whole apps = fold (λ a s. with_subcommand a s.top) whole apps
 abbrev pub first_apps : List App
 first_apps = rooted_app (codes "audit") ∷ compare_versions_app ∷ rooted_app (codes "diversions") ∷ []
 
-abbrev pub middle_apps : List App
-middle_apps = rooted_app (codes "list") ∷ asking_app (codes "listfiles") (codes "PKG") ∷ asking_app (codes "search") (codes "PATH") ∷ []
+abbrev pub second_apps : List App
+second_apps = divert_app ∷ rooted_app (codes "list") ∷ asking_app (codes "listfiles") (codes "PKG") ∷ []
+
+abbrev pub third_apps : List App
+third_apps = asking_app (codes "search") (codes "PATH") ∷ asking_app (codes "status") (codes "PKG") ∷ truename_app ∷ []
 
 abbrev pub last_apps : List App
-last_apps = asking_app (codes "status") (codes "PKG") ∷ truename_app ∷ unpack_app ∷ []
+last_apps = undivert_app ∷ unpack_app ∷ []
 
 abbrev pub whole_app : App
-whole_app = with_all (with_all (with_all (without_help (new_app (codes "dpkg_cli"))) first_apps) middle_apps) last_apps
+whole_app = with_all (with_all (with_all (with_all (without_help (new_app (codes "dpkg_cli"))) first_apps) second_apps) third_apps) last_apps
 
 -- the names that clap knows the subcommands by
 abbrev pub subcommand_names : List Text

@@ -5,13 +5,14 @@ use Rattle.clap.specs.Words.{Kinds, Row, Text, all_of, fault_of, first_of, subco
 use Rattle.command_words.specs.CommandLine.{whole_app}
 use Rattle.command_words.specs.Comparisons.{operator_of}
 use Rattle.command_words.specs.Queries.{query_of}
-use Rattle.command_words.specs.Roots.{is_absolute}
+use Rattle.command_words.specs.Diversions.{diverting_of, undiverting_of}
+use Rattle.command_words.specs.Given.{is_absolute}
 use Rattle.command_words.specs.declared.comparison.Comparison.{Comparison}
 use Rattle.command_words.specs.declared.words.Asked.{Asked}
 use Rattle.command_words.specs.declared.words.Compared.{Compared}
 use Rattle.command_words.specs.declared.words.Rooted.{Rooted}
 use Rattle.command_words.specs.declared.words.Unpacking.{Unpacking}
-use Rattle.command_words.specs.declared.words.Asked.TheVariants.{Names, CompareVersions, Unpack, Query}
+use Rattle.command_words.specs.declared.words.Asked.TheVariants.{Names, CompareVersions, Divert, Undivert, Unpack, Query}
 
 -- the subcommand that the words enter, with the texts of its arguments
 abbrev pub entered : List Text → Option (Text × List Row)
@@ -46,6 +47,8 @@ unpacking_of rows = unpacking_from (first_of (codes "root") rows) (all_of (codes
 abbrev pub asked_by : Text → List Row → Option Asked
 asked_by name rows =
     if bytes_eq name (codes "compare-versions") then option_map CompareVersions (comparison_of rows)
+    else if bytes_eq name (codes "divert") then option_map Divert (diverting_of rows)
+    else if bytes_eq name (codes "undivert") then option_map Undivert (undiverting_of rows)
     else if bytes_eq name (codes "unpack") then option_map Unpack (unpacking_of rows)
     else option_map Query (query_of name rows)
 

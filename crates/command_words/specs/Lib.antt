@@ -1,5 +1,6 @@
 pub mod CommandLine
 pub mod Comparisons
-pub mod Roots
+pub mod Given
 pub mod Queries
+pub mod Diversions
 pub mod Commands

@@ -2,14 +2,14 @@
 ghost use Rattle.std.specs.Prelude.{◌≡◌, IfOk, codes, false, string_bytes, true};
 ghost use Rattle.clap.specs.Words.{app_of, new_app, rule_of, with_rule, with_subcommand};
 ghost use Rattle.clap.specs.declared.builder.command.Command.TheViews.{out-Command as fields_of};
-ghost use Rattle.command_words.specs.CommandLine.{are_ascending, asking_app, compare_versions_app, first_apps, last_apps, lines, middle_apps, package_rule, root_rule, rooted_app, subcommand_names, trees_rule, truename_app, unpack_app, whole_app, with_all, without_help, word_rule};
+ghost use Rattle.command_words.specs.CommandLine.{are_ascending, asking_app, compare_versions_app, divert_app, first_apps, flag_rule, last_apps, lines, option_rule, root_rule, rooted_app, second_apps, subcommand_names, third_apps, trees_rule, truename_app, undivert_app, unpack_app, whole_app, with_all, with_diverted, with_owner, without_help, word_rule};
 
 use clap::{Arg, ArgAction, Command};
 use std::alloc::{AllocError, Global};
 
 // The names of the subcommands that the command below has, one a line.
-const NAMES: &str = "audit\ncompare-versions\ndiversions\nlist\nlistfiles\nsearch\nstatus\n\
-truename\nunpack\n";
+const NAMES: &str = "audit\ncompare-versions\ndiversions\ndivert\nlist\nlistfiles\nsearch\n\
+status\ntruename\nundivert\nunpack\n";
 
 /// The names of the subcommands, one a line, in the order of their bytes.
 pub fn subcommand_names(alloc: Global) -> Result<String, AllocError>
@@ -44,12 +44,17 @@ fn trees<'a>(alloc: Global) -> Arg<'a>
         .action(ArgAction::Append)
 }
 
-fn package<'a>(alloc: Global) -> Arg<'a>
-    ensures { rule_of result ≡ package_rule }
+// An option with a value.
+fn option<'a>(alloc: Global, name: &'a str) -> Arg<'a>
+    ensures { rule_of result ≡ option_rule name.entry.now }
 {
-    Arg::new(alloc, "package")
-        .long("package")
-        .action(ArgAction::Set)
+    Arg::new(alloc, name).long(name).action(ArgAction::Set)
+}
+
+fn flag<'a>(alloc: Global, name: &'a str) -> Arg<'a>
+    ensures { rule_of result ≡ flag_rule name.entry.now }
+{
+    Arg::new(alloc, name).long(name).action(ArgAction::SetTrue)
 }
 
 // Adds an argument that is not global.
@@ -90,8 +95,47 @@ fn truename_command<'a>(alloc: Global) -> Result<Command<'a>, AllocError>
     ensures app { IfOk result (λ c. app_of c ≡ truename_app) }
     ensures local { IfOk result (λ c. (fields_of c).has_globals ≡ false) }
 {
-    let command = with_arg(rooted(alloc, "truename")?, package(alloc))?;
+    let command = with_arg(rooted(alloc, "truename")?, option(alloc, "package"))?;
     with_arg(command, word(alloc, "PATH"))
+}
+
+// Whose diversion it is.
+fn with_owner<'a>(alloc: Global, command: Command<'a>) -> Result<Command<'a>, AllocError>
+    ensures app { IfOk result (λ c. app_of c ≡ with_owner (app_of command.entry)) }
+    ensures local { IfOk result (λ c. (fields_of c).has_globals ≡ (fields_of command.entry).has_globals) }
+{
+    with_arg(
+        with_arg(command, option(alloc, "package"))?,
+        flag(alloc, "local"),
+    )
+}
+
+// The path of a diversion, and whether what stands there is renamed.
+fn with_diverted<'a>(alloc: Global, command: Command<'a>) -> Result<Command<'a>, AllocError>
+    ensures app { IfOk result (λ c. app_of c ≡ with_diverted (app_of command.entry)) }
+    ensures local { IfOk result (λ c. (fields_of c).has_globals ≡ (fields_of command.entry).has_globals) }
+{
+    with_arg(
+        with_arg(command, flag(alloc, "rename"))?,
+        word(alloc, "PATH"),
+    )
+}
+
+fn divert_command<'a>(alloc: Global) -> Result<Command<'a>, AllocError>
+    ensures app { IfOk result (λ c. app_of c ≡ divert_app) }
+    ensures local { IfOk result (λ c. (fields_of c).has_globals ≡ false) }
+{
+    let command = with_owner(alloc, rooted(alloc, "divert")?)?;
+    let command = with_arg(command, option(alloc, "divert"))?;
+    with_diverted(alloc, command)
+}
+
+fn undivert_command<'a>(alloc: Global) -> Result<Command<'a>, AllocError>
+    ensures app { IfOk result (λ c. app_of c ≡ undivert_app) }
+    ensures local { IfOk result (λ c. (fields_of c).has_globals ≡ false) }
+{
+    let command = with_owner(alloc, rooted(alloc, "undivert")?)?;
+    with_diverted(alloc, command)
 }
 
 fn unpack_command<'a>(alloc: Global) -> Result<Command<'a>, AllocError>
@@ -125,19 +169,26 @@ fn with_first<'a>(alloc: Global, whole: Command<'a>) -> Result<Command<'a>, Allo
     with(whole, rooted(alloc, "diversions")?)
 }
 
-fn with_middle<'a>(alloc: Global, whole: Command<'a>) -> Result<Command<'a>, AllocError>
-    ensures { IfOk result (λ c. app_of c ≡ with_all (app_of whole.entry) middle_apps) }
+fn with_second<'a>(alloc: Global, whole: Command<'a>) -> Result<Command<'a>, AllocError>
+    ensures { IfOk result (λ c. app_of c ≡ with_all (app_of whole.entry) second_apps) }
 {
+    let whole = with(whole, divert_command(alloc)?)?;
     let whole = with(whole, rooted(alloc, "list")?)?;
-    let whole = with(whole, asking(alloc, "listfiles", "PKG")?)?;
-    with(whole, asking(alloc, "search", "PATH")?)
+    with(whole, asking(alloc, "listfiles", "PKG")?)
+}
+
+fn with_third<'a>(alloc: Global, whole: Command<'a>) -> Result<Command<'a>, AllocError>
+    ensures { IfOk result (λ c. app_of c ≡ with_all (app_of whole.entry) third_apps) }
+{
+    let whole = with(whole, asking(alloc, "search", "PATH")?)?;
+    let whole = with(whole, asking(alloc, "status", "PKG")?)?;
+    with(whole, truename_command(alloc)?)
 }
 
 fn with_last<'a>(alloc: Global, whole: Command<'a>) -> Result<Command<'a>, AllocError>
     ensures { IfOk result (λ c. app_of c ≡ with_all (app_of whole.entry) last_apps) }
 {
-    let whole = with(whole, asking(alloc, "status", "PKG")?)?;
-    let whole = with(whole, truename_command(alloc)?)?;
+    let whole = with(whole, undivert_command(alloc)?)?;
     with(whole, unpack_command(alloc)?)
 }
 
@@ -146,5 +197,6 @@ pub(crate) fn whole_command<'a>(alloc: Global) -> Result<Command<'a>, AllocError
     ensures { IfOk result (λ c. app_of c ≡ whole_app) }
 {
     let whole = with_first(alloc, without_help(Command::new(alloc, "dpkg_cli")))?;
-    with_last(alloc, with_middle(alloc, whole)?)
+    let whole = with_second(alloc, whole)?;
+    with_last(alloc, with_third(alloc, whole)?)
 }

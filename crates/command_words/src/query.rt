@@ -1,12 +1,12 @@
 // What is asked of an administration without a change to it.
 ghost use Rattle.std.specs.Prelude.{◌≡◌, codes, IfOk, option_map};
 ghost use Rattle.clap.specs.Words.{found_of, rows_of};
-ghost use Rattle.command_words.specs.Queries.{given, is_package, query_from, query_of, question_of, truename_from};
+ghost use Rattle.command_words.specs.Queries.{query_from, query_of, question_of, truename_from};
 
-use crate::found::{is_absolute, text_of};
+use crate::found::{copy_of, given, is_absolute, is_package, text_of};
 use clap::ArgMatches;
 use std::alloc::{AllocError, Global};
-use texts::{Text, package_name};
+use texts::Text;
 
 /// A question, with the texts that it was asked with.
 #[derive(Drop)]
@@ -32,25 +32,6 @@ pub struct Query {
     pub question: Question,
 }
 
-// Whether what is given for a package, if anything is, has the form of a package's name.
-fn is_package(name: Option<&str>) -> bool
-    ensures { result ≡ is_package (option_map (λ s. s.now) name.entry) }
-{
-    match name {
-        Some(name) => package_name(name.as_bytes()).is_some(),
-        None => true,
-    }
-}
-
-fn copy_of(alloc: Global, text: Option<&str>) -> Result<Option<Text>, AllocError>
-    ensures { IfOk result (λ copy. copy ≡ option_map (λ s. s.now) text.entry) }
-{
-    match text {
-        Some(text) => Ok(Some(Text::from_str(alloc, text)?)),
-        None => Ok(None),
-    }
-}
-
 fn truename_from(
     alloc: Global,
     package: Option<&str>,
@@ -67,12 +48,6 @@ fn truename_from(
     let package = copy_of(alloc, package)?;
     let path = Text::from_str(alloc, path)?;
     Ok(Some(Question::Truename { package, path }))
-}
-
-fn given(alloc: Global, found: &ArgMatches<'_>, id: &str) -> Result<Option<Text>, AllocError>
-    ensures { IfOk result (λ text. text ≡ given (rows_of (found_of found.now)) id.now) }
-{
-    copy_of(alloc, text_of(found, id))
 }
 
 // What a subcommand asks; nothing for another name or a package that has no name's form.

@@ -3,11 +3,13 @@ ghost use Rattle.std.specs.Prelude.{◌≡◌, ◌⊎◌, IfErr, IfOk, None, Som
 ghost use Rattle.clap.specs.Words.{found_of, kind_of, rows_of, subcommand_rows_of};
 ghost use Rattle.clap.specs.declared.error.kind.ErrorKind.TheVariants.{OutOfMemory};
 ghost use Rattle.command_words.specs.Commands.{asked_by, asked_in, asked_of, comparison_from, comparison_in, comparison_of, unpacking_from, unpacking_in, unpacking_of};
+ghost use Rattle.command_words.specs.Diversions.{diverting_of, undiverting_of};
 ghost use Rattle.command_words.specs.Queries.{query_of};
 ghost use Rattle.command_words.specs.declared.words.WordsFault.TheVariants.{NoMemory};
 
 use crate::command::whole_command;
 use crate::comparison::{Comparison, Operator};
+use crate::diverting::{Diverting, Undiverting, diverting_of, undiverting_of};
 use crate::found::{all_texts_of, is_absolute, text_of};
 use crate::query::{Query, query_of};
 use clap::ArgMatches;
@@ -24,6 +26,14 @@ const COMPARE_VERSIONS_USAGE: &str =
 
 const UNPACK_USAGE: &str =
     "error: DIR is an absolute path\n\nUsage: dpkg_cli unpack [--root <DIR>] <TREE>...\n";
+
+const DIVERT_USAGE: &str = "error: DIR is an absolute path, P the name of a package, and of \
+--package and --local one is wanted\n\nUsage: dpkg_cli divert [--root <DIR>] \
+(--package <P> | --local) [--divert <TARGET>] [--rename] <PATH>\n";
+
+const UNDIVERT_USAGE: &str = "error: DIR is an absolute path, P the name of a package, and of \
+--package and --local one is wanted\n\nUsage: dpkg_cli undivert [--root <DIR>] \
+(--package <P> | --local) [--rename] <PATH>\n";
 
 // What follows a query whose words ask for nothing.
 fn query_usage(name: &str) -> &'static str {
@@ -63,6 +73,8 @@ pub enum Asked {
     /// The names of the subcommands.
     Names,
     CompareVersions(Comparison),
+    Divert(Diverting),
+    Undivert(Undiverting),
     Unpack(Unpacking),
     Query(Query),
 }
@@ -226,6 +238,26 @@ fn unpack_asked(alloc: Global, found: &ArgMatches<'_>) -> Result<Asked, WordsFau
     }
 }
 
+fn divert_asked(alloc: Global, found: &ArgMatches<'_>) -> Result<Asked, WordsFault>
+    ensures asked { IfOk result (λ asked. option_map Asked.Divert (diverting_of (rows_of (found_of found.now))) ≡ Some asked) }
+    ensures usage { IfErr result (λ fault. (fault ≡ NoMemory) ⊎ (diverting_of (rows_of (found_of found.now)) ≡ None)) }
+{
+    match diverting_of(alloc, found)? {
+        Some(asked) => Ok(Asked::Divert(asked)),
+        None => Err(usage(alloc, DIVERT_USAGE)),
+    }
+}
+
+fn undivert_asked(alloc: Global, found: &ArgMatches<'_>) -> Result<Asked, WordsFault>
+    ensures asked { IfOk result (λ asked. option_map Asked.Undivert (undiverting_of (rows_of (found_of found.now))) ≡ Some asked) }
+    ensures usage { IfErr result (λ fault. (fault ≡ NoMemory) ⊎ (undiverting_of (rows_of (found_of found.now)) ≡ None)) }
+{
+    match undiverting_of(alloc, found)? {
+        Some(asked) => Ok(Asked::Undivert(asked)),
+        None => Err(usage(alloc, UNDIVERT_USAGE)),
+    }
+}
+
 fn query_asked(alloc: Global, name: &str, found: &ArgMatches<'_>) -> Result<Asked, WordsFault>
     ensures asked { IfOk result (λ asked. option_map Asked.Query (query_of name.now (rows_of (found_of found.now))) ≡ Some asked) }
     ensures usage { IfErr result (λ fault. (fault ≡ NoMemory) ⊎ (query_of name.now (rows_of (found_of found.now)) ≡ None)) }
@@ -243,6 +275,8 @@ fn asked_by(alloc: Global, name: &str, found: &ArgMatches<'_>) -> Result<Asked, 
 {
     match name {
         "compare-versions" => comparison_asked(alloc, found),
+        "divert" => divert_asked(alloc, found),
+        "undivert" => undivert_asked(alloc, found),
         "unpack" => unpack_asked(alloc, found),
         _ => query_asked(alloc, name, found),
     }

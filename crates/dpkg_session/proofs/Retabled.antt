@@ -8,9 +8,9 @@ use Rattle.host_core.proofs.Nodes.{directory_is}
 use Rattle.host_core.specs.Paths.{Path, is_path_text, has_room, has_reserved_suffix, is_below_administration, is_ship_text}
 use Rattle.host_core.specs.World.{World, IsDirectory, is_directory}
 use Rattle.host_core.specs.Host.{State}
-use Rattle.administration.specs.Places.{home_path, info_path, status_path, diversions_path, updates_path, tmp_path, list_path, temporary}
+use Rattle.administration.specs.Places.{home_path, info_path, status_path, updates_path, tmp_path, temporary}
 use Rattle.administration.proofs.WholeFiles.{no_directory_at}
-use Rattle.diversions.specs.Changes.{HasAdded, HasRemoved, IsRecorded, IsTableReady, moved_if}
+use Rattle.diversions.specs.Changes.{HasAdded, HasRemoved, IsRecorded, moved_if}
 use Rattle.diversions.specs.Entries.{without}
 use Rattle.diversions.specs.Places.{truename}
 use Rattle.diversions.specs.Refusals.{has_same}
@@ -20,7 +20,7 @@ use Rattle.diversions.specs.declared.refusal.Answer.{Answer}
 use Rattle.diversions.specs.declared.refusal.Answer.TheVariants as answered
 use Rattle.diversions.specs.declared.refusal.Seen.{Seen}
 use Rattle.diversions.proofs.Moving.{moved_away, own_other}
-use Rattle.file_lists.specs.Info.{AreLoose, IsSound, entry_path}
+use Rattle.file_lists.specs.Info.{IsSound}
 use Rattle.file_lists.specs.declared.paths.PackageList.{PackageList}
 use Rattle.opening.proofs.KeptLists.{has_lists_kept}
 use Rattle.opening.specs.Opened.{IsOpened}

@@ -1,17 +1,22 @@
 -- Units that change the diversions.
-use Rattle.std.proofs.Common.{◌≡◌, ◌⊎◌, inl, inr, Bool, true, false, List, [], ◌∷◌, sym, subst}
+use Rattle.std.proofs.Common.{◌≡◌, ◌⊎◌, inl, inr, Bool, true, false, List, [], ◌∷◌, Ok, refl, sym, subst}
 use Rattle.std.specs.Prelude.{IsNone, Some, cond}
 use Rattle.std.specs.Str.{bytes_eq}
 use Rattle.host_core.specs.Paths.{Path, is_ship_text}
 use Rattle.host_core.specs.World.{World}
-use Rattle.host_core.specs.Host.{State, Since}
+use Rattle.host_core.specs.Host.{Reads, State, Since}
+use Rattle.host_core.specs.Loss.{IsAnswered, IsOnDisk}
+use Rattle.diversions.specs.Changes.{OnRefused}
+use Rattle.diversions.specs.declared.fault.DiversionFault.{DiversionFault}
+use Rattle.diversions.specs.declared.refusal.Answer.{Answer}
+use Rattle.diversions.specs.declared.refusal.Answer.TheVariants as answered
 use Rattle.host_core.specs.Moments.{since_now, since_then, since_weaker_if}
 use Rattle.diversions.specs.Entries.{IsTable, entry_of}
 use Rattle.diversions.specs.Places.{target_of, truename}
 use Rattle.diversions.specs.declared.entry.Diversion.{Diversion}
 use Rattle.dpkg_session.specs.declared.report.Report.{Report}
 use Rattle.dpkg_session.specs.declared.report.Unit.{Unit as AUnit}
-use Rattle.dpkg_session.specs.Diversions.{IsOneUnit, IsReportOf}
+use Rattle.dpkg_session.specs.Diversions.{IsFlushed, IsOneUnit, IsReportOf}
 use Rattle.dpkg_session.specs.Units.{IsBroken}
 
 -- what holds at each moment goes on to hold while nothing changes
@@ -19,6 +24,17 @@ pub since_still : (P : World → Type 0) (a b c : State) → Since (λ so_far. P
 since_still P a b c first second =
     since_then (λ so_far. P) a b c first
     (since_weaker_if (λ so_far now. now ≡ b.world) (λ so_far. P) b c (λ h so_far w same. subst P (sym same) (since_now (λ so_far. P) a b first (second.honest h))) second)
+
+-- what is brought to the disk
+
+pub flushed_by : (answer : Answer) (s m t : State) → (answer ≡ answered.Done → IsOnDisk t.events) → (answer ≡ answered.Done) ⊎ (t ≡ m) → OnRefused {E = DiversionFault} (Ok answer) (Reads s m) → IsFlushed answer s t
+flushed_by answered.Done s m t disk same reads = disk refl
+flushed_by (answered.Refused refusal) s m t disk (inl done) reads = absurd (let e : answered.Refused refusal ≡ answered.Done = done in cc)
+flushed_by (answered.Refused refusal) s m t disk (inr same) reads = subst (λ (x : State). Reads s x) (sym same) reads
+
+pub flushed_answered : (answer : Answer) (s t : State) → IsFlushed answer s t → IsAnswered s t
+flushed_answered answered.Done s t disk = inl disk
+flushed_answered (answered.Refused refusal) s t reads = inr reads
 
 -- each target of a table is a shipped path
 pub truename_shipped : (entries : List Diversion) (path : Path) → IsTable entries → is_ship_text path ≡ true → is_ship_text (truename entries path) ≡ true

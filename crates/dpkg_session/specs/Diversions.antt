@@ -4,8 +4,8 @@ use Rattle.std.specs.List.{list_any}
 use Rattle.std.specs.Str.{bytes_eq}
 use Rattle.host_core.specs.Paths.{Path, is_ship_text}
 use Rattle.host_core.specs.World.{World}
-use Rattle.host_core.specs.Host.{State}
-use Rattle.host_core.specs.Loss.{IsAnswered}
+use Rattle.host_core.specs.Host.{Reads, State}
+use Rattle.host_core.specs.Loss.{IsOnDisk}
 use Rattle.diversions.specs.Changes.{HasAdded, HasRemoved, diversion_of, with_entry}
 use Rattle.diversions.specs.Entries.{without}
 use Rattle.diversions.specs.Places.{truename}
@@ -66,6 +66,11 @@ abbrev pub LeavesAnswer : Answer → (World → World → Type 0) → World → 
 LeavesAnswer answered.Done P old new = P old new
 LeavesAnswer (answered.Refused refusal) P old new = new ≡ old
 
+-- what was done is on the disk before it is answered; for a refusal it was only looked at
+abbrev pub IsFlushed : Answer → State → State → Type 0
+IsFlushed answered.Done s t = IsOnDisk t.events
+IsFlushed (answered.Refused refusal) s t = Reads s t
+
 -- both are paths that a package may ship
 pub record AreShipped (from to : Path) : Type 0 where
   pub path : is_ship_text from ≡ true
@@ -79,7 +84,7 @@ pub record IsDiverted (asked : Diverting) (seen : Seen) (before after : List Div
   pub first : IsTrue t.honest → answer ≡ add_answer s.world before (asked_entry asked) asked.rename seen
   pub table : after ≡ by_answer answer before (with_entry before (asked_entry asked))
   pub left : IsTrue t.honest → LeavesAnswer answer (HasAdded before (asked_entry asked) asked.rename seen) s.world t.world
-  pub answered : IsAnswered s t
+  pub flushed : IsFlushed answer s t
 
 -- A diversion is taken away, or that is refused by the first rule that holds; what was done is on the disk.
 pub record IsUndiverted (asked : Undiverting) (before after : List Diversion) (u : AUnit) (s t : State) : Type 0 where
@@ -89,7 +94,7 @@ pub record IsUndiverted (asked : Undiverting) (before after : List Diversion) (u
   pub first : IsTrue t.honest → answer ≡ remove_answer s.world before asked.path asked.owner asked.rename
   pub table : after ≡ by_answer answer before (without asked.path before)
   pub left : IsTrue t.honest → LeavesAnswer answer (HasRemoved before asked.path asked.rename) s.world t.world
-  pub answered : IsAnswered s t
+  pub flushed : IsFlushed answer s t
 
 -- there is one unit, and P holds of it
 abbrev pub IsOneUnit : (AUnit → Type 0) → List AUnit → Type 0

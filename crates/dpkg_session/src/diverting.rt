@@ -1,5 +1,5 @@
 // A session adds a diversion as one unit.
-ghost use Rattle.std.specs.Prelude.{◌≡◌, ◌⊎◌, [], true, false, IsErrOf, IsNone, IfOk, IfSome, OnOk, is_some};
+ghost use Rattle.std.specs.Prelude.{◌≡◌, ◌⊎◌, [], true, false, IsErrOf, IsNone, IfOk, IfSome, is_some};
 ghost use Rattle.std.specs.List.{list_any};
 ghost use Rattle.std.specs.Str.{bytes_eq};
 ghost use Rattle.host_core.specs.Host.{AtEachMoment, Gives, Needs, Silent, Tells};
@@ -9,7 +9,7 @@ ghost use Rattle.diversions.specs.Fault.{CountsDiversion};
 ghost use Rattle.diversions.specs.Refusals.{add_answer};
 ghost use Rattle.diversions.specs.declared.fault.DiversionFault.TheVariants as fault;
 ghost use Rattle.file_lists.specs.Owners.{places_in};
-ghost use Rattle.dpkg_session.specs.Diversions.{HasBroken, IsDiverted, IsOneUnit, LeavesAnswer, asked_entry, by_answer, is_listed, seen_of};
+ghost use Rattle.dpkg_session.specs.Diversions.{HasBroken, IsDiverted, IsFlushed, IsOneUnit, LeavesAnswer, asked_entry, by_answer, is_listed, seen_of};
 ghost use Rattle.dpkg_session.specs.PowerLoss.{LosesLikeAStop, StandsOnceAnswered};
 ghost use Rattle.dpkg_session.specs.Units.{CountsLast, CountsReply, IsBroken, IsBrokenBy, IsClosedReport, TellsCalls, calls_told};
 ghost use Rattle.dpkg_session.specs.declared.report.Breakage.TheVariants.{Closed};
@@ -64,7 +64,7 @@ fn add_to_disk<H: Host>(
     ensures answer { Tells result (λ answer w. answer ≡ add_answer w diversions.old.entries (asked_entry asked.now) asked.now.rename seen) (H.state host.old) (H.state host.new) }
     ensures table { IfOk result (λ answer. diversions.new ≡ record diversions.old { entries = by_answer answer diversions.old.entries (with_entry diversions.old.entries (asked_entry asked.now)) }) }
     ensures left { Gives result (λ answer. LeavesAnswer answer (HasAdded diversions.old.entries (asked_entry asked.now) asked.now.rename seen)) (H.state host.old) (H.state host.new) }
-    ensures answered { OnOk result (IsAnswered (H.state host.old) (H.state host.new)) }
+    ensures flushed { IfOk result (λ answer. IsFlushed answer (H.state host.old) (H.state host.new)) }
     ensures any_moment { AtEachMoment (IsAdding diversions.old.entries (asked_entry asked.now) asked.now.rename seen) (H.state host.old) (H.state host.new) }
     ensures silent { Silent (H.state host.old) (H.state host.new) }
     ensures counts { CountsDiversion (H.state host.old) (H.state host.new) result }

@@ -1,5 +1,5 @@
 // A session takes a diversion away as one unit.
-ghost use Rattle.std.specs.Prelude.{◌≡◌, ◌⊎◌, [], true, false, IsErrOf, IsNone, IfOk, IfSome, OnOk, is_some};
+ghost use Rattle.std.specs.Prelude.{◌≡◌, ◌⊎◌, [], true, false, IsErrOf, IsNone, IfOk, IfSome, is_some};
 ghost use Rattle.host_core.specs.Host.{AtEachMoment, Gives, Needs, Silent, Tells};
 ghost use Rattle.host_core.specs.Loss.{IsAnswered};
 ghost use Rattle.diversions.specs.Changes.{HasRemoved, IsRemoving, IsTableReady};
@@ -8,7 +8,7 @@ ghost use Rattle.diversions.specs.Fault.{CountsDiversion};
 ghost use Rattle.diversions.specs.Refusals.{remove_answer};
 ghost use Rattle.diversions.specs.declared.fault.DiversionFault.TheVariants as fault;
 ghost use Rattle.file_lists.specs.Owners.{places_in};
-ghost use Rattle.dpkg_session.specs.Diversions.{HasBroken, IsOneUnit, IsUndiverted, LeavesAnswer, by_answer};
+ghost use Rattle.dpkg_session.specs.Diversions.{HasBroken, IsFlushed, IsOneUnit, IsUndiverted, LeavesAnswer, by_answer};
 ghost use Rattle.dpkg_session.specs.PowerLoss.{LosesLikeAStop, StandsOnceAnswered};
 ghost use Rattle.dpkg_session.specs.Units.{CountsLast, CountsReply, IsBroken, IsBrokenBy, IsClosedReport, TellsCalls, calls_told};
 ghost use Rattle.dpkg_session.specs.declared.report.Breakage.TheVariants.{Closed};
@@ -35,7 +35,7 @@ fn remove_to_disk<H: Host>(
     ensures answer { Tells result (λ answer w. answer ≡ remove_answer w diversions.old.entries asked.now.path asked.now.owner asked.now.rename) (H.state host.old) (H.state host.new) }
     ensures table { IfOk result (λ answer. diversions.new ≡ record diversions.old { entries = by_answer answer diversions.old.entries (without asked.now.path diversions.old.entries) }) }
     ensures left { Gives result (λ answer. LeavesAnswer answer (HasRemoved diversions.old.entries asked.now.path asked.now.rename)) (H.state host.old) (H.state host.new) }
-    ensures answered { OnOk result (IsAnswered (H.state host.old) (H.state host.new)) }
+    ensures flushed { IfOk result (λ answer. IsFlushed answer (H.state host.old) (H.state host.new)) }
     ensures any_moment { AtEachMoment (IsRemoving diversions.old.entries asked.now.path asked.now.rename) (H.state host.old) (H.state host.new) }
     ensures silent { Silent (H.state host.old) (H.state host.new) }
     ensures counts { CountsDiversion (H.state host.old) (H.state host.new) result }

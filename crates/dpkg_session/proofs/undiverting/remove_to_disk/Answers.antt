@@ -1,4 +1,4 @@
-use Rattle.dpkg_session.proofs.TableUnits.{since_still}
+use Rattle.dpkg_session.proofs.TableUnits.{flushed_by, since_still}
 use Rattle.dpkg_session.proofs.undiverting.remove_to_disk.Goals as goal
 
 pub returns-in_err-flush_done-clause-any_moment : goal.returns-in_err-flush_done-clause-any_moment
@@ -6,3 +6,6 @@ returns-in_err-flush_done-clause-any_moment g c = since_still _ _ _ _ c.remove.e
 
 pub returns-clause-any_moment : goal.returns-clause-any_moment
 returns-clause-any_moment g c = since_still _ _ _ _ c.remove.ensures.any_moment c.flush_done.ensures.any_moment
+
+pub returns-clause-flushed : goal.returns-clause-flushed
+returns-clause-flushed g c = flushed_by c.in_ok-answer.answer _ _ _ c.in_ok-flush_done.ensures.done c.flush_done.ensures.refused c.in_ok-answer.ensures.same

@@ -15,6 +15,6 @@ returns-in-Ok-clause-unit g c = elim c.unit_of.ensures.unit [
     first = c.in-Ok.ensures.answer;
     table = ap (λ (d : Diverted). d.entries) c.in-Ok.ensures.table;
     left = c.in-Ok.ensures.left;
-    answered = c.in-Ok.ensures.answered;
+    flushed = c.in-Ok.ensures.flushed;
   }
 ]

@@ -1,5 +1,6 @@
 use Rattle.std.proofs.Common.{sym, ◌∙◌}
 use Rattle.dpkg_session.proofs.Outlasting.{answered_stands, loses_like}
+use Rattle.dpkg_session.proofs.TableUnits.{flushed_answered}
 use Rattle.dpkg_session.proofs.Told.{tells_silent}
 use Rattle.dpkg_session.proofs.Retabled.{standing_diverted}
 use Rattle.dpkg_session.proofs.session.Session.divert.Goals as goal
@@ -22,4 +23,7 @@ pub returns-clause-loss : goal.returns-clause-loss
 returns-clause-loss g c = λ open_before. loses_like _ _ _ (g.H.Host.settled c.divert_on-report.new.host) c.divert_on-report.ensures.any_moment
 
 pub returns-clause-stands : goal.returns-clause-stands
-returns-clause-stands g c = λ open_before whole. answered_stands _ _ _ c.divert_on-report.ensures.any_moment (c.divert_on-report.ensures.whole whole).2.answered
+returns-clause-stands g c = λ open_before whole. answered_stands _ _ _ c.divert_on-report.ensures.any_moment (let one = c.divert_on-report.ensures.whole whole in flushed_answered one.2.answer _ _ one.2.flushed)
+
+pub returns-clause-answered : goal.returns-clause-answered
+returns-clause-answered g c = λ open_before whole. let one = c.divert_on-report.ensures.whole whole in flushed_answered one.2.answer _ _ one.2.flushed
