@@ -27,11 +27,13 @@ pub(crate) const FAULTS: &[&str] = &[
 pub(crate) const NAMES: &str = "audit
 compare-versions
 diversions
+divert
 list
 listfiles
 search
 status
 truename
+undivert
 unpack
 ||0
 ";
