@@ -1,2 +1,4 @@
 mod Trees
 mod Held
+mod Named
+mod Changed

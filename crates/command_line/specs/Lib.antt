@@ -1,4 +1,5 @@
 pub mod Roots
 pub mod Unpacks
 pub mod Queries
+pub mod Changes
 pub mod Reports

@@ -9,13 +9,15 @@ use Rattle.dpkg_session.specs.declared.report.Report.{Report}
 use Rattle.report_lines.specs.Reports.{report_lines, report_status}
 use Rattle.command_words.specs.Comparisons.{bad_version, bad_version_line, holds}
 use Rattle.command_line.specs.declared.answer.Answer.{Answer}
-use Rattle.command_line.specs.Queries.{IsQueryAnswer, inquiry_of}
+use Rattle.command_line.specs.Changes.{HasEndedChange, IsDivertOf, IsUndivertOf, bad_of_divert, bad_of_undivert, is_good}
+use Rattle.command_line.specs.Queries.{IsQueryAnswer, bad_path_answer, inquiry_of}
+use Rattle.command_line.specs.declared.changing.Change.{Change}
 use Rattle.command_line.specs.Roots.{Around, IsRootFault, opening_answer}
 use Rattle.command_line.specs.Unpacks.{HasUnpacked}
 use Rattle.command_words.specs.CommandLine.{lines, subcommand_names}
 use Rattle.command_words.specs.declared.comparison.Comparison.{Comparison}
 use Rattle.command_words.specs.declared.words.Asked.{Asked}
-use Rattle.command_words.specs.declared.words.Asked.TheVariants.{Names, CompareVersions, Query, Unpack}
+use Rattle.command_words.specs.declared.words.Asked.TheVariants.{Names, CompareVersions, Divert, Query, Undivert, Unpack}
 use Rattle.command_words.specs.declared.words.Unpacking.{Unpacking}
 
 -- the names of the subcommands, one a line
@@ -45,11 +47,22 @@ abbrev pub unpack_answer : Result Report AdministrationFault → Answer
 unpack_answer (Ok done) = report_answer done
 unpack_answer (Err fault) = opening_answer fault
 
+-- a change of the diversions has ended as its answer tells
+abbrev pub IsChangeAnswer : Around → List ℕ → Change → Answer → Type 0
+IsChangeAnswer a word asked answer = (ended : Result Report AdministrationFault) × HasEndedChange a word asked ended × (answer ≡ unpack_answer ended)
+
+-- its paths are read first, and only where each names one is the root opened, for a change as it is asked for
+abbrev pub IsReadChange : Around → List ℕ → Option (List ℕ) → (Change → Type 0) → Answer → Type 0
+IsReadChange a word None P answer = (asked : Change) × P asked × IsChangeAnswer a word asked answer
+IsReadChange a word (Some text) P answer = answer ≡ bad_path_answer text
+
 -- the answer to what is asked for; an unpack has ended as its answer tells
 abbrev pub IsAnswerTo : Around → Asked → Answer → Type 0
 IsAnswerTo a Names answer = answer ≡ names_answer
 IsAnswerTo a (CompareVersions c) answer = answer ≡ comparison_answer c
 IsAnswerTo a (Query q) answer = IsQueryAnswer a q answer
+IsAnswerTo a (Divert d) answer = IsReadChange a d.root (bad_of_divert d) (IsDivertOf d) answer
+IsAnswerTo a (Undivert u) answer = IsReadChange a u.root (bad_of_undivert u) (IsUndivertOf u) answer
 IsAnswerTo a (Unpack u) answer = (ended : Result Report AdministrationFault) × HasEndedAs a u ended × (answer ≡ unpack_answer ended)
 
 -- for want of memory
@@ -70,14 +83,18 @@ abbrev pub prints : Option Asked → Bool
 prints (Some Names) = true
 prints (Some (CompareVersions c)) = false
 prints (Some (Query q)) = is_ok (inquiry_of q.question)
+prints (Some (Divert d)) = is_good (bad_of_divert d)
+prints (Some (Undivert u)) = is_good (bad_of_undivert u)
 prints (Some (Unpack u)) = true
 prints None = false
 
--- only for these is a root opened: not for a question about a text that names no path
+-- only for these is a root opened: not for a question about a text that names no path, nor for such a diversion
 abbrev pub opens_root : Option Asked → Bool
 opens_root (Some Names) = false
 opens_root (Some (CompareVersions c)) = false
 opens_root (Some (Query q)) = is_ok (inquiry_of q.question)
+opens_root (Some (Divert d)) = is_good (bad_of_divert d)
+opens_root (Some (Undivert u)) = is_good (bad_of_undivert u)
 opens_root (Some (Unpack u)) = true
 opens_root None = false
 

@@ -5,16 +5,19 @@ ghost use Rattle.administration.specs.declared.fault.AdministrationFault.{Admini
 ghost use Rattle.dpkg_session.specs.declared.report.Report.{Report as AReport};
 ghost use Rattle.command_line.specs.declared.answer.Answer.{Answer as AnAnswer};
 ghost use Rattle.command_line.specs.Queries.{IsInquired, IsQueryAnswer, bad_path_answer, inquiry_of};
-ghost use Rattle.command_line.specs.Reports.{HasEndedAs, IsAnswerOf, comparison_answer, memory_answer, names_answer, opens_root, prints, report_answer, unpack_answer};
+ghost use Rattle.command_line.specs.Reports.{HasEndedAs, IsAnswerOf, IsReadChange, comparison_answer, memory_answer, names_answer, opens_root, prints, report_answer, unpack_answer};
+ghost use Rattle.command_line.specs.Changes.{HasEndedChange, IsDivertOf, IsUndivertOf, bad_of_divert, bad_of_undivert, is_good, owner_in};
+ghost use Rattle.diversions.specs.Entries.{is_owner};
 ghost use Rattle.command_line.specs.Roots.{around, opening_answer};
 
+use crate::changing::{Change, change_under, diverting_in, undiverting_in};
 use crate::hosts::Hosts;
 use crate::questions::{Inquiry, bad_path, inquire_under, inquiry_of};
 use crate::unpacking::unpack;
 use administration::AdministrationFault;
 use command_words::{
-    Asked, Comparison, Query, Unpacking, Verdict, WordsFault, bad_version_line, command_of,
-    subcommand_names,
+    Asked, Comparison, Diverting, Query, Undiverting, Unpacking, Verdict, WordsFault,
+    bad_version_line, command_of, subcommand_names,
 };
 use dpkg_session::Report;
 use report_lines::{opening_line, report_status, report_text};
@@ -118,6 +121,58 @@ fn unpacked<S: Hosts>(
     }
 }
 
+fn changed<S: Hosts>(
+    alloc: Global,
+    hosts: &mut S,
+    root: &Text,
+    asked: &Change,
+) -> Result<Answer, AllocError>
+    ensures ended { (ended : Result AReport AFault)
+        × HasEndedChange (around (S.root hosts.old) (S.tree hosts.old) (S.left hosts.new) (S.seen hosts.new) (S.faults hosts.old < S.faults hosts.new) (S.unopened hosts.old hosts.new)) root.now asked.now ended
+        × IfOk result (λ answer. answer ≡ unpack_answer ended) }
+    ensures bound { IfOk result (λ answer. answer.status ≤ 2) }
+{
+    match change_under(alloc, hosts, root, asked) {
+        Ok(done) => reported(alloc, &done),
+        Err(fault) => not_opened(alloc, &fault),
+    }
+}
+
+fn diverted<S: Hosts>(alloc: Global, hosts: &mut S, asked: &Diverting) -> Result<Answer, AllocError>
+    requires { is_owner (owner_in asked.now.owner) ≡ true }
+    ensures answered { (answer : AnAnswer)
+        × (IsReadChange (around (S.root hosts.old) (S.tree hosts.old) (S.left hosts.new) (S.seen hosts.new) (S.faults hosts.old < S.faults hosts.new) (S.unopened hosts.old hosts.new)) asked.now.root (bad_of_divert asked.now) (IsDivertOf asked.now) answer ⊎ ((answer ≡ memory_answer) × (hosts.new ≡ hosts.old)))
+        × IfOk result (λ told. told ≡ answer) }
+    ensures bound { IfOk result (λ answer. answer.status ≤ 2) }
+    ensures quiet { IfOk result (λ answer. (answer.output ≡ []) ⊎ (is_good (bad_of_divert asked.now) ≡ true)) }
+    ensures unopened { (hosts.new ≡ hosts.old) ⊎ (is_good (bad_of_divert asked.now) ≡ true) }
+{
+    match diverting_in(alloc, asked) {
+        Ok(Ok(change)) => changed(alloc, hosts, &asked.root, &change),
+        Ok(Err(bad)) => bad_path(alloc, &bad),
+        Err(_) => Err(AllocError),
+    }
+}
+
+fn undiverted<S: Hosts>(
+    alloc: Global,
+    hosts: &mut S,
+    asked: &Undiverting,
+) -> Result<Answer, AllocError>
+    ensures answered { (answer : AnAnswer)
+        × (IsReadChange (around (S.root hosts.old) (S.tree hosts.old) (S.left hosts.new) (S.seen hosts.new) (S.faults hosts.old < S.faults hosts.new) (S.unopened hosts.old hosts.new)) asked.now.root (bad_of_undivert asked.now) (IsUndivertOf asked.now) answer ⊎ ((answer ≡ memory_answer) × (hosts.new ≡ hosts.old)))
+        × IfOk result (λ told. told ≡ answer) }
+    ensures bound { IfOk result (λ answer. answer.status ≤ 2) }
+    ensures quiet { IfOk result (λ answer. (answer.output ≡ []) ⊎ (is_good (bad_of_undivert asked.now) ≡ true)) }
+    ensures unopened { (hosts.new ≡ hosts.old) ⊎ (is_good (bad_of_undivert asked.now) ≡ true) }
+{
+    match undiverting_in(alloc, asked) {
+        Ok(Ok(change)) => changed(alloc, hosts, &asked.root, &change),
+        Ok(Err(bad)) => bad_path(alloc, &bad),
+        Err(_) => Err(AllocError),
+    }
+}
+
 fn inquired<S: Hosts>(
     alloc: Global,
     hosts: &mut S,
@@ -167,6 +222,8 @@ pub(crate) fn answer_to<S: Hosts>(
     match command_of(alloc, words) {
         Ok(Asked::Names) => names(alloc),
         Ok(Asked::CompareVersions(comparison)) => compared(alloc, &comparison),
+        Ok(Asked::Divert(asked)) => diverted(alloc, hosts, &asked),
+        Ok(Asked::Undivert(asked)) => undiverted(alloc, hosts, &asked),
         Ok(Asked::Query(query)) => queried(alloc, hosts, query),
         Ok(Asked::Unpack(unpacking)) => unpacked(alloc, hosts, &unpacking),
         Err(WordsFault::Usage(text)) => Ok(complained(alloc, text)),

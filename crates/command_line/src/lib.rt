@@ -2,6 +2,7 @@
 #![tactic(auto)]
 
 mod answer;
+mod changing;
 mod command;
 mod hosts;
 mod questions;

@@ -1,7 +1,8 @@
 use Rattle.std.proofs.Common.{rules, ◌≡◌, map, string_bytes, Some, refl, inl, inr}
 use Rattle.command_words.specs.Commands.{asked_of}
-use Rattle.command_words.specs.declared.words.Asked.TheVariants.{CompareVersions, Names, Query, Unpack}
+use Rattle.command_words.specs.declared.words.Asked.TheVariants.{CompareVersions, Divert, Names, Query, Undivert, Unpack}
 use Rattle.command_line.specs.Reports.{comparison_answer, memory_answer, names_answer, unpack_answer}
+use Rattle.command_line.proofs.Named.{divert_owner}
 use Rattle.command_line.proofs.answer.answer_to.Goals as goal
 
 pub returns-in-Ok-Names-clause-answered : goal.returns-in-Ok-Names-clause-answered
@@ -18,6 +19,23 @@ pub returns-in-Ok-Query-clause-answered : goal.returns-in-Ok-Query-clause-answer
 returns-in-Ok-Query-clause-answered g c =
     let asked : asked_of (map string_bytes c.args.words.now) ≡ Some (Query c.in-Ok-Query.query) = search rules in
     let told = c.queried.ensures.answered in
+    (told.0, rw asked told.1, told.2)
+
+pub diverted-requires : goal.diverted-requires
+diverted-requires g c =
+    let asked : asked_of (map string_bytes c.args.words.now) ≡ Some (Divert c.in-Ok-Divert.asked) = search rules in
+    divert_owner (map string_bytes c.args.words.now) c.in-Ok-Divert.asked asked
+
+pub returns-in-Ok-Divert-clause-answered : goal.returns-in-Ok-Divert-clause-answered
+returns-in-Ok-Divert-clause-answered g c =
+    let asked : asked_of (map string_bytes c.args.words.now) ≡ Some (Divert c.in-Ok-Divert.asked) = search rules in
+    let told = c.diverted.ensures.answered in
+    (told.0, rw asked told.1, told.2)
+
+pub returns-in-Ok-Undivert-clause-answered : goal.returns-in-Ok-Undivert-clause-answered
+returns-in-Ok-Undivert-clause-answered g c =
+    let asked : asked_of (map string_bytes c.args.words.now) ≡ Some (Undivert c.in-Ok-Undivert.asked) = search rules in
+    let told = c.undiverted.ensures.answered in
     (told.0, rw asked told.1, told.2)
 
 pub returns-in-Ok-Unpack-clause-answered : goal.returns-in-Ok-Unpack-clause-answered

@@ -1,4 +1,4 @@
-use Rattle.std.proofs.Common.{rules, ◌≡◌, Result, Ok, Err, inl, inr, refl}
+use Rattle.std.proofs.Common.{rules, ◌≡◌, Err, inl, inr, refl}
 use Rattle.command_line.specs.Queries.{bad_path_answer, inquiry_of}
 use Rattle.command_line.specs.Reports.{memory_answer}
 use Rattle.command_line.proofs.answer.queried.Goals as goal

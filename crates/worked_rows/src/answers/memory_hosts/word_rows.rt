@@ -20,6 +20,8 @@ pub(crate) const FAULTS: &[&str] = &[
     "dpkg_cli list --root rel",
     "dpkg_cli status",
     "dpkg_cli truename --package A /usr/bin/v",
+    "dpkg_cli divert /usr/bin/v",
+    "dpkg_cli undivert --local --package a /usr/bin/v",
     "dpkg_cli --help",
 ];
 

@@ -1,0 +1,101 @@
+-- Who owns the diversions that words ask for: the administrator, or a package by its name.
+use Rattle.std.proofs.Common.{◌≡◌, Bool, true, false, List, [], ◌∷◌, Option, Some, None, length, nat_le, if◌then◌else◌, codes, refl, subst}
+use Rattle.std.specs.Prelude.{option_map}
+use Rattle.std.specs.Str.{bytes_eq}
+use Rattle.texts.specs.PackageNames.{is_package_name}
+use Rattle.clap.specs.Words.{Kinds, Row, Text, fault_of, first_of}
+use Rattle.diversions.specs.Entries.{is_owner}
+use Rattle.command_words.specs.CommandLine.{whole_app}
+use Rattle.command_words.specs.Commands.{asked_by, asked_in, asked_of, comparison_of, entered, unless_faulty, unpacking_of}
+use Rattle.command_words.specs.Diversions.{owner_from, owner_of, undiverting_from, undiverting_of, with_target}
+use Rattle.command_words.specs.Given.{is_absolute, is_set}
+use Rattle.command_words.specs.Queries.{query_of}
+use Rattle.command_words.specs.declared.diverting.Diverting.{Diverting}
+use Rattle.command_words.specs.declared.diverting.Undiverting.{Undiverting}
+use Rattle.command_words.specs.declared.words.Asked.{Asked}
+use Rattle.command_words.specs.declared.words.Asked.TheVariants.{CompareVersions, Divert, Names, Query, Undivert, Unpack}
+use Rattle.command_line.specs.Changes.{owner_in}
+
+abbrev IsNamed : Asked → Type 0
+IsNamed Names = Unit {0}
+IsNamed (CompareVersions c) = Unit {0}
+IsNamed (Divert d) = is_owner (owner_in d.owner) ≡ true
+IsNamed (Undivert u) = is_owner (owner_in u.owner) ≡ true
+IsNamed (Unpack u) = Unit {0}
+IsNamed (Query q) = Unit {0}
+
+abbrev Named : Option Asked → Type 0
+Named None = Unit {0}
+Named (Some asked) = IsNamed asked
+
+if_named : (b : Bool) (x y : Option Asked) → Named x → Named y → Named (if b then x else y)
+if_named true x y first second = first
+if_named false x y first second = second
+
+-- an owner that words name
+
+abbrev OwnerNamed : Option (Option Text) → Type 0
+OwnerNamed None = Unit {0}
+OwnerNamed (Some owner) = is_owner (owner_in owner) ≡ true
+
+owner_if : (name : Text) (b : Bool) → is_package_name name ≡ b → OwnerNamed (if b then Some (Some name) else None)
+owner_if name true is = is
+owner_if name false is = tt
+
+owner_named : (name : Option Text) (local : Bool) → OwnerNamed (owner_from name local)
+owner_named (Some name) false = owner_if name (is_package_name name) refl
+owner_named (Some name) true = tt
+owner_named None true = refl
+owner_named None false = tt
+
+abbrev UndivertNamed : Option Undiverting → Type 0
+UndivertNamed None = Unit {0}
+UndivertNamed (Some u) = is_owner (owner_in u.owner) ≡ true
+
+undivert_if : (b : Bool) (u : Undiverting) → is_owner (owner_in u.owner) ≡ true → UndivertNamed (if b then Some u else None)
+undivert_if true u named = named
+undivert_if false u named = tt
+
+undivert_named : (root : Option Text) (owner : Option (Option Text)) (rename : Bool) (path : Option Text) → OwnerNamed owner → UndivertNamed (undiverting_from root owner rename path)
+undivert_named None owner rename path named = tt
+undivert_named (Some root) None rename path named = tt
+undivert_named (Some root) (Some owner) rename None named = tt
+undivert_named (Some root) (Some owner) rename (Some path) named = undivert_if (is_absolute root) (record { root = root; owner = owner; rename = rename; path = path }) named
+
+undivert_asked : (o : Option Undiverting) → UndivertNamed o → Named (option_map Undivert o)
+undivert_asked None named = tt
+undivert_asked (Some u) named = named
+
+divert_asked : (target : Option Text) (o : Option Undiverting) → UndivertNamed o → Named (option_map Divert (option_map (with_target target) o))
+divert_asked target None named = tt
+divert_asked target (Some u) named = named
+
+-- nothing else names one
+
+map_named : {T : Type 0} (f : T → Asked) (o : Option T) → ((x : T) → IsNamed (f x)) → Named (option_map f o)
+map_named f None named = tt
+map_named f (Some x) named = named x
+
+by_named : (name : Text) (rows : List Row) → Named (asked_by name rows)
+by_named name rows =
+    let undivert = undivert_named (first_of (codes "root") rows) (owner_of rows) (is_set (first_of (codes "rename") rows)) (first_of (codes "PATH") rows) (owner_named (first_of (codes "package") rows) (is_set (first_of (codes "local") rows))) in
+    if_named (bytes_eq name (codes "compare-versions")) _ _ (map_named CompareVersions (comparison_of rows) (λ c. tt))
+    (if_named (bytes_eq name (codes "divert")) _ _ (divert_asked (first_of (codes "divert") rows) (undiverting_of rows) undivert)
+    (if_named (bytes_eq name (codes "undivert")) _ _ (undivert_asked (undiverting_of rows) undivert)
+    (if_named (bytes_eq name (codes "unpack")) _ _ (map_named Unpack (unpacking_of rows) (λ u. tt))
+    (map_named Query (query_of name rows) (λ q. tt)))))
+
+in_named : (sub : Option (Text × List Row)) → Named (asked_in sub)
+in_named None = tt
+in_named (Some sub) = by_named sub.0 sub.1
+
+faulty_named : (kinds : Kinds) (asked : Option Asked) → Named asked → Named (unless_faulty kinds asked)
+faulty_named [] asked named = named
+faulty_named (kind ∷ kinds) asked named = tt
+
+words_named : (words : List Text) → Named (asked_of words)
+unfolding asked_of
+words_named words = if_named (nat_le (length words) 1) (Some Names) _ tt (faulty_named (fault_of whole_app words) (asked_in (entered words)) (in_named (entered words)))
+
+pub divert_owner : (words : List Text) (d : Diverting) → asked_of words ≡ Some (Divert d) → is_owner (owner_in d.owner) ≡ true
+divert_owner words d is = subst Named is (words_named words)

@@ -1,0 +1,133 @@
+// Changes of the diversions: their paths are read, and the root is opened to carry them out.
+ghost use Rattle.std.specs.Prelude.{◌≡◌, ◌<◌, ◌≤◌, ◌⊎◌, false, true, IfOk, IfErr};
+ghost use Rattle.administration.specs.declared.fault.AdministrationFault.TheVariants.{NoMemory};
+ghost use Rattle.diversions.specs.Entries.{is_owner};
+ghost use Rattle.command_line.specs.Changes.{HasChanged, HasChangedUnder, IsChangedOn, IsDivertOf, IsRead, IsUndivertOf, bad_of_divert, bad_of_undivert, owner_in, target_in};
+ghost use Rattle.command_line.specs.Roots.{IsRefusedOn, IsRootFault, IsStoppedOn, around};
+
+use crate::hosts::Hosts;
+use administration::AdministrationFault;
+use diversions::Owner;
+use dpkg_session::{Diverting, Report, Session, Undiverting};
+use host_core::{Host, ShipPath};
+use std::alloc::{AllocError, Global};
+use texts::Text;
+
+/// A diversion that is to be added or taken away.
+#[derive(Drop)]
+pub(crate) enum Change {
+    Divert(Diverting),
+    Undivert(Undiverting),
+}
+
+fn owner_in(owner: &Option<Text>) -> Result<Owner, AllocError>
+    ensures { IfOk result (λ read. read ≡ owner_in owner.now) }
+{
+    match owner {
+        None => Ok(Owner::Local),
+        Some(name) => Ok(Owner::Package(name.copy()?)),
+    }
+}
+
+fn target_in(alloc: Global, target: &Option<Text>, path: &Text) -> Result<Text, AllocError>
+    ensures { IfOk result (λ text. text ≡ target_in target.now path.now) }
+{
+    match target {
+        None => {
+            let path = path.as_str();
+            Ok(Text::new(format!(in alloc; "{path}.distrib")?))
+        }
+        Some(target) => target.copy(),
+    }
+}
+
+/// The diversion that is to be added, or the text that names no path.
+pub(crate) fn diverting_in(
+    alloc: Global,
+    asked: &command_words::Diverting,
+) -> Result<Result<Change, Text>, AllocError>
+    requires { is_owner (owner_in asked.now.owner) ≡ true }
+    ensures { IfOk result (IsRead (bad_of_divert asked.now) (IsDivertOf asked.now)) }
+{
+    let text = target_in(alloc, &asked.target, &asked.path)?;
+    let owner = owner_in(&asked.owner)?;
+    let Some(path) = ShipPath::parse(alloc, asked.path.as_str())? else {
+        return Ok(Err(asked.path.copy()?));
+    };
+    match ShipPath::parse(alloc, text.as_str())? {
+        Some(target) => Ok(Ok(Change::Divert(Diverting {
+            path,
+            target,
+            owner,
+            rename: asked.rename,
+        }))),
+        None => Ok(Err(text)),
+    }
+}
+
+/// The diversion that is to be taken away, or the text that names no path.
+pub(crate) fn undiverting_in(
+    alloc: Global,
+    asked: &command_words::Undiverting,
+) -> Result<Result<Change, Text>, AllocError>
+    ensures { IfOk result (IsRead (bad_of_undivert asked.now) (IsUndivertOf asked.now)) }
+{
+    let owner = owner_in(&asked.owner)?;
+    match ShipPath::parse(alloc, asked.path.as_str())? {
+        Some(path) => Ok(Ok(Change::Undivert(Undiverting {
+            path,
+            owner,
+            rename: asked.rename,
+        }))),
+        None => Ok(Err(asked.path.copy()?)),
+    }
+}
+
+// The report of an open session.
+fn carry_out<H: Host>(session: &mut Session<H>, asked: &Change) -> Report
+    requires { session.old.closed ≡ false }
+    ensures { HasChanged asked.now result session.old.database session.old.lists.lists session.old.diversions.entries (H.state session.old.host) (H.state session.new.host) }
+{
+    match asked {
+        Change::Divert(asked) => session.divert(asked),
+        Change::Undivert(asked) => session.undivert(asked),
+    }
+}
+
+// A change on the host of the root, which is given back.
+fn change_on<S: Hosts>(
+    alloc: Global,
+    hosts: &mut S,
+    host: S::Opened,
+    asked: &Change,
+) -> Result<Report, AdministrationFault>
+    ensures done { IfOk result (IsChangedOn (S.left hosts.new) (S.Opened.state host) asked.now) }
+    ensures refused { IfErr result (λ fault. IsRefusedOn (S.left hosts.new) (S.Opened.state host) fault ⊎ ((fault ≡ NoMemory) × IsStoppedOn (S.left hosts.new) (S.Opened.state host))) }
+    ensures faults { S.faults hosts.old ≤ S.faults hosts.new }
+{
+    match Session::open(alloc, host) {
+        Ok(mut session) => {
+            let done = carry_out(&mut session, asked);
+            hosts.close_root(session.into_host());
+            Ok(done)
+        }
+        Err((host, fault)) => {
+            hosts.close_root(host);
+            Err(fault)
+        }
+    }
+}
+
+/// Carries a change out under the root, or tells why this can't be opened.
+pub(crate) fn change_under<S: Hosts>(
+    alloc: Global,
+    hosts: &mut S,
+    root: &Text,
+    asked: &Change,
+) -> Result<Report, AdministrationFault>
+    ensures done { IfOk result (HasChangedUnder (around (S.root hosts.old) (S.tree hosts.old) (S.left hosts.new) (S.seen hosts.new) (S.faults hosts.old < S.faults hosts.new) (S.unopened hosts.old hosts.new)) root.now asked.now) }
+    ensures refused { IfErr result (IsRootFault (around (S.root hosts.old) (S.tree hosts.old) (S.left hosts.new) (S.seen hosts.new) (S.faults hosts.old < S.faults hosts.new) (S.unopened hosts.old hosts.new)) root.now) }
+{
+    let host = hosts.open_root(root.as_str())?;
+    change_on(alloc, hosts, host, asked)
+}

@@ -1,0 +1,87 @@
+// Diversions that are added and taken away: the answers, and what is left.
+use super::check;
+use std::test::Fail;
+
+const CHANGES: &[&str] = &[
+    "write /var/lib/dpkg/status Package: victor\nStatus: install ok installed\nVersion: 1\n",
+    "write /var/lib/dpkg/info/victor.list /.\n/usr\n/usr/bin\n/usr/bin/v\n",
+    "write /usr/bin/v v\n",
+    "dpkg_cli divert --local --rename --divert /usr/bin/v.real /usr/bin/v",
+    "dpkg_cli divert --local --rename --divert /usr/bin/v.real /usr/bin/v",
+    "dpkg_cli diversions",
+    "dpkg_cli search /usr/bin/v.real",
+    "dpkg_cli divert --package bravo /usr/bin/w",
+    "dpkg_cli diversions",
+    "dpkg_cli undivert --package bravo /usr/bin/w",
+    "write /usr/bin/v other\n",
+    "dpkg_cli undivert --local --rename /usr/bin/v",
+    "dpkg_cli undivert --local /usr/bin/v",
+    "dpkg_cli diversions",
+];
+
+#[test]
+fn diversions_are_added_and_taken_away(rt: HostRuntime) -> Result<(), Fail> {
+    let row = "done
+||0
+done
+||0
+local /usr/bin/v /usr/bin/v.real
+||0
+victor: /usr/bin/v
+||0
+done
+||0
+local /usr/bin/v /usr/bin/v.real
+bravo /usr/bin/w /usr/bin/w.distrib
+||0
+done
+||0
+refused /usr/bin/v TargetExists
+||1
+done
+||0
+||0
+ victor.list|Package: victor
+Status: install ok installed
+Version: 1
+|||||";
+    check(&rt, &[], &[], CHANGES, row)
+}
+
+const REFUSALS: &[&str] = &[
+    "write /usr/bin/v v\n",
+    "write /var/lib/dpkg/diversions /usr/bin/w\n/usr/bin/w.real\n:\n",
+    "dpkg_cli divert --local /usr",
+    "dpkg_cli divert --package bravo /usr/bin/w",
+    "dpkg_cli divert --local --divert /usr/bin/w.real /usr/bin/v",
+    "dpkg_cli divert --local --rename --divert /none/v /usr/bin/v",
+    "dpkg_cli undivert --package bravo /usr/bin/w",
+    "dpkg_cli undivert --local /usr/bin/v",
+    "dpkg_cli divert --local usr/bin/v",
+    "dpkg_cli divert --local --divert /var/lib/dpkg/v /usr/bin/v",
+    "dpkg_cli undivert --local /",
+];
+
+#[test]
+fn diversions_are_refused(rt: HostRuntime) -> Result<(), Fail> {
+    let row = "refused /usr Directory
+||1
+refused /usr/bin/w AlreadyDiverted
+||1
+refused /usr/bin/v TargetDiverted
+||1
+refused /usr/bin/v NoParent
+||1
+refused /usr/bin/w OtherOwner
+||1
+refused /usr/bin/v NotDiverted
+||1
+|bad path usr/bin/v
+|2
+|bad path /var/lib/dpkg/v
+|2
+|bad path /
+|2
+||||||";
+    check(&rt, &[], &[], REFUSALS, row)
+}
