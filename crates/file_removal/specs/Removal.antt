@@ -1,4 +1,4 @@
--- Which listed paths of a package are taken away, and what is left (Policy 6.6, steps of the unpack that drop the old version's files; 6.8).
+-- Which listed paths of a package are taken away, and what is left (Policy 6.6: files of the old version that the new one lacks; 6.8).
 use Rattle.std.specs.Prelude.{◌≡◌, ◌⊎◌, ℕ, Bool, true, false, List, [], ◌∷◌, ◌++◌, None, IsSome, IsTrue, Contains}
 use Rattle.host_core.specs.Paths.{Path}
 use Rattle.host_core.specs.Tree.{IsBelow}
@@ -11,7 +11,7 @@ abbrev pub GoesBy : Bool → World → List Leaving → Path → Type 0
 GoesBy directories_only old [] p = ⊥
 GoesBy directories_only old (x ∷ xs) p = GoesBy directories_only old xs p ⊎ ((x.place ≡ p) × IsTrue x.goes
     × (((directories_only ≡ false) × IsLoose (old p))
-        ⊎ (IsDirectory (old p) × ((rest : List ℕ) → IsSome (old (p ++ 47 ∷ rest)) → GoesBy directories_only old xs (p ++ 47 ∷ rest)))))
+    ⊎ (IsDirectory (old p) × ((rest : List ℕ) → IsSome (old (p ++ 47 ∷ rest)) → GoesBy directories_only old xs (p ++ 47 ∷ rest)))))
 
 -- what goes is gone, and all else is as before
 pub record RemovedBy (directories_only : Bool) (xs : List Leaving) (old new : World) : Type 0 where

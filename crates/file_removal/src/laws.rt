@@ -1,21 +1,22 @@
 // What follows from the definitions.
 ghost use Rattle.std.specs.Prelude.{◌≡◌, ◌⊎◌, Bool, true, false, List, None, IsTrue, Contains};
 ghost use Rattle.host_core.specs.Paths.{Path};
-ghost use Rattle.host_core.specs.World.{World, IsDirectory, IsLoose};
+ghost use Rattle.host_core.specs.World.{World, IsBare, IsDirectory, IsLoose};
 ghost use Rattle.file_removal.specs.declared.leaving.Leaving.{Leaving};
 ghost use Rattle.file_removal.specs.Removal.{RemovedBy, Removed, RemovedDirectories, IsSpared, AllAboveFirst};
 ghost use Rattle.file_removal.specs.Clearing.{cleared, is_among, Cleared};
 ghost use Rattle.file_removal.specs.Committing.{Committed, IsCommitting, IsEither};
 
 /// A path that isn't the place of a listed path that may go is as before, as is each file or link where directories alone are
-/// taken; a listed file or link that may go is gone. Nothing is made, the old world decides what is left, and in path order a
-/// second removal finds nothing to do.
+/// taken; a listed file or link that may go is gone. Nothing is made, and the old world decides what is left. Where a directory is
+/// listed before what is below it, no listed directory that may go is left empty, and a second removal finds nothing to do.
 pub fn what_a_removal_leaves()
     ensures spared { (directories_only : Bool) (xs : List Leaving) (old new : World) (q : Path) → RemovedBy directories_only xs old new → IsSpared xs q → new q ≡ old q }
     ensures loose { (xs : List Leaving) (old new : World) (q : Path) → RemovedDirectories xs old new → (IsDirectory (old q) → ⊥) → new q ≡ old q }
     ensures gone { (xs : List Leaving) (old new : World) (x : Leaving) → Removed xs old new → Contains xs x → IsTrue x.goes → IsLoose (old x.place) → new x.place ≡ None }
     ensures less { (directories_only : Bool) (xs : List Leaving) (old new : World) (q : Path) → RemovedBy directories_only xs old new → (new q ≡ old q) ⊎ (new q ≡ None) }
     ensures once { (directories_only : Bool) (xs : List Leaving) (old new other : World) (q : Path) → RemovedBy directories_only xs old new → RemovedBy directories_only xs old other → other q ≡ new q }
+    ensures empty { (directories_only : Bool) (xs : List Leaving) (old new : World) (x : Leaving) → AllAboveFirst xs → RemovedBy directories_only xs old new → Contains xs x → IsTrue x.goes → IsDirectory (old x.place) → IsBare new x.place → new x.place ≡ None }
     ensures again { (directories_only : Bool) (xs : List Leaving) (old new newer : World) (q : Path) → AllAboveFirst xs → RemovedBy directories_only xs old new → RemovedBy directories_only xs new newer → newer q ≡ new q }
 {}
 

@@ -52,8 +52,9 @@ fn remove_each<H: Host>(
 {
     let mut count = leaving.len();
     while count > 0 {
-        count -= 1;
-        remove_one(host, &leaving[count], directories_only)?;
+        let last = count - 1;
+        remove_one(host, &leaving[last], directories_only)?;
+        count = last;
     }
     Ok(())
 }

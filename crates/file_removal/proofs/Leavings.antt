@@ -1,0 +1,137 @@
+-- What a list says of the paths that go by it.
+use Rattle.std.proofs.Common.{◌≡◌, ◌⊎◌, inl, inr, ℕ, zero, suc, Bool, true, false, cond, List, [], ◌∷◌, ◌++◌, Option, None, Contains, refl, sym, ap, subst, ◌∙◌, IsTrue, arith}
+use Rattle.std.specs.Prelude.{IsSome}
+use Rattle.std.proofs.lemmas.Bool.{true≢false}
+use Rattle.std.proofs.lemmas.List.Elements.{Contains-append_right}
+use Rattle.host_core.specs.Paths.{Path}
+use Rattle.host_core.specs.Tree.{IsBelow}
+use Rattle.host_core.specs.World.{World, IsBare, IsDirectory, IsLoose}
+use Rattle.host_core.specs.declared.node.Node.{Node}
+use Rattle.host_core.proofs.Nodes.{directory_stands, none_stands}
+use Rattle.administration.proofs.Within.{directory_differs}
+use Rattle.file_removal.specs.declared.leaving.Leaving.{Leaving}
+use Rattle.file_removal.specs.Removal.{GoesBy, RemovedBy, IsSpared, AllAboveFirst}
+use Rattle.file_removal.specs.Clearing.{cleared, is_among}
+use Rattle.file_removal.specs.Committing.{Committed}
+
+first_or_later : (x : Leaving) (xs : List Leaving) (y : Leaving) → Contains (x ∷ xs) y → (x ≡ y) ⊎ Contains xs y
+first_or_later x xs y (zero, lt, same) = inl same
+first_or_later x xs y (suc i, lt, same) = inr (i, omega (arith, lt), same)
+
+first : (x : Leaving) (xs : List Leaving) → Contains (x ∷ xs) x
+first x xs = (0, omega arith, refl)
+
+module _ (d : Bool) (old : World) where
+  -- what goes stood at the place of a listed path that may go
+  goes_listed : (xs : List Leaving) (p : Path) → GoesBy d old xs p → IsSome (old p) × ((x : Leaving) × Contains xs x × IsTrue x.goes × (x.place ≡ p))
+  goes_listed [] p goes = absurd goes
+  goes_listed (x ∷ xs) p (inl later) = let more = goes_listed xs p later in (more.0, (more.1.0, Contains-append_right (x ∷ []) xs more.1.0 more.1.1, more.1.2, more.1.3))
+  goes_listed (x ∷ xs) p (inr here) = (elim here.2 [ inl loose ↦ loose.1.0 | inr directory ↦ directory_stands (old p) directory.0 ], (x, first x xs, here.1, here.0))
+
+  pub spared_stays : (xs : List Leaving) (new : World) (q : Path) → RemovedBy d xs old new → IsSpared xs q → new q ≡ old q
+  spared_stays xs new q removed spared = elim (removed.each q) [
+    | inl gone ↦ let listed = (goes_listed xs q gone.0).1 in absurd (spared listed.0 listed.1 listed.2 listed.3)
+    | inr kept ↦ kept.1
+  ]
+
+module _ (old : World) where
+  goes_directory : (xs : List Leaving) (p : Path) → GoesBy true old xs p → IsDirectory (old p)
+  goes_directory [] p goes = absurd goes
+  goes_directory (x ∷ xs) p (inl later) = goes_directory xs p later
+  goes_directory (x ∷ xs) p (inr here) = elim here.2 [ inl loose ↦ absurd (true≢false loose.0) | inr directory ↦ directory.0 ]
+
+  pub loose_stays : (xs : List Leaving) (new : World) (q : Path) → RemovedBy true xs old new → (IsDirectory (old q) → ⊥) → new q ≡ old q
+  loose_stays xs new q removed loose = elim (removed.each q) [ inl gone ↦ absurd (loose (goes_directory xs q gone.0)) | inr kept ↦ kept.1 ]
+
+  loose_goes : (xs : List Leaving) (x : Leaving) → Contains xs x → IsTrue x.goes → IsLoose (old x.place) → GoesBy false old xs x.place
+  loose_goes [] x has may loose = absurd (omega (arith, has.1))
+  loose_goes (y ∷ xs) x has may loose = elim (first_or_later y xs x has) [
+    | inl is ↦ inr (ap (λ z. z.place) is, subst (λ z. IsTrue z.goes) (sym is) may, inl (refl, loose))
+    | inr later ↦ inl (loose_goes xs x later may loose)
+  ]
+
+  pub loose_gone : (xs : List Leaving) (new : World) (x : Leaving) → RemovedBy false xs old new → Contains xs x → IsTrue x.goes → IsLoose (old x.place) → new x.place ≡ None
+  loose_gone xs new x removed has may loose = elim (removed.each x.place) [ inl gone ↦ gone.1 | inr kept ↦ absurd (kept.0 (loose_goes xs x has may loose)) ]
+
+-- where a directory is listed before what is below it, what would go by the list after a removal went before
+module _ (d : Bool) (whole : List Leaving) (old new : World) (removed : RemovedBy d whole old new) where
+  -- what goes by the whole list goes by its later paths, or is below none of them
+  abbrev Reaches : List Leaving → Type 0
+  Reaches xs = (q : Path) → GoesBy d old whole q → GoesBy d old xs q ⊎ ((y : Leaving) → Contains xs y → IsBelow y.place q → ⊥)
+
+  reaches_later : (x : Leaving) (xs : List Leaving) → ((y : Leaving) → Contains xs y → IsBelow y.place x.place → ⊥) → Reaches (x ∷ xs) → Reaches xs
+  reaches_later x xs above reaches q goes = elim (reaches q goes) [
+    | inl by ↦ elim by [
+      | inl later ↦ inl later
+      | inr here ↦ inr (λ y has below. above y has (below.0, here.0 ∙ below.1))
+    ]
+    | inr apart ↦ inr (λ y has below. apart y (Contains-append_right (x ∷ []) xs y has) below)
+  ]
+
+  -- what still stands is as before
+  standing : (p : Path) → IsSome (new p) → new p ≡ old p
+  standing p some = elim (removed.each p) [ inl gone ↦ absurd (none_stands (new p) gone.1 some) | inr kept ↦ kept.1 ]
+
+  below_too : (x : Leaving) (xs : List Leaving) (rest : List ℕ) → Reaches (x ∷ xs) → GoesBy d old whole (x.place ++ 47 ∷ rest) → GoesBy d old xs (x.place ++ 47 ∷ rest)
+  below_too x xs rest reaches goes = elim (reaches (x.place ++ 47 ∷ rest) goes) [
+    | inl by ↦ elim by [ inl later ↦ later | inr here ↦ absurd (directory_differs x.place rest here.0) ]
+    | inr apart ↦ absurd (apart x (first x xs) (rest, refl))
+  ]
+
+  emptied : (xs : List Leaving) → AllAboveFirst xs → Reaches xs → (x : Leaving) → Contains xs x → IsTrue x.goes → IsDirectory (old x.place) → IsBare new x.place → GoesBy d old xs x.place
+  emptied [] order reaches x has may is bare = absurd (omega (arith, has.1))
+  emptied (y ∷ ys) order reaches x has may is bare = elim (first_or_later y ys x has) [
+    | inl same ↦ inr (
+      ap (λ z. z.place) same,
+      subst (λ z. IsTrue z.goes) (sym same) may,
+      inr (
+        is,
+        λ rest some. elim (removed.each (x.place ++ 47 ∷ rest)) [
+          | inl gone ↦ below_too x ys rest (subst (λ z. Reaches (z ∷ ys)) same reaches) gone.0
+          | inr kept ↦ absurd (none_stands (new (x.place ++ 47 ∷ rest)) (bare rest) (subst IsSome (sym kept.1) some))
+        ],
+      ),
+    )
+    | inr later ↦ inl (emptied ys order.1 (reaches_later y ys order.0 reaches) x later may is bare)
+  ]
+
+  pub empty_gone : AllAboveFirst whole → (x : Leaving) → Contains whole x → IsTrue x.goes → IsDirectory (old x.place) → IsBare new x.place → new x.place ≡ None
+  empty_gone order x has may is bare = elim (removed.each x.place) [
+    | inl gone ↦ gone.1
+    | inr kept ↦ absurd (kept.0 (emptied whole order (λ p goes. inl goes) x has may is bare))
+  ]
+
+  went : (xs : List Leaving) → AllAboveFirst xs → Reaches xs → (p : Path) → GoesBy d new xs p → GoesBy d old xs p
+  went [] order reaches p goes = absurd goes
+  went (x ∷ xs) order reaches p (inl later) = inl (went xs order.1 (reaches_later x xs order.0 reaches) p later)
+  went (x ∷ xs) order reaches p (inr here) = inr (
+    here.0,
+    here.1,
+    elim here.2 [
+      | inl loose ↦ inl (loose.0, subst IsLoose (standing p loose.1.0) loose.1)
+      | inr directory ↦ inr (
+        subst IsDirectory (standing p (directory_stands (new p) directory.0)) directory.0,
+        λ rest some.
+            elim (removed.each (p ++ 47 ∷ rest)) [
+              | inl gone ↦ subst (λ r. GoesBy d old xs (r ++ 47 ∷ rest)) here.0 (below_too x xs rest reaches (subst (λ r. GoesBy d old whole (r ++ 47 ∷ rest)) (sym here.0) gone.0))
+              | inr kept ↦ went xs order.1 (reaches_later x xs order.0 reaches) (p ++ 47 ∷ rest) (directory.1 rest (subst IsSome (sym kept.1) some))
+            ],
+      )
+    ],
+  )
+
+  pub done : (newer : World) (q : Path) → AllAboveFirst whole → RemovedBy d whole new newer → newer q ≡ new q
+  done newer q order second = elim (second.each q) [
+    | inl gone ↦ elim (removed.each q) [
+      | inl before ↦ absurd (none_stands (new q) before.1 (goes_listed d new whole q gone.0).0)
+      | inr kept ↦ absurd (kept.0 (went whole order (λ p goes. inl goes) q gone.0))
+    ]
+    | inr kept ↦ kept.1
+  ]
+
+unnamed : (b : Bool) (m n : Option Node) → b ≡ false → cond b m n ≡ n
+unnamed b m n e = ap (λ t. cond t m n) e
+
+pub both_spare : (leaving : List Leaving) (names : List Path) (old new : World) (q : Path) → Committed leaving names old new → IsSpared leaving q → is_among names q ≡ false → new q ≡ old q
+both_spare leaving names old new q committed spared out =
+    committed.2.each q ∙ unnamed (is_among names q) (cleared (committed.0 q)) (committed.0 q) out ∙ spared_stays false old leaving committed.0 q committed.1 spared
