@@ -1,4 +1,4 @@
-use Rattle.file_removal.proofs.Leavings.{spared_stays, loose_stays, loose_gone, empty_gone, done}
+use Rattle.file_removal.proofs.Leavings.{spared_stays, loose_stays, loose_gone, empty_gone, finishes, done}
 use Rattle.file_removal.proofs.laws.what_a_removal_leaves.Goals as goal
 
 pub returns-clause-spared : goal.returns-clause-spared
@@ -12,6 +12,9 @@ returns-clause-gone c = λ xs old new x removed has may loose. loose_gone old xs
 
 pub returns-clause-empty : goal.returns-clause-empty
 returns-clause-empty c = λ d xs old new x order removed has may is bare. empty_gone d xs old new removed order x has may is bare
+
+pub returns-clause-finished : goal.returns-clause-finished
+returns-clause-finished c = λ d xs old now new order amid more. finishes d xs old now amid new order more
 
 pub returns-clause-again : goal.returns-clause-again
 returns-clause-again c = λ d xs old new newer q order first second. done d xs old new first newer q order second
