@@ -3,6 +3,11 @@ use Rattle.std.proofs.Common.{◌≡◌, ◌⊎◌, inl, inr, ℕ, zero, suc, Bo
 use Rattle.std.specs.Prelude.{IsSome}
 use Rattle.std.proofs.lemmas.Bool.{true≢false}
 use Rattle.std.proofs.lemmas.List.Elements.{Contains-append_right}
+use Rattle.std.specs.Ordering.{nat_cmp, is_lt, ordering_then}
+use Rattle.std.specs.Cmp.{nat_cmp_is}
+use Rattle.std.specs.Cmp.Lexicographic.{slice_cmp}
+use Rattle.std.specs.declared.cmp.Ordering.{Ordering}
+use Rattle.std.specs.declared.cmp.Ordering.TheVariants.{Less, Equal, Greater}
 use Rattle.host_core.specs.Paths.{Path}
 use Rattle.host_core.specs.Tree.{IsBelow}
 use Rattle.host_core.specs.World.{World, IsBare, IsDirectory, IsLoose}
@@ -10,7 +15,7 @@ use Rattle.host_core.specs.declared.node.Node.{Node}
 use Rattle.host_core.proofs.Nodes.{directory_stands, none_stands}
 use Rattle.administration.proofs.Within.{directory_differs}
 use Rattle.file_removal.specs.declared.leaving.Leaving.{Leaving}
-use Rattle.file_removal.specs.Removal.{GoesBy, RemovedBy, IsRemovingBy, IsSpared, AllAboveFirst}
+use Rattle.file_removal.specs.Removal.{GoesBy, RemovedBy, IsRemovingBy, IsSpared, AllAboveFirst, AreInOrder}
 use Rattle.file_removal.specs.Clearing.{cleared, is_among}
 use Rattle.file_removal.specs.Committing.{Committed}
 use Rattle.file_removal.proofs.Removing.{removed_removing}
@@ -162,6 +167,23 @@ module _ (d : Bool) (xs : List Leaving) (old new : World) (removed : RemovedBy d
 
   pub done : (newer : World) (q : Path) → AllAboveFirst xs → RemovedBy d xs new newer → newer q ≡ new q
   done newer q order second = once newer q (finishes d xs old new (removed_removing d old xs new removed) newer order second)
+
+-- in the order of bytes a path stands before what is below it
+
+behind : (top rest : Path) → slice_cmp nat_cmp (top ++ 47 ∷ rest) top ≡ Greater
+behind [] rest = refl
+behind (b ∷ top) rest = ap (λ o. ordering_then o (slice_cmp nat_cmp (top ++ 47 ∷ rest) top)) (sym (nat_cmp_is b b Equal refl)) ∙ behind top rest
+
+less_greater : (o : Ordering) → o ≡ Less → o ≡ Greater → ⊥
+less_greater o less greater = true≢false (sym (ap is_lt less) ∙ ap is_lt greater)
+
+pub in_order : (xs : List Leaving) → AreInOrder xs → AllAboveFirst xs
+in_order [] order = tt
+in_order (x ∷ xs) order = (
+  λ y has below.
+      less_greater (slice_cmp nat_cmp x.place y.place) (order.0 y has) (ap (λ p. slice_cmp nat_cmp p y.place) below.1 ∙ behind y.place below.0),
+  in_order xs order.1,
+)
 
 unnamed : (b : Bool) (m n : Option Node) → b ≡ false → cond b m n ≡ n
 unnamed b m n e = ap (λ t. cond t m n) e

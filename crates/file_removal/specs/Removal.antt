@@ -1,5 +1,8 @@
 -- Which listed paths of a package are taken away, and what is left (Policy 6.6: files of the old version that the new one lacks; 6.8).
 use Rattle.std.specs.Prelude.{◌≡◌, ◌⊎◌, ℕ, Bool, true, false, List, [], ◌∷◌, ◌++◌, None, IsSome, IsTrue, Contains}
+use Rattle.std.specs.Ordering.{nat_cmp}
+use Rattle.std.specs.Cmp.Lexicographic.{slice_cmp}
+use Rattle.std.specs.declared.cmp.Ordering.TheVariants.{Less}
 use Rattle.host_core.specs.Paths.{Path}
 use Rattle.host_core.specs.Tree.{IsBelow}
 use Rattle.host_core.specs.World.{World, IsDirectory, IsLoose}
@@ -46,3 +49,8 @@ IsSpared xs q = (x : Leaving) → Contains xs x → IsTrue x.goes → (x.place �
 abbrev pub AllAboveFirst : List Leaving → Type 0
 AllAboveFirst [] = Unit {0}
 AllAboveFirst (x ∷ xs) = ((y : Leaving) → Contains xs y → IsBelow y.place x.place → ⊥) × AllAboveFirst xs
+
+-- each place stands before the later ones in the order of bytes
+abbrev pub AreInOrder : List Leaving → Type 0
+AreInOrder [] = Unit {0}
+AreInOrder (x ∷ xs) = ((y : Leaving) → Contains xs y → slice_cmp nat_cmp x.place y.place ≡ Less) × AreInOrder xs

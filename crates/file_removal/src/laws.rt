@@ -3,13 +3,13 @@ ghost use Rattle.std.specs.Prelude.{◌≡◌, ◌⊎◌, Bool, true, false, Lis
 ghost use Rattle.host_core.specs.Paths.{Path};
 ghost use Rattle.host_core.specs.World.{World, IsBare, IsDirectory, IsLoose};
 ghost use Rattle.file_removal.specs.declared.leaving.Leaving.{Leaving};
-ghost use Rattle.file_removal.specs.Removal.{RemovedBy, IsRemovingBy, Removed, RemovedDirectories, IsSpared, AllAboveFirst};
+ghost use Rattle.file_removal.specs.Removal.{RemovedBy, IsRemovingBy, Removed, RemovedDirectories, IsSpared, AllAboveFirst, AreInOrder};
 ghost use Rattle.file_removal.specs.Clearing.{cleared, is_among, Cleared, IsClearing};
 ghost use Rattle.file_removal.specs.Committing.{Committed, IsCommitting, IsEither};
 
 /// A path that isn't the place of a listed path that may go is as before, as is each file or link where directories alone are
 /// taken; a listed file or link that may go is gone. Nothing is made, and the old world decides what is left. Where a directory is
-/// listed before what is below it, no listed directory that may go is left empty, a removal that was stopped at any moment is
+/// listed before what is below it, as in the order of bytes, no listed directory that may go is left empty, a removal that was stopped at any moment is
 /// finished by the same removal, and a second one finds nothing to do.
 pub fn what_a_removal_leaves()
     ensures spared { (directories_only : Bool) (xs : List Leaving) (old new : World) (q : Path) → RemovedBy directories_only xs old new → IsSpared xs q → new q ≡ old q }
@@ -17,6 +17,7 @@ pub fn what_a_removal_leaves()
     ensures gone { (xs : List Leaving) (old new : World) (x : Leaving) → Removed xs old new → Contains xs x → IsTrue x.goes → IsLoose (old x.place) → new x.place ≡ None }
     ensures less { (directories_only : Bool) (xs : List Leaving) (old new : World) (q : Path) → RemovedBy directories_only xs old new → (new q ≡ old q) ⊎ (new q ≡ None) }
     ensures once { (directories_only : Bool) (xs : List Leaving) (old new other : World) (q : Path) → RemovedBy directories_only xs old new → RemovedBy directories_only xs old other → other q ≡ new q }
+    ensures order { (xs : List Leaving) → AreInOrder xs → AllAboveFirst xs }
     ensures empty { (directories_only : Bool) (xs : List Leaving) (old new : World) (x : Leaving) → AllAboveFirst xs → RemovedBy directories_only xs old new → Contains xs x → IsTrue x.goes → IsDirectory (old x.place) → IsBare new x.place → new x.place ≡ None }
     ensures finished { (directories_only : Bool) (xs : List Leaving) (old now new : World) → AllAboveFirst xs → IsRemovingBy directories_only xs old now → RemovedBy directories_only xs now new → RemovedBy directories_only xs old new }
     ensures again { (directories_only : Bool) (xs : List Leaving) (old new newer : World) (q : Path) → AllAboveFirst xs → RemovedBy directories_only xs old new → RemovedBy directories_only xs new newer → newer q ≡ new q }

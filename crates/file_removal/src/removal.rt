@@ -59,8 +59,8 @@ fn remove_each<H: Host>(
     Ok(())
 }
 
-/// Removes what stands at the places that may go, given in path order. A directory with entries that
-/// stay stays.
+/// Removes what stands at the places that may go, given in path order. A directory goes if nothing is
+/// left below it.
 pub fn remove_owned<H: Host>(host: &mut H, leaving: &[Leaving]) -> Result<(), HostFault>
     ensures removed { Leaves result (Removed leaving.now) (H.state host.old) (H.state host.new) }
     ensures any_moment { AtEachMoment (IsRemoving leaving.now) (H.state host.old) (H.state host.new) }

@@ -1,4 +1,4 @@
-use Rattle.file_removal.proofs.Leavings.{spared_stays, loose_stays, loose_gone, empty_gone, finishes, done}
+use Rattle.file_removal.proofs.Leavings.{spared_stays, loose_stays, loose_gone, in_order, empty_gone, finishes, done}
 use Rattle.file_removal.proofs.laws.what_a_removal_leaves.Goals as goal
 
 pub returns-clause-spared : goal.returns-clause-spared
@@ -9,6 +9,9 @@ returns-clause-loose c = λ xs old new q removed loose. loose_stays old xs new q
 
 pub returns-clause-gone : goal.returns-clause-gone
 returns-clause-gone c = λ xs old new x removed has may loose. loose_gone old xs new x removed has may loose
+
+pub returns-clause-order : goal.returns-clause-order
+returns-clause-order c = λ xs order. in_order xs order
 
 pub returns-clause-empty : goal.returns-clause-empty
 returns-clause-empty c = λ d xs old new x order removed has may is bare. empty_gone d xs old new removed order x has may is bare
