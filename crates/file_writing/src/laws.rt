@@ -1,0 +1,22 @@
+// What follows from the names of works, and from what their files left.
+ghost use Rattle.std.specs.Prelude.{◌≡◌, ◌≢◌, Bool, List};
+ghost use Rattle.host_core.specs.Paths.{Path};
+ghost use Rattle.host_core.specs.World.{World, SameOn};
+ghost use Rattle.file_works.specs.declared.work.Work.{Work};
+ghost use Rattle.file_works.specs.Files.{Each, Written};
+ghost use Rattle.file_works.specs.Free.{IsFreeIn, IsSeen, IsWrittenFrom};
+ghost use Rattle.file_works.specs.Names.{IsNamed};
+ghost use Rattle.file_writing.specs.Apart.{Differ, HasNames, IsApart, IsByPlace};
+
+/// The names of one work differ, and so do those of works at different places; each is a name of
+/// its place, which a running script leaves alone.
+pub fn names_of_works_differ()
+    ensures apart { (x : Work) → IsNamed x → IsApart x }
+    ensures differ { (x y : Work) → IsNamed x → IsNamed y → x.place ≢ y.place → Differ x y }
+    ensures by_place { (x : Work) → IsNamed x → IsByPlace x }
+{}
+
+/// Files that were written stand so as long as nothing changes at their names, and can be put back.
+pub fn written_files_stay()
+    ensures { (works : List Work) (kept : Path → Bool) (old mid later : World) → Each (HasNames kept) works → Each (IsFreeIn old) works → Each (IsSeen old) works → Written works old mid → SameOn kept mid later → IsWrittenFrom works old later }
+{}
