@@ -1,5 +1,5 @@
 -- What the parts of one file step leave (Policy 6.6, the files of an unpack).
-use Rattle.std.specs.Prelude.{◌≡◌, ◌≢◌}
+use Rattle.std.specs.Prelude.{◌≡◌, ◌≢◌, true}
 use Rattle.host_core.specs.Paths.{Path}
 use Rattle.host_core.specs.World.{World, HasParent}
 use Rattle.administration.specs.Files.{KeepsBeside}

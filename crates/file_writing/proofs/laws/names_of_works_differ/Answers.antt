@@ -1,0 +1,11 @@
+use Rattle.file_writing.proofs.WorkNames.{named_apart, named_differ, by_place}
+use Rattle.file_writing.proofs.laws.names_of_works_differ.Goals as goal
+
+pub returns-clause-apart : goal.returns-clause-apart
+returns-clause-apart c = named_apart
+
+pub returns-clause-differ : goal.returns-clause-differ
+returns-clause-differ c = named_differ
+
+pub returns-clause-by_place : goal.returns-clause-by_place
+returns-clause-by_place c = by_place
