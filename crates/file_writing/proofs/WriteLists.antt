@@ -173,3 +173,18 @@ module _ (works : List Work) (i : ℕ) (x : Work) (within : i < length works) (a
 
   pub front_is : take (i + 1) works ≡ take i works ++ x ∷ []
   front_is = take_more works i x within ∙ ap (λ r. take i works ++ r ∷ []) (sym at)
+
+-- nothing is written yet
+
+pub written_none : (w : World) → Written [] w w
+written_none w = record { each = tt; rest = λ q misses. refl }
+
+pub amid_none : (works : List Work) (w : World) → IsAmid works w w w
+amid_none works w = record { each = all works; rest = λ q misses. refl } where
+  all : (xs : List Work) → Each (IsWhole w w) xs
+  all [] = tt
+  all (x ∷ xs) = (before refl, all xs)
+
+-- of works before and after one the one
+pub each_here : (P : Work → Type 0) (a : List Work) (x : Work) (b : List Work) → Each P (a ++ x ∷ b) → P x
+each_here P a x b all = (each_later P a (x ∷ b) all).0
