@@ -4,3 +4,6 @@ pub mod Written
 pub mod OnePath
 pub mod WriteLists
 pub mod WriteMoments
+pub mod Bareness
+pub mod BackOne
+pub mod BackLists

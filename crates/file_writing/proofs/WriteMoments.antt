@@ -2,7 +2,7 @@
 use Rattle.std.proofs.Common.{◌≡◌, ◌≢◌, ◌⊎◌, Bool, false, List, [], ◌∷◌, ◌++◌, Option, Some, None, IsTrue, Result, Ok, Err, OnOk, inl, inr, refl, sym, ap, subst, ◌∙◌}
 use Rattle.std.specs.Prelude.{IsSome}
 use Rattle.host_core.specs.Paths.{Path}
-use Rattle.host_core.specs.World.{World, put, moved, Step, Write, Move, Take, MakeDir, HardLink, MakeLink, after, IsPart}
+use Rattle.host_core.specs.World.{World, put, moved, Step, Write, Move, Take, MakeDir, RemoveDir, HardLink, MakeLink, after, IsPart}
 use Rattle.host_core.specs.Events.{Did}
 use Rattle.host_core.specs.Host.{State, Reads, Does, Since}
 use Rattle.host_core.specs.Laws.{put_same, put_other}
@@ -83,3 +83,16 @@ saved_by (Ok r) x a b some does = record {
   rest = λ q ne. ap (λ w. w q) does.world ∙ put_other a.world x.backup q (a.world x.target) ne;
 }
 saved_by (Err e) x a b some does = tt
+
+-- what is at a path goes
+
+module _ {T : Type 0} (result : Result T HostFault) (p : Path) (a b : State) where
+  pub since_gone : (P : World → Type 0) → (IsTrue b.honest → P a.world) → (IsTrue b.honest → P (put a.world p None)) → Does (Take p) a b result → Since (λ so_far. P) a b
+  since_gone P first second does = since_does P result (Take p) a b does (λ h. record { before = first h; inside = λ t part. absurd part; behind = second h })
+
+  pub since_dir_gone : (P : World → Type 0) → (IsTrue b.honest → P a.world) → (IsTrue b.honest → P (put a.world p None)) → Does (RemoveDir p) a b result → Since (λ so_far. P) a b
+  since_dir_gone P first second does = since_does P result (RemoveDir p) a b does (λ h. record { before = first h; inside = λ t part. absurd part; behind = second h })
+
+pub gone_by : {T : Type 0} (result : Result T HostFault) (p : Path) (a b : State) (P : World → Type 0) → P (put a.world p None) → Does (Take p) a b result → OnOk result (P b.world)
+gone_by (Ok x) p a b P there does = subst P (sym does.world) there
+gone_by (Err e) p a b P there does = tt
