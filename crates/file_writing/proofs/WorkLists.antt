@@ -45,6 +45,11 @@ order_across [] b all = nothing b
 order_across (y ∷ a) b all =
     each_map (IsBefore y) (λ z. Each (λ u. IsBefore u z) a) (λ z. Each (λ u. IsBefore u z) (y ∷ a)) (λ z less more. (less, more)) b (each_later (IsBefore y) a b all.0) (order_across a b all.1)
 
+-- and each of the second after each of the first
+pub order_down : (a b : List Work) → AllInOrder (a ++ b) → Each (λ y. Each (IsBefore y) b) a
+order_down [] b all = tt
+order_down (y ∷ a) b all = (each_later (IsBefore y) a b all.0, order_down a b all.1)
+
 pub differ_of : (x y : Work) → IsNamed x → IsNamed y → IsBefore x y → Differ x y
 differ_of x y named other less = named_differ x y named other (before_differ x y less)
 

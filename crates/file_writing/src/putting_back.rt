@@ -64,8 +64,7 @@ fn put_back_directory<H: Host>(host: &mut H, work: &Work) -> Result<(), HostFaul
     ensures silent { Silent (H.state host.old) (H.state host.new) }
     ensures counts { Counts (H.state host.old) (H.state host.new) result }
 {
-    let had = work.had;
-    match had {
+    match work.had {
         None => unmake(host, work),
         Some(Kind::File) => unmake(host, work),
         Some(Kind::Directory) => Ok(()),
@@ -82,8 +81,7 @@ fn put_back_loose<H: Host>(host: &mut H, work: &Work) -> Result<(), HostFault>
     ensures silent { Silent (H.state host.old) (H.state host.new) }
     ensures counts { Counts (H.state host.old) (H.state host.new) result }
 {
-    let had = work.had;
-    match had {
+    match work.had {
         None => host.remove(&work.target),
         Some(Kind::File) => restore_old(host, work),
         Some(Kind::Directory) => Ok(()),
