@@ -1,5 +1,5 @@
 -- The next path of a list that is put back from its end.
-use Rattle.std.proofs.Common.{◌≡◌, ◌≢◌, ◌⊎◌, ℕ, ◌+◌, ◌<◌, Bool, true, false, List, [], ◌∷◌, ◌++◌, length, get_or, take, drop, Option, Some, None, IsTrue, inl, inr, refl, sym, ap, subst, ◌∙◌, arith}
+use Rattle.std.proofs.Common.{◌≡◌, ◌⊎◌, ℕ, ◌+◌, ◌<◌, Bool, List, [], ◌∷◌, ◌++◌, length, get_or, drop, inl, inr, refl, sym, subst, ◌∙◌, arith}
 use Rattle.std.proofs.lemmas.List.{drop_all}
 use Rattle.std.proofs.Math.Seq.{drop-cons}
 use Rattle.std.proofs.Math.Numerals.{add-one}
@@ -70,12 +70,11 @@ module _ (a : List Work) (x : Work) (b : List Work) (named : Each IsNamed (a ++ 
         record {
           each = each_join (IsWhole was c) a (x ∷ b)
               (each_map (HasWritten was mid) (λ y. IsNamed y × Each (IsBefore y) (x ∷ b)) (IsWhole was c)
-                (λ y has name. written_whole was c y (new_agree was mid c y (agree_all c mid y (x ∷ b) same (behind_it y name.0 name.1)) has)) a
-                (each_front (HasWritten was mid) a (x ∷ b) from.has)
-                (each_map IsNamed (λ y. Each (IsBefore y) (x ∷ b)) (λ y. IsNamed y × Each (IsBefore y) (x ∷ b)) (λ y name less. (name, less)) a named_a (order_down a (x ∷ b) order)))
-              (
+              (λ y has name. written_whole was c y (new_agree was mid c y (agree_all c mid y (x ∷ b) same (behind_it y name.0 name.1)) has)) a
+              (each_front (HasWritten was mid) a (x ∷ b) from.has)
+              (each_map IsNamed (λ y. Each (IsBefore y) (x ∷ b)) (λ y. IsNamed y × Each (IsBefore y) (x ∷ b)) (λ y name less. (name, less)) a named_a (order_down a (x ∷ b) order))) (
                 amid.each.0,
-                each_map (λ y. Differ x y × IsNotBelow x y) (HasPutBack was v) (IsWhole was c) (λ y d back. whole_new was v c y (agree_by c v x y (λ q miss. amid.rest q (miss, tt)) d.0) (back_whole was v y back)) b later more.each
+                each_map (λ y. Differ x y × IsNotBelow x y) (HasPutBack was v) (IsWhole was c) (λ y d back. whole_new was v c y (agree_by c v x y (λ q miss. amid.rest q (miss, tt)) d.0) (back_whole was v y back)) b later more.each,
               );
           rest = λ q misses. same q (each_later (λ y. Misses y q) a (x ∷ b) misses);
         }

@@ -1,5 +1,5 @@
 -- One path that was written is put back.
-use Rattle.std.proofs.Common.{◌≡◌, ◌≢◌, ◌⊎◌, ◌↔◌, is_some, ℕ, Bool, true, false, List, [], ◌∷◌, ◌++◌, Option, Some, None, IsTrue, inl, inr, refl, sym, ap, subst, ◌∙◌, arith}
+use Rattle.std.proofs.Common.{◌≡◌, ◌⊎◌, is_some, true, false, [], ◌∷◌, ◌++◌, Option, Some, None, inl, inr, refl, sym, ap, subst, ◌∙◌}
 use Rattle.std.specs.Prelude.{IsSome}
 use Rattle.std.proofs.lemmas.Bool.{true≢false}
 use Rattle.host_core.specs.Paths.{Path}
@@ -15,8 +15,8 @@ use Rattle.host_core.specs.declared.node.Node.TheVariants.{File, Dir, Link}
 use Rattle.host_core.specs.declared.suffix.Suffix.TheVariants.{New, Tmp}
 use Rattle.host_core.proofs.ShipNames.{parent_home_of, parent_beside}
 use Rattle.file_works.specs.declared.work.Work.{Work}
-use Rattle.file_works.specs.Files.{is_written, cleared, shown, saved, Each, Misses, HasWritten, IsBack, Stays, HasPutBack, PutBack, IsWhole, before, between, behind, IsAmid}
-use Rattle.file_works.specs.Free.{IsFree, IsFreeIn, IsSeen, IsWrittenFrom}
+use Rattle.file_works.specs.Files.{is_written, cleared, shown, saved, Misses, HasWritten, IsBack, Stays, HasPutBack, PutBack, IsWhole, before, between, behind, IsAmid}
+use Rattle.file_works.specs.Free.{IsFree, IsSeen, IsWrittenFrom}
 use Rattle.file_works.specs.Names.{IsNamed}
 use Rattle.file_writing.specs.Apart.{IsApart}
 use Rattle.file_writing.specs.Back.{restored, CanRestore, GoesBack, IsGoingBack, MakesDirectory}
@@ -71,24 +71,30 @@ module _ (x : Work) (was v u : World) (apart : IsApart x) (seen : IsSeen was x) 
   pub put_back_restored : PutBack (x ∷ []) was v (restored x.had x.target x.backup u)
   put_back_restored = elim (nothing_or (was x.target)) [
     | inl none ↦ subst (PutBack (x ∷ []) was v) (sym (restored_none x.had (was x.target) x.target x.backup u seen none)) record {
-      each = (record {
-        is = inl record { target = leaving.target none ∙ sym none; backup = leaving.backup ∙ ap (λ o. saved true o (was x.backup)) none };
-        fresh = leaving.fresh;
-      }, tt);
+      each = (
+        record {
+          is = inl record { target = leaving.target none ∙ sym none; backup = leaving.backup ∙ ap (λ o. saved true o (was x.backup)) none };
+          fresh = leaving.fresh;
+        },
+        tt,
+      );
       rest = λ q misses. leaving.rest q misses.0;
     }
     | inr some ↦ subst (PutBack (x ∷ []) was v) (sym (restored_some x.had (was x.target) x.target x.backup u seen some))
-      (let one = put u x.backup None in
-      record {
-        each = (record {
-          is = inl record {
-            target = put_same one x.target x.target (u x.backup) refl ∙ leaving.backup ∙ saved_some (was x.target) (was x.backup) some;
-            backup = put_other one x.target x.backup (u x.backup) apart.backup ∙ put_same u x.backup x.backup None refl ∙ sym (leaving.spare some);
-          };
-          fresh = put_other one x.target x.fresh (u x.backup) apart.fresh ∙ put_other u x.backup x.fresh None apart.spare ∙ leaving.fresh;
-        }, tt);
-        rest = λ q misses. put_other one x.target q (u x.backup) misses.0.target ∙ put_other u x.backup q None misses.0.backup ∙ leaving.rest q misses.0;
-      })
+        (let one = put u x.backup None in
+        record {
+          each = (
+            record {
+              is = inl record {
+                target = put_same one x.target x.target (u x.backup) refl ∙ leaving.backup ∙ saved_some (was x.target) (was x.backup) some;
+                backup = put_other one x.target x.backup (u x.backup) apart.backup ∙ put_same u x.backup x.backup None refl ∙ sym (leaving.spare some);
+              };
+              fresh = put_other one x.target x.fresh (u x.backup) apart.fresh ∙ put_other u x.backup x.fresh None apart.spare ∙ leaving.fresh;
+            },
+            tt,
+          );
+          rest = λ q misses. put_other one x.target q (u x.backup) misses.0.target ∙ put_other u x.backup q None misses.0.backup ∙ leaving.rest q misses.0;
+        })
   ]
 
 -- at the end it is whole
@@ -110,13 +116,16 @@ amid_written x was v from = record { each = (written_whole was v x from.has.0, t
 -- what wasn't written
 left_back : (x : Work) (was v : World) → HasWritten was v x → is_written x.node (was x.target) ≡ false → PutBack (x ∷ []) was v v
 left_back x was v has left = record {
-  each = (record {
-    is = inl record {
-      target = has.target ∙ ap (λ a. shown a x.node (was x.target)) left;
-      backup = has.backup ∙ ap (λ a. saved a (was x.target) (was x.backup)) left;
-    };
-    fresh = has.fresh;
-  }, tt);
+  each = (
+    record {
+      is = inl record {
+        target = has.target ∙ ap (λ a. shown a x.node (was x.target)) left;
+        backup = has.backup ∙ ap (λ a. saved a (was x.target) (was x.backup)) left;
+      };
+      fresh = has.fresh;
+    },
+    tt,
+  );
   rest = λ q misses. refl;
 }
 
@@ -158,13 +167,16 @@ module _ (x : Work) (was v : World) (named : IsNamed x) (loose : is_directory (S
     loose_taken =
         let a = named_apart x named in
         record {
-          each = (record {
-            is = inl record {
-              target = put_same v x.target x.target None refl ∙ sym loose_none;
-              backup = put_other v x.target x.backup None a.backup ∙ loose_backup loose_none_plain ∙ ap (λ o. saved true o (was x.backup)) loose_none;
-            };
-            fresh = put_other v x.target x.fresh None a.fresh ∙ from.has.0.fresh;
-          }, tt);
+          each = (
+            record {
+              is = inl record {
+                target = put_same v x.target x.target None refl ∙ sym loose_none;
+                backup = put_other v x.target x.backup None a.backup ∙ loose_backup loose_none_plain ∙ ap (λ o. saved true o (was x.backup)) loose_none;
+              };
+              fresh = put_other v x.target x.fresh None a.fresh ∙ from.has.0.fresh;
+            },
+            tt,
+          );
           rest = λ q misses. put_other v x.target q None misses.0.target;
         }
 
@@ -206,10 +218,13 @@ module _ (x : Work) (was v : World) (named : IsNamed x) (access : Access) (node 
   -- something is below it
   pub made_stays : (IsBare v x.target → ⊥) → PutBack (x ∷ []) was v v
   made_stays below = record {
-    each = (record {
-      is = inr record { made = (access, node); was = made_wrote; target = made_there; backup = made_backup; below = below };
-      fresh = from.has.0.fresh;
-    }, tt);
+    each = (
+      record {
+        is = inr record { made = (access, node); was = made_wrote; target = made_there; backup = made_backup; below = below };
+        fresh = from.has.0.fresh;
+      },
+      tt,
+    );
     rest = λ q misses. refl;
   }
 

@@ -1,5 +1,5 @@
 -- A directory without entries has nothing below it.
-use Rattle.std.proofs.Common.{◌≡◌, ◌⊎◌, ◌↔◌, inl, inr, ℕ, Bool, true, false, List, [], ◌∷◌, ◌++◌, Option, Some, None, refl, sym, ap, subst, ◌∙◌, append_assoc, Contains, IsTrue, eqb, length, ◌<◌, arith}
+use Rattle.std.proofs.Common.{◌≡◌, ◌⊎◌, ◌↔◌, inl, inr, ℕ, Bool, true, false, List, [], ◌∷◌, ◌++◌, refl, sym, ap, subst, ◌∙◌, append_assoc, Contains, eqb, length, arith}
 use Rattle.std.specs.Prelude.{◌||◌, ◌==◌, IsSome}
 use Rattle.std.proofs.lemmas.Bool.{eqb-true, true≢false}
 use Rattle.host_core.specs.Paths.{Path}

@@ -1,22 +1,21 @@
 -- One shipped path is written: what its parts leave together.
-use Rattle.std.proofs.Common.{◌≡◌, ◌≢◌, ◌⊎◌, ℕ, Bool, true, false, List, [], ◌∷◌, ◌++◌, Option, Some, None, IsTrue, inl, inr, refl, sym, ap, subst, ◌∙◌}
+use Rattle.std.proofs.Common.{◌≡◌, ◌≢◌, ◌⊎◌, Bool, true, false, [], ◌∷◌, Some, None, inl, inr, refl, sym, ap, subst, ◌∙◌}
 use Rattle.std.specs.Prelude.{IsSome}
 use Rattle.host_core.specs.Paths.{Path}
-use Rattle.host_core.specs.World.{World, put, moved, IsDirectory, IsLoose, HasParent, is_directory, kind_of}
+use Rattle.host_core.specs.World.{World, put, moved, HasParent, is_directory, kind_of}
 use Rattle.host_core.specs.Laws.{put_same, put_other}
 use Rattle.host_core.specs.declared.node.Access.{Access}
 use Rattle.host_core.specs.declared.node.Kind.TheVariants as kind
-use Rattle.host_core.specs.declared.node.Node.{Node}
-use Rattle.host_core.specs.declared.node.Node.TheVariants.{File, Dir, Link}
+use Rattle.host_core.specs.declared.node.Node.TheVariants.{Dir}
 use Rattle.administration.specs.Files.{KeepsBeside, IsAside}
 use Rattle.file_works.specs.declared.work.Work.{Work}
-use Rattle.file_works.specs.Files.{is_written, cleared, shown, saved, Each, Misses, HasWritten, Written, IsShown, IsWhole, before, between, behind, IsAmid}
+use Rattle.file_works.specs.Files.{is_written, cleared, shown, saved, Each, Misses, Written, before, between, behind, IsAmid}
 use Rattle.file_works.specs.Free.{IsFree, IsFreeIn}
 use Rattle.file_works.specs.Names.{IsNamed}
 use Rattle.file_writing.specs.Apart.{IsApart}
 use Rattle.file_writing.specs.Steps.{IsCleared, AreCleared, KeepsBesideSpares, IsReady, IsSaved}
 use Rattle.file_writing.proofs.WorkNames.{named_apart, home_stays}
-use Rattle.file_writing.proofs.Written.{kind_file, kind_directory, keeps_directory, keeps_link, makes_over_file, makes_at_none, no_directory, cleared_again, saved_cleared, free_cleared, writes_loose, free_loose, saved_some, shown_directory, written_amid, whole_from}
+use Rattle.file_writing.proofs.Written.{kind_file, kind_directory, keeps_directory, keeps_link, makes_over_file, makes_at_none, cleared_again, saved_cleared, free_cleared, writes_loose, free_loose, saved_some, shown_directory, whole_from}
 
 other : {p q : Path} → p ≢ q → q ≢ p
 other ne e = ne (sym e)
@@ -64,7 +63,7 @@ module _ (x : Work) (w v : World) (named : IsNamed x) where
     ready_then free parent = record {
       free = subst (λ t. IsFree x.node t (v x.backup) (v x.fresh)) (sym cleared_target)
           (subst (λ b. IsFree x.node (w x.target) b (v x.fresh)) (sym clear.backup)
-            (subst (λ f. IsFree x.node (w x.target) (cleared (w x.backup)) f) (sym clear.fresh) (free_cleared x.node (w x.target) (w x.backup) (w x.fresh) free)));
+          (subst (λ f. IsFree x.node (w x.target) (cleared (w x.backup)) f) (sym clear.fresh) (free_cleared x.node (w x.target) (w x.backup) (w x.fresh) free)));
       backup = ap cleared clear.backup ∙ cleared_again (w x.backup) ∙ sym clear.backup;
       fresh = ap cleared clear.fresh ∙ cleared_again (w x.fresh) ∙ sym clear.fresh;
       parent = home_stays x w v named cleared_rest parent;
@@ -75,11 +74,14 @@ module _ (x : Work) (w v : World) (named : IsNamed x) where
 
     pub written_then : (u : World) → Written (x ∷ []) v u → Written (x ∷ []) w u
     written_then u written = record {
-      each = (record {
-        target = written.each.0.target ∙ ap (λ o. shown (is_written x.node o) x.node o) cleared_target;
-        backup = written.each.0.backup ∙ saved_then (is_written x.node (v x.target)) ∙ ap (λ o. saved (is_written x.node o) (w x.target) (w x.backup)) cleared_target;
-        fresh = written.each.0.fresh ∙ ap cleared clear.fresh ∙ cleared_again (w x.fresh);
-      }, tt);
+      each = (
+        record {
+          target = written.each.0.target ∙ ap (λ o. shown (is_written x.node o) x.node o) cleared_target;
+          backup = written.each.0.backup ∙ saved_then (is_written x.node (v x.target)) ∙ ap (λ o. saved (is_written x.node o) (w x.target) (w x.backup)) cleared_target;
+          fresh = written.each.0.fresh ∙ ap cleared clear.fresh ∙ cleared_again (w x.fresh);
+        },
+        tt,
+      );
       rest = λ q misses. written.rest q misses ∙ cleared_rest q misses.0;
     }
 
@@ -98,11 +100,14 @@ module _ (x : Work) (w v : World) (named : IsNamed x) where
 -- nothing is written
 pub left_written : (x : Work) (w : World) → is_written x.node (w x.target) ≡ false → IsReady x w → Written (x ∷ []) w w
 left_written x w left ready = record {
-  each = (record {
-    target = ap (λ a. shown a x.node (w x.target)) (sym left);
-    backup = sym ready.backup ∙ ap (λ a. saved a (w x.target) (w x.backup)) (sym left);
-    fresh = sym ready.fresh;
-  }, tt);
+  each = (
+    record {
+      target = ap (λ a. shown a x.node (w x.target)) (sym left);
+      backup = sym ready.backup ∙ ap (λ a. saved a (w x.target) (w x.backup)) (sym left);
+      fresh = sym ready.fresh;
+    },
+    tt,
+  );
   rest = λ q misses. refl;
 }
 
@@ -151,12 +156,15 @@ module _ (x : Work) (w : World) (named : IsNamed x) (loose : is_directory (Some 
       exchanged =
           let one = put u x.fresh None in
           record {
-            each = (record {
-              target = put_same one x.target x.target (u x.fresh) refl ∙ saved_fresh ∙ ap (λ a. shown a x.node (w x.target)) (sym wrote);
-              backup = put_other one x.target x.backup (u x.fresh) names.backup ∙ put_other u x.fresh x.backup None (other names.spare) ∙ save.backup
-                  ∙ (λ i. saved true (aside_target i) (aside_backup i)) ∙ ap (λ a. saved a (w x.target) (w x.backup)) (sym wrote);
-              fresh = put_other one x.target x.fresh (u x.fresh) names.fresh ∙ put_same u x.fresh x.fresh None refl ∙ sym gone.1;
-            }, tt);
+            each = (
+              record {
+                target = put_same one x.target x.target (u x.fresh) refl ∙ saved_fresh ∙ ap (λ a. shown a x.node (w x.target)) (sym wrote);
+                backup = put_other one x.target x.backup (u x.fresh) names.backup ∙ put_other u x.fresh x.backup None (other names.spare) ∙ save.backup
+                    ∙ (λ i. saved true (aside_target i) (aside_backup i)) ∙ ap (λ a. saved a (w x.target) (w x.backup)) (sym wrote);
+                fresh = put_other one x.target x.fresh (u x.fresh) names.fresh ∙ put_same u x.fresh x.fresh None refl ∙ sym gone.1;
+              },
+              tt,
+            );
             rest = λ q misses. put_other one x.target q (u x.fresh) misses.0.target ∙ put_other u x.fresh q None misses.0.fresh ∙ saved_rest q misses.0;
           }
 
@@ -207,11 +215,14 @@ module _ (x : Work) (w : World) (named : IsNamed x) (access : Access) (node : x.
     made =
         let a = named_apart x named in
         record {
-          each = (record {
-            target = put_same u x.target x.target (Some (Dir access)) refl ∙ ap Some (sym node) ∙ ap (λ b. shown b x.node (w x.target)) (sym wrote);
-            backup = put_other u x.target x.backup (Some (Dir access)) a.backup ∙ vacant.backup ∙ ap (λ b. saved b (w x.target) (w x.backup)) (sym wrote);
-            fresh = put_other u x.target x.fresh (Some (Dir access)) a.fresh ∙ vacant.fresh ∙ sym ready.fresh;
-          }, tt);
+          each = (
+            record {
+              target = put_same u x.target x.target (Some (Dir access)) refl ∙ ap Some (sym node) ∙ ap (λ b. shown b x.node (w x.target)) (sym wrote);
+              backup = put_other u x.target x.backup (Some (Dir access)) a.backup ∙ vacant.backup ∙ ap (λ b. saved b (w x.target) (w x.backup)) (sym wrote);
+              fresh = put_other u x.target x.fresh (Some (Dir access)) a.fresh ∙ vacant.fresh ∙ sym ready.fresh;
+            },
+            tt,
+          );
           rest = λ q misses. put_other u x.target q (Some (Dir access)) misses.0.target ∙ vacant.rest q misses.0;
         }
 

@@ -1,30 +1,30 @@
 -- The names of works: each tells its place, and what lies below a target has a greater place.
-use Rattle.std.proofs.Common.{◌≡◌, ◌≢◌, ◌⊎◌, ℕ, ◌+◌, ◌-◌, ◌≤◌, Bool, true, false, List, [], ◌∷◌, ◌++◌, codes, length, get_or, drop, Contains, Option, Some, None, IsTrue, inl, inr, refl, sym, ap, subst, ◌∙◌, arith, append_assoc, ◌||◌}
+use Rattle.std.proofs.Common.{◌≡◌, ◌≢◌, ◌⊎◌, ℕ, ◌-◌, ◌≤◌, Bool, true, false, List, [], ◌∷◌, ◌++◌, length, get_or, drop, Contains, Option, Some, None, inl, inr, refl, sym, ap, subst, ◌∙◌, arith, append_assoc, ◌||◌}
 use Rattle.std.specs.Ordering.{is_lt, nat_cmp, ordering_then}
 use Rattle.std.specs.Cmp.{nat_cmp_is}
 use Rattle.std.specs.Cmp.Lexicographic.{slice_cmp}
-use Rattle.std.specs.declared.cmp.Ordering.TheVariants.{Less, Equal, Greater}
+use Rattle.std.specs.declared.cmp.Ordering.TheVariants.{Equal}
 use Rattle.std.specs.List.{list_any}
 use Rattle.std.specs.Prelude.{nat_eq}
 use Rattle.std.specs.Str.{bytes_eq}
 use Rattle.std.proofs.lemmas.Cmp.{nat_eq_equiv}
 use Rattle.std.proofs.lemmas.Map.Views.{list_any-from_Contains}
 use Rattle.std.proofs.lemmas.Slice.Eq.{bytes_eq-Decides}
-use Rattle.std.proofs.lemmas.List.Elements.{Contains-append_cases}
+use Rattle.std.proofs.lemmas.List.Elements.{Contains-append_cases, Contains-push_cases}
 use Rattle.std.proofs.lemmas.Bool.{true≢false}
 use Rattle.std.proofs.lemmas.List.{append-nil, length-append, get_or-append_right}
-use Rattle.host_core.specs.Paths.{Path, is_ship_text, is_named_by, reserved_suffixes}
+use Rattle.host_core.specs.Paths.{Path, is_ship_text, is_own, is_named_by}
 use Rattle.host_core.specs.Suffixes.{suffix_text}
 use Rattle.host_core.specs.Unsynced.{is_temporary}
-use Rattle.host_core.specs.World.{World, IsDirectory, HasParent}
+use Rattle.host_core.specs.World.{World, HasParent, is_kept}
 use Rattle.host_core.specs.Losses.{temporary_suffix}
 use Rattle.host_core.specs.declared.suffix.Suffix.{Suffix}
 use Rattle.host_core.specs.declared.suffix.Suffix.TheVariants.{New, Old, Dist, Tmp, Inst}
 use Rattle.host_core.proofs.ShipNames.{ships, same_name, plain_other, plain_proper, beside_proper}
 use Rattle.file_works.specs.declared.work.Work.{Work}
-use Rattle.file_works.specs.Files.{Each, Misses}
+use Rattle.file_works.specs.Files.{Misses}
 use Rattle.file_works.specs.Names.{IsNamed, IsBefore}
-use Rattle.file_writing.specs.Apart.{IsApart, Differ, IsByPlace}
+use Rattle.file_writing.specs.Apart.{IsApart, Differ, IsByPlace, HasNames}
 
 -- what a name adds to its place
 abbrev pub ending : Option Suffix → Path
@@ -238,3 +238,21 @@ by_place x named = record { target = by named.target; backup = kept_tmp x.backup
   by : (x.target ≡ x.place) ⊎ (x.target ≡ x.place ++ suffix_text New) → is_named_by x.target x.place ≡ true
   by (inl e) = kept_place x.target x.place e
   by (inr e) = kept_new x.target x.place e
+
+-- which a running script leaves alone, where the place is listed
+
+any_at : (p : Path → Bool) (xs : List Path) (y : Path) → Contains xs y → p y ≡ true → list_any p xs ≡ true
+any_at p [] y has is = absurd (omega (arith, has.1))
+any_at p (z ∷ zs) y has is = elim (Contains-append_cases (z ∷ []) zs y has) [
+  | inl first ↦ elim (Contains-push_cases [] z y first) [ inl none ↦ absurd (omega (arith, none.1)) | inr here ↦ or_left (p z) (list_any p zs) (ap p here ∙ is) ]
+  | inr later ↦ or_right (p z) (list_any p zs) (any_at p zs y later is)
+]
+
+pub kept_names : (places : List Path) (x : Work) → IsNamed x → Contains places x.place → HasNames (is_kept places) x
+kept_names places x named listed =
+    let by = by_place x named in
+    record {
+      target = or_right (is_own x.target) _ (any_at (λ p. is_named_by x.target p) places x.place listed by.target);
+      backup = or_right (is_own x.backup) _ (any_at (λ p. is_named_by x.backup p) places x.place listed by.backup);
+      fresh = or_right (is_own x.fresh) _ (any_at (λ p. is_named_by x.fresh p) places x.place listed by.fresh);
+    }

@@ -1,5 +1,5 @@
 -- Shipped paths are written one after another: what each leaves of those before and after it.
-use Rattle.std.proofs.Common.{◌≡◌, ◌≢◌, ◌⊎◌, ℕ, ◌+◌, ◌<◌, Bool, true, false, cond, List, [], ◌∷◌, ◌++◌, length, get_or, take, drop, Contains, Option, Some, None, IsTrue, inl, inr, refl, sym, ap, subst, ◌∙◌, arith}
+use Rattle.std.proofs.Common.{◌≡◌, ◌⊎◌, ℕ, ◌+◌, ◌<◌, List, [], ◌∷◌, ◌++◌, length, get_or, take, drop, Option, Some, None, inl, inr, refl, sym, ap, subst, ◌∙◌, arith}
 use Rattle.std.proofs.lemmas.Bool.{true≢false}
 use Rattle.std.proofs.lemmas.List.{append-nil, length-append, take-append-drop, take_more}
 use Rattle.std.proofs.Math.Seq.{drop-cons}
@@ -8,7 +8,6 @@ use Rattle.std.specs.Ordering.{is_lt, nat_cmp}
 use Rattle.std.specs.Cmp.Lexicographic.{slice_cmp}
 use Rattle.host_core.specs.Paths.{Path}
 use Rattle.host_core.specs.World.{World, IsDirectory, HasParent}
-use Rattle.host_core.specs.declared.node.Access.{Access}
 use Rattle.host_core.specs.declared.node.Node.{Node}
 use Rattle.host_core.specs.declared.node.Node.TheVariants.{File, Dir, Link}
 use Rattle.host_core.proofs.Paths.{decide}
@@ -17,8 +16,8 @@ use Rattle.file_works.specs.Files.{is_written, cleared, shown, saved, Each, Miss
 use Rattle.file_works.specs.Free.{IsFree, IsFreeIn}
 use Rattle.file_works.specs.Names.{IsNamed, IsBefore, AllInOrder, HasMaker, IsHomed}
 use Rattle.file_writing.specs.Apart.{Differ}
-use Rattle.file_writing.proofs.WorkNames.{NameOf, below_is, never, IsNotBelow}
-use Rattle.file_writing.proofs.WorkLists.{each_map, each_of, each_front, each_later, each_join, order_later, order_across, differ_later, differ_earlier, differ_of, differ_back, Agree, old_agree, new_agree, free_agree, agree_by, agree_all}
+use Rattle.file_writing.proofs.WorkNames.{below_is, never, IsNotBelow}
+use Rattle.file_writing.proofs.WorkLists.{each_map, each_front, each_later, each_join, order_later, order_across, differ_later, differ_earlier, differ_back, Agree, old_agree, new_agree, free_agree, agree_by, agree_all}
 use Rattle.file_writing.proofs.Written.{keeps_directory, written_whole, whole_agree}
 
 -- a directory stays while works are written
@@ -153,11 +152,10 @@ module _ (a : List Work) (x : Work) (b : List Work) (named : Each IsNamed (a ++ 
         let same : (q : Path) → Misses x q → c q ≡ v q = λ q miss. amid.rest q (miss, tt) in
         record {
           each = each_join (IsWhole w c) a (x ∷ b)
-              (each_map (λ y. Differ y x) (HasWritten w v) (IsWhole w c) (λ y d has. written_whole w c y (new_agree w v c y (agree_by c v x y same (differ_back y x d)) has)) a earlier written.each)
-              (
+              (each_map (λ y. Differ y x) (HasWritten w v) (IsWhole w c) (λ y d has. written_whole w c y (new_agree w v c y (agree_by c v x y same (differ_back y x d)) has)) a earlier written.each) (
                 whole_agree v w c x agree_at amid.each.0,
                 each_map (λ z. Differ x z × IsNotBelow x z) (λ z. Each (λ y. Differ y z) a) (IsWhole w c) (λ z d before_z. before (same z.target d.0.target ∙ (agree_all v w z a written.rest before_z).target)) b later
-                  (each_map IsNamed (λ z. Each (λ y. IsBefore y z) a) (λ z. Each (λ y. Differ y z) a) (λ z name less. differ_earlier a z named_a name less) b named_b.1 across.1)
+                    (each_map IsNamed (λ z. Each (λ y. IsBefore y z) a) (λ z. Each (λ y. Differ y z) a) (λ z name less. differ_earlier a z named_a name less) b named_b.1 across.1),
               );
           rest = λ q misses. amid.rest q ((each_later (λ y. Misses y q) a (x ∷ b) misses).0, tt) ∙ written.rest q (each_front (λ y. Misses y q) a (x ∷ b) misses);
         }

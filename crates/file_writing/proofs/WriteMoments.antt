@@ -1,10 +1,10 @@
 -- What holds at each moment of the parts of a file step.
-use Rattle.std.proofs.Common.{◌≡◌, ◌≢◌, ◌⊎◌, Bool, false, List, [], ◌∷◌, ◌++◌, Option, Some, None, IsTrue, Result, Ok, Err, OnOk, inl, inr, refl, sym, ap, subst, ◌∙◌}
+use Rattle.std.proofs.Common.{◌≡◌, ◌≢◌, false, [], ◌∷◌, Option, Some, None, IsTrue, Result, Ok, Err, OnOk, refl, sym, ap, subst, ◌∙◌}
 use Rattle.std.specs.Prelude.{IsSome}
 use Rattle.host_core.specs.Paths.{Path}
-use Rattle.host_core.specs.World.{World, put, moved, Step, Write, Move, Take, MakeDir, RemoveDir, HardLink, MakeLink, after, IsPart}
+use Rattle.host_core.specs.World.{World, put, moved, Step, Write, Move, Take, MakeDir, RemoveDir, HardLink, MakeLink, Sync, after, IsPart}
 use Rattle.host_core.specs.Events.{Did}
-use Rattle.host_core.specs.Host.{State, Reads, Does, Since}
+use Rattle.host_core.specs.Host.{State, Reads, Happens, Does, Since}
 use Rattle.host_core.specs.Laws.{put_same, put_other}
 use Rattle.host_core.specs.Losses.{still_synced, marked_other}
 use Rattle.host_core.specs.Moments.{since_does, since_reads}
@@ -13,7 +13,7 @@ use Rattle.host_core.specs.declared.fault.HostFault.{HostFault}
 use Rattle.host_core.specs.declared.node.Access.{Access}
 use Rattle.host_core.specs.declared.node.Node.{Node}
 use Rattle.host_core.specs.declared.node.Node.TheVariants.{File, Dir, Link}
-use Rattle.administration.specs.Files.{KeepsBeside}
+use Rattle.administration.specs.Files.{KeepsBeside, IsAside}
 use Rattle.file_works.specs.declared.work.Work.{Work}
 use Rattle.file_writing.specs.Steps.{IsSaved}
 use Rattle.file_writing.proofs.Written.{saved_some}
@@ -96,3 +96,19 @@ module _ {T : Type 0} (result : Result T HostFault) (p : Path) (a b : State) whe
 pub gone_by : {T : Type 0} (result : Result T HostFault) (p : Path) (a b : State) (P : World → Type 0) → P (put a.world p None) → Does (Take p) a b result → OnOk result (P b.world)
 gone_by (Ok x) p a b P there does = subst P (sym does.world) there
 gone_by (Err e) p a b P there does = tt
+
+-- a file or link was made at a temporary name
+
+pub wrote_by : {T : Type 0} (result : Result T HostFault) (p : Path) (n : Node) (a b c : State) → Happens (Did (Write p n) ∷ []) a b → Does (Sync p) b c result → OnOk result (IsAside p n a.world c.world)
+wrote_by (Ok x) p n a b c wrote does = record {
+  target = ap (λ w. w p) (does.world ∙ wrote.world) ∙ put_same a.world p p (Some n) refl;
+  rest = λ q ne. ap (λ w. w q) (does.world ∙ wrote.world) ∙ put_other a.world p q (Some n) ne;
+}
+wrote_by (Err e) p n a b c wrote does = tt
+
+pub linked_by : {T : Type 0} (result : Result T HostFault) (p target : Path) (n : Node) (a b : State) → n ≡ Link target → Does (MakeLink p target) a b result → OnOk result (IsAside p n a.world b.world)
+linked_by (Ok x) p target n a b is does = record {
+  target = ap (λ w. w p) does.world ∙ put_same a.world p p (Some (Link target)) refl ∙ ap Some (sym is);
+  rest = λ q ne. ap (λ w. w q) does.world ∙ put_other a.world p q (Some (Link target)) ne;
+}
+linked_by (Err e) p target n a b is does = tt

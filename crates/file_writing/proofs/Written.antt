@@ -1,8 +1,7 @@
 -- What being written means of nodes: what stays, what is whole.
-use Rattle.std.proofs.Common.{◌≡◌, ◌≢◌, ◌⊎◌, ℕ, Bool, true, false, List, [], ◌∷◌, ◌++◌, Option, Some, None, IsTrue, inl, inr, refl, sym, ap, subst, ◌∙◌, arith}
+use Rattle.std.proofs.Common.{◌≡◌, ℕ, Bool, true, false, List, [], ◌∷◌, Option, Some, None, IsTrue, refl, sym, ap, subst, ◌∙◌, arith}
 use Rattle.std.specs.Prelude.{IsSome}
 use Rattle.std.proofs.lemmas.Bool.{true≢false}
-use Rattle.host_core.specs.Paths.{Path}
 use Rattle.host_core.specs.World.{World, IsDirectory, IsLoose, is_directory, kind_of}
 use Rattle.host_core.specs.declared.node.Access.{Access}
 use Rattle.host_core.specs.declared.node.Kind.{Kind}
@@ -10,8 +9,8 @@ use Rattle.host_core.specs.declared.node.Kind.TheVariants as kind
 use Rattle.host_core.specs.declared.node.Node.{Node}
 use Rattle.host_core.specs.declared.node.Node.TheVariants.{File, Dir, Link}
 use Rattle.file_works.specs.declared.work.Work.{Work}
-use Rattle.file_works.specs.Files.{is_written, cleared, shown, saved, Each, Misses, HasWritten, Written, IsShown, IsWhole, before, between, behind, IsAmid}
-use Rattle.file_works.specs.Free.{IsFree, IsFreeIn}
+use Rattle.file_works.specs.Files.{is_written, cleared, shown, saved, Each, HasWritten, Written, IsShown, IsWhole, before, between, behind, IsAmid}
+use Rattle.file_works.specs.Free.{IsFree}
 use Rattle.file_writing.proofs.WorkLists.{Agree}
 
 -- nodes

@@ -1,5 +1,5 @@
 -- Names of works that differ.
-use Rattle.std.specs.Prelude.{◌≡◌, ◌≢◌, true, Bool, List}
+use Rattle.std.specs.Prelude.{◌≡◌, ◌≢◌, true, Bool}
 use Rattle.host_core.specs.Paths.{Path, is_named_by}
 use Rattle.file_works.specs.declared.work.Work.{Work}
 use Rattle.file_works.specs.Files.{Misses}

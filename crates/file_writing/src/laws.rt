@@ -1,7 +1,7 @@
 // What follows from the names of works, and from what their files left.
-ghost use Rattle.std.specs.Prelude.{◌≡◌, ◌≢◌, Bool, List};
+ghost use Rattle.std.specs.Prelude.{◌≡◌, ◌≢◌, Bool, List, Contains};
 ghost use Rattle.host_core.specs.Paths.{Path};
-ghost use Rattle.host_core.specs.World.{World, SameOn};
+ghost use Rattle.host_core.specs.World.{World, SameOn, is_kept};
 ghost use Rattle.file_works.specs.declared.work.Work.{Work};
 ghost use Rattle.file_works.specs.Files.{Each, Written};
 ghost use Rattle.file_works.specs.Free.{IsFreeIn, IsSeen, IsWrittenFrom};
@@ -9,11 +9,12 @@ ghost use Rattle.file_works.specs.Names.{IsNamed};
 ghost use Rattle.file_writing.specs.Apart.{Differ, HasNames, IsApart, IsByPlace};
 
 /// The names of one work differ, and so do those of works at different places; each is a name of
-/// its place, which a running script leaves alone.
+/// its place, so that a running script leaves it alone where the place is listed.
 pub fn names_of_works_differ()
     ensures apart { (x : Work) → IsNamed x → IsApart x }
     ensures differ { (x y : Work) → IsNamed x → IsNamed y → x.place ≢ y.place → Differ x y }
     ensures by_place { (x : Work) → IsNamed x → IsByPlace x }
+    ensures kept { (places : List Path) (x : Work) → IsNamed x → Contains places x.place → HasNames (is_kept places) x }
 {}
 
 /// Files that were written stand so as long as nothing changes at their names, and can be put back.

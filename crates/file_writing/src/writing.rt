@@ -1,7 +1,7 @@
 // Shipped paths are written, one after another.
 ghost use Rattle.std.specs.Prelude.{◌≡◌, ◌∷◌, [], true, false, None, Some, OnOk};
 ghost use Rattle.host_core.specs.World.{HasParent, IsDirectory, is_directory, kind_of};
-ghost use Rattle.host_core.specs.Unsynced.{is_temporary, unsynced};
+ghost use Rattle.host_core.specs.Unsynced.{unsynced};
 ghost use Rattle.host_core.specs.Host.{AtEachMoment, Counts, Leaves, Needs, Silent};
 ghost use Rattle.host_core.specs.declared.node.Kind.TheVariants as kind;
 ghost use Rattle.host_core.specs.declared.node.Node.TheVariants.{Dir};
@@ -40,24 +40,24 @@ fn clear_spares<H: Host>(host: &mut H, work: &Work) -> Result<(), HostFault>
     clear_name(host, &work.backup)
 }
 
-/// Makes a file or link at a temporary name; its bytes are on the disk then.
-fn make_aside<H: Host>(host: &mut H, fresh: &RootPath, node: &Node) -> Result<(), HostFault>
-    requires loose { is_directory (Some node.now) ≡ false }
-    requires temporary { is_temporary fresh.now ≡ true }
-    requires absent { Needs (H.state host.old) (λ w. w fresh.now ≡ None) }
-    requires parent { Needs (H.state host.old) (λ w. HasParent w fresh.now) }
-    ensures made { Leaves result (IsAside fresh.now node.now) (H.state host.old) (H.state host.new) }
-    ensures synced { OnOk result (unsynced (H.state host.new).events fresh.now ≡ false) }
-    ensures any_moment { AtEachMoment (KeepsBeside fresh.now) (H.state host.old) (H.state host.new) }
+/// Makes the file or link at its temporary name; its bytes are on the disk then.
+fn make_aside<H: Host>(host: &mut H, work: &Work) -> Result<(), HostFault>
+    requires named { IsNamed work.now }
+    requires loose { is_directory (Some work.now.node) ≡ false }
+    requires absent { Needs (H.state host.old) (λ w. w work.now.fresh ≡ None) }
+    requires parent { Needs (H.state host.old) (λ w. HasParent w work.now.place) }
+    ensures made { Leaves result (IsAside work.now.fresh work.now.node) (H.state host.old) (H.state host.new) }
+    ensures synced { OnOk result (unsynced (H.state host.new).events work.now.fresh ≡ false) }
+    ensures any_moment { AtEachMoment (KeepsBeside work.now.fresh) (H.state host.old) (H.state host.new) }
     ensures silent { Silent (H.state host.old) (H.state host.new) }
     ensures counts { Counts (H.state host.old) (H.state host.new) result }
 {
-    match node {
+    match &work.node {
         Node::File { .. } => {
-            host.write_new(fresh, node)?;
-            host.sync(fresh)
+            host.write_new(&work.fresh, &work.node)?;
+            host.sync(&work.fresh)
         }
-        Node::Link { target } => host.make_link(fresh, target),
+        Node::Link { target } => host.make_link(&work.fresh, target),
         Node::Dir { .. } => Ok(()),
     }
 }
@@ -93,7 +93,7 @@ fn exchange<H: Host>(host: &mut H, work: &Work, had: Option<Kind>) -> Result<(),
     ensures silent { Silent (H.state host.old) (H.state host.new) }
     ensures counts { Counts (H.state host.old) (H.state host.new) result }
 {
-    make_aside(host, &work.fresh, &work.node)?;
+    make_aside(host, work)?;
     save_old(host, work, had)?;
     host.rename(&work.fresh, &work.target)
 }

@@ -1,8 +1,7 @@
-use Rattle.std.proofs.Common.{◌≡◌, true, false, IsTrue, refl, sym, ap, subst, ◌∙◌}
+use Rattle.std.proofs.Common.{◌≡◌, sym, ap, ◌∙◌}
 use Rattle.std.proofs.lemmas.Bool.{true≢false}
 use Rattle.std.specs.Prelude.{◌==◌, List, length}
 use Rattle.host_core.specs.Paths.{Path}
-use Rattle.host_core.specs.Tree.{IsListing}
 use Rattle.file_writing.proofs.Bareness.{bare_is, no_items, no_length}
 use Rattle.file_writing.proofs.putting_back.is_bare.Goals as goal
 

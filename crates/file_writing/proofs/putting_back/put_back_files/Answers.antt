@@ -1,9 +1,8 @@
-use Rattle.std.proofs.Common.{◌≡◌, ◌+◌, ◌-◌, ◌<◌, [], ◌∷◌, ◌++◌, length, take, drop, OnOk, refl, sym, ap, subst, ◌∙◌, rules, arith}
+use Rattle.std.proofs.Common.{◌≡◌, ◌+◌, ◌-◌, ◌<◌, [], ◌∷◌, length, take, drop, sym, subst, rules, arith}
 use Rattle.host_core.specs.Moments.{since_start, since_then, since_weaker_if}
-use Rattle.file_works.specs.Files.{Each, PutBack}
-use Rattle.file_works.specs.Names.{AllInOrder, IsNamed}
-use Rattle.file_writing.specs.Back.{CanGoBack, GoesBack, IsGoingBack}
-use Rattle.file_writing.proofs.WriteLists.{all_is, each_here}
+use Rattle.file_works.specs.Files.{PutBack}
+use Rattle.file_writing.specs.Back.{IsGoingBack}
+use Rattle.file_writing.proofs.WriteLists.{all_is}
 use Rattle.file_writing.proofs.BackLists.{can_here, back_here, going_here, back_none, going_none, rest_at}
 use Rattle.file_writing.proofs.putting_back.put_back_files.Goals as goal
 
@@ -27,7 +26,7 @@ put_back_one-requires-clause-written g c = λ h.
     let old = (g.H.Host.state c.args.host.now).world in
     let mid = (g.H.Host.state c.loop-count.host).world in
     can_here works (take i works) x (drop (i + 1) works) (all_is works i x within c.index-works-count.is) c.requires.named c.requires.order old mid
-      (λ was from. subst (λ n. PutBack (drop n works) was old mid) (sym more) (inv.back h was from)) (c.requires.written (inv.silent.honest h))
+    (λ was from. subst (λ n. PutBack (drop n works) was old mid) (sym more) (inv.back h was from)) (c.requires.written (inv.silent.honest h))
 
 pub loop-count-preserved : goal.loop-count-preserved
 loop-count-preserved g c =
@@ -46,15 +45,15 @@ loop-count-preserved g c =
       silent = search rules;
       counts = search rules;
       back = λ h was from.
-      let h1 = c.put_back_one.ensures.silent.honest h in
-      subst (λ l. PutBack l was old.world new.world) (sym (rest_at works i x within c.index-works-count.is))
-        (back_here works (take i works) x (drop (i + 1) works) all c.requires.named c.requires.order old.world mid.world
+          let h1 = c.put_back_one.ensures.silent.honest h in
+          subst (λ l. PutBack l was old.world new.world) (sym (rest_at works i x within c.index-works-count.is))
+          (back_here works (take i works) x (drop (i + 1) works) all c.requires.named c.requires.order old.world mid.world
           (λ was from. subst (λ n. PutBack (drop n works) was old.world mid.world) (sym more) (inv.back h1 was from)) new.world (c.in_ok-put_back_one.ensures.back h) was from);
       any_moment = since_then (λ so_far. IsGoingBack works old.world) old mid new inv.any_moment
           (since_weaker_if (λ so_far. IsGoingBack (x ∷ []) mid.world) (λ so_far. IsGoingBack works old.world) mid new
-            (λ h so_far w going. going_here works (take i works) x (drop (i + 1) works) all c.requires.named c.requires.order old.world mid.world
-              (λ was from. subst (λ n. PutBack (drop n works) was old.world mid.world) (sym more) (inv.back (c.put_back_one.ensures.silent.honest h) was from)) w going)
-            c.put_back_one.ensures.any_moment);
+          (λ h so_far w going. going_here works (take i works) x (drop (i + 1) works) all c.requires.named c.requires.order old.world mid.world
+          (λ was from. subst (λ n. PutBack (drop n works) was old.world mid.world) (sym more) (inv.back (c.put_back_one.ensures.silent.honest h) was from)) w going)
+          c.put_back_one.ensures.any_moment);
     }
 
 pub returns-in_err-put_back_one-clause-any_moment : goal.returns-in_err-put_back_one-clause-any_moment
@@ -70,9 +69,9 @@ returns-in_err-put_back_one-clause-any_moment g c =
     let new = g.H.Host.state c.put_back_one.new.host in
     since_then (λ so_far. IsGoingBack works old.world) old mid new inv.any_moment
     (since_weaker_if (λ so_far. IsGoingBack (x ∷ []) mid.world) (λ so_far. IsGoingBack works old.world) mid new
-      (λ h so_far w going. going_here works (take i works) x (drop (i + 1) works) (all_is works i x within c.index-works-count.is) c.requires.named c.requires.order old.world mid.world
-        (λ was from. subst (λ n. PutBack (drop n works) was old.world mid.world) (sym more) (inv.back (c.put_back_one.ensures.silent.honest h) was from)) w going)
-      c.put_back_one.ensures.any_moment)
+    (λ h so_far w going. going_here works (take i works) x (drop (i + 1) works) (all_is works i x within c.index-works-count.is) c.requires.named c.requires.order old.world mid.world
+    (λ was from. subst (λ n. PutBack (drop n works) was old.world mid.world) (sym more) (inv.back (c.put_back_one.ensures.silent.honest h) was from)) w going)
+    c.put_back_one.ensures.any_moment)
 
 pub returns-clause-back : goal.returns-clause-back
 returns-clause-back g c = λ h was from.

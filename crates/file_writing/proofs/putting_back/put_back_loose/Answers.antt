@@ -1,5 +1,4 @@
-use Rattle.std.proofs.Common.{◌≡◌, ◌⊎◌, [], ◌∷◌, Some, inl, refl, sym, ap, subst, ◌∙◌}
-use Rattle.host_core.specs.World.{World}
+use Rattle.std.proofs.Common.{◌≡◌, ◌⊎◌, [], ◌∷◌, Some, refl, sym, subst}
 use Rattle.host_core.specs.declared.node.Kind.{Kind}
 use Rattle.host_core.specs.Moments.{since_start, since_weaker}
 use Rattle.file_writing.specs.Back.{GoesBack, IsGoingBack, restored}
@@ -31,7 +30,7 @@ returns-in-Some-File-clause-back g c = λ h.
     let new = (g.H.Host.state c.restore_old.new.host).world in
     let x = c.args.work.now in
     on_ok c.restore_old.result (new ≡ restored x.had x.target x.backup old) (GoesBack (x ∷ []) old new)
-      (λ is. subst (GoesBack (x ∷ []) old) (sym is) (loose_back x old c.requires.named c.requires.node (had_file x (subst (λ (k : Kind). c.args.work.now.had ≡ Some k) (rw c.in-Some-File.is at c.in-Some-File.field-0-is) c.in-Some-File.is)))) (c.restore_old.ensures.restored h)
+    (λ is. subst (GoesBack (x ∷ []) old) (sym is) (loose_back x old c.requires.named c.requires.node (had_file x (subst (λ (k : Kind). c.args.work.now.had ≡ Some k) (rw c.in-Some-File.is at c.in-Some-File.field-0-is) c.in-Some-File.is)))) (c.restore_old.ensures.restored h)
 
 pub returns-in-Some-File-clause-any_moment : goal.returns-in-Some-File-clause-any_moment
 returns-in-Some-File-clause-any_moment g c =
@@ -58,7 +57,7 @@ returns-in-Some-SymbolicLink-clause-back g c = λ h.
     let new = (g.H.Host.state c.restore_old-in-Some-SymbolicLink.new.host).world in
     let x = c.args.work.now in
     on_ok c.restore_old-in-Some-SymbolicLink.result (new ≡ restored x.had x.target x.backup old) (GoesBack (x ∷ []) old new)
-      (λ is. subst (GoesBack (x ∷ []) old) (sym is) (loose_back x old c.requires.named c.requires.node (had_link x (subst (λ (k : Kind). c.args.work.now.had ≡ Some k) (rw c.in-Some-SymbolicLink.is at c.in-Some-SymbolicLink.field-0-is) c.in-Some-SymbolicLink.is)))) (c.restore_old-in-Some-SymbolicLink.ensures.restored h)
+    (λ is. subst (GoesBack (x ∷ []) old) (sym is) (loose_back x old c.requires.named c.requires.node (had_link x (subst (λ (k : Kind). c.args.work.now.had ≡ Some k) (rw c.in-Some-SymbolicLink.is at c.in-Some-SymbolicLink.field-0-is) c.in-Some-SymbolicLink.is)))) (c.restore_old-in-Some-SymbolicLink.ensures.restored h)
 
 pub returns-in-Some-SymbolicLink-clause-any_moment : goal.returns-in-Some-SymbolicLink-clause-any_moment
 returns-in-Some-SymbolicLink-clause-any_moment g c =

@@ -1,5 +1,4 @@
-use Rattle.std.proofs.Common.{◌≡◌, ◌⊎◌, inl, inr, refl, sym, ap, subst, ◌∙◌}
-use Rattle.host_core.specs.World.{World, moved}
+use Rattle.std.proofs.Common.{◌≡◌, ◌⊎◌, inl, inr, refl, sym, ap, subst}
 use Rattle.host_core.specs.Losses.{proper_synced}
 use Rattle.file_writing.specs.Back.{CanRestore, restored}
 use Rattle.file_writing.proofs.WorkNames.{backup_proper}

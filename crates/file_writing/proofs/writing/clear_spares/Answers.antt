@@ -29,4 +29,4 @@ returns-clause-any_moment g c =
     since_then (λ so_far. KeepsBesideSpares x old.world) old mid new
     (since_weaker (λ so_far. KeepsBeside x.fresh old.world) (λ so_far. KeepsBesideSpares x old.world) old mid (λ so_far w is. keeps_first x old.world w is) c.clear_name.ensures.any_moment)
     (since_weaker_if (λ so_far. KeepsBeside x.backup mid.world) (λ so_far. KeepsBesideSpares x old.world) mid new
-      (λ h so_far w is. keeps_second x old.world mid.world w (c.in_ok-clear_name.ensures.cleared (c.clear_name-2.ensures.silent.honest h)).rest is) c.clear_name-2.ensures.any_moment)
+    (λ h so_far w is. keeps_second x old.world mid.world w (c.in_ok-clear_name.ensures.cleared (c.clear_name-2.ensures.silent.honest h)).rest is) c.clear_name-2.ensures.any_moment)

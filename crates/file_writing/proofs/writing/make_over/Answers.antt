@@ -1,5 +1,4 @@
-use Rattle.std.proofs.Common.{◌≡◌, [], ◌∷◌, Some, OnOk, inl, refl, sym, ap, subst, ◌∙◌}
-use Rattle.host_core.specs.World.{World, put, moved}
+use Rattle.std.proofs.Common.{[], ◌∷◌, sym, ap, subst, ◌∙◌}
 use Rattle.host_core.specs.Losses.{proper_synced}
 use Rattle.host_core.specs.Moments.{since_then}
 use Rattle.file_works.specs.Files.{Written, IsAmid}
@@ -32,7 +31,7 @@ make_dir-requires-clause-parent g c = λ h.
     let h0 = c.rename.ensures.silent.honest h in
     let x = c.args.work.now in
     home_of _ x _ (target_name x c.requires.named)
-      (home_stays x _ _ c.requires.named (λ q misses. ap (λ w. w q) c.in_ok-rename.ensures.does.world ∙ (over_vacant x _ c.requires.named c.args.access c.requires.node (c.requires.ready h0) (sym (c.requires.over h0))).rest q misses) (c.requires.ready h0).parent)
+    (home_stays x _ _ c.requires.named (λ q misses. ap (λ w. w q) c.in_ok-rename.ensures.does.world ∙ (over_vacant x _ c.requires.named c.args.access c.requires.node (c.requires.ready h0) (sym (c.requires.over h0))).rest q misses) (c.requires.ready h0).parent)
 
 pub returns-clause-written : goal.returns-clause-written
 returns-clause-written g c = λ h.
@@ -54,15 +53,15 @@ returns-clause-any_moment g c =
     let P = IsAmid (x ∷ []) old.world old.world in
     since_then (λ so_far. P) old mid new
     (since_move c.rename.result P old mid x.target x.backup (λ h. amid_same x old.world)
-      (λ h. let h0 = c.rename.ensures.silent.honest h in over_between x old.world c.requires.named c.args.access c.requires.node (c.requires.ready h0) (sym (c.requires.over h0))) c.rename.ensures.does)
+    (λ h. let h0 = c.rename.ensures.silent.honest h in over_between x old.world c.requires.named c.args.access c.requires.node (c.requires.ready h0) (sym (c.requires.over h0))) c.rename.ensures.does)
     (since_make_dir c.make_dir.result P mid new x.target c.args.access
-      (λ h.
-        let h0 = c.rename.ensures.silent.honest (c.make_dir.ensures.silent.honest h) in
-        subst P (sym c.in_ok-rename.ensures.does.world) (over_between x old.world c.requires.named c.args.access c.requires.node (c.requires.ready h0) (sym (c.requires.over h0))))
-      (λ h m.
-        let h0 = c.rename.ensures.silent.honest (c.make_dir.ensures.silent.honest h) in
-        let over = sym (c.requires.over h0) in
-        let ready = c.requires.ready h0 in
-        amid_made x old.world c.requires.named c.args.access c.requires.node ready (over_wrote x old.world c.requires.named c.args.access c.requires.node ready over) mid.world
-        (subst (IsVacant x old.world) (sym c.in_ok-rename.ensures.does.world) (over_vacant x old.world c.requires.named c.args.access c.requires.node ready over)) m)
-      c.make_dir.ensures.does)
+    (λ h.
+    let h0 = c.rename.ensures.silent.honest (c.make_dir.ensures.silent.honest h) in
+    subst P (sym c.in_ok-rename.ensures.does.world) (over_between x old.world c.requires.named c.args.access c.requires.node (c.requires.ready h0) (sym (c.requires.over h0))))
+    (λ h m.
+    let h0 = c.rename.ensures.silent.honest (c.make_dir.ensures.silent.honest h) in
+    let over = sym (c.requires.over h0) in
+    let ready = c.requires.ready h0 in
+    amid_made x old.world c.requires.named c.args.access c.requires.node ready (over_wrote x old.world c.requires.named c.args.access c.requires.node ready over) mid.world
+    (subst (IsVacant x old.world) (sym c.in_ok-rename.ensures.does.world) (over_vacant x old.world c.requires.named c.args.access c.requires.node ready over)) m)
+    c.make_dir.ensures.does)

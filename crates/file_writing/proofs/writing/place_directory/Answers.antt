@@ -1,9 +1,8 @@
-use Rattle.std.proofs.Common.{◌≡◌, [], ◌∷◌, refl, sym, ap, ◌∙◌}
-use Rattle.host_core.specs.Moments.{since_start}
+use Rattle.std.proofs.Common.{[], ◌∷◌, sym, ◌∙◌}
 use Rattle.file_works.specs.Files.{Written, IsAmid}
 use Rattle.file_writing.proofs.WorkNames.{home_of, target_name}
 use Rattle.file_writing.proofs.Written.{kind_none}
-use Rattle.file_writing.proofs.OnePath.{amid_same, none_wrote, none_vacant, amid_made, made, left_directory, left_link}
+use Rattle.file_writing.proofs.OnePath.{amid_same, none_wrote, none_vacant, amid_made, made}
 use Rattle.file_writing.proofs.WriteMoments.{since_make_dir, made_by}
 use Rattle.file_writing.proofs.writing.place_directory.Goals as goal
 
@@ -29,8 +28,8 @@ returns-in-None-clause-any_moment g c =
     let x = c.args.work.now in
     since_make_dir c.make_dir.result (IsAmid (x ∷ []) old.world old.world) old (g.H.Host.state c.make_dir.new.self) x.target c.args.access (λ h. amid_same x old.world)
     (λ h m.
-      let h0 = c.make_dir.ensures.silent.honest h in
-      let none = kind_none (old.world x.target) (sym c.in-None.is ∙ c.requires.seen h0) in
-      let ready = c.requires.ready h0 in
-      amid_made x old.world c.requires.named c.args.access c.requires.node ready (none_wrote x old.world c.requires.named c.args.access c.requires.node ready none) old.world (none_vacant x old.world c.requires.named c.args.access c.requires.node ready none) m)
+    let h0 = c.make_dir.ensures.silent.honest h in
+    let none = kind_none (old.world x.target) (sym c.in-None.is ∙ c.requires.seen h0) in
+    let ready = c.requires.ready h0 in
+    amid_made x old.world c.requires.named c.args.access c.requires.node ready (none_wrote x old.world c.requires.named c.args.access c.requires.node ready none) old.world (none_vacant x old.world c.requires.named c.args.access c.requires.node ready none) m)
     c.make_dir.ensures.does

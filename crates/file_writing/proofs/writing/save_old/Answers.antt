@@ -1,5 +1,4 @@
-use Rattle.std.proofs.Common.{refl, sym, ◌∙◌, subst, ap}
-use Rattle.host_core.specs.World.{kind_of}
+use Rattle.std.proofs.Common.{refl, sym, ◌∙◌}
 use Rattle.host_core.specs.Losses.{proper_synced}
 use Rattle.file_writing.proofs.WorkNames.{target_proper, home_of, backup_name, named_apart}
 use Rattle.file_writing.proofs.Written.{kind_loose}

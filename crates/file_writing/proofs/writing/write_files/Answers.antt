@@ -1,4 +1,4 @@
-use Rattle.std.proofs.Common.{◌≡◌, ◌+◌, [], ◌∷◌, ◌++◌, take, drop, OnOk, refl, sym, ap, subst, ◌∙◌, rules, arith}
+use Rattle.std.proofs.Common.{◌+◌, [], ◌∷◌, ◌++◌, take, drop, sym, subst, rules, arith}
 use Rattle.std.proofs.lemmas.List.{take_all}
 use Rattle.host_core.specs.Moments.{since_start, since_then, since_weaker_if}
 use Rattle.file_works.specs.Files.{Each, Written, IsAmid}
@@ -51,8 +51,8 @@ write_one-requires-clause-parent g c = λ h.
     let b = drop (i + 1) works in
     let all = all_is works i x c.loop-work-test.true c.work-item.is in
     home_at a x b (subst (Each IsNamed) all c.requires.named) (subst AllInOrder all c.requires.order) old mid (inv.written h)
-      (each_front (IsFreeIn old) a (x ∷ b) (subst (Each (IsFreeIn old)) all (c.requires.free h0)))
-      (each_here (IsHomed (a ++ x ∷ b) old) a x b (subst (λ l. Each (IsHomed l old) l) all (c.requires.homed h0)))
+    (each_front (IsFreeIn old) a (x ∷ b) (subst (Each (IsFreeIn old)) all (c.requires.free h0)))
+    (each_here (IsHomed (a ++ x ∷ b) old) a x b (subst (λ l. Each (IsHomed l old) l) all (c.requires.homed h0)))
 
 pub returns-in_err-write_one-clause-any_moment : goal.returns-in_err-write_one-clause-any_moment
 returns-in_err-write_one-clause-any_moment g c =
@@ -68,9 +68,9 @@ returns-in_err-write_one-clause-any_moment g c =
     let all = all_is works i x c.loop-work-test.true c.work-item.is in
     since_then (λ so_far. IsAmid works old.world old.world) old mid new inv.any_moment
     (since_weaker_if (λ so_far. IsAmid (x ∷ []) mid.world mid.world) (λ so_far. IsAmid works old.world old.world) mid new
-      (λ h so_far w amid. subst (λ l. IsAmid l old.world old.world w) (sym all)
-        (amid_more a x b (subst (Each IsNamed) all c.requires.named) (subst AllInOrder all c.requires.order) old.world mid.world (inv.written (c.write_one.ensures.silent.honest h)) w amid))
-      c.write_one.ensures.any_moment)
+    (λ h so_far w amid. subst (λ l. IsAmid l old.world old.world w) (sym all)
+    (amid_more a x b (subst (Each IsNamed) all c.requires.named) (subst AllInOrder all c.requires.order) old.world mid.world (inv.written (c.write_one.ensures.silent.honest h)) w amid))
+    c.write_one.ensures.any_moment)
 
 pub loop-work-preserved : goal.loop-work-preserved
 loop-work-preserved g c =
@@ -93,8 +93,8 @@ loop-work-preserved g c =
           (written_more a x b named order old.world mid.world (inv.written (c.write_one.ensures.silent.honest h)) new.world (c.in_ok-write_one.ensures.written h));
       any_moment = since_then (λ so_far. IsAmid works old.world old.world) old mid new inv.any_moment
           (since_weaker_if (λ so_far. IsAmid (x ∷ []) mid.world mid.world) (λ so_far. IsAmid works old.world old.world) mid new
-            (λ h so_far w amid. subst (λ l. IsAmid l old.world old.world w) (sym all) (amid_more a x b named order old.world mid.world (inv.written (c.write_one.ensures.silent.honest h)) w amid))
-            c.write_one.ensures.any_moment);
+          (λ h so_far w amid. subst (λ l. IsAmid l old.world old.world w) (sym all) (amid_more a x b named order old.world mid.world (inv.written (c.write_one.ensures.silent.honest h)) w amid))
+          c.write_one.ensures.any_moment);
     }
 
 pub returns-clause-written : goal.returns-clause-written

@@ -1,5 +1,5 @@
-use Rattle.std.proofs.Common.{◌≡◌, [], ◌∷◌, OnOk, refl, sym, ap, subst, ◌∙◌}
-use Rattle.host_core.specs.World.{World, HasParent, kind_of}
+use Rattle.std.proofs.Common.{[], ◌∷◌, OnOk, sym, ap, subst, ◌∙◌}
+use Rattle.host_core.specs.World.{HasParent, kind_of}
 use Rattle.host_core.specs.Moments.{since_reads, since_then, since_weaker, since_weaker_if}
 use Rattle.file_works.specs.Files.{Written, IsAmid}
 use Rattle.file_works.specs.Free.{IsFreeIn}
@@ -47,7 +47,7 @@ returns-clause-written g c = λ h.
     let new = (g.H.Host.state c.place.new.host).world in
     let x = c.args.work.now in
     subst (λ w. OnOk c.place.result (Written (x ∷ []) w new)) c.kind.ensures.reads.world
-      (on_ok c.place.result (Written (x ∷ []) mid new) (Written (x ∷ []) look new) (written_then x look mid c.requires.named (c.in_ok-clear_spares.ensures.cleared h1) new) (c.place.ensures.written h))
+    (on_ok c.place.result (Written (x ∷ []) mid new) (Written (x ∷ []) look new) (written_then x look mid c.requires.named (c.in_ok-clear_spares.ensures.cleared h1) new) (c.place.ensures.written h))
 
 pub returns-clause-any_moment : goal.returns-clause-any_moment
 returns-clause-any_moment g c =
@@ -58,8 +58,8 @@ returns-clause-any_moment g c =
     let x = c.args.work.now in
     let P = IsAmid (x ∷ []) old.world old.world in
     let first = since_then (λ so_far. P) old look mid (since_reads (λ so_far. P) old look c.kind.ensures.reads (λ fs all. amid_same x old.world))
-          (since_weaker (λ so_far. KeepsBesideSpares x look.world) (λ so_far. P) look mid (λ so_far w keeps. amid_spares x old.world w c.requires.named (subst (λ v. KeepsBesideSpares x v w) c.kind.ensures.reads.world keeps)) c.clear_spares.ensures.any_moment) in
+    (since_weaker (λ so_far. KeepsBesideSpares x look.world) (λ so_far. P) look mid (λ so_far w keeps. amid_spares x old.world w c.requires.named (subst (λ v. KeepsBesideSpares x v w) c.kind.ensures.reads.world keeps)) c.clear_spares.ensures.any_moment) in
     since_then (λ so_far. P) old mid new first
     (since_weaker_if (λ so_far. IsAmid (x ∷ []) mid.world mid.world) (λ so_far. P) mid new
-      (λ h so_far w amid. amid_then x old.world mid.world c.requires.named (subst (λ v. AreCleared x v mid.world) c.kind.ensures.reads.world (c.in_ok-clear_spares.ensures.cleared (c.place.ensures.silent.honest h))) w amid)
-      c.place.ensures.any_moment)
+    (λ h so_far w amid. amid_then x old.world mid.world c.requires.named (subst (λ v. AreCleared x v mid.world) c.kind.ensures.reads.world (c.in_ok-clear_spares.ensures.cleared (c.place.ensures.silent.honest h))) w amid)
+    c.place.ensures.any_moment)
