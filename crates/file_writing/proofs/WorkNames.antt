@@ -256,3 +256,10 @@ kept_names places x named listed =
       backup = or_right (is_own x.backup) _ (any_at (λ p. is_named_by x.backup p) places x.place listed by.backup);
       fresh = or_right (is_own x.fresh) _ (any_at (λ p. is_named_by x.fresh p) places x.place listed by.fresh);
     }
+
+-- what a place doesn't name, its work misses
+pub other_misses : (x : Work) (q : Path) → IsNamed x → is_named_by q x.place ≡ false → Misses x q
+other_misses x q named unnamed =
+    let by = by_place x named in
+    let differs : (p : Path) → is_named_by p x.place ≡ true → q ≢ p = λ p is e. true≢false (sym is ∙ ap (λ r. is_named_by r x.place) (sym e) ∙ unnamed) in
+    record { target = differs x.target by.target; backup = differs x.backup by.backup; fresh = differs x.fresh by.fresh }

@@ -1,9 +1,9 @@
 // What follows from the names of works, and from what their files left.
-ghost use Rattle.std.specs.Prelude.{◌≡◌, ◌≢◌, Bool, List, Contains};
-ghost use Rattle.host_core.specs.Paths.{Path};
+ghost use Rattle.std.specs.Prelude.{◌≡◌, ◌≢◌, Bool, false, List, Contains};
+ghost use Rattle.host_core.specs.Paths.{Path, is_named_by};
 ghost use Rattle.host_core.specs.World.{World, SameOn, is_kept};
 ghost use Rattle.file_works.specs.declared.work.Work.{Work};
-ghost use Rattle.file_works.specs.Files.{Each, Written};
+ghost use Rattle.file_works.specs.Files.{Each, Misses, Written};
 ghost use Rattle.file_works.specs.Free.{IsFreeIn, IsSeen, IsWrittenFrom};
 ghost use Rattle.file_works.specs.Names.{IsNamed};
 ghost use Rattle.file_writing.specs.Apart.{Differ, HasNames, IsApart, IsByPlace};
@@ -14,6 +14,7 @@ pub fn names_of_works_differ()
     ensures apart { (x : Work) → IsNamed x → IsApart x }
     ensures differ { (x y : Work) → IsNamed x → IsNamed y → x.place ≢ y.place → Differ x y }
     ensures by_place { (x : Work) → IsNamed x → IsByPlace x }
+    ensures misses { (x : Work) (q : Path) → IsNamed x → is_named_by q x.place ≡ false → Misses x q }
     ensures kept { (places : List Path) (x : Work) → IsNamed x → Contains places x.place → HasNames (is_kept places) x }
 {}
 
