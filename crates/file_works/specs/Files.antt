@@ -95,8 +95,10 @@ IsShown (Link t) there = there ≡ Some (Link t)
 -- backup. It is missing only where a directory takes the place of a file.
 pub data IsWhole (old now : World) (x : Work) : Type 0 where
   before : now x.target ≡ old x.target → IsWhole old now x
-  between : (access : Access) → x.node ≡ Dir access → IsTrue (is_written x.node (old x.target)) → now x.target ≡ None → now x.backup ≡ old x.target → IsWhole old now x
-  behind : IsTrue (is_written x.node (old x.target)) → IsShown x.node (now x.target) → now x.backup ≡ saved true (old x.target) (old x.backup) → IsWhole old now x
+  between : (access : Access) → x.node ≡ Dir access → IsTrue (is_written x.node (old x.target))
+      → now x.target ≡ None → now x.backup ≡ old x.target → IsWhole old now x
+  behind : IsTrue (is_written x.node (old x.target)) → IsShown x.node (now x.target)
+      → now x.backup ≡ saved true (old x.target) (old x.backup) → IsWhole old now x
 
 -- of files written from the world old, at a moment of work that began in the world mid
 pub record IsAmid (works : List Work) (old mid now : World) : Type 0 where

@@ -89,11 +89,14 @@ module _ (works a : List Work) (x : Work) (b : List Work) (is : works ≡ a ++ x
   can_here w = (w.0, from_here w.0 w.1)
 
   pub back_here : (w : World) → GoesBack (x ∷ []) v w → (was : World) → IsWrittenFrom works was mid → PutBack (x ∷ b) was mid w
-  back_here w back was from = back_more a x b (subst (Each IsNamed) is named) (subst AllInOrder is order) was mid v (subst (λ l. IsWrittenFrom l was mid) is from) (more was from) w (back was (from_here was from))
+  back_here w back was from =
+      back_more a x b (subst (Each IsNamed) is named) (subst AllInOrder is order) was mid v (subst (λ l. IsWrittenFrom l was mid) is from)
+      (more was from) w (back was (from_here was from))
 
   pub going_here : (c : World) → IsGoingBack (x ∷ []) v c → IsGoingBack works mid c
   going_here c going was from = subst (λ l. IsAmid l was mid c) (sym is)
-      (going_more a x b (subst (Each IsNamed) is named) (subst AllInOrder is order) was mid v (subst (λ l. IsWrittenFrom l was mid) is from) (more was from) c (going was (from_here was from)))
+      (going_more a x b (subst (Each IsNamed) is named) (subst AllInOrder is order) was mid v (subst (λ l. IsWrittenFrom l was mid) is from)
+      (more was from) c (going was (from_here was from)))
 
 -- nothing is put back yet
 

@@ -228,10 +228,12 @@ kept_new : (q p : Path) → q ≡ p ++ suffix_text New → is_named_by q p ≡ t
 kept_new q p e = or_right (bytes_eq q p) _ (or_left (bytes_eq q (p ++ suffix_text New)) _ (same_bytes q _ e))
 
 kept_tmp : (q p : Path) → q ≡ p ++ suffix_text Tmp → is_named_by q p ≡ true
-kept_tmp q p e = or_right (bytes_eq q p) _ (or_right (bytes_eq q (p ++ suffix_text New)) _ (or_right (bytes_eq q (p ++ suffix_text Old)) _ (or_right (bytes_eq q (p ++ suffix_text Dist)) _ (or_left (bytes_eq q (p ++ suffix_text Tmp)) _ (same_bytes q _ e)))))
+kept_tmp q p e = or_right (bytes_eq q p) _ (or_right (bytes_eq q (p ++ suffix_text New)) _ (or_right (bytes_eq q (p ++ suffix_text Old)) _
+    (or_right (bytes_eq q (p ++ suffix_text Dist)) _ (or_left (bytes_eq q (p ++ suffix_text Tmp)) _ (same_bytes q _ e)))))
 
 kept_inst : (q p : Path) → q ≡ p ++ suffix_text Inst → is_named_by q p ≡ true
-kept_inst q p e = or_right (bytes_eq q p) _ (or_right (bytes_eq q (p ++ suffix_text New)) _ (or_right (bytes_eq q (p ++ suffix_text Old)) _ (or_right (bytes_eq q (p ++ suffix_text Dist)) _ (or_right (bytes_eq q (p ++ suffix_text Tmp)) _ (or_left (bytes_eq q (p ++ suffix_text Inst)) _ (same_bytes q _ e))))))
+kept_inst q p e = or_right (bytes_eq q p) _ (or_right (bytes_eq q (p ++ suffix_text New)) _ (or_right (bytes_eq q (p ++ suffix_text Old)) _
+    (or_right (bytes_eq q (p ++ suffix_text Dist)) _ (or_right (bytes_eq q (p ++ suffix_text Tmp)) _ (or_left (bytes_eq q (p ++ suffix_text Inst)) _ (same_bytes q _ e))))))
 
 pub by_place : (x : Work) → IsNamed x → IsByPlace x
 by_place x named = record { target = by named.target; backup = kept_tmp x.backup x.place named.backup; fresh = kept_inst x.fresh x.place named.fresh } where
