@@ -1,0 +1,4 @@
+pub mod Works
+pub mod Files
+pub mod Names
+pub mod Free
