@@ -1,5 +1,5 @@
 -- How what may be called for rows grows by one row.
-use Rattle.std.proofs.Common.{◌≡◌, ℕ, List, [], ◌∷◌, ◌++◌, Option, Some, None, length, refl, sym, ap, subst, ◌∙◌, append_assoc}
+use Rattle.std.proofs.Common.{◌≡◌, List, [], ◌∷◌, ◌++◌, Option, Some, None, length, refl, sym, ap, subst, ◌∙◌, append_assoc}
 use Rattle.std.proofs.lemmas.List.{append-nil}
 use Rattle.host_core.specs.Events.{Ran}
 use Rattle.unwind_stack.specs.declared.rows.Row.{Row}
@@ -8,9 +8,7 @@ use Rattle.unwind_stack.specs.declared.rows.Owner.TheVariants.{Files, Package}
 use Rattle.unwind_stack.specs.declared.fall.StepFault.{StepFault}
 use Rattle.unwind_stack.specs.declared.fall.Fall.{Fall}
 use Rattle.unwind_stack.specs.Transcript.{Goes, Succeed}
-use Rattle.cleanup_stack.specs.declared.failed.Failed.{Failed}
-use Rattle.cleanup_stack.specs.Undoing.{UndoesAll}
-use Rattle.cleanup_stack.specs.Transcripts.{Anyhow, Committed, Ended, Legal, MayRun, MayStep, MayUnwind, Unwinds, Unwound}
+use Rattle.cleanup_stack.specs.Transcripts.{Anyhow, Committed, Ended, Legal, MayRun, MayStep, MayUnwind, Unwound}
 use Rattle.cleanup_stack.proofs.Rowwise.{may_succeed}
 use Rattle.cleanup_stack.proofs.Undone.{may_unwind}
 

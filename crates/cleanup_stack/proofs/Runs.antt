@@ -9,7 +9,7 @@ use Rattle.unwind_stack.specs.declared.fall.Fall.{Fall}
 use Rattle.unwind_stack.specs.Transcript.{Goes, Succeed}
 use Rattle.cleanup_stack.specs.declared.failed.Failed.{Failed}
 use Rattle.cleanup_stack.specs.Telling.{Begun, HasRun, HasStepped, HasSucceeded, HasUnwound, Made}
-use Rattle.cleanup_stack.specs.Transcripts.{Anyhow, Committed, Ended, IfHonest, Legal, MayRun, MayStep, MayUnwind, Unwinds, Unwound}
+use Rattle.cleanup_stack.specs.Transcripts.{Anyhow, Ended, IfHonest, Legal, MayRun, MayStep, MayUnwind, Unwinds, Unwound}
 use Rattle.cleanup_stack.specs.Undoing.{UndoesAll}
 use Rattle.cleanup_stack.proofs.Growth.{goes_anyhow, goes_onto, legal_weaker, may_have_run, may_run_on, may_step_on, may_unwind_of, succeed_anyhow, succeed_push, succeed_weaker}
 use Rattle.cleanup_stack.proofs.Tellings.{begun_more, begun_then, begun_weaker, begun_whole, made_behind, made_then, made_weaker}

@@ -1,5 +1,5 @@
 -- How calls that were made and told go on.
-use Rattle.std.proofs.Common.{◌≡◌, inl, inr, Bool, IsTrue, List, [], ◌∷◌, ◌++◌, map, refl, sym, ap, subst, ◌∙◌, append_assoc}
+use Rattle.std.proofs.Common.{◌≡◌, inl, inr, Bool, List, [], ◌∷◌, ◌++◌, map, refl, sym, ap, subst, ◌∙◌, append_assoc}
 use Rattle.std.proofs.lemmas.List.{append-nil, map-append}
 use Rattle.host_core.specs.Paths.{Path}
 use Rattle.host_core.specs.Events.{Ran, Event, Finished, Cut, scripts_of, calls_of}

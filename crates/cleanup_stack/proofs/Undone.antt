@@ -9,7 +9,6 @@ use Rattle.std.specs.Str.{bytes_eq}
 use Rattle.std.proofs.Math.Seq.{drop-cons}
 use Rattle.std.proofs.Math.Numerals.{add-one}
 use Rattle.host_core.specs.Events.{Ran}
-use Rattle.host_core.specs.Outcome.{is_success}
 use Rattle.host_core.specs.declared.call.Call.{Call}
 use Rattle.unwind_stack.specs.declared.rows.Row.{Row}
 use Rattle.unwind_stack.specs.declared.rows.Owner.{Owner}

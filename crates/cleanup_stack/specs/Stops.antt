@@ -38,6 +38,6 @@ module _ (Q : List Event → World → Type 0) where
   pub stops_quiet : (P : List Event → World → Type 0) (a b : State) → Silent a b → Since P a b → (IsTrue b.honest → (so_far : List Event) (w : World) → scripts_of so_far ≡ [] → P so_far w → Q (a.events ++ so_far) w) → AtEachStop Q a b
   stops_quiet P a b silent since so = since_weaker_if (λ so_far w. P so_far w × (scripts_of so_far ≡ [])) (λ so_far. Q (a.events ++ so_far)) a b (λ h so_far w is. so h so_far w is.1 is.0) (since_silent P a b silent since)
 
-  -- script calls alone, where these leave Q
-  pub stops_scripts : (kept : Path → Bool) (a b : State) → ((es more : List Event) (w v : World) → Q es w → OnlyScripts kept w more v → Q (es ++ more) v) → (IsTrue a.honest → Q a.events a.world) → Since (OnlyScripts kept a.world) a b → AtEachStop Q a b
-  stops_scripts kept a b law here since = since_weaker_if (OnlyScripts kept a.world) (λ so_far. Q (a.events ++ so_far)) a b (λ h so_far w is. law a.events so_far a.world w (here (since.honest h)) is) since
+  -- script calls alone, where Q holds while they run
+  pub stops_scripts : (kept : Path → Bool) (a b : State) → (IsTrue a.honest → (more : List Event) (v : World) → OnlyScripts kept a.world more v → Q (a.events ++ more) v) → Since (OnlyScripts kept a.world) a b → AtEachStop Q a b
+  stops_scripts kept a b law since = since_weaker_if (OnlyScripts kept a.world) (λ so_far. Q (a.events ++ so_far)) a b (λ h so_far w is. law (since.honest h) so_far w is) since

@@ -1,5 +1,5 @@
 -- Which script calls were made and told, whatever was done beside them.
-use Rattle.std.specs.Prelude.{◌≡◌, ◌⊎◌, List, [], ◌∷◌, ◌++◌, Option, Some}
+use Rattle.std.specs.Prelude.{◌≡◌, ◌⊎◌, List, [], ◌∷◌, ◌++◌, Option}
 use Rattle.host_core.specs.World.{Change}
 use Rattle.host_core.specs.Events.{Ran, Event, Cut, scripts_of}
 use Rattle.host_core.specs.Host.{State, Falls, calls, finished}

@@ -1,5 +1,5 @@
 -- Which script calls may be made for a list of rows, of whatever owners.
-use Rattle.std.specs.Prelude.{◌≡◌, ℕ, Bool, IsTrue, List, [], ◌∷◌, ◌++◌, Option, Some, length}
+use Rattle.std.specs.Prelude.{◌≡◌, Bool, IsTrue, List, [], ◌∷◌, ◌++◌, Option, Some, length}
 use Rattle.host_core.specs.Events.{Ran}
 use Rattle.host_core.specs.Host.{State}
 use Rattle.unwind_stack.specs.declared.rows.Row.{Row}

@@ -1,5 +1,5 @@
 -- How rows are undone.
-use Rattle.std.specs.Prelude.{◌≡◌, ◌≢◌, ℕ, ◌+◌, Bool, false, not, List, [], ◌∷◌, ◌++◌, Option, Some, None, Contains, map}
+use Rattle.std.specs.Prelude.{◌≡◌, ◌≢◌, ℕ, ◌+◌, Bool, false, not, List, [], ◌∷◌, ◌++◌, Some, None, Contains, map}
 use Rattle.host_core.specs.Events.{Ran}
 use Rattle.host_core.specs.Outcome.{is_success}
 use Rattle.unwind_stack.specs.declared.rows.Row.{Row}

@@ -28,8 +28,8 @@ pub trait Around<H: Host> {
     /// Which row may stand at which place of the list.
     ghost fits: { Self.Task → ℕ → Row → Type 0 };
 
-    /// The places that scripts leave alone.
-    ghost kept: { Self.Task → List Path };
+    /// The places that scripts leave alone: more of them once the files are listed.
+    ghost kept: { Self → List Path };
 
     /// The step fault of the file row's work, or none, after all these calls.
     ghost file_step_fault: { Self.Task → List Ran → Option StepFault → Type 0 };
@@ -41,7 +41,7 @@ pub trait Around<H: Host> {
     ghost at: { Self → State → Place → Type 0 };
 
     fn places(&self) -> &Places
-        ensures { result.now ≡ kept (task self.now) };
+        ensures { result.now ≡ kept self.now };
 
     /// Is called before a row of calls.
     fn prepare(&mut self, host: &mut H, row: &Row, index: usize) -> Result<(), HostFault>
@@ -130,11 +130,9 @@ pub trait Around<H: Host> {
         ensures silent { Silent (H.state host.old) (H.state host.new) }
         ensures counts { Counts (H.state host.old) (H.state host.new) result };
 
-    ghost holds: { (a : Self) (s : State) (p : Place) → at a s p → IsTrue s.honest → stops (task a) s.events s.world };
-
     /// Script calls lead to no other place.
-    ghost stays: { (a : Self) (s t : State) (p : Place) (ts : List Ran) → at a s p → Calls (is_kept (kept (task a))) ts s t → at a t p };
+    ghost stays: { (a : Self) (s t : State) (p : Place) (ts : List Ran) → at a s p → Calls (is_kept (kept a)) ts s t → at a t p };
 
-    /// While scripts run, and where one is cut off, it holds as well.
-    ghost scripts: { (t : Self.Task) (es more : List Event) (w v : World) → stops t es w → OnlyScripts (is_kept (kept t)) w more v → stops t (es ++ more) v };
+    /// At a place, while scripts run and where one is cut off, it holds.
+    ghost holds: { (a : Self) (s : State) (p : Place) (more : List Event) (v : World) → at a s p → IsTrue s.honest → OnlyScripts (is_kept (kept a)) s.world more v → stops (task a) (s.events ++ more) v };
 }

@@ -1,7 +1,7 @@
 use Rattle.std.proofs.Common.{subst}
 use Rattle.host_core.specs.World.{is_kept}
 use Rattle.host_core.specs.Host.{Since, OnlyScripts}
-use Rattle.unwind_stack.specs.Transcript.{Makes, Begins, Tries, TriesRow}
+use Rattle.unwind_stack.specs.Transcript.{Tries, TriesRow}
 use Rattle.cleanup_stack.proofs.Parts.{next_part, next_script, nothing_done}
 use Rattle.cleanup_stack.proofs.Tellings.{begun_between, begun_none, made_between}
 use Rattle.cleanup_stack.proofs.Rowwise.{may_try}
@@ -19,7 +19,7 @@ returns-in_err-succeeded-clause-any_moment g c =
     let s1 = g.H.Host.state c.prepare.new.host in
     let s2 = g.H.Host.state c.try_row.new.host in
     let ran = subst (λ l. Since (OnlyScripts (is_kept l) s1.world) s1 s2) c.places.ensures c.try_row.ensures.any_moment in
-    next_script _ A.stops (A.task c.args.around.now) (A.task c.prepare.new.self) c.prepare.ensures.task (λ x. is_kept (A.kept x)) _ s1 s2 g.met.A.Around.scripts c.prepare.ensures.any_moment ran
+    next_script _ A.stops (A.task c.args.around.now) (A.task c.prepare.new.self) c.prepare.ensures.task (is_kept (A.kept c.prepare.new.self)) _ s1 s2 (λ h more v is. g.met.A.Around.holds _ _ _ more v c.in_ok-prepare.ensures.place h is) c.prepare.ensures.any_moment ran
 
 pub returns-in_err-conclude-clause-told : goal.returns-in_err-conclude-clause-told
 returns-in_err-conclude-clause-told g c = begun_between _ (TriesRow c.args.row.now) _ _ _ _ _ _ c.prepare.ensures.silent c.try_row.ensures.told c.conclude.ensures.silent
@@ -30,7 +30,7 @@ returns-in_err-conclude-clause-any_moment g c =
     let s1 = g.H.Host.state c.prepare.new.host in
     let s2 = g.H.Host.state c.try_row.new.host in
     let ran = subst (λ l. Since (OnlyScripts (is_kept l) s1.world) s1 s2) c.places.ensures c.try_row.ensures.any_moment in
-    let so_far = next_script _ A.stops (A.task c.args.around.now) (A.task c.prepare.new.self) c.prepare.ensures.task (λ x. is_kept (A.kept x)) _ s1 s2 g.met.A.Around.scripts c.prepare.ensures.any_moment ran in
+    let so_far = next_script _ A.stops (A.task c.args.around.now) (A.task c.prepare.new.self) c.prepare.ensures.task (is_kept (A.kept c.prepare.new.self)) _ s1 s2 (λ h more v is. g.met.A.Around.holds _ _ _ more v c.in_ok-prepare.ensures.place h is) c.prepare.ensures.any_moment ran in
     next_part _ A.stops (A.task c.args.around.now) (A.task c.prepare.new.self) c.prepare.ensures.task _ s2 _ so_far c.conclude.ensures.any_moment
 
 pub returns-clause-calls : goal.returns-clause-calls
@@ -45,5 +45,5 @@ returns-clause-any_moment g c =
     let s1 = g.H.Host.state c.prepare.new.host in
     let s2 = g.H.Host.state c.try_row.new.host in
     let ran = subst (λ l. Since (OnlyScripts (is_kept l) s1.world) s1 s2) c.places.ensures c.try_row.ensures.any_moment in
-    let so_far = next_script _ A.stops (A.task c.args.around.now) (A.task c.prepare.new.self) c.prepare.ensures.task (λ x. is_kept (A.kept x)) _ s1 s2 g.met.A.Around.scripts c.prepare.ensures.any_moment ran in
+    let so_far = next_script _ A.stops (A.task c.args.around.now) (A.task c.prepare.new.self) c.prepare.ensures.task (is_kept (A.kept c.prepare.new.self)) _ s1 s2 (λ h more v is. g.met.A.Around.holds _ _ _ more v c.in_ok-prepare.ensures.place h is) c.prepare.ensures.any_moment ran in
     next_part _ A.stops (A.task c.args.around.now) (A.task c.prepare.new.self) c.prepare.ensures.task _ s2 _ so_far c.conclude.ensures.any_moment

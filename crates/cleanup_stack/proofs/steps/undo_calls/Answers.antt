@@ -18,7 +18,7 @@ returns-in_err-fails-clause-any_moment g c =
     let s0 = g.H.Host.state c.args.host.now in
     let s1 = g.H.Host.state c.undo_call.new.host in
     let ran = subst (λ l. Since (OnlyScripts (is_kept l) s0.world) s0 s1) c.places.ensures c.undo_call.ensures.any_moment in
-    stops_scripts (A.stops t) (is_kept (A.kept t)) s0 s1 (g.met.A.Around.scripts t) (g.met.A.Around.holds _ _ _ c.requires.place) ran
+    stops_scripts (A.stops t) (is_kept (A.kept c.args.around.now)) s0 s1 (λ h more v is. g.met.A.Around.holds _ _ _ more v c.requires.place h is) ran
 
 pub returns-in_err-undone-clause-told : goal.returns-in_err-undone-clause-told
 returns-in_err-undone-clause-told g c = begun_between _ (MayUndo c.args.row.now c.args.failed.now) _ _ _ _ _ _ (nothing_done _) c.undo_call.ensures.told c.undone.ensures.silent
@@ -30,7 +30,7 @@ returns-in_err-undone-clause-any_moment g c =
     let s0 = g.H.Host.state c.args.host.now in
     let s1 = g.H.Host.state c.undo_call.new.host in
     let ran = subst (λ l. Since (OnlyScripts (is_kept l) s0.world) s0 s1) c.places.ensures c.undo_call.ensures.any_moment in
-    next_part _ A.stops t t refl s0 s1 _ (stops_scripts (A.stops t) (is_kept (A.kept t)) s0 s1 (g.met.A.Around.scripts t) (g.met.A.Around.holds _ _ _ c.requires.place) ran) c.undone.ensures.any_moment
+    next_part _ A.stops t t refl s0 s1 _ (stops_scripts (A.stops t) (is_kept (A.kept c.args.around.now)) s0 s1 (λ h more v is. g.met.A.Around.holds _ _ _ more v c.requires.place h is) ran) c.undone.ensures.any_moment
 
 pub returns-clause-calls : goal.returns-clause-calls
 returns-clause-calls g c = made_between (λ ts. Undoes c.args.row.now c.args.failed.now ts c.in_ok-fails.fails) _ _ _ _ _ _ _ (nothing_done _) c.in_ok-fails.ensures.calls c.undone.ensures.silent
@@ -45,4 +45,4 @@ returns-clause-any_moment g c =
     let s0 = g.H.Host.state c.args.host.now in
     let s1 = g.H.Host.state c.undo_call.new.host in
     let ran = subst (λ l. Since (OnlyScripts (is_kept l) s0.world) s0 s1) c.places.ensures c.undo_call.ensures.any_moment in
-    next_part _ A.stops t t refl s0 s1 _ (stops_scripts (A.stops t) (is_kept (A.kept t)) s0 s1 (g.met.A.Around.scripts t) (g.met.A.Around.holds _ _ _ c.requires.place) ran) c.undone.ensures.any_moment
+    next_part _ A.stops t t refl s0 s1 _ (stops_scripts (A.stops t) (is_kept (A.kept c.args.around.now)) s0 s1 (λ h more v is. g.met.A.Around.holds _ _ _ more v c.requires.place h is) ran) c.undone.ensures.any_moment

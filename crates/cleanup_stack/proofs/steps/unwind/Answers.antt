@@ -1,4 +1,4 @@
-use Rattle.std.proofs.Common.{◌≡◌, ◌+◌, ◌-◌, ◌≤◌, List, length, drop, subst, sym, ◌∙◌, arith}
+use Rattle.std.proofs.Common.{◌≡◌, ◌+◌, ◌-◌, List, drop, subst, sym, ◌∙◌, arith}
 use Rattle.cleanup_stack.specs.declared.failed.Failed.{Failed}
 use Rattle.cleanup_stack.specs.Transcripts.{MayUndo, MayUnwind}
 use Rattle.cleanup_stack.specs.Undoing.{UndoesAll, UndoesAt}

@@ -1,5 +1,4 @@
 use Rattle.cleanup_stack.specs.Transcripts.{MayStep}
-use Rattle.cleanup_stack.specs.Stops.{stops_start}
 use Rattle.cleanup_stack.proofs.Parts.{nothing_done}
 use Rattle.cleanup_stack.proofs.Rowwise.{may_step}
 use Rattle.cleanup_stack.proofs.Tellings.{begun_none}
