@@ -1,5 +1,5 @@
 // Control files of a package, by their names.
-ghost use Rattle.std.specs.Prelude.{◌≡◌, ◌++◌, ◌∷◌, [], ◌&&◌, ◌<◌, ◌≤◌, true, false, cond, List, ℕ, length, get_or, map, IfOk, OnOk, OnErr, IfSome, IfNone, IsTrue, is_some, None, Contains};
+ghost use Rattle.std.specs.Prelude.{◌≡◌, ◌++◌, ◌∷◌, [], ◌&&◌, ◌<◌, ◌≤◌, ◌-◌, ◌↔◌, true, false, cond, List, ℕ, length, get_or, map, IfOk, OnOk, OnErr, IfSome, IfNone, IsTrue, is_some, None, Contains};
 ghost use Rattle.std.specs.Option.{option_copied};
 ghost use Rattle.std.specs.Ordering.{nat_cmp, is_lt};
 ghost use Rattle.std.specs.Cmp.Lexicographic.{slice_cmp};
@@ -75,6 +75,14 @@ fn place_for(items: &[Member], name: &Text) -> usize
     at
 }
 
+// Whether the one in front of a place has a name.
+fn is_taken(items: &[Member], at: usize, name: &Text) -> bool
+    requires { at ≤ length items.now }
+    ensures { IsTrue result ↔ ((0 < at) × (get_or (names_of items.now) (at - 1) [] ≡ name.now)) }
+{
+    at > 0 && items[at - 1].name.is(name)
+}
+
 impl Members {
     pub fn new(alloc: Global) -> Members
         ensures { result ≡ [] }
@@ -90,7 +98,7 @@ impl Members {
         ensures err { OnErr result (self.new ≡ self.old) }
     {
         let at = place_for(self.items.as_slice(), &member.name);
-        if at > 0 && self.items[at - 1].name.is(&member.name) {
+        if is_taken(self.items.as_slice(), at, &member.name) {
             return Ok(());
         }
         self.items.insert(at, member)?;
