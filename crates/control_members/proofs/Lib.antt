@@ -4,6 +4,7 @@ pub mod Order
 pub mod Finding
 pub mod Lookup
 pub mod Drawn
+pub mod Starting
 pub mod Writing
 pub mod Taking
 pub mod Replacing
