@@ -4,6 +4,7 @@ pub mod Order
 pub mod Finding
 pub mod Lookup
 pub mod Drawn
+pub mod Cutting
 pub mod Starting
 pub mod Writing
 pub mod Taking

@@ -166,9 +166,10 @@ fn discard_lacking<H: Host>(
     ensures counts { Counts (H.state host.old) (H.state host.new) result }
 {
     for name in old {
-        if new.find(name).is_none() {
-            discard_member(alloc, host, owner, name)?;
+        if new.find(name).is_some() {
+            continue;
         }
+        discard_member(alloc, host, owner, name)?;
     }
     Ok(())
 }
@@ -219,9 +220,10 @@ pub fn discard_members<H: Host>(
     ensures counts { Counts (H.state host.old) (H.state host.new) result }
 {
     for name in names {
-        if !stays(name, keep_postrm) {
-            discard_member(alloc, host, owner, name)?;
+        if stays(name, keep_postrm) {
+            continue;
         }
+        discard_member(alloc, host, owner, name)?;
     }
     Ok(())
 }
