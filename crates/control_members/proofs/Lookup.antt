@@ -1,6 +1,6 @@
 -- Control files looked up by their names.
 use Rattle.std.proofs.Common.{◌≡◌, ◌≢◌, ◌⊎◌, inl, inr, ◌+◌, ◌<◌, ◌≤◌, ℕ, ◌-◌, zero, suc, Bool, true, false, cond, List, [], ◌∷◌, ◌++◌, map, take, drop, length, get_or, Option, Some, None, is_some, refl, sym, ap, subst, ◌∙◌, arith, Contains, drop-cons, add-one}
-use Rattle.std.specs.Prelude.{IsSome}
+use Rattle.std.specs.Prelude.{IsSome, IfSome, IfNone}
 use Rattle.std.specs.List.{AllByRecursion, insert}
 use Rattle.std.specs.Str.{bytes_eq}
 use Rattle.std.proofs.lemmas.Bool.{true≢false, false_from_ne_true}
@@ -15,6 +15,8 @@ use Rattle.administration.proofs.WholeFiles.{no_directory_none, no_directory_fil
 use Rattle.control_members.specs.Names.{is_member_name}
 use Rattle.control_members.specs.Members.{IsBefore, AreInOrder, names_of, member_of, node_of, member_node}
 use Rattle.control_members.specs.Places.{IsAt, IsPlaceFor}
+use Rattle.control_members.specs.Stored.{over}
+use Rattle.control_members.proofs.Finding.{at_contains}
 use Rattle.control_members.specs.declared.member.Member.{Member}
 use Rattle.control_members.proofs.Order.{all_at, before_differs, get_or_any, front_before}
 
@@ -230,3 +232,34 @@ listed_found (m ∷ ms) name (suc k, lt, e) = at (bytes_eq m.name name) (listed_
     at : (b : Bool) → IsSome (member_node ms name) → IsSome (node_of (cond b (Some m) (member_of ms name)))
     at true rest = refl
     at false rest = rest
+
+-- whether a name is found, as a search told
+pub told_by : (r : Option ℕ) (b : Bool) (ms : List Member) (name : Path) → b ≡ is_some r → IfSome r (IsAt (names_of ms) name) → IfNone r (Contains (names_of ms) name → ⊥) → b ≡ is_some (member_node ms name)
+told_by None b ms name e some none = e ∙ sym (ap (λ o. is_some (node_of o)) (unlisted ms name none))
+told_by (Some at) b ms name e some none = e ∙ sym (listed_found ms name (at_contains (names_of ms) name at some.within some.is))
+
+-- one more, as nodes
+pub added_node : (ms : List Member) (m : Member) (name : Path) → member_node (ms ++ m ∷ []) name ≡ over (member_node ms name) (cond (bytes_eq m.name name) (Some m.node) None)
+added_node ms m name = ap node_of (member_of-append ms (m ∷ []) name) ∙ at (member_of ms name) (bytes_eq m.name name)
+  where
+    at : (o : Option Member) (b : Bool) → node_of (or_else o (cond b (Some m) None)) ≡ over (node_of o) (cond b (Some m.node) None)
+    at None true = refl
+    at None false = refl
+    at (Some x) b = refl
+
+-- the names of others alone, one more
+
+pub other_passed : (ms ys : List Member) (m : Member) (is : Path → Bool) → is m.name ≡ true → ((name : Path) → member_of ms name ≡ cond (is name) None (member_of ys name)) → (name : Path) → member_of ms name ≡ cond (is name) None (member_of (ys ++ m ∷ []) name)
+other_passed ms ys m is script before name = before name ∙ at (is name) refl
+  where
+    at : (b : Bool) → is name ≡ b → cond b None (member_of ys name) ≡ cond b None (member_of (ys ++ m ∷ []) name)
+    at true e = refl
+    at false e = sym (pushed_other ys m name (λ same. true≢false (sym script ∙ ap is same ∙ e)))
+
+pub other_added : (old new ys : List Member) (m : Member) (is : Path → Bool) → is m.name ≡ false → ((name : Path) → member_of old name ≡ cond (is name) None (member_of ys name)) → ((name : Path) → member_of new name ≡ member_of (old ++ m ∷ []) name)
+    → (name : Path) → member_of new name ≡ cond (is name) None (member_of (ys ++ m ∷ []) name)
+other_added old new ys m is other before added name = added name ∙ member_of-append old (m ∷ []) name ∙ ap (λ o. or_else o (member_of (m ∷ []) name)) (before name) ∙ at (is name) refl
+  where
+    at : (b : Bool) → is name ≡ b → or_else (cond b None (member_of ys name)) (member_of (m ∷ []) name) ≡ cond b None (member_of (ys ++ m ∷ []) name)
+    at true e = passed_over [] m name (λ same. true≢false (sym e ∙ ap is (sym same) ∙ other))
+    at false e = sym (member_of-append ys (m ∷ []) name)

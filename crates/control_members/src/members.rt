@@ -176,9 +176,10 @@ fn of_others(alloc: Global, others: Vec<Member>) -> Result<Members, AllocError>
 {
     let mut members = Members::new(alloc);
     for member in others {
-        if !is_script_name(&member.name) {
-            members.add(member)?;
+        if is_script_name(&member.name) {
+            continue;
         }
+        members.add(member)?;
     }
     Ok(members)
 }
