@@ -1,6 +1,6 @@
 -- Control files looked up by their names.
 use Rattle.std.proofs.Common.{◌≡◌, ◌≢◌, ◌⊎◌, inl, inr, ◌+◌, ◌<◌, ◌≤◌, ℕ, ◌-◌, zero, suc, Bool, true, false, cond, List, [], ◌∷◌, ◌++◌, map, take, drop, length, get_or, Option, Some, None, is_some, refl, sym, ap, subst, ◌∙◌, arith, Contains, drop-cons, add-one}
-use Rattle.std.specs.Prelude.{IsSome, IfSome, IfNone}
+use Rattle.std.specs.Prelude.{IsSome, IfSome, IfNone, ◌||◌}
 use Rattle.std.specs.List.{AllByRecursion, insert}
 use Rattle.std.specs.Str.{bytes_eq}
 use Rattle.std.proofs.lemmas.Bool.{true≢false, false_from_ne_true}
@@ -12,7 +12,10 @@ use Rattle.host_core.specs.declared.node.Node.{Node}
 use Rattle.host_core.specs.declared.node.Node.TheVariants.{File, Dir, Link}
 use Rattle.administration.specs.Files.{NoDirectory}
 use Rattle.administration.proofs.WholeFiles.{no_directory_none, no_directory_file}
-use Rattle.control_members.specs.Names.{is_member_name}
+use Rattle.host_core.specs.Outcome.{script_name}
+use Rattle.host_core.specs.declared.call.Script.{Script}
+use Rattle.host_core.specs.declared.call.Script.TheVariants.{Preinst, Postinst, Prerm, Postrm}
+use Rattle.control_members.specs.Names.{is_member_name, is_script_name}
 use Rattle.control_members.specs.Members.{IsBefore, AreInOrder, names_of, member_of, node_of, member_node}
 use Rattle.control_members.specs.Places.{IsAt, IsPlaceFor}
 use Rattle.control_members.specs.Stored.{over}
@@ -263,3 +266,33 @@ other_added old new ys m is other before added name = added name ∙ member_of-a
     at : (b : Bool) → is name ≡ b → or_else (cond b None (member_of ys name)) (member_of (m ∷ []) name) ≡ cond b None (member_of (ys ++ m ∷ []) name)
     at true e = passed_over [] m name (λ same. true≢false (sym e ∙ ap is (sym same) ∙ other))
     at false e = sym (member_of-append ys (m ∷ []) name)
+
+-- a name that is no script's
+
+flip_eq : (a b : Path) → bytes_eq a b ≡ false → bytes_eq b a ≡ false
+flip_eq a b e = false_from_ne_true (bytes_eq b a) (λ t. true≢false (sym ((bytes_eq-Decides a b).1 (sym ((bytes_eq-Decides b a).0 t))) ∙ e))
+
+neither : (a b : Bool) → a || b ≡ false → (a ≡ false) × (b ≡ false)
+neither true b is = absurd (true≢false is)
+neither false b is = (refl, is)
+
+script_apart : (script : Script) (name : Path) → is_script_name name ≡ false → bytes_eq (script_name script) name ≡ false
+script_apart script name other =
+    let first = neither (bytes_eq name (script_name Preinst)) _ other in
+    let second = neither (bytes_eq name (script_name Postinst)) _ first.1 in
+    let third = neither (bytes_eq name (script_name Prerm)) _ second.1 in
+    let fourth = neither (bytes_eq name (script_name Postrm)) false third.1 in
+    at script first.0 second.0 third.0 fourth.0
+  where
+    at : (s : Script) → bytes_eq name (script_name Preinst) ≡ false → bytes_eq name (script_name Postinst) ≡ false → bytes_eq name (script_name Prerm) ≡ false → bytes_eq name (script_name Postrm) ≡ false → bytes_eq (script_name s) name ≡ false
+    at Preinst a b c d = flip_eq name (script_name Preinst) a
+    at Postinst a b c d = flip_eq name (script_name Postinst) b
+    at Prerm a b c d = flip_eq name (script_name Prerm) c
+    at Postrm a b c d = flip_eq name (script_name Postrm) d
+
+over_none : (o : Option Node) → over o None ≡ o
+over_none None = refl
+over_none (Some n) = refl
+
+pub other_stays : (script : Script) (name : Path) (file old new : Option Node) → is_script_name name ≡ false → new ≡ over old (cond (bytes_eq (script_name script) name) file None) → new ≡ old
+other_stays script name file old new other e = e ∙ ap (λ b. over old (cond b file None)) (script_apart script name other) ∙ over_none old
