@@ -1,4 +1,5 @@
-use Rattle.std.proofs.Common.{◌≡◌, ◌+◌, Bool, true, List, Option, Some, None, is_some, take, sym, ap, subst, rules, ◌∙◌}
+use Rattle.std.proofs.Common.{◌≡◌, ◌+◌, Bool, true, List, Option, Some, None, is_some, Bor, take, sym, ap, subst, rules, ◌∙◌}
+use Rattle.std.specs.Option.{option_copied}
 use Rattle.host_core.specs.Paths.{Path}
 use Rattle.control_members.specs.Members.{node_of, member_node}
 use Rattle.control_members.specs.declared.member.Member.{Member}
@@ -10,7 +11,7 @@ use Rattle.control_members.proofs.stored.discard_lacking.Goals as goal
 abbrev kept : List Member → Path → Bool
 kept new name = is_some (member_node new name)
 
-told : (found : Option Member) (b : Bool) → b ≡ is_some found → is_some (node_of found) ≡ b
+told : (found : Option (Bor Member)) (b : Bool) → b ≡ is_some found → is_some (node_of (option_copied found)) ≡ b
 told None b e = sym e
 told (Some m) b e = sym e
 
@@ -37,7 +38,7 @@ returns-in_err-discard_member-clause-any_moment g c =
     let stays = kept c.args.new.now in
     since_taking c.args.owner.now (leaving stays (take i names)) (leaving stays names) d _ _ _
     (member_among names d c.requires.members (i, c.loop-name-test.true, sym c.name-item.is))
-    (leaves stays names i d c.loop-name-test.true c.name-item.is (sym (ap (λ o. is_some (node_of o)) c.find.ensures) ∙ told _ _ c.is_some.ensures ∙ c.if-is_some.false))
+    (leaves stays names i d c.loop-name-test.true c.name-item.is (sym (ap (λ o. is_some (node_of o)) c.find.ensures) ∙ told c.find.result _ c.is_some.ensures ∙ c.if-is_some.false))
     (leaving_all stays names i) before.taken before.any_moment c.discard_member.ensures.any_moment
 
 pub loop-name-preserved : goal.loop-name-preserved
@@ -48,7 +49,7 @@ loop-name-preserved g c =
     let d = c.name-item.result in
     let stays = kept c.args.new.now in
     let member = member_among names d c.requires.members (i, c.loop-name-test.true, sym c.name-item.is) in
-    let goes = sym (ap (λ o. is_some (node_of o)) c.find.ensures) ∙ told _ _ c.is_some.ensures ∙ c.if-is_some.false in
+    let goes = sym (ap (λ o. is_some (node_of o)) c.find.ensures) ∙ told c.find.result _ c.is_some.ensures ∙ c.if-is_some.false in
     record {
       silent = search rules;
       counts = search rules;
@@ -66,6 +67,6 @@ loop-name-preserved-then-is_some g c =
     record {
       silent = before.silent;
       counts = before.counts;
-      taken = λ h. taken_same c.args.owner.now (leaving stays (take i names)) (leaving stays (take (i + 1) names)) _ _ (leaving_same stays names i c.name-item.result c.loop-name-test.true c.name-item.is (sym (ap (λ o. is_some (node_of o)) c.find.ensures) ∙ told _ _ c.is_some.ensures ∙ c.if-is_some.true)) (before.taken h);
+      taken = λ h. taken_same c.args.owner.now (leaving stays (take i names)) (leaving stays (take (i + 1) names)) _ _ (leaving_same stays names i c.name-item.result c.loop-name-test.true c.name-item.is (sym (ap (λ o. is_some (node_of o)) c.find.ensures) ∙ told c.find.result _ c.is_some.ensures ∙ c.if-is_some.true)) (before.taken h);
       any_moment = before.any_moment;
     }
