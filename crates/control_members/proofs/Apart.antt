@@ -1,9 +1,9 @@
 -- A stored control file is told from another, and from other files, by the last dot of its name.
-use Rattle.std.proofs.Common.{◌≡◌, ◌≢◌, ◌||◌, ℕ, Bool, true, false, nat_eq, List, [], ◌∷◌, ◌++◌, length, get_or, drop, codes, refl, sym, ap, subst, ◌∙◌, arith, append_assoc}
+use Rattle.std.proofs.Common.{◌≡◌, ◌≢◌, ℕ, Bool, true, false, nat_eq, [], ◌∷◌, ◌++◌, get_or, drop, codes, refl, sym, ap, ◌∙◌, append_assoc}
 use Rattle.std.specs.List.{list_any}
 use Rattle.std.specs.Str.{bytes_eq}
 use Rattle.std.proofs.lemmas.Bool.{true≢false, or_right}
-use Rattle.std.proofs.lemmas.List.{append_cancel_left, append_cancel_right, length-append}
+use Rattle.std.proofs.lemmas.List.{append_cancel_left, append_cancel_right}
 use Rattle.std.proofs.lemmas.List.Folds.{list_any-append}
 use Rattle.host_core.specs.Paths.{Path}
 use Rattle.administration.specs.Places.{info_path, info_file, list_path, temporary}

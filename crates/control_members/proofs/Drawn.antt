@@ -18,7 +18,7 @@ use Rattle.std.proofs.lemmas.List.Folds.{list_any_more, Any-from_list_any, list_
 use Rattle.std.proofs.lemmas.Map.Views.{Contains-from_any}
 use Rattle.host_core.specs.Paths.{Path}
 use Rattle.host_core.specs.World.{World}
-use Rattle.host_core.specs.Tree.{IsListing, has_slash}
+use Rattle.host_core.specs.Tree.{IsListing}
 use Rattle.texts.specs.PackageNames.{is_package_name}
 use Rattle.administration.specs.Places.{info_path}
 use Rattle.control_members.specs.Names.{is_member_name}
@@ -159,7 +159,7 @@ one_entered owner entry word entries k new old name lt is split member change be
         ∙ more ∙ ap (λ t. is_among (take k entries) (owner ++ 46 ∷ name) || t) there ∙ or_true (is_among (take k entries) (owner ++ 46 ∷ name)))
     at false e =
         let apart = false_from_ne_true (bytes_eq (owner ++ 46 ∷ name) (get_or entries k entry)) (λ t. true≢false
-            (sym ((bytes_eq-Decides word name).1 (same_behind owner word name (sym split ∙ is ∙ sym ((bytes_eq-Decides (owner ++ 46 ∷ name) (get_or entries k entry)).0 t)))) ∙ e)) in
+        (sym ((bytes_eq-Decides word name).1 (same_behind owner word name (sym split ∙ is ∙ sym ((bytes_eq-Decides (owner ++ 46 ∷ name) (get_or entries k entry)).0 t)))) ∙ e)) in
         before ∙ ap (λ t. is_member_name name && t) (sym (more ∙ ap (λ t. is_among (take k entries) (owner ++ 46 ∷ name) || t) apart ∙ or_false (is_among (take k entries) (owner ++ 46 ∷ name))))
 
 -- what a listing of `info/` tells

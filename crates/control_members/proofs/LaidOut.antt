@@ -1,15 +1,14 @@
 -- What laying out the control files of the incoming tree leaves.
-use Rattle.std.proofs.Common.{◌≡◌, ◌⊎◌, inl, inr, Bool, true, false, List, [], ◌∷◌, ◌++◌, IsTrue, Option, Some, None, refl, sym, ap, subst, ◌∙◌, codes, Contains, is_some, drop}
+use Rattle.std.proofs.Common.{◌≡◌, ◌⊎◌, inl, inr, Bool, true, false, List, [], ◌∷◌, ◌++◌, IsTrue, Some, None, refl, sym, ap, subst, ◌∙◌, codes, is_some, drop}
 use Rattle.std.specs.Prelude.{IsSome, MatchBool}
 use Rattle.std.proofs.lemmas.Bool.{true≢false}
-use Rattle.host_core.proofs.Nodes.{directory_stands, none_stands, some_or_none}
+use Rattle.host_core.proofs.Nodes.{none_stands, some_or_none}
 use Rattle.host_core.proofs.Paths.{decide}
-use Rattle.host_core.specs.Paths.{Path, is_path}
+use Rattle.host_core.specs.Paths.{Path}
 use Rattle.host_core.specs.World.{World, IsDirectory, IsLoose, IsBare, KeepsBut, HasParent}
-use Rattle.host_core.specs.Tree.{IsTree, has_slash}
+use Rattle.host_core.specs.Tree.{IsTree}
 use Rattle.host_core.specs.Host.{State, Since}
 use Rattle.host_core.specs.Moments.{since_then, since_weaker_if, since_now}
-use Rattle.host_core.specs.declared.node.Node.{Node}
 use Rattle.administration.specs.Places.{tmp_path, home_path, temporary, is_within}
 use Rattle.administration.specs.Files.{NoDirectory, IsReplaced, IsReplacing}
 use Rattle.administration.specs.Directories.{IsMade, IsMaking, IsTaking, IsFlat}

@@ -1,5 +1,5 @@
 -- Control files looked up by their names.
-use Rattle.std.proofs.Common.{◌≡◌, ◌≢◌, ◌⊎◌, inl, inr, ◌+◌, ◌<◌, ◌≤◌, ℕ, ◌-◌, zero, suc, Bool, true, false, cond, List, [], ◌∷◌, ◌++◌, map, take, drop, length, get_or, Option, Some, None, is_some, refl, sym, ap, subst, ◌∙◌, arith, Contains, drop-cons, add-one}
+use Rattle.std.proofs.Common.{◌≡◌, ◌≢◌, ◌+◌, ◌<◌, ◌≤◌, ℕ, ◌-◌, zero, suc, Bool, true, false, cond, List, [], ◌∷◌, ◌++◌, take, drop, length, get_or, Option, Some, None, is_some, refl, sym, ap, subst, ◌∙◌, arith, Contains, drop-cons, add-one}
 use Rattle.std.specs.Prelude.{IsSome, IfSome, IfNone, ◌||◌}
 use Rattle.std.specs.List.{AllByRecursion, insert}
 use Rattle.std.specs.Str.{bytes_eq}
@@ -21,7 +21,7 @@ use Rattle.control_members.specs.Places.{IsAt, IsPlaceFor}
 use Rattle.control_members.specs.Stored.{over}
 use Rattle.control_members.proofs.Finding.{at_contains}
 use Rattle.control_members.specs.declared.member.Member.{Member}
-use Rattle.control_members.proofs.Order.{all_at, before_differs, get_or_any, front_before}
+use Rattle.control_members.proofs.Order.{all_at, before_differs, front_before}
 
 -- the first of two
 abbrev pub or_else : Option Member → Option Member → Option Member

@@ -1,7 +1,7 @@
 -- The names of control files: their signs, and the paths that they make.
-use Rattle.std.proofs.Common.{◌≡◌, ◌&&◌, ◌||◌, not, ℕ, ◌+◌, ◌<◌, ◌≤◌, Bool, true, false, List, [], ◌∷◌, ◌++◌, length, codes, nat_eq, refl, sym, ap, subst, ◌∙◌, arith, append_assoc, Contains, zero, suc}
-use Rattle.std.specs.Prelude.{IsAscii, nat_le, slice_index}
-use Rattle.std.specs.List.{list_any, list_all, AllByRecursion}
+use Rattle.std.proofs.Common.{◌≡◌, ◌&&◌, ◌||◌, not, ℕ, ◌<◌, ◌≤◌, Bool, true, false, List, [], ◌∷◌, ◌++◌, length, codes, nat_eq, refl, sym, ap, subst, ◌∙◌, arith, Contains, zero, suc}
+use Rattle.std.specs.Prelude.{nat_le}
+use Rattle.std.specs.List.{list_any, list_all}
 use Rattle.std.specs.Str.{bytes_eq, IsUtf8}
 use Rattle.std.proofs.lemmas.Bool.{and_parts, false_from_ne_true, true≢false, leb-true, le-leb, eqb-true, not-true}
 use Rattle.std.proofs.lemmas.Bool.Decides.{nat_tests}
@@ -11,7 +11,7 @@ use Rattle.std.proofs.lemmas.List.Sums.{AllPass-from_list_all}
 use Rattle.std.proofs.lemmas.Slice.Eq.{bytes_eq-Decides}
 use Rattle.std.proofs.lemmas.Str.{IsUtf8-from_ascii}
 use Rattle.std.proofs.lemmas.Str.Ascii.{IsAscii-from_all}
-use Rattle.texts.specs.PackageNames.{is_name_sign, is_lower_or_digit, is_package_name}
+use Rattle.texts.specs.PackageNames.{is_name_sign, is_package_name}
 use Rattle.texts.proofs.PackageNames.{signs_of_name}
 use Rattle.host_core.specs.Paths.{Path, has_break, is_component, is_path}
 use Rattle.host_core.specs.Tree.{has_slash}

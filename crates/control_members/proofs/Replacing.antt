@@ -1,9 +1,6 @@
 -- New control files in the place of the old ones.
-use Rattle.std.proofs.Common.{◌≡◌, ◌⊎◌, inl, inr, Bool, true, false, not, ◌&&◌, cond, List, Option, Some, None, is_some, IsTrue, refl, sym, ap, subst, ◌∙◌, Contains}
-use Rattle.std.specs.Prelude.{IsSome}
-use Rattle.std.specs.Str.{bytes_eq}
+use Rattle.std.proofs.Common.{◌≡◌, ◌⊎◌, inl, inr, Bool, true, false, not, ◌&&◌, cond, List, Option, Some, None, is_some, IsTrue, refl, sym, ap, ◌∙◌}
 use Rattle.std.proofs.lemmas.Bool.{true≢false}
-use Rattle.std.proofs.lemmas.Slice.Eq.{bytes_eq-Decides}
 use Rattle.host_core.proofs.Nodes.{none_there}
 use Rattle.host_core.specs.Paths.{Path}
 use Rattle.host_core.specs.World.{World}
@@ -13,7 +10,7 @@ use Rattle.host_core.specs.declared.node.Node.{Node}
 use Rattle.administration.proofs.WholeFiles.{no_directory_none, no_directory_at}
 use Rattle.control_members.specs.Names.{is_member_name}
 use Rattle.control_members.specs.Members.{member_node}
-use Rattle.control_members.specs.Stored.{stored_member_path, AreStoredNames, AreReplaced, AreReplacing, AreTaken, AreTaking, AreStored, is_among, over, replaced_node, IsSpare}
+use Rattle.control_members.specs.Stored.{stored_member_path, AreStoredNames, AreReplaced, AreReplacing, AreTaken, AreTaking, AreStored, is_among, over, IsSpare}
 use Rattle.control_members.specs.Written.{AreWritten, AreWriting}
 use Rattle.control_members.specs.declared.member.Member.{Member}
 use Rattle.control_members.proofs.Drawn.{contains_any}

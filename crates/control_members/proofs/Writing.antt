@@ -1,22 +1,20 @@
 -- Control files that are written one after another.
-use Rattle.std.proofs.Common.{◌≡◌, ◌≢◌, ◌⊎◌, inl, inr, Bool, true, false, cond, List, [], ◌∷◌, ◌++◌, Option, Some, None, is_some, IsTrue, refl, sym, ap, subst, ◌∙◌, codes}
+use Rattle.std.proofs.Common.{◌≡◌, ◌⊎◌, inl, inr, cond, List, [], ◌∷◌, ◌++◌, Option, Some, None, is_some, IsTrue, refl, sym, ap, subst, ◌∙◌}
 use Rattle.host_core.proofs.Paths.{decide}
 use Rattle.host_core.specs.Paths.{Path}
-use Rattle.host_core.specs.World.{World, IsDirectory, HasParent}
+use Rattle.host_core.specs.World.{World, IsDirectory}
 use Rattle.host_core.specs.Host.{State, Since}
-use Rattle.host_core.specs.Moments.{since_then, since_weaker_if, since_now}
+use Rattle.host_core.specs.Moments.{since_then, since_weaker_if}
 use Rattle.host_core.specs.declared.node.Node.{Node}
-use Rattle.texts.specs.PackageNames.{is_package_name}
 use Rattle.administration.specs.Places.{info_path, temporary}
 use Rattle.administration.specs.Files.{NoDirectory, IsReplaced, IsReplacing}
 use Rattle.administration.proofs.WholeFiles.{no_directory_none, no_directory_at}
-use Rattle.control_members.specs.Names.{is_member_name}
 use Rattle.control_members.specs.Members.{AreInOrder, names_of, member_of, node_of, member_node}
 use Rattle.control_members.specs.Stored.{stored_member_path, IsMembersReady, over, replaced_spare, IsSpare, KeepsBesideWritten}
 use Rattle.control_members.specs.Written.{AreWritten, AreWriting}
 use Rattle.control_members.specs.declared.member.Member.{Member}
 use Rattle.control_members.proofs.Apart.{same_name, same_temporary, no_temporary, spare_apart, info_other, info_no_temporary}
-use Rattle.control_members.proofs.Lookup.{member_of-append, or_else, found_here, pushed_here, pushed_other, none_before, member_loose, loose_at}
+use Rattle.control_members.proofs.Lookup.{member_of-append, or_else, found_here, pushed_here, pushed_other, none_before, loose_at}
 
 pub keeps_info : (owner : Path) (before now : World) → KeepsBesideWritten owner before now → now info_path ≡ before info_path
 keeps_info owner before now rest = rest info_path (λ name member. (info_other owner name, info_no_temporary owner name))
@@ -120,5 +118,5 @@ module _ (owner : Path) where
       → Since (λ so_far. AreWriting owner ms s.world) s a → Since (λ so_far. IsReplacing (stored_member_path owner m.name) m.node a.world) a b → Since (λ so_far. AreWriting owner ms s.world) s b
   since_writing ms front back m s a b whole order ready written first second = since_then _ s a b first
       (since_weaker_if _ _ a b (λ h so_far now is. let h1 = second.honest h in
-          subst (λ l. AreWriting owner l s.world now) whole
-          (writing_more front back m s.world a.world now (subst (λ l. AreInOrder (names_of l)) (sym whole) order) (ready (first.honest h1)) (written h1) is)) second)
+      subst (λ l. AreWriting owner l s.world now) whole
+      (writing_more front back m s.world a.world now (subst (λ l. AreInOrder (names_of l)) (sym whole) order) (ready (first.honest h1)) (written h1) is)) second)

@@ -1,5 +1,5 @@
 -- The control files that are stored in `info/` with a package.
-use Rattle.std.specs.Prelude.{◌≡◌, ◌≢◌, ◌⊎◌, ◌↔◌, ◌&&◌, not, Bool, true, List, ◌∷◌, ◌++◌, codes, cond, Option, Some, None, is_some, IsSome, Contains}
+use Rattle.std.specs.Prelude.{◌≡◌, ◌≢◌, ◌⊎◌, ◌↔◌, ◌&&◌, not, Bool, true, List, ◌∷◌, ◌++◌, cond, Option, Some, None, is_some, IsSome, Contains}
 use Rattle.std.specs.List.{list_any, AllByRecursion}
 use Rattle.std.specs.Str.{bytes_eq}
 use Rattle.host_core.specs.Paths.{Path}

@@ -1,7 +1,5 @@
 use Rattle.std.proofs.Common.{sym, subst}
-use Rattle.host_core.specs.Host.{Leaves}
 use Rattle.control_members.specs.Members.{AreInOrder, names_of}
-use Rattle.control_members.specs.LaidOut.{AreLaidOut}
 use Rattle.control_members.proofs.LaidOut.{made_bare, since_laying}
 use Rattle.control_members.proofs.incoming.lay_out.Goals as goal
 

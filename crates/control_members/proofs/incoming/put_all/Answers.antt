@@ -1,5 +1,4 @@
 use Rattle.std.proofs.Common.{◌+◌, drop, take, sym, subst, rules}
-use Rattle.std.proofs.lemmas.List.{take_all}
 use Rattle.administration.proofs.Within.{taken_more}
 use Rattle.control_members.specs.Members.{AreInOrder, names_of}
 use Rattle.control_members.specs.LaidOut.{AreLaidOut}

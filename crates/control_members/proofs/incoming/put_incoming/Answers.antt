@@ -7,7 +7,6 @@ use Rattle.administration.specs.Places.{temporary}
 use Rattle.administration.specs.Files.{NoDirectory, IsReplacing}
 use Rattle.control_members.proofs.MemberNames.{laid_spare_is_path}
 use Rattle.control_members.proofs.LaidOut.{laid_parent, incoming_flat, laying_replacing, laying_same}
-use Rattle.control_members.proofs.Lookup.{member_file}
 use Rattle.control_members.proofs.incoming.put_incoming.Goals as goal
 
 pub returns-in_err-path-clause-any_moment : goal.returns-in_err-path-clause-any_moment

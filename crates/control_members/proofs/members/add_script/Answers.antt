@@ -1,8 +1,7 @@
-use Rattle.std.proofs.Common.{◌≡◌, Option, Some, None, cond, sym, ap, ◌∙◌}
+use Rattle.std.proofs.Common.{Some, None, cond, sym, ap, ◌∙◌}
 use Rattle.std.specs.Str.{bytes_eq}
 use Rattle.std.proofs.lemmas.Result.{on_ok_weaker}
 use Rattle.host_core.specs.Paths.{Path}
-use Rattle.host_core.specs.declared.node.Node.{Node}
 use Rattle.host_core.specs.Outcome.{script_name}
 use Rattle.administration.specs.Scripts.{file_of}
 use Rattle.control_members.specs.Members.{node_of, member_node}

@@ -1,6 +1,5 @@
 use Rattle.std.proofs.Common.{◌≡◌, ◌-◌, ◌<◌, inl, inr, [], ℕ, length, get_or, sym, subst, ◌∙◌, arith}
 use Rattle.std.proofs.lemmas.Bool.{cases_lt}
-use Rattle.host_core.specs.Paths.{Path}
 use Rattle.control_members.specs.Members.{IsBefore, names_of}
 use Rattle.control_members.proofs.Lookup.{name_at}
 use Rattle.control_members.proofs.Order.{told_before}

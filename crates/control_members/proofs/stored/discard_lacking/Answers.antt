@@ -1,4 +1,4 @@
-use Rattle.std.proofs.Common.{◌≡◌, ◌+◌, Bool, true, List, Option, Some, None, is_some, Bor, take, sym, ap, subst, rules, ◌∙◌}
+use Rattle.std.proofs.Common.{◌≡◌, ◌+◌, Bool, List, Option, Some, None, is_some, Bor, take, sym, ap, rules, ◌∙◌}
 use Rattle.std.specs.Option.{option_copied}
 use Rattle.host_core.specs.Paths.{Path}
 use Rattle.control_members.specs.Members.{node_of, member_node}

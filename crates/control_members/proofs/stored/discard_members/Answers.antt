@@ -1,4 +1,4 @@
-use Rattle.std.proofs.Common.{◌&&◌, ◌≡◌, ◌+◌, Bool, true, take, sym, subst, rules, ◌∙◌}
+use Rattle.std.proofs.Common.{◌&&◌, ◌+◌, Bool, take, sym, rules, ◌∙◌}
 use Rattle.std.specs.Str.{bytes_eq}
 use Rattle.host_core.specs.Paths.{Path}
 use Rattle.host_core.specs.Outcome.{script_name}

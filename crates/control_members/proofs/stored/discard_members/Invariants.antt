@@ -1,8 +1,5 @@
-use Rattle.std.proofs.Common.{◌≡◌, ◌&&◌, take, IsTrue}
-use Rattle.std.specs.Str.{bytes_eq}
+use Rattle.std.proofs.Common.{◌≡◌, take, IsTrue}
 use Rattle.host_core.specs.Host.{AtEachMoment, Silent, faults}
-use Rattle.host_core.specs.Outcome.{script_name}
-use Rattle.host_core.specs.declared.call.Script.TheVariants.{Postrm}
 use Rattle.control_members.specs.Stored.{AreTaken, AreTaking, goes}
 use Rattle.control_members.proofs.stored.discard_members.Given as goal
 

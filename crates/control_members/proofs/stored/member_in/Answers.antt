@@ -1,4 +1,4 @@
-use Rattle.std.proofs.Common.{◌≡◌, ◌++◌, ◌∷◌, ◌∙◌, sym, ap, List, ℕ}
+use Rattle.std.proofs.Common.{◌++◌, ◌∙◌, sym, ap, List, ℕ}
 use Rattle.control_members.proofs.Cutting.{lacks_prefix}
 use Rattle.control_members.proofs.stored.member_in.Goals as goal
 

@@ -1,11 +1,10 @@
-use Rattle.std.proofs.Common.{◌≡◌, ◌++◌, ◌∷◌, true, refl, sym, subst}
+use Rattle.std.proofs.Common.{◌≡◌, true, sym, subst}
 use Rattle.host_core.specs.Paths.{is_path}
 use Rattle.host_core.specs.World.{HasParent}
-use Rattle.administration.specs.Places.{info_path, temporary}
-use Rattle.administration.specs.Files.{NoDirectory, IsReplacing}
+use Rattle.administration.specs.Places.{temporary}
+use Rattle.administration.specs.Files.{NoDirectory}
 use Rattle.control_members.proofs.MemberNames.{stored_spare_is_path}
 use Rattle.control_members.proofs.Starting.{stored_parent, replacing_here}
-use Rattle.control_members.proofs.Lookup.{member_file}
 use Rattle.control_members.proofs.stored.put_member.Goals as goal
 
 pub returns-in_err-path-clause-any_moment : goal.returns-in_err-path-clause-any_moment

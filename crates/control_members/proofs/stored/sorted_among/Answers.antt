@@ -1,9 +1,9 @@
-use Rattle.std.proofs.Common.{◌≡◌, ◌++◌, ◌∷◌, ◌∙◌, ◌+◌, take, true, cond, sym, ap, subst, List, ℕ}
-use Rattle.std.specs.BTreeSet.{contains_text, BTreeSet}
+use Rattle.std.proofs.Common.{◌∙◌, true, cond, ap}
+use Rattle.std.specs.BTreeSet.{contains_text}
 use Rattle.std.specs.Str.{bytes_eq}
 use Rattle.std.specs.String.{string_bytes}
 use Rattle.std.proofs.lemmas.Map.Text.{btree_set_updates_text}
-use Rattle.control_members.proofs.Drawn.{entered, one_passed, one_entered}
+use Rattle.control_members.proofs.Drawn.{one_passed, one_entered}
 use Rattle.control_members.proofs.stored.sorted_among.Goals as goal
 use Rattle.control_members.proofs.stored.sorted_among.Goals.{in-Some+in_ok-from_str+in_ok-insert, in_default}
 

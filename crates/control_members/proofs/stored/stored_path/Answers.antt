@@ -12,6 +12,6 @@ new-requires c =
     let owner = c.args.owner.now in
     let name = c.args.name.now in
     let e : string_bytes c.push_str-2.new.self ≡ stored_member_path owner name =
-        rw (c.in_ok-push_str-2.ensures.bytes, c.in_ok-push.ensures.bytes, c.in_ok-push_str.ensures.bytes, c.in_ok-text.ensures.ok, c.as_str.ensures, c.as_str-2.ensures)
-        (append_assoc (info ++ owner) (46 ∷ []) name ∙ append_assoc info owner (46 ∷ name)) in
+    rw (c.in_ok-push_str-2.ensures.bytes, c.in_ok-push.ensures.bytes, c.in_ok-push_str.ensures.bytes, c.in_ok-text.ensures.ok, c.as_str.ensures, c.as_str-2.ensures)
+    (append_assoc (info ++ owner) (46 ∷ []) name ∙ append_assoc info owner (46 ∷ name)) in
     subst (λ (p : Path). is_path p ≡ true) (sym e) (stored_is_path owner name c.requires.owner c.requires.name)

@@ -1,7 +1,6 @@
-use Rattle.std.proofs.Common.{◌≡◌, ◌++◌, ◌∷◌, [], ◌<◌, ◌≤◌, ◌-◌, ◌↔◌, List, ℕ, length, get_or, is_some, sym, ap, subst, ◌∙◌, arith, true}
+use Rattle.std.proofs.Common.{◌≡◌, ◌++◌, ◌∷◌, [], ◌-◌, List, get_or, sym, ap, subst, ◌∙◌, arith}
 use Rattle.std.proofs.lemmas.Bool.{true≢false}
-use Rattle.host_core.specs.Paths.{Path}
-use Rattle.control_members.specs.Members.{AreInOrder, names_of, member_of, node_of}
+use Rattle.control_members.specs.Members.{AreInOrder, names_of, member_of}
 use Rattle.control_members.specs.Places.{IsPlaceFor}
 use Rattle.control_members.specs.declared.member.Member.{Member}
 use Rattle.control_members.proofs.Lookup.{already_found, listed_found, added_order, added_found}

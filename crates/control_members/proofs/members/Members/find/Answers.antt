@@ -1,6 +1,5 @@
-use Rattle.std.proofs.Common.{◌≡◌, ◌<◌, List, Some, None, sym, ap, subst, ◌∙◌, Contains, get_or, []}
-use Rattle.host_core.specs.Paths.{Path}
-use Rattle.control_members.specs.Members.{AreInOrder, names_of, member_of}
+use Rattle.std.proofs.Common.{◌≡◌, List, sym, ap, subst, ◌∙◌, Contains}
+use Rattle.control_members.specs.Members.{names_of, member_of}
 use Rattle.control_members.specs.Places.{IsAt}
 use Rattle.control_members.specs.declared.member.Member.{Member}
 use Rattle.control_members.proofs.Lookup.{found_at, length_names, unlisted}

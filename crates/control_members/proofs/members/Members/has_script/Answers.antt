@@ -1,9 +1,7 @@
-use Rattle.std.proofs.Common.{◌≡◌, List, sym, ap, subst, ◌∙◌, Contains, is_some}
-use Rattle.std.specs.Prelude.{IfSome, IfNone}
+use Rattle.std.proofs.Common.{◌≡◌, List, ap, ◌∙◌, is_some}
 use Rattle.host_core.specs.Paths.{Path}
 use Rattle.host_core.specs.Outcome.{script_name}
-use Rattle.control_members.specs.Members.{names_of, member_node}
-use Rattle.control_members.specs.Places.{IsAt}
+use Rattle.control_members.specs.Members.{member_node}
 use Rattle.control_members.specs.declared.member.Member.{Member}
 use Rattle.control_members.proofs.Lookup.{told_by}
 use Rattle.control_members.proofs.members.Members.has_script.Goals as goal
