@@ -1,5 +1,5 @@
 -- A stored control file is told from another, and from other files, by the last dot of its name.
-use Rattle.std.proofs.Common.{◌≡◌, ◌≢◌, ℕ, Bool, true, false, nat_eq, [], ◌∷◌, ◌++◌, get_or, drop, codes, refl, sym, ap, ◌∙◌, append_assoc}
+use Rattle.std.proofs.Common.{length, arith, ◌≡◌, ◌≢◌, ℕ, Bool, true, false, nat_eq, [], ◌∷◌, ◌++◌, get_or, drop, codes, refl, sym, ap, ◌∙◌, append_assoc}
 use Rattle.std.specs.List.{list_any}
 use Rattle.std.specs.Str.{bytes_eq}
 use Rattle.std.proofs.lemmas.Bool.{true≢false, or_right}
@@ -80,3 +80,12 @@ same_laid name word e = ap (drop 21) e
 
 pub spare_is_no_name : (word : Path) → is_member_name (word ++ codes ".dpkg-inst") ≡ true → ⊥
 spare_is_no_name word member = no_dot_within (word ++ codes ".dpkg-inst") word (codes "dpkg-inst") (dotless (word ++ codes ".dpkg-inst") member) refl
+
+-- a list's name ends otherwise than a temporary one
+pub no_list_temporary : (other path : Path) → list_path other ≢ temporary path
+no_list_temporary other path e =
+    let same : codes "list" ≡ codes "dpkg-inst" = (last_dot (info_file other) path (codes "list") (codes "dpkg-inst") refl refl (append_assoc (codes "/var/lib/dpkg/info/") other (46 ∷ codes "list") ∙ e)).1 in
+    absurd (omega (arith, ap length same))
+
+pub same_of_temporaries : (first second : Path) → temporary first ≡ temporary second → first ≡ second
+same_of_temporaries first second e = append_cancel_right first second (codes ".dpkg-inst") e

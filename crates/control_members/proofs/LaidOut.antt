@@ -156,3 +156,18 @@ since_laying s a b first second = since_then _ s a b first
 
 pub incoming_flat : (w : World) (name : Path) → is_member_name name ≡ true → IsIncoming w → NoDirectory (w (laid_path name)) × NoDirectory (w (temporary (laid_path name)))
 incoming_flat w name member is = (is.loose name (member_plain name member), is.loose (name ++ codes ".dpkg-inst") (plain-append name (codes ".dpkg-inst") (member_plain name member) refl))
+
+-- what is done elsewhere leaves it so
+
+pub laid_elsewhere : (ms : List Member) (w v : World) → ((q : Path) → is_within tmp_path q ≡ true → v q ≡ w q) → AreLaidOut ms w → AreLaidOut ms v
+laid_elsewhere ms w v keeps laid = record {
+  there = subst IsDirectory (sym (keeps tmp_path (directory_within tmp_path))) laid.there;
+  files = λ name plain. keeps (laid_path name) (laid_within name) ∙ laid.files name plain;
+}
+
+pub incoming_elsewhere : (w v : World) → ((q : Path) → is_within tmp_path q ≡ true → v q ≡ w q) → IsIncoming w → IsIncoming v
+incoming_elsewhere w v keeps is = record {
+  place = λ loose. is.place (subst IsLoose (keeps tmp_path (directory_within tmp_path)) loose);
+  named = λ name plain there. is.named name plain (subst IsSome (keeps (laid_path name) (laid_within name)) there);
+  loose = λ name plain. no_directory_at (v (laid_path name)) (w (laid_path name)) (keeps (laid_path name) (laid_within name)) (is.loose name plain);
+}

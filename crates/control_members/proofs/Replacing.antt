@@ -1,19 +1,23 @@
 -- New control files in the place of the old ones.
-use Rattle.std.proofs.Common.{◌≡◌, ◌⊎◌, inl, inr, Bool, true, false, not, ◌&&◌, cond, List, Option, Some, None, is_some, IsTrue, refl, sym, ap, ◌∙◌}
+use Rattle.std.proofs.Common.{subst, ◌≡◌, ◌⊎◌, inl, inr, Bool, true, false, not, ◌&&◌, cond, List, Option, Some, None, is_some, IsTrue, refl, sym, ap, ◌∙◌}
 use Rattle.std.proofs.lemmas.Bool.{true≢false}
 use Rattle.host_core.proofs.Nodes.{none_there}
 use Rattle.host_core.specs.Paths.{Path}
-use Rattle.host_core.specs.World.{World}
+use Rattle.host_core.specs.World.{World, IsDirectory}
 use Rattle.host_core.specs.Host.{State, Since}
 use Rattle.host_core.specs.Moments.{since_then, since_weaker, since_weaker_if}
 use Rattle.host_core.specs.declared.node.Node.{Node}
+use Rattle.administration.specs.Places.{info_path, temporary}
+use Rattle.administration.specs.Files.{NoDirectory}
 use Rattle.administration.proofs.WholeFiles.{no_directory_none, no_directory_at}
 use Rattle.control_members.specs.Names.{is_member_name}
 use Rattle.control_members.specs.Members.{member_node}
-use Rattle.control_members.specs.Stored.{stored_member_path, AreStoredNames, AreReplaced, AreReplacing, AreTaken, AreTaking, AreStored, is_among, over, IsSpare}
+use Rattle.control_members.specs.Stored.{stored_member_path, AreStoredNames, AreReplaced, AreReplacing, AreTaken, AreTaking, AreStored, is_among, over, IsSpare, IsMembersReady}
 use Rattle.control_members.specs.Written.{AreWritten, AreWriting}
 use Rattle.control_members.specs.declared.member.Member.{Member}
 use Rattle.control_members.proofs.Drawn.{contains_any}
+use Rattle.control_members.proofs.Lookup.{loose_at}
+use Rattle.control_members.proofs.Writing.{keeps_info, spare_free}
 use Rattle.control_members.proofs.Apart.{spare_apart}
 
 -- the names that go: those of old ones that no new one has
@@ -83,3 +87,27 @@ stored_whole owner new names before now stored replaced = λ name member. replac
     at name member (Some x) among e = refl
     at name member None true e = refl
     at name member None false e = none_there (before (stored_member_path owner name)) (λ some. true≢false (sym (contains_any names name ((stored.exact name).1 (member, some))) ∙ e))
+
+-- still no directory is in the way
+
+replaced_free : (n : Option Node) (among : Bool) (before now : Option Node) → NoDirectory n → NoDirectory before → (now ≡ before) ⊎ (now ≡ over n (cond among None before)) → NoDirectory now
+replaced_free n among before now whole free (inl e) = no_directory_at now before e free
+replaced_free (Some x) among before now whole free (inr e) = no_directory_at now (Some x) e whole
+replaced_free None true before now whole free (inr e) = no_directory_at now None e no_directory_none
+replaced_free None false before now whole free (inr e) = no_directory_at now before e free
+
+pub replacing_ready : (owner : Path) (new : List Member) (names : List Path) (before now : World) → AreReplacing owner new names before now → IsMembersReady owner before → IsMembersReady owner now
+replacing_ready owner new names before now is ready = record {
+  info = subst IsDirectory (sym (keeps_info owner before now is.rest)) ready.info;
+  own = λ name member. replaced_free (member_node new name) (is_among names name) (before (stored_member_path owner name)) (now (stored_member_path owner name)) (loose_at new name) (ready.own name member) (is.own name member);
+  spares = λ name member. spare_free owner (member_node new name) _ _ (ready.spares name member) (is.spares name member);
+}
+
+pub ready_beside : (owner : Path) (before now : World) → now info_path ≡ before info_path
+    → ((name : Path) → is_member_name name ≡ true → (now (stored_member_path owner name) ≡ before (stored_member_path owner name)) × (now (temporary (stored_member_path owner name)) ≡ before (temporary (stored_member_path owner name))))
+    → IsMembersReady owner before → IsMembersReady owner now
+ready_beside owner before now info same ready = record {
+  info = subst IsDirectory (sym info) ready.info;
+  own = λ name member. no_directory_at _ _ (same name member).0 (ready.own name member);
+  spares = λ name member. no_directory_at _ _ (same name member).1 (ready.spares name member);
+}

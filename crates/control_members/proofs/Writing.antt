@@ -103,7 +103,7 @@ module _ (owner : Path) where
   own_free None before now whole free (inr e) = no_directory_at now before e free
   own_free (Some x) before now whole free (inr e) = no_directory_at now (Some x) e whole
 
-  spare_free : (n before now : Option Node) → NoDirectory before → IsSpare n before now → NoDirectory now
+  pub spare_free : (n before now : Option Node) → NoDirectory before → IsSpare n before now → NoDirectory now
   spare_free None before now free e = no_directory_at now before e free
   spare_free (Some x) before now free e = e
 

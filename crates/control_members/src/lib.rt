@@ -10,7 +10,9 @@ mod names;
 mod stored;
 
 pub use incoming::{clear_away, lay_out};
-pub use laws::{control_members_are_apart, scripts_leave_control_members};
+pub use laws::{
+    control_members_are_apart, control_members_stay_ready, scripts_leave_control_members,
+};
 pub use member::Member;
 pub use members::Members;
 pub use names::is_member_name;

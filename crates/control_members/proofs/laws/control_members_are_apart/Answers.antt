@@ -1,4 +1,4 @@
-use Rattle.control_members.proofs.Apart.{no_list, no_temporary, same_stored}
+use Rattle.control_members.proofs.Apart.{no_list, no_temporary, same_stored, no_list_temporary, same_of_temporaries}
 use Rattle.control_members.proofs.Replacing.{stored_whole}
 use Rattle.control_members.proofs.laws.control_members_are_apart.Goals as goal
 
@@ -13,3 +13,9 @@ returns-clause-others c = same_stored
 
 pub returns-clause-whole : goal.returns-clause-whole
 returns-clause-whole c = stored_whole
+
+pub returns-clause-list_spare : goal.returns-clause-list_spare
+returns-clause-list_spare c = no_list_temporary
+
+pub returns-clause-spares : goal.returns-clause-spares
+returns-clause-spares c = same_of_temporaries
