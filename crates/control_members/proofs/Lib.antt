@@ -1,0 +1,12 @@
+pub mod MemberNames
+pub mod Apart
+pub mod Order
+pub mod Finding
+pub mod Lookup
+pub mod Drawn
+pub mod Cutting
+pub mod Starting
+pub mod Writing
+pub mod Taking
+pub mod Replacing
+pub mod LaidOut

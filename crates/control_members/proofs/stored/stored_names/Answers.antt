@@ -1,0 +1,14 @@
+use Rattle.std.proofs.Common.{◌≡◌, ◌↔◌, true, subst, Contains}
+use Rattle.host_core.specs.Tree.{IsListing}
+use Rattle.control_members.proofs.Drawn.{entered, stored_listed}
+use Rattle.control_members.proofs.stored.stored_names.Goals as goal
+
+pub returns-clause-stored : goal.returns-clause-stored
+returns-clause-stored g c = λ h.
+    let w = (g.H.Host.state c.args.host.now).world in
+    let owner = c.args.owner.now in
+    let names = c.in_ok-names_among.field-0 in
+    let entries = c.in_ok-listing.listing.names in
+    let listing = subst (λ d. IsListing w d entries c.in_ok-listing.listing.bad) c.in_ok-info.ensures (c.in_ok-listing.ensures.listed h) in
+    stored_listed w owner entries names c.in_ok-listing.listing.bad c.requires.named listing c.in_ok-names_among.ensures.order
+    (λ name. subst (λ l. Contains names name ↔ (entered owner l name ≡ true)) c.as_slice.ensures (c.in_ok-names_among.ensures.exact name))

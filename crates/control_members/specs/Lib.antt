@@ -1,0 +1,6 @@
+pub mod Names
+pub mod Members
+pub mod Stored
+pub mod LaidOut
+pub mod Places
+pub mod Written
