@@ -1,0 +1,8 @@
+pub mod Works
+pub mod Looking
+pub mod Cutting
+pub mod Sounds
+pub mod Indexing
+pub mod Readiness
+pub mod Unseen
+pub mod Ordering
