@@ -1,4 +1,4 @@
-pub mod Works
+pub mod WorkLists
 pub mod Looking
 pub mod Cutting
 pub mod Sounds

@@ -17,7 +17,7 @@ use Rattle.host_core.specs.Paths.{Path}
 use Rattle.file_works.specs.declared.work.Work.{Work}
 use Rattle.file_works.specs.Files.{Each}
 use Rattle.file_works.specs.Names.{IsBefore, AllInOrder}
-use Rattle.file_check.proofs.Works.{each_of}
+use Rattle.file_check.proofs.WorkLists.{each_of}
 use Rattle.file_check.specs.Ready.{is_one_place}
 
 abbrev pub is_before : Work → Work → Bool

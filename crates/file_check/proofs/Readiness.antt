@@ -1,5 +1,5 @@
 -- What has no step fault can be written.
-use Rattle.std.proofs.Common.{◌≡◌, ◌≢◌, ◌⊎◌, inl, inr, ◌<◌, ℕ, Bool, true, false, List, [], ◌∷◌, ◌++◌, map, length, get_or, Contains, Option, Some, None, Result, Ok, Err, IsTrue, refl, sym, ap, subst, ◌∙◌, arith}
+use Rattle.std.proofs.Common.{◌≡◌, ◌≢◌, ◌⊎◌, inl, inr, ◌<◌, ℕ, Bool, true, false, List, [], ◌∷◌, ◌++◌, map, length, get_or, Contains, Option, Some, None, is_some, Result, Ok, Err, IsTrue, refl, sym, ap, subst, ◌∙◌, arith}
 use Rattle.std.specs.Prelude.{◌||◌, ◌&&◌, cond, nat_eq, IfOk, IfNone, IfSome, MatchOption}
 use Rattle.std.specs.Str.{bytes_eq}
 use Rattle.std.specs.List.{IsDistinct, AllByRecursion, list_any, list_all}
@@ -17,7 +17,11 @@ use Rattle.host_core.specs.declared.node.Node.{Node}
 use Rattle.host_core.specs.declared.node.Node.TheVariants.{File, Dir, Link}
 use Rattle.host_core.proofs.ShipNames.{ships}
 use Rattle.diversions.specs.Sights.{is_directory_kind}
+use Rattle.host_core.specs.declared.node.Kind.{Kind}
 use Rattle.unwind_stack.specs.declared.fall.StepFault.{StepFault}
+use Rattle.unwind_stack.specs.declared.fall.StepFault.TheVariants.{LinkParent, NoParent, DirInWay, Clash}
+use Rattle.file_check.specs.declared.above.Above.{Above}
+use Rattle.file_check.specs.declared.above.Above.TheVariants as kind_above
 use Rattle.file_works.specs.declared.work.Work.{Work}
 use Rattle.file_works.specs.Files.{cleared, Each, is_written}
 use Rattle.file_works.specs.Free.{IsFree, IsFreeIn, IsSeen}
@@ -26,7 +30,7 @@ use Rattle.file_check.specs.Above.{Becomes, IsClear}
 use Rattle.file_check.specs.Ways.{in_way, in_way_at, at_names, is_diverted}
 use Rattle.file_check.specs.Clashes.{Owning, first_clash, some_if, claims, rival, clash_by, clash_at}
 use Rattle.file_check.specs.Index.{makes_directory, is_made, is_made_by, is_place, is_twice, AllOutside}
-use Rattle.file_check.specs.Sound.{IsSound, AreSound, AllSound, IsFirstFault}
+use Rattle.file_check.specs.Sound.{IsSound, AreSound, AllSound, IsFirstFault, fault_by}
 use Rattle.file_check.specs.Ready.{IsFitting, is_one_place}
 
 or_left : (a b : Bool) → (a || b) ≡ false → a ≡ false
@@ -184,8 +188,22 @@ distinct_all : (ss : List Work) → AllOutside (is_twice ss) ss → IsDistinct i
 distinct_all ss outside = once_all (is_twice ss) ss (λ q e. e) outside
 
 -- what doesn't clash is shipped once
-pub once_by : (o : Owning) (twice : Path → Bool) (s : Work) (w : World) → clash_at o twice w s ≡ None → twice s.place ≡ false
-once_by o twice s w none = no_twice (some_if (claims s.node (kind_of (w s.place))) (rival o s.place)) (twice s.place) o.incoming none
+once_by : (o : Owning) (twice : Path → Bool) (s : Work) (place : Option Kind) → clash_by o twice s place ≡ None → twice s.place ≡ false
+once_by o twice s place none = no_twice (some_if (claims s.node place) (rival o s.place)) (twice s.place) o.incoming none
+
+some_fault : (fault : StepFault) → Some fault ≡ None → ⊥
+some_fault fault e = true≢false (ap is_some e)
+
+none_by : (p : Path) (above : Above) (way : Bool) (clash : Option (List ℕ)) → fault_by p above way clash ≡ None → clash ≡ None
+none_by p kind_above.Link way clash e = absurd (some_fault (LinkParent p) e)
+none_by p kind_above.Lacking way clash e = absurd (some_fault (NoParent p) e)
+none_by p kind_above.Directories true clash e = absurd (some_fault (DirInWay p) e)
+none_by p kind_above.Directories false None e = refl
+none_by p kind_above.Directories false (Some owner) e = absurd (some_fault (Clash p owner) e)
+
+pub once_told : (o : Owning) (twice : Path → Bool) (s : Work) (place : Option Kind) (above : Above) (way : Bool) (found : Option StepFault) → found ≡ fault_by s.path above way (clash_by o twice s place) → IfNone found (twice s.place ≡ false)
+once_told o twice s place above way None told = once_by o twice s place (none_by s.path above way (clash_by o twice s place) (sym told))
+once_told o twice s place above way (Some fault) told = tt
 
 -- of an answer
 
@@ -215,6 +233,9 @@ module _ (o : Owning) (w : World) (ss : List Work) where
   told_sound (Ok None) sound = sound
   told_sound (Ok (Some x)) sound = tt
   told_sound (Err x) sound = tt
+
+pub told_in : (o : Owning) (ss : List Work) (v w : World) (result : Answer) → v ≡ w → IfOk result (IsTold o ss v) → IfOk result (IsTold o ss w)
+told_in o ss v w result same told = subst (λ (u : World). IfOk result (IsTold o ss u)) same told
 
 pub told_always : (P : Type 0) (result : Answer) → P → IfOk result (λ found. IfNone found P)
 told_always P (Ok None) is = is

@@ -13,14 +13,14 @@ use Rattle.file_check.specs.Ways.{in_way_at}
 use Rattle.file_check.specs.Clashes.{Owning, clash_at}
 use Rattle.file_check.specs.Index.{AllOutside}
 use Rattle.file_check.specs.Sound.{IsSound, IsFaultOf, AreSound, IsFirstOf, fault_by}
-use Rattle.file_check.proofs.Works.{whole_is, front_is}
+use Rattle.file_check.proofs.WorkLists.{whole_is, front_is}
 
 module _ (o : Owning) (made twice : Path → Bool) (w : World) where
   -- what is seen gives the first fault
   judged : (s : Work) (above : Above) (way : Bool) (clash : Option (List ℕ)) → IsAbove made w s.place above → way ≡ in_way_at w s → clash ≡ clash_at o twice w s
       → MatchOption (fault_by s.path above way clash) (IsSound o made twice w s) (IsFaultOf o made twice w s)
   judged s above.Link way clash is way_is clash_is = (refl, is)
-  judged s above.Lacking way clash is way_is clash_is = (refl, is)
+  judged s above.Lacking way clash is way_is clash_is = (refl, is.0, is.1)
   judged s above.Directories true clash is way_is clash_is = (refl, is, sym way_is)
   judged s above.Directories false None is way_is clash_is = record { above = is; way = sym way_is; clash = sym clash_is }
   judged s above.Directories false (Some owner) is way_is clash_is = (refl, is, sym way_is, sym clash_is)

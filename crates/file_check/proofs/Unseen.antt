@@ -13,7 +13,7 @@ use Rattle.file_check.specs.Index.{makes_directory, is_made, is_place, is_twice}
 use Rattle.file_check.specs.Ready.{unseen, IsSameBut}
 use Rattle.file_check.specs.Sound.{IsSound, IsFaultOf, IsFirstOf, IsFirstFault}
 use Rattle.file_check.proofs.Readiness.{IsTold}
-use Rattle.file_check.proofs.Works.{head_same, tail_same}
+use Rattle.file_check.proofs.WorkLists.{head_same, tail_same}
 
 made_unseen : (xs ys : List Work) (w : World) (q : Path) → map unseen ys ≡ map unseen xs → is_made ys w q ≡ is_made xs w q
 made_unseen [] [] w q same = refl

@@ -29,7 +29,7 @@ owning entries lists yields incoming = record { entries = entries; lists = lists
 
 -- a package other than the incoming one that doesn't yield
 abbrev pub is_rival : Owning → List ℕ → Bool
-is_rival o name = not (bytes_eq name o.incoming) && not (list_any (λ y. bytes_eq y name) o.yields)
+is_rival o name = not (bytes_eq name o.incoming) && not (list_any (bytes_eq name) o.yields)
 
 -- the first of these that is one
 abbrev pub first_rival : Owning → List Listed → Option (List ℕ)

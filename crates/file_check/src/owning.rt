@@ -1,7 +1,7 @@
 // Who has which places.
 ghost use Rattle.std.specs.Prelude.{◌≡◌, IfOk};
-ghost use Rattle.file_lists.specs.declared.paths.Listed.{Listed as AListed};
-ghost use Rattle.std.specs.Prelude.{List};
+ghost use Rattle.std.specs.List.{list_any};
+ghost use Rattle.std.specs.Str.{bytes_eq};
 ghost use Rattle.file_check.specs.Clashes.{first_rival, is_rival, rival};
 
 use diversions::Diversions;
@@ -12,6 +12,7 @@ use std::marker::Model;
 use texts::Text;
 
 /// The lists and diversions, the packages with which no path clashes, and the incoming package.
+#[derive(Drop)]
 pub(crate) struct Owning<'a> {
     pub lists: &'a FileLists,
     pub diversions: &'a Diversions,
@@ -27,12 +28,26 @@ impl<'a> Model for Owning<'a> {
     ghost view = { λ o. owning o.diversions.now.entries o.lists.now.lists o.yields.now o.incoming.now };
 }
 
+fn is_one_of(names: &[Text], name: &Text) -> bool
+    ensures { result ≡ list_any (bytes_eq name.now) names.now }
+{
+    names.iter().any(|one| name.as_str() == one.as_str())
+}
+
+fn is_same(name: &Text, other: &Text) -> bool
+    ensures { result ≡ bytes_eq name.now other.now }
+{
+    name.as_str() == other.as_str()
+}
+
 impl<'a> Owning<'a> {
     // Whether a path may clash with a package.
     fn is_rival(&self, name: &Text) -> bool
         ensures { result ≡ is_rival self.now name.now }
     {
-        !name.is(self.incoming) && !self.yields.iter().any(|one| one.is(name))
+        let own = is_same(name, self.incoming);
+        let yields = is_one_of(self.yields, name);
+        !own && !yields
     }
 
     fn first_rival(&self, owners: &[Listed]) -> Result<Option<Text>, AllocError>
