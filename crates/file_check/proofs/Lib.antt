@@ -4,5 +4,6 @@ pub mod Cutting
 pub mod Sounds
 pub mod Indexing
 pub mod Readiness
+pub mod Shipping
 pub mod Unseen
 pub mod Ordering

@@ -1,16 +1,15 @@
 -- What has no step fault can be written.
-use Rattle.std.proofs.Common.{◌≡◌, ◌≢◌, ◌⊎◌, inl, inr, ◌<◌, ℕ, Bool, true, false, List, [], ◌∷◌, ◌++◌, map, length, get_or, Contains, Option, Some, None, is_some, Result, Ok, Err, IsTrue, refl, sym, ap, subst, ◌∙◌, arith}
-use Rattle.std.specs.Prelude.{◌||◌, ◌&&◌, cond, nat_eq, IfOk, IfNone, IfSome, MatchOption}
+use Rattle.std.proofs.Common.{◌≡◌, ◌⊎◌, inl, inr, ℕ, Bool, true, false, List, [], ◌∷◌, ◌++◌, Contains, Option, Some, None, is_some, Result, Ok, Err, IsTrue, refl, sym, ap, subst, ◌∙◌, arith}
+use Rattle.std.specs.Prelude.{◌||◌, ◌&&◌, cond, nat_eq, IfOk, IfNone, MatchOption}
 use Rattle.std.specs.Str.{bytes_eq}
-use Rattle.std.specs.List.{IsDistinct, AllByRecursion, list_any, list_all}
-use Rattle.std.specs.BTreeSet.{contains_text}
+use Rattle.std.specs.List.{IsDistinct, AllByRecursion, list_all}
 use Rattle.std.specs.Ordering.{is_lt, nat_cmp}
 use Rattle.std.specs.Cmp.Lexicographic.{slice_cmp}
 use Rattle.std.proofs.lemmas.Bool.{true≢false, false≢true, eqb-true, and_parts}
 use Rattle.std.proofs.lemmas.List.Elements.{Contains-append_cases, Contains-push_cases}
 use Rattle.std.proofs.lemmas.Slice.Eq.{bytes_eq-Decides}
 use Rattle.host_core.specs.Paths.{Path, is_rooted, is_component, components}
-use Rattle.host_core.specs.World.{World, IsDirectory, is_file, kind_of}
+use Rattle.host_core.specs.World.{World, is_file, kind_of}
 use Rattle.host_core.specs.declared.fault.HostFault.{HostFault}
 use Rattle.host_core.specs.declared.node.Access.{Access}
 use Rattle.host_core.specs.declared.node.Node.{Node}
@@ -26,9 +25,8 @@ use Rattle.file_works.specs.declared.work.Work.{Work}
 use Rattle.file_works.specs.Files.{cleared, Each, is_written}
 use Rattle.file_works.specs.Free.{IsFree, IsFreeIn, IsSeen}
 use Rattle.file_works.specs.Names.{IsNamed, IsHomed, HasMaker}
-use Rattle.file_check.specs.Above.{Becomes, IsClear}
-use Rattle.file_check.specs.Ways.{in_way, in_way_at, at_names, is_diverted}
-use Rattle.file_check.specs.Clashes.{Owning, first_clash, some_if, claims, rival, clash_by, clash_at}
+use Rattle.file_check.specs.Ways.{in_way, at_names, is_diverted}
+use Rattle.file_check.specs.Clashes.{Owning, first_clash, some_if, claims, rival, clash_by}
 use Rattle.file_check.specs.Index.{makes_directory, is_made, is_made_by, is_place, is_twice, AllOutside}
 use Rattle.file_check.specs.Sound.{IsSound, AreSound, AllSound, IsFirstFault, fault_by}
 use Rattle.file_check.specs.Ready.{IsFitting, is_one_place}

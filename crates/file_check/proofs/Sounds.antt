@@ -1,10 +1,9 @@
 -- Shipped paths that are looked at one after another, and the first fault of one.
-use Rattle.std.proofs.Common.{◌≡◌, ◌⊎◌, inl, inr, ℕ, ◌+◌, ◌<◌, Bool, true, false, List, [], ◌∷◌, ◌++◌, map, length, get_or, take, drop, Option, Some, None, refl, sym, ap, subst, ◌∙◌, IsTrue}
-use Rattle.std.specs.Prelude.{MatchOption, IfNone, IfSome}
+use Rattle.std.proofs.Common.{◌≡◌, inl, inr, ℕ, ◌+◌, ◌<◌, Bool, true, false, List, [], ◌∷◌, ◌++◌, length, get_or, take, drop, Option, Some, None, refl, sym, subst}
+use Rattle.std.specs.Prelude.{MatchOption}
 use Rattle.host_core.specs.Paths.{Path}
 use Rattle.host_core.specs.World.{World}
 use Rattle.unwind_stack.specs.declared.fall.StepFault.{StepFault}
-use Rattle.unwind_stack.specs.declared.fall.StepFault.TheVariants.{LinkParent, NoParent, DirInWay, Clash}
 use Rattle.file_works.specs.declared.work.Work.{Work}
 use Rattle.file_check.specs.declared.above.Above.{Above}
 use Rattle.file_check.specs.declared.above.Above.TheVariants as above

@@ -1,6 +1,6 @@
 -- The first fault of works is the same whatever was seen of them.
-use Rattle.std.proofs.Common.{◌≡◌, ◌⊎◌, inl, inr, ℕ, Bool, List, [], ◌∷◌, map, length, Option, Some, None, Result, Ok, Err, refl, sym, ap, subst, ◌∙◌, arith}
-use Rattle.std.specs.Prelude.{◌||◌, ◌&&◌, IfOk, IfSome, MatchOption}
+use Rattle.std.proofs.Common.{◌≡◌, inl, inr, Bool, List, [], ◌∷◌, map, length, Option, Some, None, Result, Ok, Err, refl, ap, subst, arith}
+use Rattle.std.specs.Prelude.{◌||◌, ◌&&◌, IfOk, IfSome}
 use Rattle.std.specs.Str.{bytes_eq}
 use Rattle.host_core.specs.Paths.{Path}
 use Rattle.host_core.specs.World.{World, kind_of}
@@ -71,8 +71,8 @@ module _ (o : Owning) (made twice : Path → Bool) (w : World) where
 first_unseen : (o : Owning) (w : World) (xs ys : List Work) (fault : StepFault) → map unseen ys ≡ map unseen xs → IsFirstFault o ys w fault → IsFirstFault o xs w fault
 first_unseen o w xs ys fault same is =
     first_same o (is_made xs w) (is_twice xs) w xs ys fault same
-      (subst (λ (m : Path → Bool). IsFirstOf o m (is_twice xs) w ys fault) (λ i q. made_unseen xs ys w q same i)
-        (subst (λ (t : Path → Bool). IsFirstOf o (is_made ys w) t w ys fault) (λ i q. twice_unseen xs ys q same i) is))
+    (subst (λ (m : Path → Bool). IsFirstOf o m (is_twice xs) w ys fault) (λ i q. made_unseen xs ys w q same i)
+    (subst (λ (t : Path → Bool). IsFirstOf o (is_made ys w) t w ys fault) (λ i q. twice_unseen xs ys q same i) is))
 
 pub told_fault : (o : Owning) (w : World) (old new : List Work) (result : Result (Option StepFault) HostFault) → IsSameBut old new → IfOk result (IsTold o new w) → IfOk result (λ found. IfSome found (IsFirstFault o old w))
 told_fault o w old new (Ok None) same is = tt

@@ -50,11 +50,7 @@ fn add_place(
     add(alloc, once, place)
 }
 
-fn add_maker(
-    alloc: Global,
-    made: &mut BTreeSet<String>,
-    work: &Work,
-) -> Result<(), AllocError>
+fn add_maker(alloc: Global, made: &mut BTreeSet<String>, work: &Work) -> Result<(), AllocError>
     ensures { OnOk result ((q : List ℕ) → contains_text made.new q ≡ (contains_text made.old q || (bytes_eq q work.now.target && makes_directory work.now.node work.now.had))) }
 {
     if !makes_directory(&work.node, work.had) {

@@ -51,6 +51,25 @@ pub fn shipped_work(
     Work::new(path, place, node, is_conffile)
 }
 
+fn shipped_works(
+    alloc: Global,
+    name: &Text,
+    diversions: &Diversions,
+    files: Vec<(ShipPath, Node)>,
+    conffiles: &[ShipPath],
+) -> Result<Vec<Work>, AllocError>
+    requires order { AreIncreasing conffiles.now }
+    ensures works { IfOk result (λ works. works.items ≡ shipped_works diversions.now.entries name.now conffiles.now files.items) }
+    ensures named { IfOk result (λ works. Each IsNamed works.items) }
+{
+    let mut works = Vec::with_capacity(alloc, files.len())?;
+    for (path, node) in files {
+        let is_conffile = is_conffile(conffiles, &path);
+        works.push(shipped_work(name, diversions, &path, node, is_conffile)?)?;
+    }
+    Ok(works)
+}
+
 /// The works of what a package ships, in the order given, with its conffiles in path order.
 pub fn works_of(
     alloc: Global,
@@ -65,10 +84,5 @@ pub fn works_of(
     ensures named { IfOk result (λ works. Each IsNamed works.items) }
     ensures fitting { IfOk result (λ works. Each IsFitting works.items) }
 {
-    let mut works = Vec::with_capacity(alloc, files.len())?;
-    for (path, node) in files {
-        let is_conffile = is_conffile(conffiles, &path);
-        works.push(shipped_work(name, diversions, &path, node, is_conffile)?)?;
-    }
-    Ok(works)
+    shipped_works(alloc, name, diversions, files, conffiles)
 }

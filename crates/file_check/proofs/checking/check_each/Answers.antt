@@ -39,9 +39,9 @@ loop-one-preserved g c =
     let within : i < length works = omega arith in
     record {
       sound = λ h.
-      let told = subst (λ (v : World). MatchOption c.in_ok-fault.field-0 (IsSound o made twice v s) (IsFaultOf o made twice v s)) inv.reads.world (c.in_ok-fault.ensures.found h) in
-      let is = subst (λ (f : Option StepFault). MatchOption f (IsSound o made twice w s) (IsFaultOf o made twice w s)) c.in_default.is told in
-      sound_next o made twice w works i s within c.one-item.is (inv.sound (c.check_one.ensures.silent.honest h)) is;
+          let told = subst (λ (v : World). MatchOption c.in_ok-fault.field-0 (IsSound o made twice v s) (IsFaultOf o made twice v s)) inv.reads.world (c.in_ok-fault.ensures.found h) in
+          let is = subst (λ (f : Option StepFault). MatchOption f (IsSound o made twice w s) (IsFaultOf o made twice w s)) c.in_default.is told in
+          sound_next o made twice w works i s within c.one-item.is (inv.sound (c.check_one.ensures.silent.honest h)) is;
       apart = outside_next twice works i s within c.one-item.is inv.apart (subst (λ (f : Option StepFault). IfNone f (twice s.place ≡ false)) c.in_default.is c.in_ok-fault.ensures.apart);
       reads = reads_then _ _ _ inv.reads c.check_one.ensures.reads;
       silent = silent_then _ _ _ inv.silent c.check_one.ensures.silent;

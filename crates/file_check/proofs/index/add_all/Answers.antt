@@ -1,4 +1,4 @@
-use Rattle.std.proofs.Common.{◌<◌, List, ℕ, length, arith}
+use Rattle.std.proofs.Common.{◌<◌, length, arith}
 use Rattle.std.specs.BTreeSet.{contains_text}
 use Rattle.file_check.proofs.Indexing.{place_next, twice_next, made_next}
 use Rattle.file_check.proofs.index.add_all.Goals as goal

@@ -1,4 +1,4 @@
-use Rattle.std.proofs.Common.{◌≡◌, Bool, sym, ap, subst, ◌∙◌}
+use Rattle.std.proofs.Common.{◌≡◌, Bool, subst, ◌∙◌}
 use Rattle.std.specs.Prelude.{MatchOption, IfOk, IfNone}
 use Rattle.std.specs.BTreeSet.{contains_text}
 use Rattle.host_core.specs.Paths.{Path}
@@ -16,8 +16,8 @@ returns-clause-found g c = λ h.
     let made : contains_text c.in_ok-index.index.made ≡ is_made works w = λ i q. (c.in_ok-index.ensures.made q ∙ made_seen works w q seen) i in
     let twice : contains_text c.in_ok-index.index.twice ≡ is_twice works = λ i q. c.in_ok-index.ensures.twice q i in
     subst (λ (t : Path → Bool). IfOk c.check_each.result (λ found. MatchOption found (AreSound o (is_made works w) t w works) (IsFirstOf o (is_made works w) t w works))) twice
-      (subst (λ (m : Path → Bool). IfOk c.check_each.result (λ found. MatchOption found (AreSound o m (contains_text c.in_ok-index.index.twice) w works) (IsFirstOf o m (contains_text c.in_ok-index.index.twice) w works))) made
-        (c.check_each.ensures.found h))
+    (subst (λ (m : Path → Bool). IfOk c.check_each.result (λ found. MatchOption found (AreSound o m (contains_text c.in_ok-index.index.twice) w works) (IsFirstOf o m (contains_text c.in_ok-index.index.twice) w works))) made
+    (c.check_each.ensures.found h))
 
 pub returns-clause-distinct : goal.returns-clause-distinct
 returns-clause-distinct g c =
