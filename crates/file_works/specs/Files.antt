@@ -1,7 +1,7 @@
 -- What the files of a package leave at their places, as relations of the worlds before and after.
 use Rattle.std.specs.Prelude.{◌≡◌, ◌≢◌, ◌⊎◌, Bool, true, false, List, [], ◌∷◌, Option, Some, None, IsTrue}
 use Rattle.host_core.specs.Paths.{Path}
-use Rattle.host_core.specs.World.{World, IsBare}
+use Rattle.host_core.specs.World.{World, IsBare, IsDirectory}
 use Rattle.host_core.specs.declared.node.Access.{Access}
 use Rattle.host_core.specs.declared.node.Node.{Node}
 use Rattle.host_core.specs.declared.node.Node.TheVariants.{File, Dir, Link}
@@ -85,12 +85,20 @@ pub record PutBack (works : List Work) (old mid new : World) : Type 0 where
   pub each : Each (HasPutBack old new) works
   pub rest : (q : Path) → Each (λ x. Misses x q) works → new q ≡ mid q
 
--- At any moment: the target has what it had or the shipped node, never a part of one, and what it had is at the target or the
+-- the shipped node stands there; the access of a directory is set last
+abbrev pub IsShown : Node → Option Node → Type 0
+IsShown (File b m) there = there ≡ Some (File b m)
+IsShown (Dir m) there = IsDirectory there
+IsShown (Link t) there = there ≡ Some (Link t)
+
+-- At any moment the target has what it had or the shipped node, never a part of one, and what it had is at the target or the
 -- backup. It is missing only where a directory takes the place of a file.
-pub record IsWhole (old now : World) (x : Work) : Type 0 where
-  pub stage : (now x.target ≡ old x.target)
-      ⊎ ((((access : Access) × (x.node ≡ Dir access)) × (now x.target ≡ None) × (now x.backup ≡ old x.target))
-      ⊎ ((now x.target ≡ Some x.node) × (now x.backup ≡ saved true (old x.target) (old x.backup))))
+pub data IsWhole (old now : World) (x : Work) : Type 0 where
+  before : now x.target ≡ old x.target → IsWhole old now x
+  between : (access : Access) → x.node ≡ Dir access → IsTrue (is_written x.node (old x.target))
+      → now x.target ≡ None → now x.backup ≡ old x.target → IsWhole old now x
+  behind : IsTrue (is_written x.node (old x.target)) → IsShown x.node (now x.target)
+      → now x.backup ≡ saved true (old x.target) (old x.backup) → IsWhole old now x
 
 -- of files written from the world old, at a moment of work that began in the world mid
 pub record IsAmid (works : List Work) (old mid now : World) : Type 0 where

@@ -1,0 +1,9 @@
+pub mod WorkNames
+pub mod WorkLists
+pub mod Written
+pub mod OnePath
+pub mod WriteLists
+pub mod WriteMoments
+pub mod Bareness
+pub mod BackOne
+pub mod BackLists
