@@ -1,21 +1,21 @@
 -- What holds of works in one order holds in another.
-use Rattle.std.proofs.Common.{◌≡◌, ◌⊎◌, inl, inr, ◌<◌, ℕ, List, [], ◌∷◌, ◌++◌, map, take, drop, length, Option, None, Contains, IsTrue, refl, sym, ap, subst, ◌∙◌, arith}
+use Rattle.std.proofs.Common.{◌≡◌, inl, inr, ℕ, List, [], ◌∷◌, ◌++◌, map, take, drop, length, Option, None, Contains, IsTrue, refl, sym, ap, subst, ◌∙◌, arith}
 use Rattle.std.specs.Prelude.{IfNone}
-use Rattle.std.specs.List.{All, AllByRecursion}
+use Rattle.std.specs.List.{AllByRecursion}
 use Rattle.std.proofs.Math.Seq.{take-append_seam}
 use Rattle.std.proofs.lemmas.List.{length-map}
 use Rattle.unwind_stack.specs.declared.fall.StepFault.{StepFault}
 use Rattle.file_check.specs.Ready.{unseen, IsSameBut}
 use Rattle.file_steps.specs.Unpacked.{IsRearranged}
 use Rattle.std.specs.List.Sorted.{IsPermutation}
-use Rattle.std.proofs.lemmas.List.Elements.{All-from_recursion, recursion_from_All, All-contains, All-contains_itself, Contains-append_left, Contains-append_right}
+use Rattle.std.proofs.lemmas.List.Elements.{All-from_recursion, recursion_from_All, All-contains, All-contains_itself, Contains-append_right}
 use Rattle.std.proofs.lemmas.List.Sorted.{All-permutation, IsPermutation-sym, IsPermutation-map}
 use Rattle.host_core.specs.Paths.{Path}
-use Rattle.host_core.specs.World.{World, IsDirectory}
+use Rattle.host_core.specs.World.{World}
 use Rattle.host_core.specs.declared.node.Node.TheVariants.{Dir}
 use Rattle.file_works.specs.declared.work.Work.{Work}
 use Rattle.host_core.specs.declared.node.Access.{Access}
-use Rattle.file_works.specs.Files.{Each, is_written, HasWritten, Written, IsWhole, before, IsAmid}
+use Rattle.file_works.specs.Files.{Each, is_written, Written, IsWhole, before, IsAmid}
 use Rattle.file_works.specs.Free.{IsFreeIn, IsSeen, IsWrittenFrom}
 use Rattle.file_works.specs.Names.{HasMaker, IsHomed}
 use Rattle.file_check.proofs.WorkLists.{each_of}

@@ -1,4 +1,4 @@
-use Rattle.std.proofs.Common.{◌≡◌, ◌++◌, List, length, take, drop, sym, subst, rules}
+use Rattle.std.proofs.Common.{List, sym, subst, rules}
 use Rattle.std.specs.List.Sorted.{IsPermutation}
 use Rattle.host_core.specs.World.{World}
 use Rattle.host_core.specs.Host.{Since}

@@ -1,4 +1,4 @@
-use Rattle.std.proofs.Common.{◌≡◌, List, sym, subst}
+use Rattle.std.proofs.Common.{List, sym, subst}
 use Rattle.file_works.specs.declared.work.Work.{Work}
 use Rattle.file_works.specs.Files.{Each}
 use Rattle.file_works.specs.Free.{IsFreeIn}
