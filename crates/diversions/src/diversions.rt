@@ -152,6 +152,21 @@ impl Diversions {
         }
     }
 
+    /// The same of a path that a package may ship; the place is such a path too.
+    pub fn ship_place<'a>(&'a self, user: &Text, path: &'a ShipPath) -> &'a ShipPath
+        ensures { result.now ≡ spec.place self.now.entries user.now path.now }
+    {
+        match self.table.get(path.as_str()) {
+            None => path,
+            Some(entry) => {
+                if entry.owner.holds_for(user) {
+                    return &entry.target;
+                }
+                path
+            }
+        }
+    }
+
     /// Adds the diversion of a path to a target, and with `rename` moves the file or link at the path there, unless the owner's
     /// list has the path. After an error the value is closed. Stopped on its way, the same command finishes it.
     pub fn add<H: Host>(

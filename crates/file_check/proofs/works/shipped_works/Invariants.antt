@@ -1,0 +1,12 @@
+use Rattle.std.proofs.Common.{◌≡◌, ◌++◌}
+use Rattle.file_works.specs.Files.{Each}
+use Rattle.file_works.specs.Names.{IsNamed}
+use Rattle.file_check.specs.Ships.{shipped_works}
+use Rattle.file_check.proofs.works.shipped_works.Given as goal
+
+abbrev pub invariant-loop-path : goal.invariant-loop-path
+invariant-loop-path l = record {
+  works : l.works.items ≡ shipped_works l.diversions.entries l.name l.conffiles l.yielded;
+  named : Each IsNamed l.works.items;
+  left : l.fn.files.items ≡ l.yielded ++ l.path-iterator.rest.items;
+}

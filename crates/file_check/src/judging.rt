@@ -1,0 +1,50 @@
+// The first fault of a path, by what was seen.
+ghost use Rattle.std.specs.Prelude.{◌≡◌, IfOk};
+ghost use Rattle.std.specs.BTreeSet.{contains_text};
+ghost use Rattle.file_check.specs.Clashes.{clash_by};
+ghost use Rattle.file_check.specs.Sound.{fault_by};
+ghost use Rattle.file_check.specs.Ways.{in_way_by};
+
+use crate::above::Above;
+use crate::clash::clash_of;
+use crate::owning::Owning;
+use crate::sight::{Sight, is_in_way};
+use file_works::Work;
+use host_core::RootPath;
+use std::alloc::{AllocError, Global};
+use std::collections::BTreeSet;
+use texts::Text;
+use unwind_stack::StepFault;
+
+// The order in which faults are looked for.
+fn first_fault(
+    path: &RootPath,
+    above: Above,
+    way: bool,
+    clash: Option<Text>,
+) -> Result<Option<StepFault>, AllocError>
+    ensures { IfOk result (λ found. found ≡ fault_by path.now above way clash) }
+{
+    match (above, way, clash) {
+        (Above::Link, _, _) => Ok(Some(StepFault::LinkParent(path.copy()?))),
+        (Above::Lacking, _, _) => Ok(Some(StepFault::NoParent(path.copy()?))),
+        (Above::Directories, true, _) => Ok(Some(StepFault::DirInWay(path.copy()?))),
+        (Above::Directories, false, Some(owner)) => Ok(Some(StepFault::Clash(path.copy()?, owner))),
+        (Above::Directories, false, None) => Ok(None),
+    }
+}
+
+/// The first fault of a path, by what was seen above it and around it.
+pub(crate) fn judge(
+    alloc: Global,
+    owning: &Owning<'_>,
+    twice: &BTreeSet<String>,
+    shipped: &Work,
+    above: Above,
+    sight: Sight,
+) -> Result<Option<StepFault>, AllocError>
+    ensures { IfOk result (λ found. found ≡ fault_by shipped.now.path above (in_way_by shipped.now shipped.now.had sight) (clash_by owning.now (contains_text twice.now) shipped.now sight.place)) }
+{
+    let clash = clash_of(alloc, owning, twice, shipped, sight.place)?;
+    first_fault(&shipped.path, above, is_in_way(shipped, sight), clash)
+}

@@ -1,0 +1,19 @@
+//! What stands in the way of a package's files, before any of them is written (Policy 6.6, 7.6, 10.1): the first step fault
+//! of the shipped paths, or none.
+#![tactic(auto)]
+
+mod above;
+mod checking;
+mod clash;
+mod index;
+mod judging;
+mod order;
+mod owning;
+mod sight;
+mod targets;
+mod whole;
+mod works;
+
+pub use order::order_works;
+pub use whole::check;
+pub use works::{shipped_work, works_of};
