@@ -5,7 +5,7 @@ pub mod Sets
 pub mod Walks
 pub mod Readable
 pub mod Trims
-pub mod Shipped
+pub mod RootNames
 pub mod FieldsOnce
 pub mod RelationsInOrder
 pub mod OneTree
