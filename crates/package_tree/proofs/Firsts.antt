@@ -20,7 +20,7 @@ use Rattle.package_tree.specs.Shipped.{IsBefore, AreInOrder, AreShipped, IsBadBe
 use Rattle.package_tree.proofs.PathOrder.{before_then, not_before_itself, behind, each_of}
 
 -- an element of a list stands before one place, at it or behind it
-placed : (front rest : List Path) (p q : Path) → Contains (front ++ p ∷ rest) q → Contains front q ⊎ ((p ≡ q) ⊎ Contains rest q)
+pub placed : (front rest : List Path) (p q : Path) → Contains (front ++ p ∷ rest) q → Contains front q ⊎ ((p ≡ q) ⊎ Contains rest q)
 placed front rest p q there = elim (Contains-append_cases front (p ∷ rest) q there) [
   | inl before ↦ inl before
   | inr (zero, lt, is) ↦ inr (inl is)
@@ -28,7 +28,7 @@ placed front rest p q there = elim (Contains-append_cases front (p ∷ rest) q t
 ]
 
 -- the first in an ordered list is the first in path order
-first_in_order : (P : Path → Type 0) (front rest : List Path) (p : Path) → AreInOrder (front ++ p ∷ rest) → ((q : Path) → P q → Contains (front ++ p ∷ rest) q) → P p → ((q : Path) → Contains front q → P q → ⊥) → IsFirstPath P p
+pub first_in_order : (P : Path → Type 0) (front rest : List Path) (p : Path) → AreInOrder (front ++ p ∷ rest) → ((q : Path) → P q → Contains (front ++ p ∷ rest) q) → P p → ((q : Path) → Contains front q → P q → ⊥) → IsFirstPath P p
 first_in_order P front rest p order listed holds none = record {
   holds = holds;
   first = λ q is before. elim (placed front rest p q (listed q is)) [

@@ -10,3 +10,11 @@ pub mod FieldsOnce
 pub mod RelationsInOrder
 pub mod OneTree
 pub mod Passing
+pub mod Ordered
+pub mod Drawn
+pub mod Collected
+pub mod Named
+pub mod Halves
+pub mod Astray
+pub mod OtherPaths
+pub mod OthersTaken

@@ -95,7 +95,7 @@ in_control dir name q path told old is says within = ap (λ b. b || old) (sym (f
     (let parts = and3 (is_path q) (is_control q) (bytes_eq (dir ++ 47 ∷ name) q) t in
     true≢false (sym within ∙ says ∙ ap is_control (is ∙ (bytes_eq-Decides (dir ++ 47 ∷ name) q).0 parts.2) ∙ parts.1)))))
 
-cond_or : (b old : Bool) → cond b true old ≡ (b || old)
+pub cond_or : (b old : Bool) → cond b true old ≡ (b || old)
 cond_or true old = refl
 cond_or false old = refl
 

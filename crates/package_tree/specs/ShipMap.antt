@@ -35,10 +35,10 @@ HasFileAt files q = (file : Shipped) × Contains files file × (file.path ≡ q)
 abbrev pub IsLarge : Option Node → Type 0
 IsLarge node = (bytes : List ℕ) × (access : Access) × (node ≡ Some (File bytes access)) × (67108864 < length bytes)
 
--- the package ships 65,536 paths before this one
-abbrev pub HasAllBefore : World → Path → Type 0
-HasAllBefore w q = (paths : List Path) × (length paths ≡ 65536) × AreInOrder paths × ((p : Path) → Contains paths p → IsShipped w p × IsBefore p q)
+-- the package ships so many paths before this one
+abbrev pub HasBefore : ℕ → World → Path → Type 0
+HasBefore count w q = (paths : List Path) × (length paths ≡ count) × AreInOrder paths × ((p : Path) → Contains paths p → IsShipped w p × IsBefore p q)
 
--- a shipped path is more than a tree may hold
+-- a shipped path is more than a tree may hold: a file of more than 64 MiB, or a path behind 65,536 others
 abbrev pub IsTooLarge : World → Path → Type 0
-IsTooLarge w q = IsShipped w q × (IsLarge (w q) ⊎ HasAllBefore w q)
+IsTooLarge w q = IsShipped w q × (IsLarge (w q) ⊎ HasBefore 65536 w q)

@@ -85,7 +85,10 @@ pub(crate) fn collect<H: Host>(
     ensures counts { Counts (H.state host.old) (H.state host.new) result }
 {
     for (index, path) in paths.iter().enumerate() {
-        if index >= MOST_PATHS || add(alloc, host, path, files)? {
+        if index >= MOST_PATHS {
+            return Ok(Some(path.copy()?));
+        }
+        if add(alloc, host, path, files)? {
             return Ok(Some(path.copy()?));
         }
     }

@@ -22,12 +22,13 @@ fn find<'a>(paths: &'a [RootPath], path: &[u8]) -> Option<&'a RootPath>
     let mut rest = paths;
     while !rest.is_empty() {
         let (front, back) = rest.split_at(rest.len() / 2);
-        match back[0].as_str().as_bytes().cmp(path) {
+        let middle = &back[0];
+        match middle.as_str().as_bytes().cmp(path) {
             Ordering::Less => {
                 rest = &back[1..];
             }
             Ordering::Equal => {
-                return Some(&back[0]);
+                return Some(middle);
             }
             Ordering::Greater => {
                 rest = front;

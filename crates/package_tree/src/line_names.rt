@@ -1,11 +1,11 @@
 // The paths that the lines of `DEBIAN/conffiles` name.
-ghost use Rattle.std.specs.Prelude.{◌≡◌, ◌||◌, true, ℕ, List, IfOk, OnOk, Contains};
+ghost use Rattle.std.specs.Prelude.{◌≡◌, ◌||◌, ◌++◌, ◌∷◌, [], true, ℕ, List, IfOk, OnOk, Contains};
 ghost use Rattle.std.specs.List.{list_any, filter};
 ghost use Rattle.std.specs.Str.{IsUtf8, bytes_eq};
 ghost use Rattle.std.specs.BTreeSet.{contains_text};
 ghost use Rattle.host_core.specs.Paths.{is_ship_text};
 ghost use Rattle.host_core.specs.World.{is_file};
-ghost use Rattle.package_tree.specs.LineNames.{is_named};
+ghost use Rattle.package_tree.specs.LineNames.{is_named, HasTakenPath};
 ghost use Rattle.package_tree.specs.ShipMap.{paths_of, is_file_in};
 ghost use Rattle.package_tree.specs.Shipped.{AreInOrder};
 
@@ -73,6 +73,27 @@ fn is_file(node: &Node) -> bool
     }
 }
 
+fn is_file_in(file: &Shipped, names: &BTreeSet<String>) -> bool
+    ensures { result ≡ is_file_in (contains_text names.now) file.now }
+{
+    is_file(&file.node) && names.contains(file.path.as_str())
+}
+
+// Adds the path of a shipped file that is in a set.
+fn add_file_in(
+    file: &Shipped,
+    names: &BTreeSet<String>,
+    paths: &mut Vec<ShipPath>,
+) -> Result<(), AllocError>
+    ensures { OnOk result (paths.new.items ≡ paths.old.items ++ paths_of (filter (is_file_in (contains_text names.now)) (file.now ∷ []))) }
+{
+    if is_file_in(file, names) {
+        paths.push(file.path.copy()?)?;
+        return Ok(());
+    }
+    Ok(())
+}
+
 /// The paths of the shipped files that are in a set, in their order.
 pub(crate) fn files_in(
     alloc: Global,
@@ -83,25 +104,34 @@ pub(crate) fn files_in(
 {
     let mut paths = Vec::new(alloc);
     for file in files {
-        if is_file(&file.node) && names.contains(file.path.as_str()) {
-            paths.push(file.path.copy()?)?;
-        }
+        add_file_in(file, names, &mut paths)?;
     }
     Ok(paths)
+}
+
+// Adds the path that a text is, if a package may ship it.
+fn add_path(alloc: Global, text: &str, paths: &mut Vec<ShipPath>) -> Result<(), AllocError>
+    ensures { OnOk result (HasTakenPath text.now paths.old.items paths.new.items) }
+{
+    match ShipPath::parse(alloc, text)? {
+        Some(path) => {
+            paths.push(path)?;
+            Ok(())
+        }
+        None => Ok(()),
+    }
 }
 
 /// The texts of a set that are paths which a package may ship, in their order.
 pub(crate) fn in_order(alloc: Global, names: BTreeSet<String>) -> Result<Vec<ShipPath>, AllocError>
     ensures order { IfOk result (λ paths. AreInOrder paths.items) }
-    ensures only { IfOk result (λ paths. (q : List ℕ) → Contains paths.items q → IsUtf8 q × (contains_text names q ≡ true)) }
+    ensures only { IfOk result (λ paths. (q : List ℕ) → Contains paths.items q → contains_text names q ≡ true) }
     ensures whole { IfOk result (λ paths. (q : List ℕ) → contains_text names q ≡ true → is_ship_text q ≡ true → Contains paths.items q) }
 {
     let mut left = names;
     let mut paths = Vec::new(alloc);
     while let Some(text) = left.pop_first() {
-        if let Some(path) = ShipPath::parse(alloc, text.as_str())? {
-            paths.push(path)?;
-        }
+        add_path(alloc, text.as_str(), &mut paths)?;
     }
     Ok(paths)
 }

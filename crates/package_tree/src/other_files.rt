@@ -57,8 +57,8 @@ impl OtherFiles {
         ensures { IfOk result (λ copy. copy ≡ self.now) }
     {
         let mut items = Vec::new(self.alloc);
-        for item in &self.items {
-            items.push(item.copy()?)?;
+        for other in &self.items {
+            items.push(other.copy()?)?;
         }
         Ok(OtherFiles {
             alloc: self.alloc,

@@ -1,5 +1,5 @@
 // The files of `DEBIAN` that are stored as they are.
-ghost use Rattle.std.specs.Prelude.{◌≡◌, ◌&&◌, ◌++◌, ◌∷◌, [], true, ℕ, List, Option, IfOk, OnOk, IsSome, codes};
+ghost use Rattle.std.specs.Prelude.{◌≡◌, ◌&&◌, ◌||◌, ◌++◌, ◌∷◌, [], true, ℕ, List, Option, IfOk, OnOk, IsSome, codes};
 ghost use Rattle.std.specs.List.{list_any};
 ghost use Rattle.std.specs.Str.{bytes_eq};
 ghost use Rattle.std.specs.BTreeSet.{contains_text};
@@ -15,15 +15,24 @@ use std::alloc::{AllocError, Global};
 use std::collections::BTreeSet;
 use texts::Text;
 
+// Adds a name, if it is that of such a file.
+fn add_name(alloc: Global, name: &Text, set: &mut BTreeSet<String>) -> Result<(), AllocError>
+    ensures { OnOk result ((q : List ℕ) → contains_text set.new q ≡ ((is_other_name q && bytes_eq q name.now) || contains_text set.old q)) }
+{
+    if is_other_name(name.as_str()) {
+        set.insert(String::from_str(alloc, name.as_str())?)?;
+        return Ok(());
+    }
+    Ok(())
+}
+
 // The names of such files among others, in their order.
 fn other_names(alloc: Global, names: &[Text]) -> Result<BTreeSet<String>, AllocError>
-    ensures { IfOk result (λ set. (q : List ℕ) → contains_text set q ≡ (is_other_name q && list_any (bytes_eq q) names.now)) }
+    ensures { IfOk result (λ set. (q : List ℕ) → contains_text set q ≡ list_any (λ name. is_other_name q && bytes_eq q name) names.now) }
 {
     let mut set = BTreeSet::new(alloc);
     for name in names {
-        if is_other_name(name.as_str()) {
-            set.insert(String::from_str(alloc, name.as_str())?)?;
-        }
+        add_name(alloc, name, &mut set)?;
     }
     Ok(set)
 }
@@ -33,11 +42,16 @@ fn push(name: Text, node: Option<Node>, others: &mut Vec<OtherFile>) -> Result<(
     requires { is_other_name name ≡ true }
     ensures { OnOk result (HasTakenOther name node others.old.items others.new.items) }
 {
-    if let Some(Node::File { bytes, access }) = node {
-        let node = Node::File { bytes, access };
-        others.push(OtherFile { name, node })?;
+    match node {
+        Some(Node::File { bytes, access }) => {
+            let node = Node::File { bytes, access };
+            others.push(OtherFile { name, node })?;
+            Ok(())
+        }
+        Some(Node::Dir { .. }) => Ok(()),
+        Some(Node::Link { .. }) => Ok(()),
+        None => Ok(()),
     }
-    Ok(())
 }
 
 // Looks at what stands in `DEBIAN` by a name.
@@ -112,6 +126,7 @@ fn listed<H: Host>(
     host: &mut H,
     directory: &RootPath,
 ) -> Result<BTreeSet<String>, HostFault>
+    requires { directory.now ≡ codes "/DEBIAN" }
     ensures named { IfOk result (λ names. (q : List ℕ) → contains_text names q ≡ true → is_other_name q ≡ true) }
     ensures found { Tells result (λ names w. (q : List ℕ) → is_other_name q ≡ true → IsSome (w (directory.now ++ 47 ∷ q)) → contains_text names q ≡ true) (H.state host.old) (H.state host.new) }
     ensures reads { Reads (H.state host.old) (H.state host.new) }

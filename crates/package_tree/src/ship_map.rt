@@ -57,8 +57,8 @@ impl ShipMap {
         ensures { IfOk result (λ copy. copy ≡ self.now) }
     {
         let mut items = Vec::new(self.alloc);
-        for item in &self.items {
-            items.push(item.copy()?)?;
+        for file in &self.items {
+            items.push(file.copy()?)?;
         }
         Ok(ShipMap {
             alloc: self.alloc,

@@ -55,8 +55,8 @@ impl ShipPaths {
         ensures { IfOk result (λ copy. copy ≡ self.now) }
     {
         let mut items = Vec::new(self.alloc);
-        for item in &self.items {
-            items.push(item.copy()?)?;
+        for path in &self.items {
+            items.push(path.copy()?)?;
         }
         Ok(ShipPaths {
             alloc: self.alloc,
