@@ -18,3 +18,5 @@ pub mod Halves
 pub mod Astray
 pub mod OtherPaths
 pub mod OthersTaken
+pub mod Filtered
+pub mod Judged

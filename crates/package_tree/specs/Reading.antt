@@ -8,7 +8,7 @@ use Rattle.package_tree.specs.ConffileFaults.{HasGoodLines, IsOfBoth}
 use Rattle.package_tree.specs.LineNames.{is_named}
 use Rattle.package_tree.specs.OtherFiles.{AreOthers, names_of}
 use Rattle.package_tree.specs.ShipMap.{paths_of, is_file_in, AreFiles, IsTooLarge}
-use Rattle.package_tree.specs.Shipped.{AreInOrder, HasNoPath, IsShipLine}
+use Rattle.package_tree.specs.Shipped.{AreInOrder, ArePathTexts, HasNoPath, IsShipLine}
 use Rattle.package_tree.specs.declared.conffile_lines.Entry.{Entry}
 use Rattle.package_tree.specs.declared.line_names.LineKind.TheVariants.{Plain, Flagged}
 use Rattle.package_tree.specs.declared.reading.Found.{Found}
@@ -32,6 +32,7 @@ pub record IsFound (w : World) (found : Found) : Type 0 where
 -- the parts fit one another, whatever the host told
 pub record IsWhole (lines : Lines) (found : Found) : Type 0 where
   pub order : AreInOrder (paths_of found.files.items)
+  pub texts : ArePathTexts (paths_of found.files.items)
   pub few : length found.files.items ≤ 65536
   pub conffiles : found.conffiles.items ≡ paths_of (filter (is_file_in (contains_text lines.plain)) found.files.items)
   pub flagged : AreInOrder lines.flagged.items

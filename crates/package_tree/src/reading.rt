@@ -349,7 +349,8 @@ fn read_contents<H: Host>(
     ensures counts { CountsTree (H.state host.old) (H.state host.new) result }
 {
     look(alloc, host, contents)?;
-    read_paths(alloc, host, contents, paths)
+    read_paths(alloc, host, contents, paths)?;
+    Ok(())
 }
 
 // What the lines of `conffiles` say.
@@ -384,6 +385,7 @@ fn check_lines<H: Host>(
     lines: &Lines,
 ) -> Result<(), TreeFault>
     requires paths { AreInOrder paths.now }
+    requires texts { ArePathTexts paths.now }
     requires flagged { AreInOrder lines.now.flagged.items }
     requires control { Needs (H.state host.old) HasGoodControl }
     requires good { Needs (H.state host.old) (λ w. AreGoodPaths w paths.now) }
@@ -464,6 +466,7 @@ fn read_found<H: Host>(
     requires files { found.old.files.items ≡ [] }
     requires others { found.old.others.items ≡ [] }
     requires paths { AreInOrder paths.now }
+    requires texts { ArePathTexts paths.now }
     requires flagged { AreInOrder lines.now.flagged.items }
     requires control { Needs (H.state host.old) HasGoodControl }
     requires good { Needs (H.state host.old) (λ w. AreGoodPaths w paths.now) }
