@@ -51,9 +51,9 @@ not_more [] ys ox oy among = omega arith
 not_more (x ∷ xs) [] ox oy among = absurd (none_in x (among x (in_first x xs)))
 not_more (x ∷ xs) (y ∷ ys) ox oy among = elim (first_or_later y ys x (among x (in_first x xs))) [
   | inl same ↦ (let fewer : length xs ≤ length ys = not_more xs ys ox.1 oy.1 (λ q has. elim (first_or_later y ys q (among q (in_later x xs q has))) [
-        | inl is ↦ absurd (not_before_itself q (subst (λ (p : Path). IsBefore p q) (sym same ∙ is) (each_of (IsBefore x) xs q ox.0 has)))
-        | inr later ↦ later
-      ]) in
+    | inl is ↦ absurd (not_before_itself q (subst (λ (p : Path). IsBefore p q) (sym same ∙ is) (each_of (IsBefore x) xs q ox.0 has)))
+    | inr later ↦ later
+  ]) in
       omega (arith, fewer))
   | inr later ↦ (let less : IsBefore y x = each_of (IsBefore y) ys x oy.0 later in
       let fewer : length (x ∷ xs) ≤ length ys = not_more (x ∷ xs) ys ox oy.1 (λ q has. elim (first_or_later y ys q (among q has)) [

@@ -8,6 +8,7 @@ use Rattle.package_tree.specs.PathFaults.{HasGoodPaths}
 use Rattle.package_tree.specs.Reading.{AreLinesOf, IsFound}
 use Rattle.package_tree.specs.Shipped.{ArePathTexts}
 use Rattle.package_tree.specs.Tree.{IsReadingFault}
+use Rattle.package_tree.specs.declared.package.Package.{Package}
 use Rattle.package_tree.proofs.Passing.{passed_fault, passed_counts}
 use Rattle.package_tree.proofs.reading.read_tree.Goals as goal
 
@@ -34,7 +35,7 @@ returns-in_err-read_found-clause-fault g c = λ h.
 
 pub returns-in_err-read_found-clause-counts : goal.returns-in_err-read_found-clause-counts
 returns-in_err-read_found-clause-counts g c =
-    passed_counts _ _ _ c.in_err-read_found.field-0.0 c.from_residual-in_err-read_found.result c.from_residual-in_err-read_found.ensures.1 (c.in_ok-read_contents.ensures.counts ∙ c.in_ok-control.ensures.counts) c.in_err-read_found.ensures.counts
+    passed_counts (Unit {0}) Package (g.H.Host.state c.args.host.now) (g.H.Host.state c.read_contents.new.host) (g.H.Host.state c.read_found.new.host) c.in_err-read_found.field-0.0 c.from_residual-in_err-read_found.result c.from_residual-in_err-read_found.ensures.1 (c.in_ok-read_contents.ensures.counts ∙ c.in_ok-control.ensures.counts) c.in_err-read_found.ensures.counts
 
 pub returns-clause-read : goal.returns-clause-read
 returns-clause-read g c = λ h.
