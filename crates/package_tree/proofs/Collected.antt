@@ -1,5 +1,5 @@
 -- What is collected of the shipped paths.
-use Rattle.std.proofs.Common.{◌≡◌, ◌⊎◌, ◌<◌, ◌≤◌, ◌+◌, ℕ, suc, Bool, true, false, List, [], ◌∷◌, ◌++◌, take, drop, length, get_or, map, refl, sym, ap, ap₂, subst, ◌∙◌, inl, inr, append_assoc, Some, arith}
+use Rattle.std.proofs.Common.{◌≡◌, ◌⊎◌, ◌<◌, ◌≤◌, ◌+◌, ℕ, suc, Bool, true, false, List, [], ◌∷◌, ◌++◌, take, drop, length, get_or, sym, ap, ap₂, subst, ◌∙◌, inl, inr, append_assoc, Some, arith}
 use Rattle.std.specs.Prelude.{Contains, MatchBool}
 use Rattle.std.specs.List.{AllByRecursion}
 use Rattle.std.proofs.Math.Seq.{split_at}
@@ -10,12 +10,12 @@ use Rattle.std.proofs.lemmas.List.Elements.{Contains-append_left, Contains-appen
 use Rattle.host_core.specs.Paths.{Path}
 use Rattle.host_core.specs.World.{World}
 use Rattle.host_core.specs.declared.node.Node.{Node}
-use Rattle.package_tree.specs.Shipped.{IsBefore, AreInOrder, AreShipped, HasNoPath, IsFirstPath, IsShipped}
+use Rattle.package_tree.specs.Shipped.{IsBefore, AreShipped, HasNoPath, IsFirstPath, IsShipped}
 use Rattle.package_tree.specs.ShipMap.{paths_of, AreFiles, HasBefore, IsLarge}
 use Rattle.package_tree.specs.declared.shipped.Shipped.{Shipped}
 use Rattle.package_tree.proofs.PathOrder.{before_then, not_before_itself, behind, each_of}
 use Rattle.package_tree.proofs.Firsts.{first_in_order, placed}
-use Rattle.package_tree.proofs.Ordered.{none_in, in_first, around, order_front, ahead, not_more}
+use Rattle.package_tree.proofs.Ordered.{in_first, around, order_front, ahead, not_more}
 
 -- a shipped path before which fewer stand hasn't so many before it
 pub few_before : (w : World) (front rest : List Path) (q : Path) (count : ℕ) → AreShipped w (front ++ q ∷ rest) → length front < count → HasBefore count w q → ⊥

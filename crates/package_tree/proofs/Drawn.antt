@@ -1,8 +1,8 @@
 -- The texts of a set are taken out in their order, and some of them are kept.
-use Rattle.std.proofs.Common.{◌≡◌, ◌⊎◌, ◌<◌, Bool, true, false, cond, ℕ, List, [], ◌∷◌, ◌++◌, String, length, refl, sym, ap, subst, ◌∙◌, inl, inr, arith}
-use Rattle.std.specs.Prelude.{Contains, All}
+use Rattle.std.proofs.Common.{◌≡◌, ◌⊎◌, ◌<◌, Bool, true, false, cond, List, [], ◌∷◌, ◌++◌, String, length, refl, sym, ap, subst, ◌∙◌, inl, inr, arith}
+use Rattle.std.specs.Prelude.{Contains}
 use Rattle.std.specs.Str.{IsUtf8, bytes_eq}
-use Rattle.std.specs.String.{string_cmp, string_bytes}
+use Rattle.std.specs.String.{string_bytes}
 use Rattle.std.specs.BTreeSet.{BTreeSet, contains_text}
 use Rattle.std.specs.BTreeMap.{is_at}
 use Rattle.std.specs.declared.alloc.Global.{Global}
@@ -18,7 +18,7 @@ use Rattle.host_core.specs.Paths.{Path, is_ship_text}
 use Rattle.package_tree.specs.Shipped.{IsBefore, AreInOrder}
 use Rattle.package_tree.specs.LineNames.{HasTakenPath}
 use Rattle.package_tree.proofs.PathOrder.{in_order_snoc}
-use Rattle.package_tree.proofs.Ordered.{none_in, in_first, first_or_later}
+use Rattle.package_tree.proofs.Ordered.{none_in, first_or_later}
 use Rattle.package_tree.proofs.Sets.{no_keys}
 
 -- what a set of texts has is text

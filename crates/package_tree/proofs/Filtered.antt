@@ -1,5 +1,5 @@
 -- What of the shipped files is named by lines.
-use Rattle.std.proofs.Common.{◌≡◌, ◌⊎◌, ◌<◌, ℕ, Bool, true, false, cond, List, [], ◌∷◌, Option, Some, None, refl, sym, ap, subst, ◌∙◌, inl, inr}
+use Rattle.std.proofs.Common.{◌≡◌, Bool, true, false, cond, List, [], ◌∷◌, Some, refl, sym, ap, subst, ◌∙◌, inl, inr}
 use Rattle.std.specs.Prelude.{◌&&◌, Contains}
 use Rattle.std.specs.List.{AllByRecursion, filter, list_any}
 use Rattle.std.specs.Str.{bytes_eq, IsUtf8}
@@ -14,7 +14,7 @@ use Rattle.host_core.specs.declared.node.Node.TheVariants.{File, Dir, Link}
 use Rattle.package_tree.specs.Conffiles.{HasNoEntry}
 use Rattle.package_tree.specs.ConffileFaults.{AreNamed, IsAstray}
 use Rattle.package_tree.specs.LineNames.{is_named}
-use Rattle.package_tree.specs.ShipMap.{paths_of, is_file_in, AreFiles, HasFileAt, ShipsFile}
+use Rattle.package_tree.specs.ShipMap.{paths_of, is_file_in, AreFiles, HasFileAt}
 use Rattle.package_tree.specs.Shipped.{AreInOrder, ArePathTexts, IsBefore, IsShipLine}
 use Rattle.package_tree.specs.declared.conffile_lines.Entry.{Entry}
 use Rattle.package_tree.specs.declared.conffile_lines.Entry.TheVariants as entry

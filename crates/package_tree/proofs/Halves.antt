@@ -1,7 +1,6 @@
 -- A path is looked for among paths in their order, in one half after another.
-use Rattle.std.proofs.Common.{◌≡◌, ◌⊎◌, ◌<◌, ◌+◌, ◌-◌, ℕ, List, [], ◌∷◌, ◌++◌, take, drop, length, get_or, refl, sym, ap, ap₂, subst, ◌∙◌, inl, inr, arith}
+use Rattle.std.proofs.Common.{◌≡◌, ◌<◌, ◌-◌, List, [], ◌∷◌, ◌++◌, take, drop, length, get_or, sym, ap, ap₂, subst, ◌∙◌, inl, inr, arith}
 use Rattle.std.specs.Prelude.{Contains}
-use Rattle.std.specs.Str.{bytes_eq}
 use Rattle.std.specs.Cmp.Lexicographic.{slice_cmp, nat_list_cmp_total}
 use Rattle.std.specs.Ordering.{nat_cmp, is_eq, ordering_reverse}
 use Rattle.std.specs.declared.cmp.Ordering.{Ordering}
@@ -14,7 +13,7 @@ use Rattle.host_core.specs.Paths.{Path}
 use Rattle.package_tree.specs.Shipped.{IsBefore, AreInOrder}
 use Rattle.package_tree.proofs.PathOrder.{before_then, not_before_itself, behind}
 use Rattle.package_tree.proofs.Firsts.{placed}
-use Rattle.package_tree.proofs.Ordered.{in_first, in_later, order_front, order_rest, ahead}
+use Rattle.package_tree.proofs.Ordered.{in_later, order_front, order_rest, ahead}
 
 -- the middle path, and what stands before and behind it
 pub cut : (rest front back : List Path) (middle : Path) → rest ≡ front ++ back → 0 < length back → middle ≡ get_or back 0 middle → rest ≡ front ++ middle ∷ take (length back - 1) (drop 1 back)

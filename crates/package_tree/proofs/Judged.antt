@@ -1,7 +1,6 @@
 -- What is told of the lines and of the shipped paths.
-use Rattle.std.proofs.Common.{◌≡◌, true, List, Option}
-use Rattle.std.specs.Prelude.{Contains, MatchOption}
-use Rattle.std.specs.List.{list_any}
+use Rattle.std.proofs.Common.{List, Option}
+use Rattle.std.specs.Prelude.{MatchOption}
 use Rattle.host_core.specs.Paths.{Path}
 use Rattle.host_core.specs.World.{World}
 use Rattle.package_tree.specs.Conffiles.{entries_at, HasNoEntry}

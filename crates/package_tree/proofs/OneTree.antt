@@ -1,10 +1,10 @@
 -- A tree is that of one package, or has one fault.
-use Rattle.std.proofs.Common.{◌≡◌, ℕ, true, false, List, [], ◌∷◌, ◌++◌, Option, Some, None, refl, sym, ◌∙◌, ap, ap₂, subst, inl, inr}
+use Rattle.std.proofs.Common.{◌≡◌, ℕ, true, List, [], ◌∷◌, ◌++◌, Option, Some, None, refl, sym, ◌∙◌, ap, ap₂, subst, inl, inr}
 use Rattle.std.specs.Prelude.{Contains}
 use Rattle.std.proofs.Props.{props}
 use mathlib.Core.HLevel.{is_prop→PathP}
 use Rattle.std.specs.List.{AllByRecursion}
-use Rattle.std.proofs.lemmas.Bool.{true≢false, false≢true}
+use Rattle.std.proofs.lemmas.Bool.{false≢true}
 use Rattle.std.proofs.lemmas.Bool.Decides.{same_from_decides}
 use Rattle.host_core.specs.Paths.{Path}
 use Rattle.host_core.specs.World.{World, is_file, kind_of}
@@ -20,8 +20,6 @@ use Rattle.administration.specs.Scripts.{script_of, file_of}
 use Rattle.package_tree.specs.ControlFile.{key_of, relation_order, HasValue, HasNoBad, HasNoBadRelation, HasBadValue}
 use Rattle.package_tree.specs.Conffiles.{HasNoEntry, IsFirstEntry, IsOdd}
 use Rattle.package_tree.specs.ConffileFaults.{AreNamed, IsAstray}
-use Rattle.package_tree.specs.PathFaults.{HasGoodPaths, IsBadPath}
-use Rattle.package_tree.specs.Shipped.{HasNoPath}
 use Rattle.package_tree.proofs.Firsts.{no_bad_path}
 use Rattle.package_tree.specs.OtherNames.{is_other_name}
 use Rattle.package_tree.specs.OtherFiles.{names_of, control_member}

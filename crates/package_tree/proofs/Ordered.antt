@@ -1,12 +1,12 @@
 -- Lists of paths in their order.
-use Rattle.std.proofs.Common.{◌≡◌, ◌⊎◌, ◌<◌, ◌≤◌, ◌+◌, ℕ, zero, suc, List, [], ◌∷◌, ◌++◌, take, drop, length, get_or, refl, sym, ap, ap₂, subst, ◌∙◌, inl, inr, append_assoc, arith}
+use Rattle.std.proofs.Common.{◌≡◌, ◌⊎◌, ◌≤◌, zero, suc, List, [], ◌∷◌, ◌++◌, take, drop, length, refl, sym, ap, ap₂, subst, ◌∙◌, inl, inr, arith}
 use Rattle.std.specs.Prelude.{Contains}
 use Rattle.std.specs.List.{AllByRecursion}
 use Rattle.std.proofs.Math.Seq.{split_at}
 use Rattle.std.proofs.lemmas.List.Elements.{Contains-append_right}
 use Rattle.host_core.specs.Paths.{Path}
 use Rattle.package_tree.specs.Shipped.{IsBefore, AreInOrder}
-use Rattle.package_tree.proofs.PathOrder.{before_then, not_before_itself, behind, each_of}
+use Rattle.package_tree.proofs.PathOrder.{before_then, not_before_itself, each_of}
 
 pub none_in : {X : Type 0} (x : X) → Contains [] x → ⊥
 none_in x has = omega (arith, has.1)

@@ -1,6 +1,6 @@
 -- The files of `DEBIAN` that are stored are found one after another.
-use Rattle.std.proofs.Common.{◌≡◌, ◌≢◌, ◌⊎◌, ◌<◌, ◌&&◌, Bool, true, false, ℕ, List, [], ◌∷◌, ◌++◌, Option, Some, None, codes, refl, sym, ap, subst, ◌∙◌, inl, inr}
-use Rattle.std.specs.Prelude.{Contains, IsSome}
+use Rattle.std.proofs.Common.{◌≡◌, ◌&&◌, Bool, true, false, ℕ, List, [], ◌∷◌, ◌++◌, Option, Some, None, codes, refl, sym, ap, subst, ◌∙◌, inl, inr}
+use Rattle.std.specs.Prelude.{IsSome}
 use Rattle.std.specs.List.{AllByRecursion, list_any}
 use Rattle.std.specs.Str.{bytes_eq}
 use Rattle.std.proofs.lemmas.Bool.{and_parts, false≢true, true≢false}
@@ -12,7 +12,6 @@ use Rattle.host_core.specs.Tree.{IsListing}
 use Rattle.host_core.specs.World.{World, kind_of}
 use Rattle.host_core.specs.declared.node.Kind.TheVariants.{File}
 use Rattle.host_core.specs.declared.node.Node.{Node}
-use Rattle.host_core.specs.declared.node.Node.TheVariants as node
 use Rattle.package_tree.specs.OtherNames.{is_other_name}
 use Rattle.package_tree.specs.OtherFiles.{names_of, control_member, AreOthersOf, HasTakenOther}
 use Rattle.package_tree.specs.declared.other_file.OtherFile.{OtherFile}

@@ -3,7 +3,7 @@ use Rattle.std.proofs.Common.{◌≡◌, ◌∙◌, ◌+◌, ℕ, List, Result, 
 use Rattle.std.specs.Prelude.{IfErr, IsErrAnd}
 use Rattle.control_fields.specs.Grammar.{ReadsOne, lines_of}
 use Rattle.control_fields.specs.declared.field.Field.{Field}
-use Rattle.host_core.specs.Host.{State, faults, HasFailed}
+use Rattle.host_core.specs.Host.{State, faults}
 use Rattle.package_tree.specs.Fault.{CountsTree}
 use Rattle.package_tree.specs.ControlFile.{IsFieldFault, IsTextFault}
 use Rattle.package_tree.specs.declared.fault.TreeFault.{TreeFault}

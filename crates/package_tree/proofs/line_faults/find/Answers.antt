@@ -1,6 +1,5 @@
-use Rattle.std.proofs.Common.{◌≡◌, ◌∙◌, ◌<◌, ◌-◌, ◌∷◌, ◌++◌, sym, ap, subst, take, drop, length, List, rules}
-use Rattle.host_core.specs.Paths.{Path}
-use Rattle.package_tree.proofs.Halves.{IsHalf, cut, behind_middle, before_middle, at_middle, told_less, told_greater, told_equal}
+use Rattle.std.proofs.Common.{◌≡◌, ◌∙◌, ◌<◌, length, rules}
+use Rattle.package_tree.proofs.Halves.{cut, behind_middle, before_middle, at_middle, told_less, told_greater, told_equal}
 use Rattle.package_tree.proofs.line_faults.find.Goals as goal
 
 pub loop-path-preserved-in-Less : goal.loop-path-preserved-in-Less

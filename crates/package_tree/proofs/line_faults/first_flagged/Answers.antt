@@ -1,6 +1,5 @@
-use Rattle.std.proofs.Common.{◌∙◌, sym, subst, List}
+use Rattle.std.proofs.Common.{◌∙◌, sym, subst}
 use Rattle.std.specs.Prelude.{Contains}
-use Rattle.host_core.specs.Paths.{Path}
 use Rattle.package_tree.specs.ConffileFaults.{IsOfBoth}
 use Rattle.package_tree.specs.Shipped.{IsFirstPath}
 use Rattle.package_tree.proofs.Astray.{first_of_both, none_of_both_more, none_of_both}

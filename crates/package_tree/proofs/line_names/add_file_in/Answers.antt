@@ -1,6 +1,4 @@
-use Rattle.std.proofs.Common.{◌∙◌, sym, ap}
-use Rattle.std.proofs.Common.{List, ◌++◌}
-use Rattle.host_core.specs.Paths.{Path}
+use Rattle.std.proofs.Common.{◌∙◌, sym}
 use Rattle.std.specs.BTreeSet.{contains_text}
 use Rattle.package_tree.specs.ShipMap.{is_file_in}
 use Rattle.package_tree.proofs.Named.{kept_one, passed_one}

@@ -1,5 +1,4 @@
 use Rattle.std.proofs.Common.{◌≡◌, ◌∙◌, sym, ap, subst, List}
-use Rattle.std.specs.Prelude.{Contains}
 use Rattle.std.specs.BTreeSet.{contains_text}
 use Rattle.host_core.specs.Paths.{Path}
 use Rattle.package_tree.specs.Conffiles.{entries_at}

@@ -1,8 +1,7 @@
-use Rattle.std.proofs.Common.{◌≡◌, ◌∙◌, inl, subst, sym, List}
+use Rattle.std.proofs.Common.{◌∙◌, inl, subst, List}
 use Rattle.host_core.specs.Paths.{Path}
-use Rattle.package_tree.specs.Conffiles.{entries_at, HasNoEntry, IsFirstOdd, IsOdd}
+use Rattle.package_tree.specs.Conffiles.{HasNoEntry, IsFirstOdd, IsOdd}
 use Rattle.package_tree.specs.ConffileFaults.{IsAstray, IsFirstAstray, IsFlaggedAndShipped, IsOfBoth}
-use Rattle.package_tree.specs.Debian.{conffiles_path}
 use Rattle.package_tree.specs.Shipped.{HasNoPath, IsFirstPath}
 use Rattle.package_tree.specs.declared.conffile_lines.Entry.{Entry}
 use Rattle.package_tree.proofs.Judged.{Astray, Shared, flagged_shipped, shipped_flagged, first_as}

@@ -1,7 +1,6 @@
-use Rattle.std.proofs.Common.{◌≡◌, ◌∙◌, sym, ap, List}
+use Rattle.std.proofs.Common.{◌∙◌, sym, ap}
 use Rattle.std.specs.List.{list_any}
 use Rattle.package_tree.specs.LineNames.{is_named}
-use Rattle.package_tree.specs.declared.conffile_lines.Entry.{Entry}
 use Rattle.package_tree.specs.declared.line_names.LineKind.TheVariants.{Plain, Flagged}
 use Rattle.package_tree.proofs.Drawn.{text_in}
 use Rattle.package_tree.proofs.reading.lines_at.Goals as goal

@@ -1,9 +1,9 @@
-use Rattle.std.proofs.Common.{◌≡◌, ◌∙◌, sym, subst}
+use Rattle.std.proofs.Common.{◌∙◌, sym, subst}
 use Rattle.host_core.specs.World.{World}
 use Rattle.host_core.specs.Host.{State, Reads}
 use Rattle.host_core.specs.Moments.{reads_then}
 use Rattle.package_tree.specs.Conffiles.{entries_at}
-use Rattle.package_tree.specs.Debian.{AreContents, conffiles_path}
+use Rattle.package_tree.specs.Debian.{AreContents}
 use Rattle.package_tree.specs.PathFaults.{HasGoodPaths}
 use Rattle.package_tree.specs.Reading.{AreLinesOf, IsFound}
 use Rattle.package_tree.specs.Shipped.{ArePathTexts}
