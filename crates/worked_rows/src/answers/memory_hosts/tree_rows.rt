@@ -2,11 +2,12 @@
 use super::unpack_rows::WITH_POSTRM;
 use super::{TreeFile, expect, file, path_of, text_of, tree_of};
 use control_fields::write_paragraph;
-use host_core::Script;
+use host_core::{Access, Node, Script};
 use host_memory::MemoryHost;
 use package_tree::{Package, TreeFault, read_tree};
 use std::alloc::{AllocError, Global};
 use std::test::Fail;
+use texts::Bytes;
 
 // Adds the name of a script that the package has.
 fn push_script(package: &Package, script: Script, text: &mut String) -> Result<(), AllocError> {
@@ -121,16 +122,6 @@ fn a_tree_is_read_whole(rt: HostRuntime) -> Result<(), Fail> {
     expect(&rt, parts(rt.alloc(), &mut host), row)
 }
 
-// A tree of a directory with so many files.
-fn wide_tree(alloc: Global, count: u32) -> Result<MemoryHost, AllocError> {
-    let mut host = tree_of(alloc, WITH_POSTRM, "t")?;
-    for number in 0..count {
-        let path = format!(in alloc; "/d/{number:05}")?;
-        place(alloc, &mut host, path.as_str())?;
-    }
-    Ok(host)
-}
-
 // How many paths a tree ships, or the path that is too much.
 fn counted(alloc: Global, host: &mut MemoryHost) -> Result<String, AllocError> {
     match read_tree(alloc, host) {
@@ -143,10 +134,19 @@ fn counted(alloc: Global, host: &mut MemoryHost) -> Result<String, AllocError> {
     }
 }
 
+// A tree with a file of so many bytes.
+fn large_tree(alloc: Global, count: usize) -> Result<MemoryHost, AllocError> {
+    let mut host = tree_of(alloc, WITH_POSTRM, "t")?;
+    let bytes = Bytes::new(vec![in alloc; 0; count]?);
+    let access = Access::own(0o644);
+    host.place(&path_of(alloc, "/big")?, Node::File { bytes, access })?;
+    Ok(host)
+}
+
 #[test]
-fn paths_are_limited(rt: HostRuntime) -> Result<(), Fail> {
-    let mut host = wide_tree(rt.alloc(), 65_535)?;
-    expect(&rt, counted(rt.alloc(), &mut host), "65536")?;
-    place(rt.alloc(), &mut host, "/d/65535")?;
-    expect(&rt, counted(rt.alloc(), &mut host), "TooLarge /d/65535")
+fn files_are_limited(rt: HostRuntime) -> Result<(), Fail> {
+    let mut host = large_tree(rt.alloc(), 67_108_864)?;
+    expect(&rt, counted(rt.alloc(), &mut host), "1")?;
+    let mut host = large_tree(rt.alloc(), 67_108_865)?;
+    expect(&rt, counted(rt.alloc(), &mut host), "TooLarge /big")
 }
