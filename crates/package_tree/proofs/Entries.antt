@@ -1,13 +1,11 @@
 -- The lines of `conffiles`, one after another.
-use Rattle.std.proofs.Common.{◌≡◌, ◌∙◌, ◌<◌, ◌+◌, sym, ap, refl, subst, List, ℕ, ◌++◌, ◌∷◌, [], length, get_or, take, drop, suc, arith, append_assoc, map}
+use Rattle.std.proofs.Common.{◌≡◌, ◌∙◌, ◌<◌, ◌+◌, sym, ap, List, ℕ, ◌++◌, ◌∷◌, [], length, get_or, take, drop, suc, arith, append_assoc, map}
 use Rattle.std.proofs.Math.Seq.{split_at}
 use Rattle.std.proofs.lemmas.List.{length-take-le}
-use Rattle.control_fields.specs.Grammar.{lines_of}
 use Rattle.control_fields.specs.Names.{Lacks}
 use Rattle.control_fields.proofs.LinesOf.{lines_cut, lines_last}
 use Rattle.package_tree.specs.Conffiles.{entry_of, entries_of, HasNoEntry, IsFirstEntry}
 use Rattle.package_tree.specs.declared.conffile_lines.Entry.{Entry}
-use Rattle.package_tree.specs.declared.conffile_lines.Entry.TheVariants.{Blank}
 
 pub entries_cut : (text rest line after : List ℕ) (front next : List Entry) (entry : Entry) → entries_of text ≡ front ++ entries_of rest → rest ≡ line ++ 10 ∷ after → Lacks line 10 → entry ≡ entry_of line → next ≡ front ++ entry ∷ []
     → entries_of text ≡ next ++ entries_of after

@@ -1,16 +1,15 @@
 -- The first path of a tree with a fault.
-use Rattle.std.proofs.Common.{◌≡◌, ◌⊎◌, ◌<◌, Bool, true, false, ℕ, zero, suc, List, [], ◌∷◌, ◌++◌, get_or, take, drop, length, not, codes, ◌+◌, Option, Some, None, refl, sym, ap, subst, ◌∙◌, inl, inr, arith}
+use Rattle.std.proofs.Common.{◌≡◌, ◌⊎◌, ◌<◌, Bool, true, false, ℕ, zero, suc, List, [], ◌∷◌, ◌++◌, get_or, take, drop, length, not, codes, Option, Some, None, refl, sym, ap, subst, ◌∙◌, inl, inr, arith}
 use Rattle.std.specs.Prelude.{◌||◌, ◌&&◌, nat_le, Contains, MatchOption}
 use Rattle.std.specs.Str.{bytes_eq}
 use Rattle.std.specs.Cmp.Lexicographic.{slice_cmp, nat_list_cmp_total}
 use Rattle.std.specs.Ordering.{nat_cmp, ordering_reverse}
 use Rattle.std.specs.declared.cmp.Ordering.{Ordering}
 use Rattle.std.specs.declared.cmp.Ordering.TheVariants.{Less, Equal, Greater}
-use Rattle.std.specs.List.{AllByRecursion}
 use Rattle.std.proofs.Math.Seq.{split_at}
 use Rattle.std.proofs.lemmas.Bool.{true≢false, false≢true, and_parts, false_from_ne_true}
 use Rattle.std.proofs.lemmas.Slice.Eq.{bytes_eq-Decides}
-use Rattle.std.proofs.lemmas.List.Elements.{Contains-append_left, Contains-append_right, Contains-append_cases}
+use Rattle.std.proofs.lemmas.List.Elements.{Contains-append_right, Contains-append_cases}
 use Rattle.host_core.specs.Paths.{Path, is_path, is_path_text, is_rooted, has_room, has_reserved_suffix, is_below_administration}
 use Rattle.host_core.specs.Tree.{IsBelow}
 use Rattle.host_core.specs.World.{World}
@@ -20,7 +19,7 @@ use Rattle.package_tree.specs.Shipped.{IsBefore, AreInOrder, AreShipped, IsBadBe
 use Rattle.package_tree.proofs.PathOrder.{before_then, not_before_itself, behind, each_of}
 
 -- an element of a list stands before one place, at it or behind it
-placed : (front rest : List Path) (p q : Path) → Contains (front ++ p ∷ rest) q → Contains front q ⊎ ((p ≡ q) ⊎ Contains rest q)
+pub placed : (front rest : List Path) (p q : Path) → Contains (front ++ p ∷ rest) q → Contains front q ⊎ ((p ≡ q) ⊎ Contains rest q)
 placed front rest p q there = elim (Contains-append_cases front (p ∷ rest) q there) [
   | inl before ↦ inl before
   | inr (zero, lt, is) ↦ inr (inl is)
@@ -28,7 +27,7 @@ placed front rest p q there = elim (Contains-append_cases front (p ∷ rest) q t
 ]
 
 -- the first in an ordered list is the first in path order
-first_in_order : (P : Path → Type 0) (front rest : List Path) (p : Path) → AreInOrder (front ++ p ∷ rest) → ((q : Path) → P q → Contains (front ++ p ∷ rest) q) → P p → ((q : Path) → Contains front q → P q → ⊥) → IsFirstPath P p
+pub first_in_order : (P : Path → Type 0) (front rest : List Path) (p : Path) → AreInOrder (front ++ p ∷ rest) → ((q : Path) → P q → Contains (front ++ p ∷ rest) q) → P p → ((q : Path) → Contains front q → P q → ⊥) → IsFirstPath P p
 first_in_order P front rest p order listed holds none = record {
   holds = holds;
   first = λ q is before. elim (placed front rest p q (listed q is)) [

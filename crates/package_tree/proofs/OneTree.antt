@@ -1,10 +1,14 @@
 -- A tree is that of one package, or has one fault.
-use Rattle.std.proofs.Common.{◌≡◌, ℕ, false, List, [], ◌∷◌, ◌++◌, Option, Some, None, sym, ◌∙◌, ap, subst, inl, inr}
+use Rattle.std.proofs.Common.{◌≡◌, ℕ, true, List, [], ◌∷◌, ◌++◌, Option, Some, None, refl, sym, ◌∙◌, ap, ap₂, subst, inl, inr}
+use Rattle.std.specs.Prelude.{Contains}
+use Rattle.std.proofs.Props.{props}
+use mathlib.Core.HLevel.{is_prop→PathP}
 use Rattle.std.specs.List.{AllByRecursion}
-use Rattle.std.proofs.lemmas.Bool.{true≢false}
+use Rattle.std.proofs.lemmas.Bool.{false≢true}
 use Rattle.std.proofs.lemmas.Bool.Decides.{same_from_decides}
 use Rattle.host_core.specs.Paths.{Path}
-use Rattle.host_core.specs.World.{World}
+use Rattle.host_core.specs.World.{World, is_file, kind_of}
+use Rattle.host_core.specs.declared.node.Kind.TheVariants as kind
 use Rattle.host_core.specs.declared.node.Node.{Node}
 use Rattle.host_core.specs.declared.node.Node.TheVariants.{File, Dir, Link}
 use Rattle.host_core.specs.declared.call.Script.{Script}
@@ -15,10 +19,15 @@ use Rattle.control_fields.proofs.OnlyOne.{reads_one_once, no_fault_of_one}
 use Rattle.administration.specs.Scripts.{script_of, file_of}
 use Rattle.package_tree.specs.ControlFile.{key_of, relation_order, HasValue, HasNoBad, HasNoBadRelation, HasBadValue}
 use Rattle.package_tree.specs.Conffiles.{HasNoEntry, IsFirstEntry, IsOdd}
-use Rattle.package_tree.specs.PathFaults.{HasGoodPaths, IsBadPath}
-use Rattle.package_tree.specs.Shipped.{HasNoPath}
+use Rattle.package_tree.specs.ConffileFaults.{AreNamed, IsAstray}
 use Rattle.package_tree.proofs.Firsts.{no_bad_path}
+use Rattle.package_tree.specs.OtherNames.{is_other_name}
+use Rattle.package_tree.specs.OtherFiles.{names_of, control_member}
+use Rattle.package_tree.specs.ShipMap.{paths_of}
 use Rattle.package_tree.specs.declared.conffile_lines.Entry.{Entry}
+use Rattle.package_tree.specs.declared.conffile_lines.Entry.TheVariants.{Plain, Flagged}
+use Rattle.package_tree.specs.declared.other_file.OtherFile.{OtherFile}
+use Rattle.package_tree.specs.declared.shipped.Shipped.{Shipped}
 use Rattle.package_tree.specs.Tree.{HasControl, IsTreeOf, IsTreeFault}
 use Rattle.package_tree.specs.declared.package.Package.{Package}
 use Rattle.package_tree.specs.declared.fault.FieldName.{FieldName}
@@ -26,6 +35,7 @@ use Rattle.package_tree.specs.declared.fault.FieldName.TheVariants as field
 use Rattle.relation_fields.specs.declared.relation_field.RelationField.{RelationField}
 use Rattle.package_tree.specs.declared.fault.TreeFault.{TreeFault}
 use Rattle.package_tree.specs.declared.fault.TreeFault.TheVariants.{NoControl, Control, FieldMissing, FieldBad, PathBad, Reserved, ConffileNotShipped, ConffileShipped, ConffileFlag, TooLarge, Device, NoMemory}
+use Rattle.package_tree.proofs.Ordered.{none_in, first_or_later, same_list}
 use Rattle.package_tree.proofs.FieldsOnce.{lacked, one_value, not_bad, not_lacked}
 
 abbrev bytes_of : Option Node → List ℕ
@@ -77,10 +87,10 @@ no_fault w p (FieldBad (field.Relation relation)) t wrong =
     none_bad (field.Relation relation) wrong.2.0 (relation_among first.front first.rest relation wrong.2.0 (subst (λ (l : List RelationField). HasNoBadRelation l wrong.2.0) first.is good)) first.bad
 no_fault w p (PathBad path) t wrong = no_bad_path w t.paths.files t.paths.beside path wrong.1.holds
 no_fault w p (Reserved path) t wrong = t.paths.reserved path wrong.2.holds
-no_fault w p (ConffileNotShipped name) t wrong = wrong
-no_fault w p (ConffileShipped path) t wrong = wrong
-no_fault w p (ConffileFlag line) t wrong = first_of_none IsOdd _ line wrong.2.0 t.lines wrong.2.1
-no_fault w p (TooLarge path) t wrong = wrong
+no_fault w p (ConffileNotShipped name) t wrong = first_of_none (IsAstray w) _ wrong.2.1 wrong.2.0 t.lines.named wrong.2.2
+no_fault w p (ConffileShipped path) t wrong = t.lines.flagged path wrong.3.holds
+no_fault w p (ConffileFlag line) t wrong = first_of_none IsOdd _ line wrong.4.0 t.lines.words wrong.4.1
+no_fault w p (TooLarge path) t wrong = t.room path wrong.3.holds
 no_fault w p Device t wrong = wrong
 no_fault w p NoMemory t wrong = wrong
 
@@ -101,3 +111,69 @@ ships_once w p q s t = same_from_decides p.ships q.ships s.ships t.ships
 
 pub has_conffiles_once : (w : World) (p q : Package) → IsTreeOf w p → IsTreeOf w q → p.has_conffiles ≡ q.has_conffiles
 has_conffiles_once w p q s t = s.has_conffiles ∙ sym t.has_conffiles
+
+-- the same paths, each with what stands there
+same_files : (w : World) (a b : List Shipped) → paths_of a ≡ paths_of b → AllByRecursion (λ f. w f.path ≡ Some f.node) a → AllByRecursion (λ f. w f.path ≡ Some f.node) b → a ≡ b
+same_files w [] [] same na nb = refl
+same_files w [] (y ∷ b) same na nb = absurd cc
+same_files w (x ∷ a) [] same na nb = absurd cc
+same_files w (x ∷ a) (y ∷ b) same na nb =
+    let path : x.path ≡ y.path = cc same in
+    let rest : paths_of a ≡ paths_of b = cc same in
+    let stands : Some x.node ≡ Some y.node = sym na.0 ∙ ap w path ∙ nb.0 in
+    let node : x.node ≡ y.node = cc stands in
+    let first : x ≡ y = λ i. record { path = path i; node = node i } in
+    ap₂ (λ (f : Shipped) (fs : List Shipped). f ∷ fs) first (same_files w a b rest na.1 nb.1)
+
+pub files_once : (w : World) (p q : Package) → IsTreeOf w p → IsTreeOf w q → p.files ≡ q.files
+files_once w p q s t =
+    same_files w p.files q.files
+    (same_list (paths_of p.files) (paths_of q.files) s.files.paths.order t.files.paths.order (λ x has. t.files.paths.whole x (s.files.paths.only x has)) (λ x has. s.files.paths.whole x (t.files.paths.only x has)))
+    s.files.nodes t.files.nodes
+
+named_once : (kind : List ℕ → Entry) (all : List Entry) (a b : List Path) → AreNamed kind all a → AreNamed kind all b → a ≡ b
+named_once kind all a b one other = same_list a b one.order other.order (λ x has. other.whole x (one.only x has)) (λ x has. one.whole x (other.only x has))
+
+pub conffiles_once : (w : World) (p q : Package) → IsTreeOf w p → IsTreeOf w q → p.conffiles ≡ q.conffiles
+conffiles_once w p q s t = named_once Plain _ p.conffiles q.conffiles s.conffiles t.conffiles
+
+pub flagged_once : (w : World) (p q : Package) → IsTreeOf w p → IsTreeOf w q → p.flagged ≡ q.flagged
+flagged_once w p q s t = named_once Flagged _ p.flagged q.flagged s.flagged t.flagged
+
+kind_of_file : (n : Node) → is_file n ≡ true → kind_of (Some n) ≡ Some kind.File
+kind_of_file (File bytes access) e = refl
+kind_of_file (Dir access) e = absurd (false≢true e)
+kind_of_file (Link target) e = absurd (false≢true e)
+
+-- what is stored has a name for that, and is a file
+stored_at : (w : World) (others : List OtherFile) (name : List ℕ) → AllByRecursion (λ o. w (control_member o.name) ≡ Some o.node) others → Contains (names_of others) name → (is_other_name name ≡ true) × (kind_of (w (control_member name)) ≡ Some kind.File)
+stored_at w [] name all has = absurd (none_in name has)
+stored_at w (o ∷ others) name all has = elim (first_or_later o.name (names_of others) name has) [
+  | inl same ↦ subst (λ (n : List ℕ). (is_other_name n ≡ true) × (kind_of (w (control_member n)) ≡ Some kind.File)) same (o.named, ap kind_of all.0 ∙ kind_of_file o.node o.file)
+  | inr on ↦ stored_at w others name all.1 on
+]
+
+same_others : (w : World) (a b : List OtherFile) → names_of a ≡ names_of b → AllByRecursion (λ o. w (control_member o.name) ≡ Some o.node) a → AllByRecursion (λ o. w (control_member o.name) ≡ Some o.node) b → a ≡ b
+same_others w [] [] same na nb = refl
+same_others w [] (y ∷ b) same na nb = absurd cc
+same_others w (x ∷ a) [] same na nb = absurd cc
+same_others w (x ∷ a) (y ∷ b) same na nb =
+    let name : x.name ≡ y.name = cc same in
+    let rest : names_of a ≡ names_of b = cc same in
+    let stands : Some x.node ≡ Some y.node = sym na.0 ∙ ap (λ (n : List ℕ). w (control_member n)) name ∙ nb.0 in
+    let node : x.node ≡ y.node = cc stands in
+    let first : x ≡ y = λ i. record {
+      name = name i;
+      node = node i;
+      named = is_prop→PathP (λ j. is_other_name (name j) ≡ true) (λ j. hlevel props) x.named y.named i;
+      file = is_prop→PathP (λ j. is_file (node j) ≡ true) (λ j. hlevel props) x.file y.file i;
+    } in
+    ap₂ (λ (o : OtherFile) (os : List OtherFile). o ∷ os) first (same_others w a b rest na.1 nb.1)
+
+pub others_once : (w : World) (p q : Package) → IsTreeOf w p → IsTreeOf w q → p.others ≡ q.others
+others_once w p q s t =
+    same_others w p.others q.others
+    (same_list (names_of p.others) (names_of q.others) s.others.order t.others.order
+    (λ x has. (let at = stored_at w p.others x s.others.nodes has in t.others.whole x at.0 at.1))
+    (λ x has. (let at = stored_at w q.others x t.others.nodes has in s.others.whole x at.0 at.1)))
+    s.others.nodes t.others.nodes

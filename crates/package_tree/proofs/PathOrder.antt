@@ -1,5 +1,5 @@
 -- Paths below paths, and their order.
-use Rattle.std.proofs.Common.{◌≡◌, ◌⊎◌, ◌+◌, ◌<◌, ℕ, zero, suc, Bool, true, false, List, [], ◌∷◌, ◌++◌, length, get_or, refl, sym, ap, subst, ◌∙◌, inl, inr, append_assoc, arith}
+use Rattle.std.proofs.Common.{◌≡◌, ◌⊎◌, zero, suc, false, List, [], ◌∷◌, ◌++◌, refl, sym, ap, subst, ◌∙◌, inl, inr, append_assoc, arith}
 use Rattle.std.specs.Prelude.{Contains, IsSome}
 use Rattle.std.specs.List.{AllByRecursion}
 use Rattle.std.specs.Cmp.Lexicographic.{slice_cmp, nat_list_cmp_total}
@@ -12,7 +12,7 @@ use Rattle.host_core.specs.Tree.{IsBelow, IsTree, has_slash}
 use Rattle.host_core.specs.World.{World, IsDirectory}
 use Rattle.administration.proofs.Within.{first_name}
 use Rattle.package_tree.specs.Shipped.{IsBefore, AreInOrder}
-use Rattle.std.proofs.lemmas.List.Elements.{Contains-append_left, Contains-append_right, Contains-append_cases}
+use Rattle.std.proofs.lemmas.List.Elements.{Contains-append_right}
 
 there_from_directory : (w : World) (p : Path) → IsDirectory (w p) → IsSome (w p)
 there_from_directory w p d = subst IsSome (sym d.1) refl

@@ -1,8 +1,7 @@
 -- Sets of texts as sets of paths.
-use Rattle.std.proofs.Common.{◌≡◌, ◌<◌, Bool, true, false, List, [], ◌∷◌, String, length, refl, sym, ap, subst, ◌∙◌, arith}
+use Rattle.std.proofs.Common.{◌≡◌, ◌<◌, true, false, List, [], ◌∷◌, String, length, refl, sym, ap, subst, ◌∙◌, arith}
 use Rattle.std.specs.Prelude.{All}
 use Rattle.std.specs.List.{list_any}
-use Rattle.std.specs.Str.{bytes_eq}
 use Rattle.std.specs.String.{string_cmp, string_bytes}
 use Rattle.std.specs.BTreeSet.{BTreeSet, btree_set_len, contains_text}
 use Rattle.std.specs.BTreeMap.{is_at}

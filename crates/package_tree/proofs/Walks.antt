@@ -1,22 +1,21 @@
 -- A walk goes on path by path.
 use Rattle.std.proofs.Common.{◌≡◌, ◌≢◌, ◌⊎◌, ◌+◌, ◌<◌, Bool, true, false, not, cond, ℕ, zero, suc, List, [], ◌∷◌, ◌++◌, take, length, get_or, arith, Option, Some, None, refl, sym, ap, subst, ◌∙◌, inl, inr}
 use Rattle.std.specs.Prelude.{◌||◌, ◌&&◌, IsSome, IsTrue, Contains, codes, MatchBool}
-use Rattle.std.specs.List.{list_any}
 use Rattle.std.specs.Str.{bytes_eq, IsUtf8}
-use Rattle.std.proofs.lemmas.Bool.{or_left, or_right, or_cases, and_parts, false_from_ne_true, false≢true, true≢false}
+use Rattle.std.proofs.lemmas.Bool.{or_left, or_right, or_cases, false_from_ne_true, false≢true, true≢false}
 use Rattle.std.proofs.lemmas.Slice.Eq.{bytes_eq-Decides}
 use Rattle.std.proofs.lemmas.List.Folds.{Any-from_list_any, list_any_at, list_any_more}
 use Rattle.std.proofs.lemmas.List.Elements.{Contains-append_left, Contains-append_right, Contains-append_cases}
 use Rattle.host_core.specs.Paths.{Path, is_path, has_room, is_below_administration}
-use Rattle.host_core.specs.Tree.{IsBelow, IsTree, IsListing, has_slash}
+use Rattle.host_core.specs.Tree.{IsBelow, IsTree, IsListing}
 use Rattle.host_core.specs.World.{World, IsDirectory, kind_of}
 use Rattle.host_core.specs.declared.node.Kind.{Kind}
 use Rattle.host_core.specs.declared.node.Kind.TheVariants as kind
 use Rattle.host_core.specs.declared.node.Node.{Node}
 use Rattle.host_core.specs.declared.node.Node.TheVariants as node
 use Rattle.administration.specs.Directories.{HasBadName}
-use Rattle.administration.proofs.Within.{within_is, below_within, directory_within}
-use Rattle.package_tree.specs.Shipped.{is_control, IsBefore, AreInOrder, StandsBeside, IsShipped, IsLeftOut, AreShipped, IsBadBeside, IsFirstPath, HasNoPath, ArePathTexts}
+use Rattle.administration.proofs.Within.{within_is, below_within}
+use Rattle.package_tree.specs.Shipped.{is_control, IsBefore, AreInOrder, StandsBeside, IsShipped, AreShipped, IsBadBeside, IsFirstPath, HasNoPath, ArePathTexts}
 use Rattle.package_tree.specs.Walk.{is_child_of, is_child, SeesTo, AreChildren, IsBadHere, HasLooked, IsAmid, IsOrderly, Takes}
 use Rattle.package_tree.specs.declared.walk.Sight.{Sight}
 use Rattle.package_tree.specs.declared.walk.Sight.TheVariants as look
@@ -95,7 +94,7 @@ in_control dir name q path told old is says within = ap (λ b. b || old) (sym (f
     (let parts = and3 (is_path q) (is_control q) (bytes_eq (dir ++ 47 ∷ name) q) t in
     true≢false (sym within ∙ says ∙ ap is_control (is ∙ (bytes_eq-Decides (dir ++ 47 ∷ name) q).0 parts.2) ∙ parts.1)))))
 
-cond_or : (b old : Bool) → cond b true old ≡ (b || old)
+pub cond_or : (b old : Bool) → cond b true old ≡ (b || old)
 cond_or true old = refl
 cond_or false old = refl
 

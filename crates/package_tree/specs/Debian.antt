@@ -1,5 +1,5 @@
 -- What stands in a tree: the files in `DEBIAN` (Policy 6.1), and whether there is more.
-use Rattle.std.specs.Prelude.{◌≡◌, ◌≢◌, ◌||◌, ◌++◌, ◌∷◌, [], true, false, not, ℕ, Bool, List, Option, Some, None, IsSome, IsTrue, codes, nat_eq, ◌↔◌}
+use Rattle.std.specs.Prelude.{◌≡◌, ◌≢◌, ◌++◌, ◌∷◌, [], true, false, not, ℕ, Bool, List, Option, Some, None, IsSome, IsTrue, codes, ◌↔◌}
 use Rattle.std.specs.List.{list_any, list_all, AllByRecursion}
 use Rattle.control_fields.specs.Grammar.{lines_of}
 use Rattle.host_core.specs.Paths.{Path}

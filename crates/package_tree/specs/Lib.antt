@@ -1,8 +1,15 @@
+pub mod ConffileFaults
 pub mod Conffiles
 pub mod ControlFile
 pub mod Debian
 pub mod Fault
+pub mod LineNames
+pub mod OtherFiles
+pub mod OtherNames
+pub mod Package
 pub mod PathFaults
+pub mod Reading
+pub mod ShipMap
 pub mod Shipped
 pub mod Tree
 pub mod Walk

@@ -4,7 +4,7 @@ use Rattle.std.specs.List.{AllByRecursion}
 use Rattle.host_core.specs.Paths.{Path}
 use Rattle.host_core.specs.World.{World}
 use Rattle.package_tree.specs.Debian.{is_wrong, member_paths, HasNoneWrong}
-use Rattle.package_tree.specs.Shipped.{IsBadBeside, IsBefore, IsReserved, is_reserved, HasNoPath}
+use Rattle.package_tree.specs.Shipped.{AreShipped, IsBadBeside, IsBefore, IsReserved, is_reserved, HasNoPath}
 
 -- something stands at a script's path, or at that of `conffiles`, that isn't a file
 pub record IsWrongMember (w : World) (q : Path) : Type 0 where
@@ -20,6 +20,10 @@ pub record HasGoodPaths (w : World) : Type 0 where
   pub files : HasNoneWrong w member_paths
   pub beside : HasNoPath (IsBadBeside w)
   pub reserved : HasNoPath (IsReserved w)
+
+-- no path is bad or reserved, and these are shipped
+abbrev pub AreGoodPaths : World → List Path → Type 0
+AreGoodPaths w paths = HasGoodPaths w × AreShipped w paths
 
 -- of two paths, where there are two, the one that comes first
 abbrev pub IsLesser : Option Path → Option Path → Option Path → Type 0

@@ -6,10 +6,14 @@ use Rattle.control_fields.specs.declared.field.Field.{Field}
 use Rattle.administration.specs.Scripts.{script_of, file_of}
 use Rattle.package_tree.specs.ControlFile.{IsControlText, IsTextFault}
 use Rattle.package_tree.specs.Debian.{HasFile, Ships, control_path, conffiles_path, script_path, lists_conffiles}
-use Rattle.package_tree.specs.Conffiles.{entries_at, HasNoEntry, IsFirstOdd, IsOdd}
+use Rattle.package_tree.specs.Conffiles.{entries_at, HasNoEntry, IsFirstOdd}
+use Rattle.package_tree.specs.ConffileFaults.{AreNamed, HasGoodLines, IsAstray, IsFirstAstray, IsFlaggedAndShipped}
 use Rattle.package_tree.specs.Fault.{IsHostFault}
 use Rattle.package_tree.specs.PathFaults.{HasGoodPaths, IsBadPath}
+use Rattle.package_tree.specs.OtherFiles.{AreOthers}
+use Rattle.package_tree.specs.ShipMap.{AreFiles, IsTooLarge}
 use Rattle.package_tree.specs.Shipped.{HasNoPath, IsFirstPath, IsReserved}
+use Rattle.package_tree.specs.declared.conffile_lines.Entry.TheVariants.{Plain, Flagged}
 use Rattle.package_tree.specs.declared.package.Package.{Package}
 use Rattle.package_tree.specs.declared.fault.TreeFault.{TreeFault}
 use Rattle.package_tree.specs.declared.fault.TreeFault.TheVariants.{NoControl, Control, FieldMissing, FieldBad, PathBad, Reserved, ConffileNotShipped, ConffileShipped, ConffileFlag, TooLarge, Device, NoMemory}
@@ -27,7 +31,14 @@ pub record IsTreeOf (w : World) (p : Package) : Type 0 where
   -- each script is the file in `DEBIAN` by its name, or missing where there is none
   pub scripts : (script : Script) → file_of (script_of p.scripts script) ≡ w (script_path script)
   pub paths : HasGoodPaths w
-  pub lines : HasNoEntry IsOdd (entries_at (w conffiles_path))
+  pub lines : HasGoodLines w
+  -- no shipped path is more than a tree may hold
+  pub room : HasNoPath (IsTooLarge w)
+  pub files : AreFiles w p.files
+  -- the conffiles, and the paths that go with the upgrade to this package
+  pub conffiles : AreNamed Plain (entries_at (w conffiles_path)) p.conffiles
+  pub flagged : AreNamed Flagged (entries_at (w conffiles_path)) p.flagged
+  pub others : AreOthers w p.others
   pub has_conffiles : p.has_conffiles ≡ lists_conffiles (w conffiles_path)
   pub ships : IsTrue p.ships ↔ Ships w
 
@@ -47,10 +58,13 @@ IsTreeFault w (FieldMissing name) = HasControlFault w (FieldMissing name)
 IsTreeFault w (FieldBad name) = HasControlFault w (FieldBad name)
 IsTreeFault w (PathBad path) = HasGoodControl w × IsFirstPath (IsBadPath w) path
 IsTreeFault w (Reserved path) = HasGoodControl w × HasNoPath (IsBadPath w) × IsFirstPath (IsReserved w) path
-IsTreeFault w (ConffileNotShipped name) = ⊥
-IsTreeFault w (ConffileShipped path) = ⊥
-IsTreeFault w (ConffileFlag line) = HasGoodControl w × HasGoodPaths w × IsFirstOdd (entries_at (w conffiles_path)) line
-IsTreeFault w (TooLarge path) = ⊥
+IsTreeFault w (ConffileNotShipped name) = HasGoodControl w × HasGoodPaths w × IsFirstAstray w (entries_at (w conffiles_path)) name
+IsTreeFault w (ConffileShipped path) =
+    HasGoodControl w × HasGoodPaths w × HasNoEntry (IsAstray w) (entries_at (w conffiles_path)) × IsFirstPath (IsFlaggedAndShipped w) path
+IsTreeFault w (ConffileFlag line) =
+    HasGoodControl w × HasGoodPaths w × HasNoEntry (IsAstray w) (entries_at (w conffiles_path)) × HasNoPath (IsFlaggedAndShipped w)
+    × IsFirstOdd (entries_at (w conffiles_path)) line
+IsTreeFault w (TooLarge path) = HasGoodControl w × HasGoodPaths w × HasGoodLines w × IsFirstPath (IsTooLarge w) path
 IsTreeFault w Device = ⊥
 IsTreeFault w NoMemory = ⊥
 

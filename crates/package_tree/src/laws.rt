@@ -15,5 +15,9 @@ pub fn trees_are_of_one_package()
     ensures scripts { (w : World) (p q : APackage) → IsTreeOf w p → IsTreeOf w q → (script : Script) → file_of (script_of p.scripts script) ≡ file_of (script_of q.scripts script) }
     ensures ships { (w : World) (p q : APackage) → IsTreeOf w p → IsTreeOf w q → p.ships ≡ q.ships }
     ensures has_conffiles { (w : World) (p q : APackage) → IsTreeOf w p → IsTreeOf w q → p.has_conffiles ≡ q.has_conffiles }
+    ensures files { (w : World) (p q : APackage) → IsTreeOf w p → IsTreeOf w q → p.files ≡ q.files }
+    ensures conffiles { (w : World) (p q : APackage) → IsTreeOf w p → IsTreeOf w q → p.conffiles ≡ q.conffiles }
+    ensures flagged { (w : World) (p q : APackage) → IsTreeOf w p → IsTreeOf w q → p.flagged ≡ q.flagged }
+    ensures others { (w : World) (p q : APackage) → IsTreeOf w p → IsTreeOf w q → p.others ≡ q.others }
     ensures no_fault { (w : World) (p : APackage) (fault : AFault) → IsTreeOf w p → IsTreeFault w fault → ⊥ }
 {}

@@ -3,14 +3,18 @@ ghost use Rattle.std.specs.Prelude.{◌≡◌, IfOk, true, []};
 ghost use Rattle.control_fields.specs.Spelling.{AreFields};
 ghost use Rattle.texts.specs.PackageNames.{is_package_name};
 ghost use Rattle.package_tree.specs.ControlFile.{IsReadable};
+ghost use Rattle.package_tree.specs.Package.{AreFitting};
 
+use crate::other_files::OtherFiles;
+use crate::ship_map::ShipMap;
+use crate::ship_paths::ShipPaths;
 use administration::{ScriptFile, Scripts};
 use control_fields::Paragraph;
 use std::alloc::AllocError;
 use texts::Text;
 use version_order::Version;
 
-/// What a tree has: its control file and scripts, and of the rest how much the refusals tell.
+/// What a tree has.
 #[derive(Drop)]
 pub struct Package {
     pub name: Text,
@@ -18,6 +22,14 @@ pub struct Package {
     /// The control file.
     pub control: Paragraph,
     pub scripts: Scripts,
+    /// The files of `DEBIAN` beside these, as `templates`.
+    pub others: OtherFiles,
+    /// What the package ships.
+    pub files: ShipMap,
+    /// The shipped files that are conffiles.
+    pub conffiles: ShipPaths,
+    /// The paths flagged `remove-on-upgrade`, which go with the upgrade to this package.
+    pub flagged: ShipPaths,
     /// Whether anything stands in the tree beside `DEBIAN`.
     pub ships: bool,
     /// Whether `DEBIAN/conffiles` has a line that isn't blank.
@@ -25,6 +37,7 @@ pub struct Package {
     pub ghost named: { is_package_name name ≡ true },
     pub ghost written: { ∥ AreFields [] control ∥₁ },
     pub ghost readable: { ∥ IsReadable control ∥₁ },
+    pub ghost fitting: { ∥ AreFitting files conffiles flagged ∥₁ },
 }
 
 fn copy_script(script: &Option<ScriptFile>) -> Result<Option<ScriptFile>, AllocError>
@@ -57,6 +70,10 @@ impl Package {
             version: self.version.copy()?,
             control: self.control.copy()?,
             scripts: copy_scripts(&self.scripts)?,
+            others: self.others.copy()?,
+            files: self.files.copy()?,
+            conffiles: self.conffiles.copy()?,
+            flagged: self.flagged.copy()?,
             ships: self.ships,
             has_conffiles: self.has_conffiles,
         })

@@ -1,5 +1,5 @@
 // Reading a tree: its control file, and what stands beside it.
-ghost use Rattle.std.specs.Prelude.{◌≡◌, ◌↔◌, ◌||◌, true, false, IsTrue, IfOk, IfErr, IfSome, OnOk, MatchOption, ℕ, List, Some, []};
+ghost use Rattle.std.specs.Prelude.{◌≡◌, ◌≤◌, ◌↔◌, ◌||◌, true, false, IsTrue, IfOk, IfErr, IfSome, OnOk, MatchOption, ℕ, List, Some, [], length};
 ghost use Rattle.std.specs.List.{list_any, list_all};
 ghost use Rattle.control_fields.specs.Grammar.{lines_of};
 ghost use Rattle.host_core.specs.Paths.{is_path};
@@ -10,21 +10,34 @@ ghost use Rattle.host_core.specs.declared.node.Access.{Access};
 ghost use Rattle.administration.specs.Scripts.{script_of, file_of};
 ghost use Rattle.package_tree.specs.Fault.{CountsTree};
 ghost use Rattle.package_tree.specs.Debian.{is_wrong, is_entry, is_shipped, lists_conffiles, script_path, conffiles_path, member_paths, Ships, HasNoneWrong, IsFirstWrong, AreContents};
-ghost use Rattle.package_tree.specs.Conffiles.{is_white, entries_at, HasNoEntry, IsFirstOdd, IsOdd};
+ghost use Rattle.package_tree.specs.Conffiles.{is_white, entries_at};
+ghost use Rattle.package_tree.specs.ConffileFaults.{HasGoodLines, IsOfBoth};
 ghost use Rattle.package_tree.specs.ControlFile.{IsControlText};
-ghost use Rattle.package_tree.specs.PathFaults.{HasGoodPaths, IsBadPath};
-ghost use Rattle.package_tree.specs.Shipped.{AreInOrder, ArePathTexts, AreShipped, HasNoPath, IsBadBeside, IsFirstPath, IsShipLine, IsShipped};
+ghost use Rattle.package_tree.specs.PathFaults.{AreGoodPaths, HasGoodPaths, IsBadPath};
+ghost use Rattle.package_tree.specs.Reading.{AreLinesOf, IsFound, IsWhole};
+ghost use Rattle.package_tree.specs.ShipMap.{paths_of, AreFiles, IsTooLarge};
+ghost use Rattle.package_tree.specs.Shipped.{AreInOrder, ArePathTexts, AreShipped, HasNoPath, IsBadBeside, IsFirstPath};
 ghost use Rattle.package_tree.specs.Tree.{HasControl, HasGoodControl, IsTreeOf, IsReadingFault};
 
-use crate::conffile_lines::{entries_at, first_odd, is_white};
+use crate::collecting::collect;
+use crate::conffile_lines::{Entry, entries_at, first_odd, is_white};
 use crate::control_file::{ControlFile, read_control};
 use crate::fault::TreeFault;
+use crate::line_faults::{first_astray, first_flagged};
+use crate::line_names::{LineKind, files_in, in_order, names_of};
+use crate::other_file::OtherFile;
+use crate::other_files::OtherFiles;
+use crate::others::read_others;
 use crate::package::Package;
 use crate::path_faults::{first_reserved, lesser};
+use crate::ship_map::ShipMap;
+use crate::ship_paths::ShipPaths;
+use crate::shipped::Shipped;
 use crate::walk::walk;
 use administration::{ScriptFile, Scripts};
-use host_core::{Host, HostFault, Listing, Node, RootPath};
+use host_core::{Host, HostFault, Listing, Node, RootPath, ShipPath};
 use std::alloc::{AllocError, Global};
+use std::collections::BTreeSet;
 use texts::{Bytes, Text};
 
 // The nodes in `DEBIAN` beside the control file, and whether the tree ships anything.
@@ -330,7 +343,6 @@ fn read_contents<H: Host>(
     ensures paths { Leaves result (λ w now. HasGoodPaths w × AreShipped w paths.new.items) (H.state host.old) (H.state host.new) }
     ensures texts { OnOk result (ArePathTexts paths.new.items) }
     ensures order { OnOk result (AreInOrder paths.new.items) }
-    ensures lines { Leaves result (λ w now. HasNoEntry IsOdd (entries_at (w conffiles_path))) (H.state host.old) (H.state host.new) }
     ensures fault { IsTrue (H.state host.new).honest → IfErr result (IsReadingFault (H.state host.old).world) }
     ensures reads { Reads (H.state host.old) (H.state host.new) }
     ensures silent { Silent (H.state host.old) (H.state host.new) }
@@ -338,36 +350,162 @@ fn read_contents<H: Host>(
 {
     look(alloc, host, contents)?;
     read_paths(alloc, host, contents, paths)?;
-    match odd_line(alloc, contents)? {
+    Ok(())
+}
+
+// What the lines of `conffiles` say.
+#[derive(Drop)]
+struct Lines {
+    entries: Vec<Entry>,
+    plain: BTreeSet<String>,
+    flagged: Vec<ShipPath>,
+}
+
+// The lines of `conffiles`, what the plain ones name, and the paths that are flagged.
+fn lines_at(alloc: Global, conffiles: &Option<Node>) -> Result<Lines, AllocError>
+    ensures { IfOk result (AreLinesOf (entries_at conffiles.now)) }
+{
+    let entries = entries_at(alloc, conffiles)?;
+    let plain = names_of(alloc, entries.as_slice(), LineKind::Plain)?;
+    let named = names_of(alloc, entries.as_slice(), LineKind::Flagged)?;
+    let flagged = in_order(alloc, named)?;
+    Ok(Lines {
+        entries,
+        plain,
+        flagged,
+    })
+}
+
+// Finds what is wrong with a line, if anything.
+#[tactic(auto, using(host_core::specs::Moments::reads_then))]
+fn check_lines<H: Host>(
+    alloc: Global,
+    host: &mut H,
+    paths: &[RootPath],
+    lines: &Lines,
+) -> Result<(), TreeFault>
+    requires paths { AreInOrder paths.now }
+    requires texts { ArePathTexts paths.now }
+    requires flagged { AreInOrder lines.now.flagged.items }
+    requires control { Needs (H.state host.old) HasGoodControl }
+    requires good { Needs (H.state host.old) (λ w. AreGoodPaths w paths.now) }
+    requires lines { Needs (H.state host.old) (λ w. AreLinesOf (entries_at (w conffiles_path)) lines.now) }
+    ensures good { Leaves result (λ w now. HasGoodLines w) (H.state host.old) (H.state host.new) }
+    ensures apart { OnOk result (HasNoPath (IsOfBoth lines.now.flagged.items paths.now)) }
+    ensures fault { IsTrue (H.state host.new).honest → IfErr result (IsReadingFault (H.state host.old).world) }
+    ensures reads { Reads (H.state host.old) (H.state host.new) }
+    ensures silent { Silent (H.state host.old) (H.state host.new) }
+    ensures counts { CountsTree (H.state host.old) (H.state host.new) result }
+{
+    if let Some(name) = first_astray(alloc, host, paths, lines.entries.as_slice())? {
+        return Err(TreeFault::ConffileNotShipped(name));
+    }
+    if let Some(path) = first_flagged(paths, lines.flagged.as_slice())? {
+        return Err(TreeFault::ConffileShipped(path));
+    }
+    match first_odd(lines.entries.as_slice()) {
         Some(line) => Err(TreeFault::ConffileFlag(line)),
         None => Ok(()),
     }
 }
 
-// The line of the first entry of `conffiles` that is neither a path nor a flagged one.
-fn odd_line(alloc: Global, contents: &Contents) -> Result<Option<u64>, AllocError>
-    ensures { IfOk result (λ found. MatchOption found (HasNoEntry IsOdd (entries_at contents.now.conffiles)) (IsFirstOdd (entries_at contents.now.conffiles))) }
+// Collects what is shipped, if a tree may hold it.
+fn collect_files<H: Host>(
+    alloc: Global,
+    host: &mut H,
+    paths: &[RootPath],
+    files: &mut Vec<Shipped>,
+) -> Result<(), TreeFault>
+    requires empty { files.old.items ≡ [] }
+    requires control { Needs (H.state host.old) HasGoodControl }
+    requires shipped { Needs (H.state host.old) (λ w. AreGoodPaths w paths.now) }
+    requires lines { Needs (H.state host.old) HasGoodLines }
+    ensures found { Leaves result (λ w now. AreFiles w files.new.items × HasNoPath (IsTooLarge w)) (H.state host.old) (H.state host.new) }
+    ensures whole { OnOk result ((paths_of files.new.items ≡ paths.now) × (length files.new.items ≤ 65536)) }
+    ensures fault { IsTrue (H.state host.new).honest → IfErr result (IsReadingFault (H.state host.old).world) }
+    ensures reads { Reads (H.state host.old) (H.state host.new) }
+    ensures silent { Silent (H.state host.old) (H.state host.new) }
+    ensures counts { CountsTree (H.state host.old) (H.state host.new) result }
 {
-    let entries = entries_at(alloc, &contents.conffiles)?;
-    Ok(first_odd(entries.as_slice()))
+    match collect(alloc, host, paths, files)? {
+        Some(path) => Err(TreeFault::TooLarge(path)),
+        None => Ok(()),
+    }
 }
 
-// The package of what was read.
-fn assemble(control: ControlFile, contents: Contents) -> Package
-    ensures { (w : World) (text : List ℕ) → HasControl w text → IsControlText text control.paragraph control.name control.version → AreContents w contents → HasGoodPaths w → HasNoEntry IsOdd (entries_at (w conffiles_path)) → IsTreeOf w result }
+// What a tree holds beside its control file and scripts.
+#[derive(Drop)]
+struct Found {
+    files: Vec<Shipped>,
+    conffiles: Vec<ShipPath>,
+    others: Vec<OtherFile>,
+}
+
+impl Found {
+    fn none(alloc: Global) -> Self
+        ensures files { result.files.items ≡ [] }
+        ensures others { result.others.items ≡ [] }
+    {
+        Found {
+            files: Vec::new(alloc),
+            conffiles: Vec::new(alloc),
+            others: Vec::new(alloc),
+        }
+    }
+}
+
+// Reads what the paths and the lines name.
+#[tactic(auto, using(host_core::specs::Moments::reads_then))]
+fn read_found<H: Host>(
+    alloc: Global,
+    host: &mut H,
+    paths: &[RootPath],
+    lines: &Lines,
+    found: &mut Found,
+) -> Result<(), TreeFault>
+    requires files { found.old.files.items ≡ [] }
+    requires others { found.old.others.items ≡ [] }
+    requires paths { AreInOrder paths.now }
+    requires texts { ArePathTexts paths.now }
+    requires flagged { AreInOrder lines.now.flagged.items }
+    requires control { Needs (H.state host.old) HasGoodControl }
+    requires good { Needs (H.state host.old) (λ w. AreGoodPaths w paths.now) }
+    requires lines { Needs (H.state host.old) (λ w. AreLinesOf (entries_at (w conffiles_path)) lines.now) }
+    ensures found { Leaves result (λ w now. IsFound w found.new) (H.state host.old) (H.state host.new) }
+    ensures whole { OnOk result (IsWhole lines.now found.new) }
+    ensures fault { IsTrue (H.state host.new).honest → IfErr result (IsReadingFault (H.state host.old).world) }
+    ensures reads { Reads (H.state host.old) (H.state host.new) }
+    ensures silent { Silent (H.state host.old) (H.state host.new) }
+    ensures counts { CountsTree (H.state host.old) (H.state host.new) result }
 {
-    let ControlFile {
-        name,
-        version,
-        paragraph,
-    } = control;
+    check_lines(alloc, host, paths, lines)?;
+    collect_files(alloc, host, paths, &mut found.files)?;
+    read_others(alloc, host, &mut found.others)?;
+    found.conffiles = files_in(alloc, found.files.as_slice(), &lines.plain)?;
+    Ok(())
+}
+// The package of what was read.
+fn assemble(
+    alloc: Global,
+    control: ControlFile,
+    contents: Contents,
+    lines: Lines,
+    found: Found,
+) -> Package
+    requires { IsWhole lines found }
+    ensures { (w : World) (text : List ℕ) → HasControl w text → IsControlText text control.paragraph control.name control.version → AreContents w contents → HasGoodPaths w → AreLinesOf (entries_at (w conffiles_path)) lines → IsFound w found → IsTreeOf w result }
+{
     let has_conffiles = lists_conffiles(&contents.conffiles);
     let ships = contents.ships;
     Package {
-        name,
-        version,
-        control: paragraph,
+        name: control.name,
+        version: control.version,
+        control: control.paragraph,
         scripts: scripts_of(contents),
+        others: OtherFiles::new(alloc, found.others),
+        files: ShipMap::new(alloc, found.files),
+        conffiles: ShipPaths::new(alloc, found.conffiles),
+        flagged: ShipPaths::new(alloc, lines.flagged),
         ships,
         has_conffiles,
     }
@@ -386,5 +524,8 @@ pub fn read_tree<H: Host>(alloc: Global, host: &mut H) -> Result<Package, TreeFa
     let mut contents = Contents::none();
     let mut paths = Vec::new(alloc);
     read_contents(alloc, host, &mut contents, &mut paths)?;
-    Ok(assemble(control, contents))
+    let lines = lines_at(alloc, &contents.conffiles)?;
+    let mut found = Found::none(alloc);
+    read_found(alloc, host, paths.as_slice(), &lines, &mut found)?;
+    Ok(assemble(alloc, control, contents, lines, found))
 }

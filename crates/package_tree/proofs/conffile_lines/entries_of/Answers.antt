@@ -1,7 +1,3 @@
-use Rattle.std.proofs.Common.{◌≡◌, ◌∙◌, sym, ap, List, ℕ, ◌++◌, ◌∷◌, [], length, arith, append_assoc, length-append, map}
-use Rattle.control_fields.specs.Grammar.{lines_of}
-use Rattle.control_fields.proofs.LinesOf.{lines_cut, lines_last}
-use Rattle.package_tree.specs.Conffiles.{entry_of, entries_of}
 use Rattle.package_tree.proofs.Entries.{entries_cut, entries_last}
 use Rattle.package_tree.proofs.conffile_lines.entries_of.Goals as goal
 

@@ -1,4 +1,4 @@
-use Rattle.package_tree.proofs.OneTree.{control_once, name_once, version_once, scripts_once, ships_once, has_conffiles_once, no_fault}
+use Rattle.package_tree.proofs.OneTree.{control_once, name_once, version_once, scripts_once, ships_once, has_conffiles_once, files_once, conffiles_once, flagged_once, others_once, no_fault}
 use Rattle.package_tree.proofs.laws.trees_are_of_one_package.Goals as goal
 
 pub returns : goal.returns
@@ -9,5 +9,9 @@ returns c = record {
   scripts = scripts_once;
   ships = ships_once;
   has_conffiles = has_conffiles_once;
+  files = files_once;
+  conffiles = conffiles_once;
+  flagged = flagged_once;
+  others = others_once;
   no_fault = no_fault;
 }

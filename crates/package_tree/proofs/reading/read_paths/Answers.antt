@@ -1,10 +1,10 @@
-use Rattle.std.proofs.Common.{◌≡◌, ◌∙◌, Option, Some, None, List, inl, subst}
+use Rattle.std.proofs.Common.{Option, Some, None, List, inl, subst}
 use Rattle.std.specs.Prelude.{MatchOption}
 use Rattle.host_core.specs.Paths.{Path}
 use Rattle.host_core.specs.World.{World}
 use Rattle.package_tree.specs.Debian.{HasNoneWrong, member_paths}
-use Rattle.package_tree.specs.PathFaults.{HasGoodPaths, IsBadPath, HasNoneReserved, IsFirstReserved}
-use Rattle.package_tree.specs.Shipped.{AreShipped, HasNoPath, IsBadBeside, IsFirstPath, IsReserved}
+use Rattle.package_tree.specs.PathFaults.{IsBadPath, HasNoneReserved, IsFirstReserved}
+use Rattle.package_tree.specs.Shipped.{AreShipped, HasNoPath, IsBadBeside, IsFirstPath}
 use Rattle.package_tree.proofs.Firsts.{first_reserved, none_reserved, no_bad_path}
 use Rattle.package_tree.proofs.reading.read_paths.Goals as goal
 

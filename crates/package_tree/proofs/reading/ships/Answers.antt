@@ -1,7 +1,7 @@
 use Rattle.std.proofs.Common.{◌↔◌, IsTrue, sym, subst}
 use Rattle.host_core.specs.Paths.{Path}
 use Rattle.host_core.specs.Tree.{IsListing}
-use Rattle.package_tree.proofs.Shipped.{ships_listed}
+use Rattle.package_tree.proofs.RootNames.{ships_listed}
 use Rattle.package_tree.specs.Debian.{Ships}
 use Rattle.package_tree.proofs.reading.ships.Goals as goal
 

@@ -1,11 +1,10 @@
-use Rattle.std.proofs.Common.{◌≡◌, ◌∙◌, ◌∷◌, ◌++◌, sym, ap, subst, true, false, List, ℕ, cond}
+use Rattle.std.proofs.Common.{◌≡◌, ◌∙◌, ◌∷◌, ◌++◌, ap, subst, true, false}
 use Rattle.std.specs.Prelude.{MatchOption}
 use Rattle.std.specs.String.{string_bytes}
 use Rattle.std.specs.BTreeSet.{contains_text}
 use Rattle.std.proofs.lemmas.Map.Text.{btree_set_updates_text}
 use Rattle.host_core.specs.Paths.{Path, is_path}
 use Rattle.package_tree.specs.Shipped.{is_control}
-use Rattle.package_tree.specs.Walk.{is_child_of}
 use Rattle.package_tree.proofs.Walks.{no_path, in_control, child_inserted}
 use Rattle.package_tree.proofs.walk.add_child.Goals as goal
 

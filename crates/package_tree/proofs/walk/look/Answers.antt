@@ -1,4 +1,4 @@
-use Rattle.std.proofs.Common.{◌≡◌, ◌∙◌, ap, subst}
+use Rattle.std.proofs.Common.{◌∙◌, ap}
 use Rattle.std.specs.BTreeSet.{contains_text}
 use Rattle.host_core.specs.Paths.{has_room, is_below_administration}
 use Rattle.package_tree.proofs.Walks.{looked_shut, looked_open, looked_left_out}

@@ -1,5 +1,4 @@
-use Rattle.std.proofs.Common.{◌≡◌, ◌∙◌, false, subst, sym, rules, List, []}
-use Rattle.std.specs.Prelude.{IsTrue}
+use Rattle.std.proofs.Common.{false, subst, sym, rules, List, []}
 use Rattle.std.specs.BTreeSet.{contains_text}
 use Rattle.std.specs.String.{string_bytes}
 use Rattle.std.proofs.lemmas.Bool.{false≢true}

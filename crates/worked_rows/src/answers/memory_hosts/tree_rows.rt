@@ -1,12 +1,13 @@
 // A tree in memory: what is read of it, and what stands in it.
 use super::unpack_rows::WITH_POSTRM;
-use super::{expect, file, path_of, text_of, tree_of};
+use super::{TreeFile, expect, file, path_of, text_of, tree_of};
 use control_fields::write_paragraph;
-use host_core::Script;
+use host_core::{Access, Node, Script};
 use host_memory::MemoryHost;
-use package_tree::{Package, read_tree};
+use package_tree::{Package, TreeFault, read_tree};
 use std::alloc::{AllocError, Global};
 use std::test::Fail;
+use texts::Bytes;
 
 // Adds the name of a script that the package has.
 fn push_script(package: &Package, script: Script, text: &mut String) -> Result<(), AllocError> {
@@ -64,4 +65,88 @@ fn nothing_is_placed_below_a_file(rt: HostRuntime) -> Result<(), Fail> {
     assert!(rt; place(rt.alloc(), &mut host, "/usr/x")?);
     assert!(rt; !place(rt.alloc(), &mut host, "/usr/x/y")?);
     Ok(())
+}
+
+// A tree with all kinds of files.
+const WHOLE: &[TreeFile] = &[
+    ("t", "/DEBIAN/control", "Package: alpha\nVersion: 1.0\n"),
+    (
+        "t",
+        "/DEBIAN/conffiles",
+        "/etc/b\nremove-on-upgrade /etc/d\n/etc/a\n/etc/b\n",
+    ),
+    ("t", "/DEBIAN/list", "no list"),
+    ("t", "/DEBIAN/md5sums", "sums"),
+    ("t", "/DEBIAN/templates.old", "no name"),
+    ("t", "/DEBIAN/config", "config"),
+    ("t", "/etc/a", "a"),
+    ("t", "/etc/b", "b"),
+];
+
+// What a package ships, its conffiles, the paths that go, and the other files of DEBIAN.
+fn parts_text(alloc: Global, package: &Package) -> Result<String, AllocError> {
+    let mut text = String::new(alloc);
+    for file in package.files.as_slice() {
+        text.push(' ')?;
+        text.push_str(file.path.as_str())?;
+    }
+    text.push('|')?;
+    for path in package.conffiles.as_slice() {
+        text.push(' ')?;
+        text.push_str(path.as_str())?;
+    }
+    text.push('|')?;
+    for path in package.flagged.as_slice() {
+        text.push(' ')?;
+        text.push_str(path.as_str())?;
+    }
+    text.push('|')?;
+    for other in package.others.as_slice() {
+        text.push(' ')?;
+        text.push_str(other.name.as_str())?;
+    }
+    Ok(text)
+}
+
+fn parts(alloc: Global, host: &mut MemoryHost) -> Result<String, AllocError> {
+    match read_tree(alloc, host) {
+        Ok(package) => parts_text(alloc, &package.copy()?),
+        Err(_) => String::from_str(alloc, "no package"),
+    }
+}
+
+#[test]
+fn a_tree_is_read_whole(rt: HostRuntime) -> Result<(), Fail> {
+    let mut host = tree_of(rt.alloc(), WHOLE, "t")?;
+    let row = " /etc /etc/a /etc/b| /etc/a /etc/b| /etc/d| config md5sums";
+    expect(&rt, parts(rt.alloc(), &mut host), row)
+}
+
+// How many paths a tree ships, or the path that is too much.
+fn counted(alloc: Global, host: &mut MemoryHost) -> Result<String, AllocError> {
+    match read_tree(alloc, host) {
+        Ok(package) => {
+            let count = package.files.as_slice().len();
+            format!(in alloc; "{count}")
+        }
+        Err(TreeFault::TooLarge(path)) => format!(in alloc; "TooLarge {path}"),
+        Err(_) => String::from_str(alloc, "another fault"),
+    }
+}
+
+// A tree with a file of so many bytes.
+fn large_tree(alloc: Global, count: usize) -> Result<MemoryHost, AllocError> {
+    let mut host = tree_of(alloc, WITH_POSTRM, "t")?;
+    let bytes = Bytes::new(vec![in alloc; 0; count]?);
+    let access = Access::own(0o644);
+    host.place(&path_of(alloc, "/big")?, Node::File { bytes, access })?;
+    Ok(host)
+}
+
+#[test]
+fn files_are_limited(rt: HostRuntime) -> Result<(), Fail> {
+    let mut host = large_tree(rt.alloc(), 67_108_864)?;
+    expect(&rt, counted(rt.alloc(), &mut host), "1")?;
+    let mut host = large_tree(rt.alloc(), 67_108_865)?;
+    expect(&rt, counted(rt.alloc(), &mut host), "TooLarge /big")
 }

@@ -66,6 +66,25 @@ pub(crate) const TREES: &[TreeFile] = &[
     ),
     ("both", "/DEBIAN/conffiles", "/etc/x\n"),
     ("both", "/etc/x", "x"),
+    ("inside", CONTROL, ALPHA),
+    ("inside", "/DEBIAN/conffiles", "/etc/q\n"),
+    ("inside", "/etc/q/x", "x"),
+    ("lines", CONTROL, ALPHA),
+    ("lines", "/DEBIAN/conffiles", "/etc/z \n\n/etc/x\n/etc/a\n"),
+    ("lines", "/etc/x", "x"),
+    ("shipped", CONTROL, ALPHA),
+    (
+        "shipped",
+        "/DEBIAN/conffiles",
+        "keep /etc/q\nremove-on-upgrade /etc/q\n",
+    ),
+    ("shipped", "/etc/q", "x"),
+    ("keep", CONTROL, ALPHA),
+    ("keep", "/DEBIAN/conffiles", "keep /etc/q\n"),
+    ("flag", CONTROL, ALPHA),
+    ("flag", "/DEBIAN/conffiles", "remove-on-upgrade\n"),
+    ("old", CONTROL, ALPHA),
+    ("old", "/etc/q.dpkg-old", "x"),
     ("a", CONTROL, ALPHA),
     ("a", "/DEBIAN/preinst", "#!/bin/sh\n"),
     ("b", CONTROL, "Package: bravo\nVersion: 1\n"),
@@ -185,9 +204,30 @@ pub(crate) const REFUSALS: &[(&str, &str)] = &[
     ),
     (
         "dpkg_cli unpack conffile",
-        "refused alpha NotYet conffiles\n||1\n",
+        "refused conffile ConffileNotShipped /etc/x\n||1\n",
     ),
     ("dpkg_cli unpack both", "refused alpha NotYet files\n||1\n"),
+    (
+        "dpkg_cli unpack inside",
+        "refused inside ConffileNotShipped /etc/q\n||1\n",
+    ),
+    (
+        "dpkg_cli unpack lines",
+        "refused lines ConffileNotShipped /etc/z\n||1\n",
+    ),
+    (
+        "dpkg_cli unpack shipped",
+        "refused shipped ConffileShipped /etc/q\n||1\n",
+    ),
+    ("dpkg_cli unpack keep", "refused keep ConffileFlag 1\n||1\n"),
+    (
+        "dpkg_cli unpack flag",
+        "refused flag ConffileNotShipped \n||1\n",
+    ),
+    (
+        "dpkg_cli unpack old",
+        "refused old Reserved /etc/q.dpkg-old\n||1\n",
+    ),
 ];
 
 // Stops the test where a line of words isn't answered by the row, or something is left.

@@ -4,24 +4,49 @@ use mathlib.Core.HLevel.{is_prop→PathP}
 use Rattle.administration.specs.declared.scripts.Scripts.{Scripts}
 use Rattle.control_fields.specs.Spelling.{AreFields}
 use Rattle.control_fields.specs.declared.field.Field.{Field}
+use Rattle.host_core.specs.Paths.{Path}
 use Rattle.texts.specs.PackageNames.{is_package_name}
 use Rattle.package_tree.specs.ControlFile.{IsReadable}
+use Rattle.package_tree.specs.Package.{AreFitting}
+use Rattle.package_tree.specs.declared.other_file.OtherFile.{OtherFile}
 use Rattle.package_tree.specs.declared.package.Package.{Package}
+use Rattle.package_tree.specs.declared.shipped.Shipped.{Shipped}
 use Rattle.package_tree.proofs.package.Package.copy.Goals as goal
 
-same : (name version : List ℕ) (control : List Field) (scripts : Scripts) (named : is_package_name name ≡ true) (written : ∥ AreFields [] control ∥₁) (readable : ∥ IsReadable control ∥₁) (p : Package)
-    → name ≡ p.name → version ≡ p.version → control ≡ p.control → scripts ≡ p.scripts
-    → record { name = name; version = version; control = control; scripts = scripts; ships = p.ships; has_conffiles = p.has_conffiles; named = named; written = written; readable = readable } ≡ p
-same name version control scripts named written readable p n v f s = λ i. record {
+same : (name version : List ℕ) (control : List Field) (scripts : Scripts) (others : List OtherFile) (files : List Shipped) (conffiles flagged : List Path)
+    (named : is_package_name name ≡ true) (written : ∥ AreFields [] control ∥₁) (readable : ∥ IsReadable control ∥₁) (fitting : ∥ AreFitting files conffiles flagged ∥₁) (p : Package)
+    → name ≡ p.name → version ≡ p.version → control ≡ p.control → scripts ≡ p.scripts → others ≡ p.others → files ≡ p.files → conffiles ≡ p.conffiles → flagged ≡ p.flagged
+    → record {
+      name = name;
+      version = version;
+      control = control;
+      scripts = scripts;
+      others = others;
+      files = files;
+      conffiles = conffiles;
+      flagged = flagged;
+      ships = p.ships;
+      has_conffiles = p.has_conffiles;
+      named = named;
+      written = written;
+      readable = readable;
+      fitting = fitting;
+    } ≡ p
+same name version control scripts others files conffiles flagged named written readable fitting p n v f s o m c g = λ i. record {
   name = n i;
   version = v i;
   control = f i;
   scripts = s i;
+  others = o i;
+  files = m i;
+  conffiles = c i;
+  flagged = g i;
   ships = p.ships;
   has_conffiles = p.has_conffiles;
   named = is_prop→PathP (λ j. is_package_name (n j) ≡ true) (λ j. hlevel props) named p.named i;
   written = is_prop→PathP (λ j. ∥ AreFields [] (f j) ∥₁) (λ j. hlevel props) written p.written i;
   readable = is_prop→PathP (λ j. ∥ IsReadable (f j) ∥₁) (λ j. hlevel props) readable p.readable i;
+  fitting = is_prop→PathP (λ j. ∥ AreFitting (m j) (c j) (g j) ∥₁) (λ j. hlevel props) fitting p.fitting i;
 }
 
 pub invariant_of-result : goal.invariant_of-result
@@ -31,7 +56,11 @@ invariant_of-result c =
       named = ap is_package_name c.in_ok-copy.ensures ∙ p.named;
       written = subst (λ (fields : List Field). ∥ AreFields [] fields ∥₁) (sym c.in_ok-copy-3.ensures) p.written;
       readable = subst (λ (fields : List Field). ∥ IsReadable fields ∥₁) (sym c.in_ok-copy-3.ensures) p.readable;
+      fitting = subst (λ (m : List Shipped). ∥ AreFitting m c.in_ok-copy-6.field-0 c.in_ok-copy-7.field-0 ∥₁) (sym c.in_ok-copy-5.ensures)
+          (subst (λ (l : List Path). ∥ AreFitting p.files l c.in_ok-copy-7.field-0 ∥₁) (sym c.in_ok-copy-6.ensures)
+          (subst (λ (l : List Path). ∥ AreFitting p.files p.conffiles l ∥₁) (sym c.in_ok-copy-7.ensures) p.fitting));
     }
 
 pub returns : goal.returns
-returns c = same _ _ _ _ _ _ _ c.args.self.now c.in_ok-copy.ensures c.in_ok-copy-2.ensures c.in_ok-copy-3.ensures c.in_ok-copy_scripts.ensures
+returns c =
+    same _ _ _ _ _ _ _ _ _ _ _ _ c.args.self.now c.in_ok-copy.ensures c.in_ok-copy-2.ensures c.in_ok-copy-3.ensures c.in_ok-copy_scripts.ensures c.in_ok-copy-4.ensures c.in_ok-copy-5.ensures c.in_ok-copy-6.ensures c.in_ok-copy-7.ensures
