@@ -3,8 +3,12 @@ pub mod Tables
 pub mod Kept
 pub mod ControlValues
 pub mod Lines
+pub mod PathOrder
+pub mod ShipLines
+pub mod EntryLines
+pub mod OwnFields
+pub mod SameRecords
 pub mod ConffileReading
-pub mod ConfigReading
 pub mod Apart
 pub mod NameSets
 pub mod Parsing

@@ -3,19 +3,24 @@
 
 mod conffile_fields;
 mod conffile_lists;
-mod configured;
+mod conffile_reading;
+mod conffile_writing;
+mod committed;
 mod database;
+mod entries;
 mod laws;
 mod names;
 mod reading;
 mod record;
+mod standings;
 mod values;
 mod words;
 mod writing;
 
-pub use conffile_fields::{ConffileEntry, PendingDigest};
+pub use committed::{Ships, committed_entries};
 pub use conffile_lists::{ConffileEntries, PendingDigests};
 pub use database::Database;
+pub use entries::{ConffileEntry, PendingDigest, is_trimmed};
 pub use laws::records_are_a_table;
 pub use record::Record;
 pub use words::{Flag, State, Want};
