@@ -126,7 +126,7 @@ recorded_is_word (Some d) is = digest_is_word d is
 
 -- the words of a line
 
-same_words : (a b : ConffileWords) → a.path ≡ b.path → a.digest ≡ b.digest → a.obsolete ≡ b.obsolete → a.remove_on_upgrade ≡ b.remove_on_upgrade → a ≡ b
+pub same_words : (a b : ConffileWords) → a.path ≡ b.path → a.digest ≡ b.digest → a.obsolete ≡ b.obsolete → a.remove_on_upgrade ≡ b.remove_on_upgrade → a ≡ b
 same_words a b p d o r = λ i. record { path = p i; digest = d i; obsolete = o i; remove_on_upgrade = r i }
 
 -- what is read of a line's text, by what stands before its flags
@@ -135,7 +135,7 @@ record IsTextOf (path word : List ℕ) (obsolete removal : Bool) (text : List �
   obsolete_is : bytes_eq (last_word (without_word (codes "remove-on-upgrade") text)) (codes "obsolete") ≡ obsolete
   removal_is : bytes_eq (last_word text) (codes "remove-on-upgrade") ≡ removal
 
-flags_text : List ℕ → List ℕ → Bool → Bool → List ℕ
+abbrev flags_text : List ℕ → List ℕ → Bool → Bool → List ℕ
 flags_text path word obsolete removal = path ++ 32 ∷ (word ++ (flag_text obsolete (codes "obsolete") ++ flag_text removal (codes "remove-on-upgrade")))
 
 core_trimmed : (path word : List ℕ) → IsDigestWord word → trim_end (path ++ 32 ∷ word) ≡ path ++ 32 ∷ word
@@ -192,7 +192,7 @@ words_by e is =
     (ap words_before t.before ∙ before_last e.path (digest_word e.digest) w.no_blank ∙ (line_path e.path e.conffile).trimmed)
     (ap last_word t.before ∙ last_behind e.path (digest_word e.digest) w.no_blank) t.obsolete_is t.removal_is
 
-same_pending : (a b : PendingWords) → a.path ≡ b.path → a.digest ≡ b.digest → a ≡ b
+pub same_pending : (a b : PendingWords) → a.path ≡ b.path → a.digest ≡ b.digest → a ≡ b
 same_pending a b p d = λ i. record { path = p i; digest = d i }
 
 pub pending_by : (p : PendingDigest) → IsDigest p.digest → pending_words (pending_line p) ≡ words_of_pending p

@@ -3,7 +3,10 @@ pub mod Tables
 pub mod Kept
 pub mod ControlValues
 pub mod Lines
+pub mod Answered
+pub mod TrimmedPaths
 pub mod PathOrder
+pub mod Placing
 pub mod ShipLines
 pub mod EntryLines
 pub mod OwnFields

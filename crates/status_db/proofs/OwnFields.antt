@@ -53,14 +53,10 @@ own_fields_own : (r : Record) → AreOwn (own_fields r)
 own_fields_own r =
     let conffiles = map conffile_line r.conffiles in
     let pending = map pending_line r.pending in
-    (
-      refl,
-      refl,
-      (refl,
-      own_append (config_field r.config_version) _ (config_own r.config_version)
-      (own_append (removed_field r.removed_since) _ (removed_own r.removed_since)
-      (own_append (lines_field (codes "Conffiles") conffiles) (lines_field (codes "New-Conffiles") pending) (conffiles_own conffiles) (pending_own pending)))),
-    )
+    (refl, (refl, (refl,
+    own_append (config_field r.config_version) _ (config_own r.config_version)
+    (own_append (removed_field r.removed_since) _ (removed_own r.removed_since)
+    (own_append (lines_field (codes "Conffiles") conffiles) (lines_field (codes "New-Conffiles") pending) (conffiles_own conffiles) (pending_own pending))))))
 
 other_called : (f : Field) (fs : List Field) → is_one_of own_names f ≡ false → AreOwn fs → stands f.name fs ≡ false
 other_called f [] other own = refl
@@ -75,7 +71,7 @@ after_own firsts before [] own others are = tt
 after_own firsts before (f ∷ fs) own others are = (
   are.0,
   called_append (lower f.name) firsts before (other_called f firsts others.0 own) are.1,
-  subst (λ (l : List Field). AreFields l fs) (append_assoc firsts before (f ∷ [])) (after_own firsts (before ++ f ∷ []) fs own others.1 are.2),
+  subst (λ (l : List Field). AreFields l fs) (sym (append_assoc firsts before (f ∷ []))) (after_own firsts (before ++ f ∷ []) fs own others.1 are.2),
 )
 
 pub both_fields : (before xs ys : List Field) → AreFields before xs → AreFields (before ++ xs) ys → AreFields before (xs ++ ys)
@@ -201,15 +197,11 @@ pub record IsReadAgain (conffiles pending : List (List ℕ)) : Type 0 where
 pub own_readable : (r : Record) → is_package_name r.name ≡ true → IsVersion r.version → IfSome r.config_version IsVersion → IsReadAgain (map conffile_line r.conffiles) (map pending_line r.pending) → AllByRecursion IsReadable r.fields → AllByRecursion IsReadable (paragraph_of r)
 own_readable r named version config again fields =
     readable_append (own_fields r) r.fields
-    (
-      (refl, named),
-      (refl, (r.want, r.flag, r.state, refl)),
-      ((refl, version),
+    ((refl, named), ((refl, (r.want, r.flag, r.state, refl)), ((refl, version),
       readable_append (config_field r.config_version) _ (config_readable r.config_version config)
       (readable_append (removed_field r.removed_since) _ (removed_readable r.removed_since)
       (readable_append (lines_field (codes "Conffiles") (map conffile_line r.conffiles)) _ (conffiles_readable (map conffile_line r.conffiles) again.lines again.apart)
-      (pending_readable (map pending_line r.pending) again.pending_lines again.pending_apart)))),
-    ) fields
+      (pending_readable (map pending_line r.pending) again.pending_lines again.pending_apart)))))) fields
 
 -- what is found behind fields of other names
 
@@ -249,16 +241,16 @@ lines_by text name [] rest same none = ap lines_of_field (not_called text rest n
 lines_by text name (l ∷ ls) rest same none = ap (λ b. lines_of_field (cond b (Some (record { name = name; first = []; more = l ∷ ls })) (field_in text rest))) same
 
 module _ (r : Record) (others : AllByRecursion (λ f. is_one_of own_names f ≡ false) r.fields) where
-  config : List Field
+  abbrev config : List Field
   config = config_field r.config_version
 
-  removed : List Field
+  abbrev removed : List Field
   removed = removed_field r.removed_since
 
-  conffiles : List Field
+  abbrev conffiles : List Field
   conffiles = lines_field (codes "Conffiles") (map conffile_line r.conffiles)
 
-  pending : List Field
+  abbrev pending : List Field
   pending = lines_field (codes "New-Conffiles") (map pending_line r.pending)
 
   pub config_again : line_of (field_in (codes "config-version") (paragraph_of r)) ≡ r.config_version

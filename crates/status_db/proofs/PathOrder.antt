@@ -1,6 +1,6 @@
 -- What stands in path order, and what is put in its place there.
-use Rattle.std.proofs.Common.{◌≡◌, ℕ, Bool, true, false, cond, not, ◌&&◌, ◌||◌, List, [], ◌∷◌, ◌++◌, map, refl, sym, ap, subst, ◌∙◌, append_assoc}
-use Rattle.std.specs.List.{list_any, AllByRecursion}
+use Rattle.std.proofs.Common.{◌≡◌, ℕ, zero, suc, ◌<◌, ◌≤◌, Bool, true, false, cond, not, ◌&&◌, ◌||◌, List, [], ◌∷◌, ◌++◌, length, map, take, drop, get_or, refl, sym, ap, subst, ◌∙◌, append_assoc, arith}
+use Rattle.std.specs.List.{list_any, insert, AllByRecursion}
 use Rattle.std.specs.Str.{bytes_eq}
 use Rattle.std.specs.Cmp.Lexicographic.{slice_cmp}
 use Rattle.std.specs.Ordering.{nat_cmp, is_lt, is_eq, ordering_reverse}
@@ -84,11 +84,11 @@ in_order_kept path xs order = kept_from path [] xs order
 
 all_placed : {X : Type 0} (path : X → Path) (P : Path → Type 0) (x : X) (ys : List X) → P (path x) → AllByRecursion P (map path ys) → AllByRecursion P (map path (placed_by path x ys))
 all_placed path P x [] here all = (here, tt)
-all_placed path P x (y ∷ ys) here all = by (is_before (path y) (path x))
+all_placed path P x (y ∷ ys) here all = by (is_before (path y) (path x)) (all_placed path P x ys here all.1)
   where
-    by : (b : Bool) → AllByRecursion P (map path (cond b (y ∷ placed_by path x ys) (x ∷ y ∷ ys)))
-    by true = (all.0, all_placed path P x ys here all.1)
-    by false = (here, all)
+    by : (b : Bool) → AllByRecursion P (map path (placed_by path x ys)) → AllByRecursion P (map path (cond b (y ∷ placed_by path x ys) (x ∷ y ∷ ys)))
+    by true rest = (all.0, rest)
+    by false rest = (here, all)
 
 all_behind : (p q : Path) (ps : List Path) → is_before p q ≡ true → AllByRecursion (λ r. is_before q r ≡ true) ps → AllByRecursion (λ r. is_before p r ≡ true) ps
 all_behind p q [] first all = tt
@@ -99,15 +99,14 @@ has_path path xs p = list_any (λ x. bytes_eq p (path x)) xs
 
 pub order_placed : {X : Type 0} (path : X → Path) (x : X) (ys : List X) → AreInOrder (map path ys) → has_path path ys (path x) ≡ false → AreInOrder (map path (placed_by path x ys))
 order_placed path x [] order new = (tt, tt)
-order_placed path x (y ∷ ys) order new = by (is_before (path y) (path x)) refl
+order_placed path x (y ∷ ys) order new =
+    let parts = or_parts (bytes_eq (path x) (path y)) (has_path path ys (path x)) new in
+    by (is_before (path y) (path x)) refl parts.0 (order_placed path x ys order.1 parts.1)
   where
-    parts : (bytes_eq (path x) (path y) ≡ false) × (has_path path ys (path x) ≡ false)
-    parts = or_parts (bytes_eq (path x) (path y)) (has_path path ys (path x)) new
-
-    by : (b : Bool) → is_before (path y) (path x) ≡ b → AreInOrder (map path (cond b (y ∷ placed_by path x ys) (x ∷ y ∷ ys)))
-    by true e = (all_placed path (λ q. is_before (path y) q ≡ true) x ys e order.0, order_placed path x ys order.1 parts.1)
-    by false e =
-        let first = behind (path y) (path x) e parts.0 in
+    by : (b : Bool) → is_before (path y) (path x) ≡ b → bytes_eq (path x) (path y) ≡ false → AreInOrder (map path (placed_by path x ys)) → AreInOrder (map path (cond b (y ∷ placed_by path x ys) (x ∷ y ∷ ys)))
+    by true e other rest = (all_placed path (λ q. is_before (path y) q ≡ true) x ys e order.0, rest)
+    by false e other rest =
+        let first = behind (path y) (path x) e other in
         ((first, all_behind (path x) (path y) (map path ys) first order.0), order)
 
 -- one more at the end
@@ -127,21 +126,41 @@ order_last path (y ∷ ys) x order all = (
 
 pub has_placed : {X : Type 0} (path : X → Path) (x : X) (ys : List X) (p : Path) → bytes_eq p (path x) ≡ false → has_path path ys p ≡ false → has_path path (placed_by path x ys) p ≡ false
 has_placed path x [] p other new = or_from (bytes_eq p (path x)) false other refl
-has_placed path x (y ∷ ys) p other new = by (is_before (path y) (path x))
+has_placed path x (y ∷ ys) p other new =
+    let parts = or_parts (bytes_eq p (path y)) (has_path path ys p) new in
+    by (is_before (path y) (path x)) parts.0 (has_placed path x ys p other parts.1)
   where
-    parts : (bytes_eq p (path y) ≡ false) × (has_path path ys p ≡ false)
-    parts = or_parts (bytes_eq p (path y)) (has_path path ys p) new
-
-    by : (b : Bool) → has_path path (cond b (y ∷ placed_by path x ys) (x ∷ y ∷ ys)) p ≡ false
-    by true = or_from (bytes_eq p (path y)) (has_path path (placed_by path x ys) p) parts.0 (has_placed path x ys p other parts.1)
-    by false = or_from (bytes_eq p (path x)) (has_path path (y ∷ ys) p) other new
+    by : (b : Bool) → bytes_eq p (path y) ≡ false → has_path path (placed_by path x ys) p ≡ false → has_path path (cond b (y ∷ placed_by path x ys) (x ∷ y ∷ ys)) p ≡ false
+    by true here rest = or_from (bytes_eq p (path y)) (has_path path (placed_by path x ys) p) here rest
+    by false here rest = or_from (bytes_eq p (path x)) (has_path path (y ∷ ys) p) other new
 
 -- in the words of another kind
 
 pub placed_mapped : {X Y : Type 0} (f : X → Y) (path : Y → Path) (x : X) (ys : List X) → map f (placed_by (λ z. path (f z)) x ys) ≡ placed_by path (f x) (map f ys)
 placed_mapped f path x [] = refl
-placed_mapped f path x (y ∷ ys) = by (is_before (path (f y)) (path (f x)))
+placed_mapped f path x (y ∷ ys) = by (is_before (path (f y)) (path (f x))) (placed_mapped f path x ys)
   where
-    by : (b : Bool) → map f (cond b (y ∷ placed_by (λ z. path (f z)) x ys) (x ∷ y ∷ ys)) ≡ cond b (f y ∷ placed_by path (f x) (map f ys)) (f x ∷ f y ∷ map f ys)
-    by true = ap (λ zs. f y ∷ zs) (placed_mapped f path x ys)
-    by false = refl
+    by : (b : Bool) → map f (placed_by (λ z. path (f z)) x ys) ≡ placed_by path (f x) (map f ys) → map f (cond b (y ∷ placed_by (λ z. path (f z)) x ys) (x ∷ y ∷ ys)) ≡ cond b (f y ∷ placed_by path (f x) (map f ys)) (f x ∷ f y ∷ map f ys)
+    by true rest = ap (λ zs. f y ∷ zs) rest
+    by false rest = refl
+
+-- where something is put in its place
+
+pub placed_stop : {X : Type 0} (path : X → Path) (x : X) (xs : List X) (i : ℕ) (d : X) → i < length xs → is_before (path (get_or xs i d)) (path x) ≡ false → placed_by path x (drop i xs) ≡ x ∷ drop i xs
+placed_stop path x [] i d lt e = absurd (omega (arith, lt))
+placed_stop path x (y ∷ ys) zero d lt e = ap (λ b. cond b (y ∷ placed_by path x ys) (x ∷ y ∷ ys)) e
+placed_stop path x (y ∷ ys) (suc i) d lt e = placed_stop path x ys i d (omega (arith, lt)) e
+
+pub placed_end : {X : Type 0} (path : X → Path) (x : X) (xs : List X) (i : ℕ) → length xs ≤ i → placed_by path x (drop i xs) ≡ x ∷ drop i xs
+placed_end path x [] zero le = refl
+placed_end path x [] (suc i) le = refl
+placed_end path x (y ∷ ys) zero le = absurd (omega (arith, le))
+placed_end path x (y ∷ ys) (suc i) le = placed_end path x ys i (omega (arith, le))
+
+pub placed_here : {X : Type 0} (path : X → Path) (x : X) (xs : List X) (i : ℕ) (y : X) (p : Path) → i < length xs → y ≡ get_or xs i y → is_before (path y) p ≡ false → path x ≡ p → placed_by path x xs ≡ take i xs ++ placed_by path x (drop i xs)
+    → placed_by path x xs ≡ insert xs i x
+placed_here path x xs i y p lt at after named so_far =
+    so_far ∙ ap (λ l. take i xs ++ l) (placed_stop path x xs i y lt (ap (is_before (path (get_or xs i y))) named ∙ ap (λ z. is_before (path z) p) (sym at) ∙ after))
+
+pub placed_behind : {X : Type 0} (path : X → Path) (x : X) (xs : List X) (i : ℕ) → length xs ≤ i → placed_by path x xs ≡ take i xs ++ placed_by path x (drop i xs) → placed_by path x xs ≡ insert xs i x
+placed_behind path x xs i le so_far = so_far ∙ ap (λ l. take i xs ++ l) (placed_end path x xs i le)

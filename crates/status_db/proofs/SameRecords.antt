@@ -81,7 +81,7 @@ same_record a b s = λ i. record {
 
 -- the words of a Status are those of one want, flag and state
 
-want_at : ℕ → Want
+abbrev want_at : ℕ → Want
 want_at b = cond (nat_eq b 117) want.Unknown (cond (nat_eq b 105) want.Install (cond (nat_eq b 104) want.Hold (cond (nat_eq b 100) want.Deinstall want.Purge)))
 
 want_back : (w : Want) → want_at (get_or (want_word w) 0 0) ≡ w
@@ -91,14 +91,14 @@ want_back want.Hold = refl
 want_back want.Deinstall = refl
 want_back want.Purge = refl
 
-flag_at : ℕ → Flag
+abbrev flag_at : ℕ → Flag
 flag_at b = cond (nat_eq b 111) flag.Ok flag.Reinstreq
 
 flag_back : (g : Flag) → flag_at (get_or (flag_word g) 0 0) ≡ g
 flag_back flag.Ok = refl
 flag_back flag.Reinstreq = refl
 
-state_at : ℕ → ℕ → State
+abbrev state_at : ℕ → ℕ → State
 state_at b c =
     cond (nat_eq b 110) state.NotInstalled (cond (nat_eq b 99) state.ConfigFiles (cond (nat_eq b 117) state.Unpacked (cond (nat_eq b 105) state.Installed (cond (nat_eq c 105) state.HalfInstalled state.HalfConfigured))))
 
@@ -148,28 +148,28 @@ recorded_once (Some a) None first second e = absurd (∥∥₁_elim first (hleve
 recorded_once (Some a) (Some b) first second e =
     ap (λ (d : List ℕ). Some d) ((bytes_eq-Decides a b).0 (∥∥₁_elim first (hlevel props) (λ is. ∥∥₁_elim second (hlevel props) (λ also. (bytes_eq-Decides a b).1 (digest_once a b is also e)))))
 
-entries_once : (as bs : List ConffileEntry) → map words_of_conffile as ≡ map words_of_conffile bs → as ≡ bs
+entries_once : (xs ys : List ConffileEntry) → map words_of_conffile xs ≡ map words_of_conffile ys → xs ≡ ys
 entries_once [] [] e = refl
-entries_once [] (b ∷ bs) e = absurd (cc e)
-entries_once (a ∷ as) [] e = absurd (cc e)
-entries_once (a ∷ as) (b ∷ bs) e =
+entries_once [] (b ∷ ys) e = absurd (cc e)
+entries_once (a ∷ xs) [] e = absurd (cc e)
+entries_once (a ∷ xs) (b ∷ ys) e =
     let head : words_of_conffile a ≡ words_of_conffile b = cc e in
-    let rest : map words_of_conffile as ≡ map words_of_conffile bs = cc e in
+    let rest : map words_of_conffile xs ≡ map words_of_conffile ys = cc e in
     let same = same_entry a b (ap (λ (w : ConffileWords). w.path) head) (recorded_once a.digest b.digest a.digested b.digested (ap (λ (w : ConffileWords). w.digest) head)) (ap (λ (w : ConffileWords). w.obsolete) head)
     (ap (λ (w : ConffileWords). w.remove_on_upgrade) head) in
-    λ i. same i ∷ entries_once as bs rest i
+    λ i. same i ∷ entries_once xs ys rest i
 
-pending_once : (as bs : List PendingDigest) → map words_of_pending as ≡ map words_of_pending bs → as ≡ bs
+pending_once : (xs ys : List PendingDigest) → map words_of_pending xs ≡ map words_of_pending ys → xs ≡ ys
 pending_once [] [] e = refl
-pending_once [] (b ∷ bs) e = absurd (cc e)
-pending_once (a ∷ as) [] e = absurd (cc e)
-pending_once (a ∷ as) (b ∷ bs) e =
+pending_once [] (b ∷ ys) e = absurd (cc e)
+pending_once (a ∷ xs) [] e = absurd (cc e)
+pending_once (a ∷ xs) (b ∷ ys) e =
     let head : words_of_pending a ≡ words_of_pending b = cc e in
-    let rest : map words_of_pending as ≡ map words_of_pending bs = cc e in
+    let rest : map words_of_pending xs ≡ map words_of_pending ys = cc e in
     let digest = (bytes_eq-Decides a.digest b.digest).0 (∥∥₁_elim a.digested (hlevel props) (λ is. ∥∥₁_elim b.digested (hlevel props) (λ also.
     (bytes_eq-Decides a.digest b.digest).1 (digest_once a.digest b.digest is also (ap (λ (w : PendingWords). w.digest) head))))) in
     let same = same_pending a b (ap (λ (w : PendingWords). w.path) head) digest in
-    λ i. same i ∷ pending_once as bs rest i
+    λ i. same i ∷ pending_once xs ys rest i
 
 -- a paragraph says one record
 

@@ -92,6 +92,7 @@ fn left_entries<S: Ships>(
 ) -> Result<ConffileEntries, AllocError>
     ensures { IfOk result (λ es. es ≡ left_entries entries.now shipped.now flagged.now (S.Ships.shipped ships.now)) }
 {
+    entries.law();
     let mut left = ConffileEntries::new(alloc);
     for entry in entries.as_slice() {
         if !shipped.has(&entry.path) && stays(entry, ships) {
@@ -112,6 +113,7 @@ pub fn committed_entries<S: Ships>(
 ) -> Result<ConffileEntries, AllocError>
     ensures { IfOk result (λ es. es ≡ committed_entries entries.now shipped.now flagged.now (S.Ships.shipped ships.now)) }
 {
+    shipped.law();
     let mut committed = left_entries(alloc, entries, shipped, flagged, ships)?;
     for digest in shipped.as_slice() {
         committed.put(shipped_entry(entries, digest)?)?;

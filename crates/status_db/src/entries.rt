@@ -38,6 +38,22 @@ pub fn is_trimmed(path: &ShipPath) -> bool
     trim_end(path.as_str().as_bytes()) == path.as_str().as_bytes()
 }
 
+// What holds of each such path, and of each digest.
+fn path_law(path: &ShipPath)
+    ensures { is_ship_path path.now ≡ true }
+{
+    path.law();
+    let _text = path.as_str();
+}
+
+fn digest_law(digest: &Option<Digest>)
+    ensures { IsDigestOrNone digest.now }
+{
+    if let Some(digest) = digest {
+        digest.law();
+    }
+}
+
 impl ConffileEntry {
     /// The entry of a conffile; its path ends in no blank.
     pub fn new(path: ShipPath, digest: Option<Digest>, obsolete: bool, remove_on_upgrade: bool) -> ConffileEntry
@@ -47,11 +63,8 @@ impl ConffileEntry {
         ensures obsolete { result.obsolete ≡ obsolete }
         ensures remove_on_upgrade { result.remove_on_upgrade ≡ remove_on_upgrade }
     {
-        path.law();
-        let _ = path.as_str();
-        if let Some(digest) = &digest {
-            digest.law();
-        }
+        path_law(&path);
+        digest_law(&digest);
         ConffileEntry {
             path,
             digest,
@@ -80,8 +93,7 @@ impl PendingDigest {
         ensures path { result.path ≡ path }
         ensures digest { result.digest ≡ digest }
     {
-        path.law();
-        let _ = path.as_str();
+        path_law(&path);
         digest.law();
         PendingDigest { path, digest }
     }
