@@ -1,6 +1,7 @@
 -- What follows from an answer, and from lines that were put together.
-use Rattle.std.proofs.Common.{◌≡◌, ℕ, Bool, true, false, ◌&&◌, Result, Ok, Err, List, [], ◌∷◌, ◌++◌, refl, ap, ◌∙◌, append_assoc}
+use Rattle.std.proofs.Common.{◌≡◌, ℕ, Bool, true, false, not, ◌&&◌, Result, Ok, Err, List, [], ◌∷◌, ◌++◌, refl, ap, ◌∙◌, append_assoc}
 use Rattle.std.specs.Prelude.{OnOk}
+use Rattle.std.proofs.lemmas.Bool.{true≢false}
 
 pub on_ok : {T E P Q : Type 0} (r : Result T E) → (P → Q) → OnOk r P → OnOk r Q
 on_ok (Ok x) so h = so h
@@ -9,6 +10,10 @@ on_ok (Err e) so h = tt
 pub none_beside : (b : Bool) → b && false ≡ false
 none_beside true = refl
 none_beside false = refl
+
+pub unturned : (b : Bool) → not b ≡ false → b ≡ true
+unturned true e = refl
+unturned false e = absurd (true≢false e)
 
 -- a line, part by part
 pub line_parts : (a b c d e f g path digest first second : List ℕ) → a ≡ [] → b ≡ a ++ 32 ∷ [] → c ≡ b ++ path → d ≡ c ++ 32 ∷ [] → e ≡ d ++ digest → f ≡ e ++ first → g ≡ f ++ second

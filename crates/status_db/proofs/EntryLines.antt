@@ -1,9 +1,7 @@
 -- The line of an entry is read as that entry.
-use Rattle.std.proofs.Common.{◌≡◌, ◌≢◌, ℕ, suc, ◌<◌, Bool, true, false, cond, not, ◌&&◌, ◌||◌, ◌==◌, Option, None, Some, List, [], ◌∷◌, ◌++◌, length, map, take, drop, refl, sym, ap, subst, ◌∙◌, append_assoc, arith, codes}
-use Rattle.std.specs.Prelude.{IfSome}
+use Rattle.std.proofs.Common.{◌≡◌, ◌≢◌, ℕ, suc, Bool, true, false, cond, ◌&&◌, ◌||◌, Option, None, Some, List, [], ◌∷◌, ◌++◌, length, map, take, drop, refl, sym, ap, subst, ◌∙◌, append_assoc, arith, codes}
 use Rattle.std.specs.List.{list_any, list_all, AllByRecursion}
 use Rattle.std.specs.Str.{bytes_eq, IsUtf8}
-use Rattle.std.proofs.Props.{props}
 use Rattle.std.proofs.Math.Logic.{∥∥₁_elim, ∥∥₁_map, ∥∥₁_prop}
 use Rattle.std.proofs.lemmas.Bool.{true≢false, false≢true, false_from_ne_true, and_parts, and_from, or_from, or_parts, or_right}
 use Rattle.std.proofs.lemmas.Bool.Decides.{nat_tests}
@@ -18,12 +16,11 @@ use Rattle.control_fields.specs.Spelling.{IsMore}
 use Rattle.control_fields.proofs.Trims.{trimmed_after, lacks_append}
 use Rattle.conffiles.specs.Digests.{IsDigest, is_lower_digit, is_digest_text}
 use Rattle.conffiles.proofs.DigestTexts.{written_lower, read_long}
-use Rattle.host_core.specs.Paths.{Path}
 use Rattle.status_db.specs.Digests.{is_recorded_text, digest_word, IsDigestOrNone}
 use Rattle.status_db.specs.declared.entries.ConffileEntry.{ConffileEntry}
 use Rattle.status_db.specs.declared.entries.PendingDigest.{PendingDigest}
 use Rattle.status_db.specs.ConffilePaths.{is_ship_path}
-use Rattle.status_db.specs.ConffileFields.{word_start, last_word, words_before, without_word, line_text, text_before_removal, text_before_flags, ConffileWords, conffile_words, PendingWords, pending_words, is_conffile_line, is_pending_line, words_of_conffile, words_of_pending, flag_text, conffile_line, pending_line}
+use Rattle.status_db.specs.ConffileFields.{word_start, last_word, words_before, without_word, ConffileWords, conffile_words, PendingWords, pending_words, is_conffile_line, is_pending_line, words_of_conffile, words_of_pending, flag_text, conffile_line, pending_line}
 use Rattle.status_db.proofs.Lines.{is_printed, weaker, both_printed, line_utf8, line_lacks}
 use Rattle.status_db.proofs.ShipLines.{line_path}
 

@@ -1,5 +1,5 @@
 -- The fields of a record's own: they can be written, and are found and read again.
-use Rattle.std.proofs.Common.{◌≡◌, ℕ, ◌<◌, Bool, true, false, cond, not, ◌&&◌, ◌||◌, Option, None, Some, List, [], ◌∷◌, ◌++◌, length, get_or, map, refl, sym, ap, subst, ◌∙◌, append_assoc, arith, codes}
+use Rattle.std.proofs.Common.{◌≡◌, ℕ, Bool, true, false, cond, not, Option, None, Some, List, [], ◌∷◌, ◌++◌, map, refl, sym, ap, subst, ◌∙◌, append_assoc, arith, codes}
 use Rattle.std.specs.Prelude.{IfSome, is_some}
 use Rattle.std.specs.List.{list_any, list_all, AllByRecursion}
 use Rattle.std.specs.Str.{bytes_eq}
@@ -9,17 +9,17 @@ use Rattle.std.proofs.lemmas.List.{append-nil}
 use Rattle.std.proofs.lemmas.List.Elements.{filter-append}
 use Rattle.std.proofs.lemmas.Slice.Eq.{bytes_eq-Decides}
 use Rattle.control_fields.specs.Names.{Lacks, IsName, lower, is_called, stands}
-use Rattle.control_fields.specs.Spelling.{IsField, IsMore, AreFields}
+use Rattle.control_fields.specs.Spelling.{IsMore, AreFields}
 use Rattle.control_fields.specs.declared.field.Field.{Field}
 use Rattle.control_fields.proofs.Written.{one_line}
 use Rattle.version_order.specs.Versions.{IsVersion}
 use Rattle.texts.specs.PackageNames.{is_package_name}
 use Rattle.status_db.specs.declared.record.Record.{Record}
-use Rattle.status_db.specs.Words.{status_text, is_installed}
+use Rattle.status_db.specs.Words.{status_text}
 use Rattle.status_db.specs.Fields.{own_names, is_one_of, recorded_fields}
 use Rattle.status_db.specs.Values.{IsReadable}
 use Rattle.status_db.specs.ConffileFields.{conffile_line, pending_line, is_conffile_line, is_pending_line, are_apart, conffile_paths, pending_paths}
-use Rattle.status_db.specs.Paragraphs.{line_field, first_fields, config_field, removed_field, lines_field, own_fields, paragraph_of, field_in, line_of, lines_of_field}
+use Rattle.status_db.specs.Paragraphs.{first_fields, config_field, removed_field, lines_field, own_fields, paragraph_of, field_in, line_of, lines_of_field}
 use Rattle.status_db.proofs.Kept.{called_append, others_stay}
 use Rattle.status_db.proofs.Lines.{name_of, lacks_colon, package_is_field, status_is_field, version_is_field, config_is_field, removed_is_field, name_visible, version_visible, line_utf8, line_lacks}
 use Rattle.status_db.proofs.Sayings.{not_called}
@@ -52,11 +52,18 @@ pending_own (l ∷ ls) = (refl, tt)
 own_fields_own : (r : Record) → AreOwn (own_fields r)
 own_fields_own r =
     let conffiles = map conffile_line r.conffiles in
-    let pending = map pending_line r.pending in
-    (refl, (refl, (refl,
-    own_append (config_field r.config_version) _ (config_own r.config_version)
-    (own_append (removed_field r.removed_since) _ (removed_own r.removed_since)
-    (own_append (lines_field (codes "Conffiles") conffiles) (lines_field (codes "New-Conffiles") pending) (conffiles_own conffiles) (pending_own pending))))))
+    let pending = map pending_line r.pending in (
+      refl,
+      (
+        refl,
+        (
+          refl,
+          own_append (config_field r.config_version) _ (config_own r.config_version)
+              (own_append (removed_field r.removed_since) _ (removed_own r.removed_since)
+              (own_append (lines_field (codes "Conffiles") conffiles) (lines_field (codes "New-Conffiles") pending) (conffiles_own conffiles) (pending_own pending))),
+        ),
+      ),
+    )
 
 other_called : (f : Field) (fs : List Field) → is_one_of own_names f ≡ false → AreOwn fs → stands f.name fs ≡ false
 other_called f [] other own = refl
@@ -196,12 +203,19 @@ pub record IsReadAgain (conffiles pending : List (List ℕ)) : Type 0 where
 
 pub own_readable : (r : Record) → is_package_name r.name ≡ true → IsVersion r.version → IfSome r.config_version IsVersion → IsReadAgain (map conffile_line r.conffiles) (map pending_line r.pending) → AllByRecursion IsReadable r.fields → AllByRecursion IsReadable (paragraph_of r)
 own_readable r named version config again fields =
-    readable_append (own_fields r) r.fields
-    ((refl, named), ((refl, (r.want, r.flag, r.state, refl)), ((refl, version),
-      readable_append (config_field r.config_version) _ (config_readable r.config_version config)
-      (readable_append (removed_field r.removed_since) _ (removed_readable r.removed_since)
-      (readable_append (lines_field (codes "Conffiles") (map conffile_line r.conffiles)) _ (conffiles_readable (map conffile_line r.conffiles) again.lines again.apart)
-      (pending_readable (map pending_line r.pending) again.pending_lines again.pending_apart)))))) fields
+    readable_append (own_fields r) r.fields (
+      (refl, named),
+      (
+        (refl, (r.want, r.flag, r.state, refl)),
+        (
+          (refl, version),
+          readable_append (config_field r.config_version) _ (config_readable r.config_version config)
+              (readable_append (removed_field r.removed_since) _ (removed_readable r.removed_since)
+              (readable_append (lines_field (codes "Conffiles") (map conffile_line r.conffiles)) _ (conffiles_readable (map conffile_line r.conffiles) again.lines again.apart)
+              (pending_readable (map pending_line r.pending) again.pending_lines again.pending_apart))),
+        ),
+      ),
+    ) fields
 
 -- what is found behind fields of other names
 

@@ -1,5 +1,5 @@
 -- What stands in path order, and what is put in its place there.
-use Rattle.std.proofs.Common.{◌≡◌, ℕ, zero, suc, ◌<◌, ◌≤◌, Bool, true, false, cond, not, ◌&&◌, ◌||◌, List, [], ◌∷◌, ◌++◌, length, map, take, drop, get_or, refl, sym, ap, subst, ◌∙◌, append_assoc, arith}
+use Rattle.std.proofs.Common.{◌≡◌, ℕ, zero, suc, ◌<◌, ◌≤◌, Bool, true, false, cond, not, ◌&&◌, List, [], ◌∷◌, ◌++◌, length, map, take, drop, get_or, refl, sym, ap, subst, ◌∙◌, append_assoc, arith}
 use Rattle.std.specs.List.{list_any, insert, AllByRecursion}
 use Rattle.std.specs.Str.{bytes_eq}
 use Rattle.std.specs.Cmp.Lexicographic.{slice_cmp}
@@ -9,7 +9,6 @@ use Rattle.std.specs.declared.cmp.Ordering.TheVariants.{Less, Equal, Greater}
 use Rattle.std.proofs.lemmas.Bool.{true≢false, false≢true, false_from_ne_true, or_from, or_parts}
 use Rattle.std.proofs.lemmas.Cmp.{nat_list_cmp_total, tied_itself}
 use Rattle.std.proofs.lemmas.List.{append-nil, map-append}
-use Rattle.std.proofs.lemmas.List.Folds.{list_any-append}
 use Rattle.std.proofs.lemmas.Map.Text.{is_eq-slice_cmp}
 use Rattle.std.proofs.lemmas.Slice.Eq.{bytes_eq-Decides}
 use Rattle.host_core.specs.Paths.{Path}
@@ -73,7 +72,7 @@ kept_from path ys [] order = sym (append-nil ys)
 kept_from path ys (x ∷ xs) order =
     ap (λ zs. all_placed_by path zs xs) (placed_last path x ys (all_before path ys x (map path xs) order))
     ∙ kept_from path (ys ++ x ∷ []) xs
-        (subst AreInOrder (sym (append_assoc (map path ys) (path x ∷ []) (map path xs)) ∙ ap (λ l. l ++ map path xs) (sym (map-append path ys (x ∷ [])))) order)
+    (subst AreInOrder (sym (append_assoc (map path ys) (path x ∷ []) (map path xs)) ∙ ap (λ l. l ++ map path xs) (sym (map-append path ys (x ∷ [])))) order)
     ∙ append_assoc ys (x ∷ []) xs
 
 -- what stands in order stays as it is

@@ -1,11 +1,11 @@
 -- Entries that are put in their places, line after line.
-use Rattle.std.proofs.Common.{◌≡◌, ℕ, zero, suc, ◌+◌, ◌<◌, ◌≤◌, Bool, true, false, not, cond, ◌&&◌, ◌||◌, List, [], ◌∷◌, ◌++◌, length, map, take, get_or, Option, Some, None, refl, sym, ap, subst, ◌∙◌, arith}
-use Rattle.std.specs.Prelude.{MatchOption, filter, is_some}
-use Rattle.std.specs.List.{fold, find, flat_map, list_any, list_all, AllByRecursion}
+use Rattle.std.proofs.Common.{◌≡◌, ℕ, zero, suc, ◌+◌, ◌<◌, Bool, true, false, not, cond, ◌||◌, List, [], ◌∷◌, ◌++◌, length, map, take, get_or, Option, Some, None, refl, sym, ap, subst, ◌∙◌, arith}
+use Rattle.std.specs.Prelude.{filter, is_some}
+use Rattle.std.specs.List.{find, flat_map, list_any, list_all, AllByRecursion}
 use Rattle.std.specs.Str.{bytes_eq}
-use Rattle.std.proofs.lemmas.Bool.{true≢false, false≢true, false_from_ne_true, or_from, or_parts, not-true}
+use Rattle.std.proofs.lemmas.Bool.{true≢false, false_from_ne_true, or_from, or_parts}
 use Rattle.std.proofs.lemmas.Grind.{flat_map-append}
-use Rattle.std.proofs.lemmas.List.{take_more, take_all, map-append}
+use Rattle.std.proofs.lemmas.List.{take_more, map-append}
 use Rattle.std.proofs.lemmas.List.Elements.{filter-append}
 use Rattle.std.proofs.lemmas.List.Folds.{list_all_at}
 use Rattle.std.proofs.lemmas.List.Sums.{fold-append}
@@ -16,8 +16,8 @@ use Rattle.status_db.specs.declared.entries.PendingDigest.{PendingDigest}
 use Rattle.status_db.specs.ConffilePaths.{is_before, AreInOrder, placed_by, all_placed_by, in_path_order}
 use Rattle.status_db.specs.ConffileFields.{are_apart}
 use Rattle.status_db.specs.Conffiles.{has_pending, renewed_entry, shipped_entry, marked_entry, left_entry, left_entries}
-use Rattle.status_db.proofs.Apart.{mapped_more, twice}
-use Rattle.status_db.proofs.PathOrder.{before_apart, has_path, has_placed, placed_mapped}
+use Rattle.status_db.proofs.Apart.{twice}
+use Rattle.status_db.proofs.PathOrder.{has_path, has_placed, placed_mapped}
 
 -- one more
 
@@ -48,7 +48,7 @@ module _ {E W : Type 0} (words : E → W) (path : W → Path) (said : List ℕ �
       sym (any_mapped words path es (path (words e)))
       ∙ ap (λ ws. has_path path ws (path (words e))) so_far
       ∙ has_all_placed path [] (map said (take i lines)) (path (words e)) refl
-          (any_mapped said path (take i lines) (path (words e)) ∙ ap (λ w. has_path (λ l. path (said l)) (take i lines) (path w)) (says ∙ ap said at) ∙ new_at (λ l. path (said l)) lines i line lt apart)
+      (any_mapped said path (take i lines) (path (words e)) ∙ ap (λ w. has_path (λ l. path (said l)) (take i lines) (path w)) (says ∙ ap said at) ∙ new_at (λ l. path (said l)) lines i line lt apart)
 
   pub put_more : (next : List E) → next ≡ placed_by (λ z. path (words z)) e es → map words next ≡ in_path_order path (map said (take (i + 1) lines))
   put_more next put =

@@ -8,7 +8,6 @@ use Rattle.std.proofs.lemmas.Bool.{true≢false, or_from}
 use Rattle.std.proofs.lemmas.List.{append-nil}
 use Rattle.std.proofs.lemmas.List.Folds.{list_any-append}
 use Rattle.control_fields.specs.Spelling.{IsParagraph, spell_all}
-use Rattle.control_fields.specs.declared.field.Field.{Field}
 use Rattle.control_fields.proofs.Again.{all_again}
 use Rattle.conffiles.specs.Digests.{IsDigest}
 use Rattle.host_core.specs.Paths.{Path}

@@ -1,7 +1,6 @@
 -- Records that are alike in each part are one, and a paragraph says one record.
-use Rattle.std.proofs.Common.{◌≡◌, ℕ, Bool, true, false, cond, ◌&&◌, Option, None, Some, List, [], ◌∷◌, ◌++◌, map, nat_eq, get_or, refl, sym, ap, subst, ◌∙◌, codes}
-use Rattle.std.specs.Prelude.{is_some, Result, Ok}
-use Rattle.std.specs.Str.{bytes_eq}
+use Rattle.std.proofs.Common.{◌≡◌, ℕ, true, false, cond, ◌&&◌, Option, None, Some, List, [], ◌∷◌, ◌++◌, map, nat_eq, get_or, refl, sym, ap, ◌∙◌, codes}
+use Rattle.std.specs.Prelude.{is_some, Ok}
 use Rattle.std.proofs.Props.{props}
 use Rattle.std.proofs.Math.Logic.{∥∥₁_elim}
 use Rattle.std.proofs.lemmas.Bool.{true≢false}
@@ -11,13 +10,13 @@ use Rattle.control_fields.specs.declared.field.Field.{Field}
 use Rattle.control_fields.proofs.Parts.{one_cut}
 use Rattle.conffiles.specs.Digests.{IsDigest, is_digest_text}
 use Rattle.conffiles.proofs.DigestTexts.{read_written}
-use Rattle.hex.specs.Hex.{encode_lower, decode_sized}
+use Rattle.hex.specs.Hex.{encode_lower}
 use Rattle.status_db.specs.Digests.{digest_word, IsDigestOrNone}
 use Rattle.status_db.specs.ConffilePaths.{is_conffile_path}
 use Rattle.status_db.specs.ConffileFields.{ConffileWords, PendingWords, words_of_conffile, words_of_pending}
 use Rattle.status_db.specs.Words.{want_word, flag_word, state_word, status_text, is_installed}
 use Rattle.status_db.specs.Writable.{IsWritable}
-use Rattle.status_db.specs.Paragraphs.{Says, earlier_version, IsRecordOf}
+use Rattle.status_db.specs.Paragraphs.{earlier_version, IsRecordOf}
 use Rattle.status_db.specs.declared.entries.ConffileEntry.{ConffileEntry}
 use Rattle.status_db.specs.declared.entries.PendingDigest.{PendingDigest}
 use Rattle.status_db.specs.declared.record.Record.{Record}
@@ -121,8 +120,7 @@ state_once s t e = sym (state_back s) ∙ ap (λ (l : List ℕ). state_at (get_o
 
 pub status_once : (w v : Want) (g h : Flag) (s t : State) → status_text w g s ≡ status_text v h t → (w ≡ v) × (g ≡ h) × (s ≡ t)
 status_once w v g h s t e =
-    let rest = behind_want w v (flag_word g ++ 32 ∷ state_word s) (flag_word h ++ 32 ∷ state_word t) e in
-    (
+    let rest = behind_want w v (flag_word g ++ 32 ∷ state_word s) (flag_word h ++ 32 ∷ state_word t) e in (
       want_once w v (flag_word g ++ 32 ∷ state_word s) (flag_word h ++ 32 ∷ state_word t) e,
       flag_once g h (state_word s) (state_word t) rest,
       state_once s t (behind_flag g h (state_word s) (state_word t) rest),

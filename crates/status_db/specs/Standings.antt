@@ -1,5 +1,5 @@
 -- How a record changes with what is done to its package (Policy 6.6 to 6.8).
-use Rattle.std.specs.Prelude.{◌≡◌, ◌&&◌, ℕ, Bool, true, false, cond, List, [], Option, Some, None, is_some}
+use Rattle.std.specs.Prelude.{◌≡◌, ◌&&◌, ℕ, Bool, true, false, cond, List, Option, Some, None, is_some}
 use Rattle.std.proofs.Common.{refl}
 use Rattle.control_fields.specs.declared.field.Field.{Field}
 use Rattle.status_db.specs.Configured.{last_configured}

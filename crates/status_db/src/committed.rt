@@ -102,8 +102,8 @@ fn left_entries<S: Ships>(
     Ok(left)
 }
 
-/// The entries of the conffiles once a package is unpacked, by those before, the digests that it ships (its pending digests from
-/// then on), the paths that it asks to be removed, and what it ships.
+/// The entries of the conffiles once a package is unpacked: by those before, the digests that it
+/// ships (the pending ones from then on), the paths that it asks to be removed, and what it ships.
 pub fn committed_entries<S: Ships>(
     alloc: Global,
     entries: &ConffileEntries,

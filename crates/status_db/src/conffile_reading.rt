@@ -37,7 +37,10 @@ pub(crate) fn conffiles_of(alloc: Global, lines: &[Bytes]) -> Result<ConffileEnt
 }
 
 /// The digests that these lines say.
-pub(crate) fn pending_digests_of(alloc: Global, lines: &[Bytes]) -> Result<PendingDigests, AllocError>
+pub(crate) fn pending_digests_of(
+    alloc: Global,
+    lines: &[Bytes],
+) -> Result<PendingDigests, AllocError>
     requires lines { list_all is_pending_line lines.now ≡ true }
     requires apart { are_apart (pending_paths lines.now) ≡ true }
     ensures { IfOk result (ArePendingOf lines.now) }

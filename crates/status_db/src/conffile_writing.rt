@@ -18,7 +18,11 @@ fn add_digest(alloc: Global, digest: &Digest, line: &mut Vec<u8>) -> Result<(), 
     line.extend_from_slice(text.as_str().as_bytes())
 }
 
-fn add_recorded(alloc: Global, digest: &Option<Digest>, line: &mut Vec<u8>) -> Result<(), AllocError>
+fn add_recorded(
+    alloc: Global,
+    digest: &Option<Digest>,
+    line: &mut Vec<u8>,
+) -> Result<(), AllocError>
     ensures { OnOk result (line.new.items ≡ line.old.items ++ digest_word digest.now) }
 {
     match digest {

@@ -56,7 +56,12 @@ fn digest_law(digest: &Option<Digest>)
 
 impl ConffileEntry {
     /// The entry of a conffile; its path ends in no blank.
-    pub fn new(path: ShipPath, digest: Option<Digest>, obsolete: bool, remove_on_upgrade: bool) -> ConffileEntry
+    pub fn new(
+        path: ShipPath,
+        digest: Option<Digest>,
+        obsolete: bool,
+        remove_on_upgrade: bool,
+    ) -> ConffileEntry
         requires { is_trimmed path ≡ true }
         ensures path { result.path ≡ path }
         ensures digest { result.digest ≡ digest }

@@ -1,11 +1,11 @@
 //! The status database: the records of packages and the file that holds them.
 #![tactic(auto)]
 
+mod committed;
 mod conffile_fields;
 mod conffile_lists;
 mod conffile_reading;
 mod conffile_writing;
-mod committed;
 mod database;
 mod entries;
 mod laws;

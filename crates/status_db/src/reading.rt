@@ -20,9 +20,9 @@ ghost use Rattle.status_db.specs.Damage.{IsMissing, IsTaken, IsFaultyWhole, IsBa
 ghost use Rattle.status_db.specs.Faults.{IsEntryFault, IsTableFault, IsTextFault, IsEndFault, IsSound};
 ghost use Rattle.status_db.specs.Status.{IsStatus};
 
-use crate::names::Names;
 use crate::conffile_lists::{ConffileEntries, PendingDigests};
 use crate::conffile_reading::{conffiles_of, lines_in, pending_digests_of};
+use crate::names::Names;
 use crate::record::{Record, recorded_fields};
 use crate::values::{Status, is_readable, one_line, read_status, read_version};
 use crate::words::State;

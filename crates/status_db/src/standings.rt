@@ -143,7 +143,11 @@ impl Record {
     }
 
     /// The same with other conffiles.
-    pub fn with_conffiles(&self, conffiles: ConffileEntries, pending: PendingDigests) -> Result<Record, AllocError>
+    pub fn with_conffiles(
+        &self,
+        conffiles: ConffileEntries,
+        pending: PendingDigests,
+    ) -> Result<Record, AllocError>
         ensures { IfOk result (λ r. r ≡ with_conffiles conffiles pending self.now) }
     {
         Ok(Record {

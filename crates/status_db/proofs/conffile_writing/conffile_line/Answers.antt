@@ -1,4 +1,4 @@
-use Rattle.std.proofs.Common.{◌≡◌, ◌++◌, ◌∷◌, [], ℕ, List, ap, sym, ◌∙◌, codes}
+use Rattle.std.proofs.Common.{◌++◌, ℕ, List, ap, ◌∙◌, codes}
 use Rattle.status_db.specs.Digests.{digest_word}
 use Rattle.status_db.specs.ConffileFields.{flag_text}
 use Rattle.status_db.proofs.Answered.{line_parts}

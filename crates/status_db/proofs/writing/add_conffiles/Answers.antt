@@ -1,4 +1,4 @@
-use Rattle.std.proofs.Common.{◌≡◌, ◌++◌, ℕ, List, map, ap, sym, ◌∙◌, append_assoc, codes}
+use Rattle.std.proofs.Common.{◌++◌, ℕ, List, map, ap, ◌∙◌, append_assoc, codes}
 use Rattle.control_fields.specs.Names.{stands}
 use Rattle.control_fields.specs.declared.field.Field.{Field}
 use Rattle.status_db.specs.ConffileFields.{conffile_line, pending_line}
@@ -7,8 +7,8 @@ use Rattle.status_db.proofs.Answered.{on_ok}
 use Rattle.status_db.proofs.OwnFields.{pending_behind}
 use Rattle.status_db.proofs.writing.add_conffiles.Goals as goal
 
-pub add_lines-2-requires : goal.add_lines-2-requires
-add_lines-2-requires c =
+pub add_lines-requires-2 : goal.add_lines-requires-2
+add_lines-requires-2 c =
     ap (stands (codes "New-Conffiles")) c.in_ok-add_lines.ensures ∙ pending_behind c.args.fields.now c.in_ok-conffile_lines.field-0 c.requires.pending
 
 pub returns : goal.returns

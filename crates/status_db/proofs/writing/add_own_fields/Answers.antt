@@ -1,8 +1,8 @@
-use Rattle.std.proofs.Common.{◌≡◌, ◌++◌, List, refl, ap, sym, ◌∙◌, codes}
+use Rattle.std.proofs.Common.{◌++◌, List, map, ap, ◌∙◌, codes}
 use Rattle.control_fields.specs.Names.{stands}
 use Rattle.control_fields.specs.declared.field.Field.{Field}
 use Rattle.status_db.specs.ConffileFields.{conffile_line, pending_line}
-use Rattle.status_db.specs.Paragraphs.{config_field, removed_field}
+use Rattle.status_db.specs.Paragraphs.{config_field, removed_field, lines_field}
 use Rattle.status_db.specs.Words.{status_text}
 use Rattle.status_db.proofs.Answered.{on_ok}
 use Rattle.status_db.proofs.OwnFields.{no_removed, no_conffiles, no_pending, own_joined}
@@ -33,8 +33,9 @@ pub returns-clause-fields : goal.returns-clause-fields
 returns-clause-fields c =
     let r = c.args.entry.now in
     let so_far = c.in_ok-add_config.ensures.field ∙ ap (λ (l : List Field). l ++ config_field r.config_version) c.in_ok-add_first_fields.ensures.fields in
+    let lines = lines_field (codes "Conffiles") (map conffile_line r.conffiles) ++ lines_field (codes "New-Conffiles") (map pending_line r.pending) in
     on_ok c.add_conffiles.result
-    (λ is. is ∙ ap (λ (l : List Field). l ++ _) (c.in_ok-add_removed.ensures ∙ ap (λ (l : List Field). l ++ removed_field r.removed_since) so_far) ∙ own_joined r) c.add_conffiles.ensures
+    (λ is. is ∙ ap (λ (l : List Field). l ++ lines) (c.in_ok-add_removed.ensures ∙ ap (λ (l : List Field). l ++ removed_field r.removed_since) so_far) ∙ own_joined r) c.add_conffiles.ensures
 
 pub returns-clause-parts : goal.returns-clause-parts
 returns-clause-parts c =

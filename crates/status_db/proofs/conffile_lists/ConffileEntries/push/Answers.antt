@@ -1,4 +1,4 @@
-use Rattle.std.proofs.Common.{◌≡◌, true, List, map, sym, subst, ◌∙◌}
+use Rattle.std.proofs.Common.{◌≡◌, true, List, map, sym, subst}
 use Rattle.std.specs.List.{AllByRecursion}
 use Rattle.status_db.specs.ConffilePaths.{is_before, AreInOrder}
 use Rattle.status_db.specs.declared.entries.ConffileEntry.{ConffileEntry}

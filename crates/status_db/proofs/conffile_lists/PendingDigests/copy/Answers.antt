@@ -1,4 +1,4 @@
-use Rattle.std.proofs.Common.{◌≡◌, List, map, length, ap, ◌∙◌, sym, subst, arith}
+use Rattle.std.proofs.Common.{List, map, length, ap, ◌∙◌, sym, subst, arith}
 use Rattle.std.proofs.lemmas.Grind.{common_steps}
 use Rattle.std.proofs.lemmas.List.{take_all}
 use Rattle.status_db.specs.ConffilePaths.{AreInOrder}

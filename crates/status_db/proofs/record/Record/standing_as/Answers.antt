@@ -1,4 +1,6 @@
-use Rattle.std.proofs.Common.{refl}
+use Rattle.std.proofs.Common.{refl, ap, ◌∙◌}
+use Rattle.status_db.specs.Standings.{version_beside}
+use Rattle.status_db.specs.Words.{is_installed}
 use Rattle.status_db.proofs.SameRecords.{same_record}
 use Rattle.status_db.proofs.record.Record.standing_as.Goals as goal
 
@@ -9,7 +11,7 @@ returns c = same_record _ _ record {
   flagged = refl;
   standing = refl;
   version = c.in_ok-copy-2.ensures;
-  config_version = ?;
+  config_version = c.in_ok-version_beside.ensures ∙ ap (version_beside (is_installed c.args.state)) c.last_configured.ensures;
   removed_since = refl;
   conffiles = c.in_ok-copy-3.ensures;
   pending = c.in_ok-copy-4.ensures;

@@ -11,7 +11,7 @@ returns c = same_record _ _ record {
   version = c.in_ok-copy-2.ensures;
   config_version = c.in_ok-copied_version.ensures;
   removed_since = refl;
-  conffiles = refl;
-  pending = refl;
+  conffiles = c.conffiles.view_is;
+  pending = c.pending.view_is;
   fields = c.in_ok-copy-3.ensures;
 }
