@@ -1,5 +1,7 @@
 pub mod ConffileWords
 pub mod Tables
+pub mod Ordered
+pub mod Filling
 pub mod Kept
 pub mod ControlValues
 pub mod Lines
@@ -22,4 +24,13 @@ pub mod Missing
 pub mod Entering
 pub mod WholeText
 pub mod StatusNode
-pub mod Noting
+pub mod NotePaths
+pub mod Readings
+pub mod NoteRounds
+pub mod Taken
+pub mod NotedWorlds
+pub mod NotesRead
+pub mod Marks
+pub mod NoteTexts
+pub mod Entered
+pub mod WholeNotes

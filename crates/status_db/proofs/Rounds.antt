@@ -35,10 +35,10 @@ pub record IsWhole (r : Record) : Type 0 where
   pub conffiles : AllByRecursion (λ (e : ConffileEntry). IsDigestOrNone e.digest) r.conffiles
   pub pending : AllByRecursion (λ (p : PendingDigest). IsDigest p.digest) r.pending
 
-whole_of : (r : Record) → ∥ IsWhole r ∥₁
+pub whole_of : (r : Record) → ∥ IsWhole r ∥₁
 whole_of r = ∥∥₁_elim r.writable ∥∥₁_prop (λ w. ∥∥₁_elim (all_digested r.conffiles) ∥∥₁_prop (λ es. ∥∥₁_map (all_pending_digested r.pending) (λ ps. record { writable = w; conffiles = es; pending = ps })))
 
-paragraph_written : (r : Record) → IsWhole r → HasParts r → IsParagraph (paragraph_of r)
+pub paragraph_written : (r : Record) → IsWhole r → HasParts r → IsParagraph (paragraph_of r)
 paragraph_written r whole parts = record {
   some = λ e. cc e;
   are = whole_written r (own_written r whole.writable.named parts.version parts.config_version (all_more r.conffiles whole.conffiles) (all_pending_more r.pending whole.pending)) whole.writable.others whole.writable.written;
@@ -100,7 +100,7 @@ read_again r whole parts = record {
   pending_apart = ap are_apart (pending_line_paths r.pending whole.pending) ∙ order_apart (map (λ (p : PendingDigest). p.path) r.pending) parts.pending;
 }
 
-entry_again : (names : List (List ℕ)) (r : Record) → IsWhole r → HasParts r → is_not_installed r.state ≡ false → list_any (bytes_eq r.name) names ≡ false → IsEntry names (paragraph_of r) r.name (r ∷ [])
+pub entry_again : (names : List (List ℕ)) (r : Record) → IsWhole r → HasParts r → is_not_installed r.state ≡ false → list_any (bytes_eq r.name) names ≡ false → IsEntry names (paragraph_of r) r.name (r ∷ [])
 entry_again names r whole parts there new = record {
   says = record {
     named = (record { field = line_field (codes "Package") r.name; there = refl; value_is = refl; one_line = refl }, whole.writable.named);

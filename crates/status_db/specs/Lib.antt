@@ -13,3 +13,12 @@ pub mod Standings
 pub mod Damage
 pub mod Faults
 pub mod Status
+pub mod Order
+pub mod Notes
+pub mod Recorded
+pub mod NoteDamage
+pub mod Taking
+pub mod NoteReading
+pub mod Noting
+pub mod Fault
+pub mod Held

@@ -135,8 +135,8 @@ fn is_faulty_whole(names: &Names, fields: &Paragraph) -> bool
     is_missing(fields) || is_taken(names, fields)
 }
 
-// The line of the first field whose value can't be read.
-fn first_bad(alloc: Global, located: &Located) -> Result<Option<u64>, AllocError>
+/// The line of the first field whose value can't be read.
+pub(crate) fn first_bad(alloc: Global, located: &Located) -> Result<Option<u64>, AllocError>
     requires { HasLines located.now }
     ensures { IfOk result (λ o. MatchOption o (AllByRecursion IsReadable located.now.paragraph) (IsBadField located.now)) }
 {
@@ -151,11 +151,11 @@ fn first_bad(alloc: Global, located: &Located) -> Result<Option<u64>, AllocError
     Ok(None)
 }
 
-// A paragraph's package, and its record unless it is gone.
+/// A paragraph's package, and its record unless it is gone.
 #[derive(Drop)]
-struct Entry {
-    name: Text,
-    kept: Option<Record>,
+pub(crate) struct Entry {
+    pub name: Text,
+    pub kept: Option<Record>,
 }
 
 // What a paragraph says of its package's last configuration, and of its conffiles.
@@ -280,8 +280,12 @@ fn read_entry(alloc: Global, fields: &Paragraph) -> Result<Option<Entry>, AllocE
     }))
 }
 
-// Judges a paragraph after those of other packages.
-fn entry_of(alloc: Global, names: &Names, located: &Located) -> Result<Entry, StatusFault>
+/// Judges a paragraph after those of other packages.
+pub(crate) fn entry_of(
+    alloc: Global,
+    names: &Names,
+    located: &Located,
+) -> Result<Entry, StatusFault>
     requires { IsSound located.now }
     ensures entry { IfOk result (λ e. IsEntry names.now located.now.paragraph e.name (option_to_list e.kept)) }
     ensures fault { IfErr result (IsEntryFault names.now located.now) }
@@ -332,7 +336,8 @@ fn read_entries(alloc: Global, paragraphs: &[Located]) -> Result<Table, StatusFa
     Ok(table)
 }
 
-fn line_in(fault: ControlFault) -> u64
+/// The line that a fault tells.
+pub(crate) fn line_in(fault: ControlFault) -> u64
     ensures { result ≡ line_in fault }
 {
     match fault {

@@ -33,8 +33,8 @@ fn status_text(alloc: Global, entry: &Record) -> Result<Vec<u8>, AllocError>
     Ok(text)
 }
 
-// Adds a field of one line, whose name doesn't stand yet.
-fn add_line(
+/// Adds a field of one line, whose name doesn't stand yet.
+pub(crate) fn add_line(
     alloc: Global,
     name: &[u8],
     value: &[u8],
@@ -149,7 +149,7 @@ fn add_other_fields(entry: &Record, fields: &mut Paragraph) -> Result<(), AllocE
     Ok(())
 }
 
-fn paragraph_of(alloc: Global, entry: &Record) -> Result<Paragraph, AllocError>
+pub(crate) fn paragraph_of(alloc: Global, entry: &Record) -> Result<Paragraph, AllocError>
     ensures paragraph { IfOk result (λ p. p ≡ paragraph_of entry.now) }
     ensures parts { OnOk result (HasParts entry.now) }
 {
@@ -195,8 +195,8 @@ fn status_bytes(alloc: Global, records: &[Record]) -> Result<Bytes, AllocError>
     }
 }
 
-// The status file of a table.
-fn status_node(alloc: Global, records: &[Record]) -> Result<Node, AllocError>
+/// The status file of a table.
+pub(crate) fn status_node(alloc: Global, records: &[Record]) -> Result<Node, AllocError>
     requires { AreApart records.now }
     ensures { IfOk result (λ node. (bytes : List ℕ) × (node ≡ File bytes (own_access 0o644)) × ∥ IsStatus bytes records.now ∥₁) }
 {

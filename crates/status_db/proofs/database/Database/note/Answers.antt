@@ -1,6 +1,6 @@
 use Rattle.std.proofs.Common.{sym, ap, subst, ◌∙◌}
 use Rattle.status_db.specs.Records.{AreApart, put_record}
-use Rattle.status_db.proofs.Noting.{noting_not}
+use Rattle.status_db.proofs.WholeNotes.{noting_not}
 use Rattle.status_db.proofs.Tables.{apart_put}
 use Rattle.status_db.proofs.database.Database.note.Goals as goal
 
