@@ -1,5 +1,6 @@
 -- Records of packages, and a table of them.
 use Rattle.std.specs.Prelude.{◌≡◌, ℕ, false, cond, not, List, [], ◌∷◌, Option, Some, None, filter}
+use Rattle.std.specs.List.{AllByRecursion}
 use Rattle.std.specs.Str.{bytes_eq}
 use Rattle.std.specs.Ordering.{nat_cmp, is_lt}
 use Rattle.std.specs.Cmp.Lexicographic.{slice_cmp}
@@ -37,3 +38,7 @@ AreApart (r ∷ rs) = IsWithout r.name rs × AreApart rs
 -- the records that the status file has: those of packages that aren't gone
 abbrev pub standing : List Record → List Record
 standing rs = filter (λ r. not (is_not_installed r.state)) rs
+
+-- none of them is of a package that is gone
+abbrev pub AreStanding : List Record → Type 0
+AreStanding rs = AllByRecursion (λ r. is_not_installed r.state ≡ false) rs

@@ -3,7 +3,7 @@ use Rattle.host_core.specs.Paths.{is_path}
 use Rattle.host_core.specs.World.{HasParent}
 use Rattle.administration.specs.Files.{NoDirectory}
 use Rattle.administration.specs.Places.{temporary}
-use Rattle.status_db.proofs.Noting.{holds_file, status_parent, noted_by, noting_by, noting_not}
+use Rattle.status_db.proofs.WholeNotes.{holds_file, status_parent, noted_by, noting_by, noting_not}
 use Rattle.status_db.proofs.writing.save.Goals as goal
 
 pub returns-in_err-path-clause-any_moment : goal.returns-in_err-path-clause-any_moment

@@ -1,0 +1,14 @@
+use Rattle.std.proofs.Common.{◌∙◌, sym, ap, true, false, not}
+use Rattle.std.proofs.lemmas.Bool.{not-true, not-false}
+use Rattle.status_db.specs.Records.{drop_record}
+use Rattle.status_db.proofs.NotedWorlds.{found_named, none_there, nothing_dropped, noting_not}
+use Rattle.status_db.proofs.noting.forget_record.Goals as goal
+
+pub returns-then-not-has-clause-table : goal.returns-then-not-has-clause-table
+returns-then-not-has-clause-table g c = sym (nothing_dropped c.args.name.now c.args.table.now (none_there _ (sym c.has.ensures ∙ c.if-not-has.true)))
+
+pub returns-then-not-has-clause-any_moment : goal.returns-then-not-has-clause-any_moment
+returns-then-not-has-clause-any_moment g c = noting_not c.args.table.now (drop_record c.args.name.now c.args.table.now) c.args.notes.now _ c.requires.kept
+
+pub write_gone-requires-clause-named : goal.write_gone-requires-clause-named
+write_gone-requires-clause-named g c = found_named c.args.name.now c.args.table.now (sym c.has.ensures ∙ c.if-not-has.false)

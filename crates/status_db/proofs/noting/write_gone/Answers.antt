@@ -1,0 +1,10 @@
+use Rattle.status_db.specs.Notes.{said_gone}
+use Rattle.status_db.specs.Records.{drop_record}
+use Rattle.status_db.proofs.NotedWorlds.{drop_entered}
+use Rattle.status_db.proofs.noting.write_gone.Goals as goal
+
+pub returns-clause-noted : goal.returns-clause-noted
+returns-clause-noted g c = c.write_next.ensures.noted (said_gone c.args.name.now) (drop_record c.args.name.now c.args.table.now) c.in_ok-node.ensures (drop_entered c.args.name.now c.args.table.now c.law.ensures.order)
+
+pub returns-clause-any_moment : goal.returns-clause-any_moment
+returns-clause-any_moment g c = c.write_next.ensures.any_moment (said_gone c.args.name.now) (drop_record c.args.name.now c.args.table.now) c.in_ok-node.ensures (drop_entered c.args.name.now c.args.table.now c.law.ensures.order)

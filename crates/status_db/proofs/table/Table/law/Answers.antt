@@ -1,0 +1,8 @@
+use Rattle.std.proofs.Common.{◌≡◌, subst, List}
+use Rattle.status_db.specs.declared.record.Record.{Record}
+use Rattle.status_db.specs.Records.{standing}
+use Rattle.status_db.proofs.Ordered.{standing_same}
+use Rattle.status_db.proofs.table.Table.law.Goals as goal
+
+pub returns-clause-standing : goal.returns-clause-standing
+returns-clause-standing c = subst (λ (l : List Record). standing l ≡ l) c.self.view_is (standing_same _ c.self.invariant.1)
