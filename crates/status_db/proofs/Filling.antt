@@ -1,9 +1,8 @@
 -- A table that is filled from a list of records.
-use Rattle.std.proofs.Common.{◌≡◌, inl, inr, ℕ, suc, zero, ◌+◌, ◌-◌, ◌<◌, Bool, true, false, cond, List, [], ◌∷◌, ◌++◌, length, get_or, Option, Some, None, refl, sym, ap, subst, ◌∙◌, arith, add-one}
-use Rattle.std.specs.List.{AllByRecursion}
+use Rattle.std.proofs.Common.{◌≡◌, inl, inr, ℕ, suc, ◌+◌, ◌-◌, ◌<◌, Bool, true, false, cond, List, [], ◌∷◌, ◌++◌, length, get_or, Option, Some, None, refl, sym, ap, subst, ◌∙◌, arith}
 use Rattle.std.specs.Str.{bytes_eq}
 use Rattle.status_db.specs.declared.record.Record.{Record}
-use Rattle.status_db.specs.Order.{AreInOrder, IsBefore, IsBeforeAll, names_of}
+use Rattle.status_db.specs.Order.{AreInOrder, IsBefore, names_of}
 use Rattle.status_db.specs.Records.{AreStanding, record_in, put_record}
 use Rattle.status_db.specs.Words.{is_not_installed}
 use Rattle.std.specs.Ordering.{nat_cmp, is_lt}

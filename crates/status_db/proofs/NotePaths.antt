@@ -1,5 +1,5 @@
 -- The paths of notes: they are paths, and differ from each other, from that of the status file and from temporary names.
-use Rattle.std.proofs.Common.{◌≡◌, ◌≢◌, ◌&&◌, ◌||◌, not, ℕ, ◌+◌, ◌<◌, ◌≤◌, ◌/◌, ◌%◌, Bool, true, false, List, [], ◌∷◌, ◌++◌, length, get_or, drop, inl, inr, codes, nat_eq, refl, sym, ap, subst, ◌∙◌, arith, Contains}
+use Rattle.std.proofs.Common.{◌≡◌, ◌≢◌, ◌||◌, not, ℕ, ◌+◌, ◌<◌, ◌≤◌, ◌/◌, ◌%◌, Bool, true, false, List, [], ◌∷◌, ◌++◌, length, get_or, drop, inl, inr, codes, nat_eq, refl, sym, ap, subst, ◌∙◌, arith, Contains}
 use Rattle.std.specs.Prelude.{nat_le}
 use Rattle.std.specs.List.{list_any, list_all}
 use Rattle.std.specs.Str.{bytes_eq, IsUtf8}
@@ -15,7 +15,6 @@ use Rattle.host_core.specs.Paths.{Path, has_break, is_component, is_path}
 use Rattle.host_core.specs.Tree.{has_slash, IsOdd}
 use Rattle.host_core.proofs.PathLaws.{child_is_path}
 use Rattle.administration.specs.Places.{home_path, status_path, updates_path, temporary}
-use Rattle.administration.proofs.WholeFiles.{no_slash}
 use Rattle.status_db.specs.Notes.{digits, note_path, limit, within_limit}
 use Rattle.status_db.specs.Held.{is_record_place}
 

@@ -1,6 +1,6 @@
 -- A note that was written is read again.
-use Rattle.std.proofs.Common.{◌≡◌, ℕ, false, true, List, [], ◌∷◌, Some, None, refl, ap, subst, sym, inl, codes}
-use Rattle.std.proofs.Math.Logic.{∥∥₁_elim, ∥∥₁_map, ∥∥₁_prop}
+use Rattle.std.proofs.Common.{◌≡◌, ℕ, false, true, List, [], refl, subst, sym, inl, codes}
+use Rattle.std.proofs.Math.Logic.{∥∥₁_map}
 use Rattle.texts.specs.PackageNames.{is_package_name}
 use Rattle.host_core.specs.Nodes.{own_access}
 use Rattle.host_core.specs.declared.node.Node.{Node}

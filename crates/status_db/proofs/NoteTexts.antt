@@ -1,5 +1,5 @@
 -- What a note's text says.
-use Rattle.std.proofs.Common.{◌≡◌, ◌<◌, ◌^◌, ◌==◌, codes, inl, inr, ℕ, true, false, List, [], ◌∷◌, ◌++◌, ◌-◌, ◌≤◌, arith, drop, take, get_or, length, Option, Some, None, refl, sym, ap, subst, ◌∙◌}
+use Rattle.std.proofs.Common.{◌≡◌, ◌==◌, codes, inl, inr, ℕ, false, List, [], ◌∷◌, ◌-◌, ◌≤◌, arith, drop, take, get_or, length, Option, Some, None, refl, sym, ap, subst, ◌∙◌}
 use Rattle.std.specs.List.{AllByRecursion}
 use Rattle.std.proofs.lemmas.Bool.{true≢false}
 use Rattle.std.proofs.lemmas.List.{take_all}
@@ -15,11 +15,10 @@ use Rattle.host_core.specs.declared.node.Node.TheVariants.{File}
 use Rattle.status_db.specs.declared.record.Record.{Record}
 use Rattle.status_db.specs.declared.reading.StatusFault.{StatusFault}
 use Rattle.status_db.specs.declared.reading.StatusFault.TheVariants.{Line, NoMemory}
-use Rattle.status_db.specs.Damage.{HasLines}
 use Rattle.status_db.specs.Faults.{IsEntryFault, IsNoteTextFault, IsRestFault, IsSound, IsStartFault}
-use Rattle.status_db.specs.Notes.{IsNote, IsNoteAt, IsNoteTaken, IsSaid, Note, entered}
-use Rattle.status_db.specs.Paragraphs.{IsEntry, Says}
-use Rattle.status_db.specs.Records.{record_in, put_record, drop_record}
+use Rattle.status_db.specs.Notes.{IsNote, IsNoteAt, IsNoteTaken, IsSaid, entered}
+use Rattle.status_db.specs.Paragraphs.{IsEntry}
+use Rattle.status_db.specs.Records.{record_in}
 use Rattle.status_db.specs.Words.{is_not_installed}
 use Rattle.status_db.proofs.Sayings.{says_same}
 

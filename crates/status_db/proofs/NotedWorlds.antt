@@ -1,5 +1,5 @@
 -- What a note that was written, and notes that were merged, leave of the records.
-use Rattle.std.proofs.Common.{◌≡◌, ◌≢◌, ◌⊎◌, inl, inr, IsTrue, ℕ, zero, suc, ◌+◌, ◌<◌, ◌≤◌, Bool, true, false, cond, not, List, [], ◌∷◌, ◌++◌, codes, get_or, Option, Some, None, Result, Ok, Err, OnOk, refl, sym, ap, subst, ◌∙◌, arith}
+use Rattle.std.proofs.Common.{◌≡◌, ◌≢◌, inl, inr, IsTrue, ℕ, ◌+◌, ◌<◌, Bool, true, false, cond, not, List, [], ◌∷◌, ◌++◌, codes, get_or, Option, Some, None, Result, Ok, Err, OnOk, refl, sym, ap, subst, ◌∙◌, arith}
 use Rattle.std.specs.Prelude.{IsSome, is_some}
 use Rattle.std.specs.Ordering.{nat_cmp, is_lt}
 use Rattle.std.specs.Str.{bytes_eq}
@@ -11,9 +11,7 @@ use Rattle.std.proofs.Math.Logic.{∥∥₁_elim, ∥∥₁_map, ∥∥₁_prop}
 use Rattle.std.proofs.Common.{ltb, eqb}
 use Rattle.std.proofs.lemmas.List.{append-nil}
 use Rattle.std.proofs.lemmas.Bool.{cases_lt, cases_eq, lt-ltb, le-ltb, eq-eqb, ne_eqb, true≢false}
-use Rattle.std.proofs.lemmas.Bool.{false_from_ne_true}
 use Rattle.host_core.specs.Paths.{Path}
-use Rattle.host_core.specs.Tree.{has_slash, IsOdd}
 use Rattle.host_core.specs.World.{World, IsDirectory, IsFile, HasParent, KeepsBut, SameOn}
 use Rattle.host_core.specs.Host.{State, AtEachMoment, Needs, Since}
 use Rattle.host_core.specs.Moments.{since_then, since_weaker_if}
@@ -21,7 +19,6 @@ use Rattle.host_core.specs.Nodes.{own_access}
 use Rattle.host_core.specs.declared.node.Node.{Node}
 use Rattle.host_core.specs.declared.node.Node.TheVariants.{File, Dir, Link}
 use Rattle.administration.specs.Places.{home_path, status_path, updates_path, temporary}
-use Rattle.administration.specs.Directories.{HasBadName}
 use Rattle.administration.specs.Files.{NoDirectory, KeepsBesideFile, IsReplaced, IsReplacing}
 use Rattle.administration.proofs.WholeFiles.{no_directory_file, no_directory_none, no_directory_at, no_slash}
 use Rattle.status_db.specs.declared.record.Record.{Record}
@@ -29,9 +26,9 @@ use Rattle.status_db.specs.Notes.{AreNotes, IsNoteAt, Note, below_limit, digits,
 use Rattle.status_db.specs.Noting.{AreMerged, AreNoted, HasRoom, IsEntered, IsMerging, IsNoteFile, IsNoting, IsPlaced, IsStatusFile, note_number}
 use Rattle.status_db.specs.Order.{AreInOrder}
 use Rattle.status_db.specs.Records.{drop_record, put_record, record_in, standing}
-use Rattle.status_db.specs.Status.{IsFileOf, IsFileOrNothing, IsStatusAt, StandsFor}
-use Rattle.status_db.specs.Held.{AreKept, CanOpenRecords, HasRecords, Holds, IsFree, IsUnblocked, is_record_place}
-use Rattle.status_db.specs.Taking.{HasReplacedNotes, HasTaken, IsNoNote, IsReplacingNotes, KeepsBesideRecords}
+use Rattle.status_db.specs.Status.{IsFileOf, IsFileOrNothing, IsStatusAt}
+use Rattle.status_db.specs.Held.{AreKept, HasRecords, Holds, IsFree, IsUnblocked, is_record_place}
+use Rattle.status_db.specs.Taking.{HasReplacedNotes, HasTaken, IsReplacingNotes, KeepsBesideRecords}
 use Rattle.status_db.proofs.NotePaths.{note_path_once, spare_path_once, status_is_no_note, status_is_no_spare, spare_status_is_no_note, spare_status_is_no_spare, spare_is_no_note, home_is_no_note, home_is_no_spare, updates_is_no_note, updates_is_no_spare, home_is_no_status, home_is_no_spare_status, updates_is_no_status, updates_is_no_spare_status, odd_is_no_note, odd_is_no_spare, digits_plain}
 use Rattle.status_db.proofs.Ordered.{dropped_order, put_order}
 use Rattle.status_db.proofs.Tables.{record_in-drop_record, record_in-put_record}

@@ -1,7 +1,7 @@
 -- Notes that are read one after another.
-use Rattle.std.proofs.Common.{◌≡◌, ◌≢◌, inl, inr, ℕ, zero, suc, ◌+◌, ◌<◌, ◌≤◌, Bool, true, false, cond, eqb, List, [], ◌∷◌, length, get_or, Option, Some, None, Result, Ok, Err, OnOk, IfErr, IsErrAnd, refl, sym, ap, subst, ◌∙◌, arith, add-one}
+use Rattle.std.proofs.Common.{◌≡◌, ◌≢◌, inl, inr, ℕ, zero, suc, ◌+◌, ◌<◌, ◌≤◌, cond, eqb, List, [], ◌∷◌, length, get_or, Option, None, Result, Ok, Err, OnOk, IfErr, IsErrAnd, refl, sym, ap, subst, ◌∙◌, arith, add-one}
 use Rattle.std.proofs.Math.Logic.{∥∥₁_map}
-use Rattle.std.proofs.lemmas.Bool.{cases_lt, cases_eq, eq-eqb, ne_eqb}
+use Rattle.std.proofs.lemmas.Bool.{cases_eq, eq-eqb, ne_eqb}
 use Rattle.host_core.specs.Paths.{Path}
 use Rattle.host_core.specs.World.{World, IsDirectory}
 use Rattle.host_core.specs.declared.node.Node.{Node}
@@ -12,12 +12,12 @@ use Rattle.administration.specs.declared.fault.AdministrationFault.{Administrati
 use Rattle.administration.specs.declared.fault.AdministrationFault.TheVariants.{Damaged, Device, NoMemory}
 use Rattle.administration.proofs.WholeFiles.{no_directory_none, no_directory_at}
 use Rattle.status_db.specs.declared.record.Record.{Record}
-use Rattle.status_db.specs.NoteDamage.{AreNotesFine, AreRecordsDamaged, IsFineNumber, IsNoteDamage, IsRecordsDamage}
+use Rattle.status_db.specs.NoteDamage.{AreNotesFine, IsFineNumber, IsNoteDamage, IsRecordsDamage}
 use Rattle.status_db.specs.NoteReading.{AreNumbersTaken, IsFileDamage, IsNameDamage, IsNotesDamage, IsNumberDamage, IsNumberTaken, IsNumbersDamage, IsSpareDamage}
-use Rattle.status_db.specs.Notes.{IsNoteAt, IsNoteTaken, Note, below_limit, entered, limit, limit_is, note_path, with_notes, within_limit}
+use Rattle.status_db.specs.Notes.{IsNoteAt, IsNoteTaken, Note, entered, limit, limit_is, note_path, with_notes, within_limit}
 use Rattle.status_db.specs.Order.{AreInOrder}
 use Rattle.status_db.specs.Records.{record_in, standing}
-use Rattle.status_db.specs.Status.{IsStatus, IsStatusAt, IsStatusDamage, StandsFor}
+use Rattle.status_db.specs.Status.{IsStatus, IsStatusAt, IsStatusDamage}
 use Rattle.status_db.specs.Held.{HasRecords, HasSame, Holds, IsFree, IsTableOf, IsTableOfText}
 use Rattle.status_db.proofs.Readings.{same_below}
 

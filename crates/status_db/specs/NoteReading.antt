@@ -2,14 +2,13 @@
 use Rattle.std.specs.Prelude.{◌≡◌, ◌<◌, ◌≤◌, ℕ, Bool, false, List, ◌+◌, ◌++◌, Option, None, Contains, length, get_or}
 use Rattle.host_core.specs.Paths.{Path}
 use Rattle.host_core.specs.World.{World, IsDirectory}
-use Rattle.host_core.specs.declared.node.Node.{Node}
 use Rattle.administration.specs.Places.{updates_path, temporary}
 use Rattle.administration.specs.Directories.{HasBadName}
 use Rattle.administration.specs.Files.{NoDirectory}
 use Rattle.administration.specs.declared.fault.AdministrationFault.{AdministrationFault}
 use Rattle.administration.specs.declared.fault.AdministrationFault.TheVariants.{Damaged, Device, NoMemory}
 use Rattle.status_db.specs.NoteDamage.{AreNotesDamaged, IsFaultyNumber, IsFirstFaultyNumber, IsNoteDamage}
-use Rattle.status_db.specs.Notes.{IsNoteAt, Note, digits, entered, limit, note_path, with_notes}
+use Rattle.status_db.specs.Notes.{IsNoteAt, Note, digits, entered, note_path, with_notes}
 use Rattle.status_db.specs.Records.{record_in}
 use Rattle.status_db.specs.declared.record.Record.{Record}
 

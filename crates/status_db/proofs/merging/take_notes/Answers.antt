@@ -1,4 +1,4 @@
-use Rattle.std.proofs.Common.{sym, subst, rules, arith}
+use Rattle.std.proofs.Common.{rules, arith}
 use Rattle.host_core.specs.Moments.{since_then}
 use Rattle.status_db.specs.Notes.{below_limit}
 use Rattle.status_db.proofs.Taken.{since_taking, took_one, still_no_directory}

@@ -1,7 +1,4 @@
-use Rattle.std.proofs.Common.{◌≡◌, ◌∙◌, List, Option, Result, Ok, Err, OnOk, Some, ℕ, sym, ap, subst}
-use Rattle.std.specs.Map.{update}
-use Rattle.std.specs.Str.{bytes_eq}
-use Rattle.status_db.specs.declared.record.Record.{Record}
+use Rattle.std.proofs.Common.{subst}
 use Rattle.status_db.specs.Notes.{IsSaid}
 use Rattle.status_db.proofs.Entered.{put_by, removed_by}
 use Rattle.status_db.proofs.note_reading.enter.Goals as goal

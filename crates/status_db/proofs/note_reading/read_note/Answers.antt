@@ -1,4 +1,4 @@
-use Rattle.std.proofs.Common.{◌<◌, ◌^◌, ◌∙◌, List, ℕ, length, sym, ap, subst, arith, ◌==◌, ◌≡◌, ◌-◌, false, drop, take}
+use Rattle.std.proofs.Common.{◌<◌, ◌^◌, ◌∙◌, List, ℕ, length, sym, subst, arith, ◌==◌, ◌≡◌, ◌-◌, false, drop, take}
 use Rattle.std.specs.List.{AllByRecursion}
 use Rattle.std.specs.Option.{option_to_list}
 use Rattle.status_db.specs.Paragraphs.{IsEntry}

@@ -1,7 +1,5 @@
 use Rattle.std.proofs.Common.{◌∙◌, ap}
 use Rattle.control_fields.specs.Spelling.{spell}
-use Rattle.host_core.specs.Nodes.{own_access}
-use Rattle.host_core.specs.declared.node.Node.TheVariants.{File}
 use Rattle.status_db.proofs.NoteRounds.{note_written}
 use Rattle.status_db.proofs.note_text.note_node.Goals as goal
 

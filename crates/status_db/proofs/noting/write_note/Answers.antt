@@ -1,7 +1,6 @@
-use Rattle.std.proofs.Common.{◌≡◌, true, sym, subst}
-use Rattle.host_core.specs.Moments.{since_start}
+use Rattle.std.proofs.Common.{sym, subst}
 use Rattle.host_core.specs.World.{HasParent}
-use Rattle.administration.specs.Files.{NoDirectory, IsReplacing}
+use Rattle.administration.specs.Files.{NoDirectory}
 use Rattle.administration.specs.Places.{temporary}
 use Rattle.status_db.specs.Notes.{below_limit}
 use Rattle.status_db.proofs.NotedWorlds.{note_parent, replacing_not}

@@ -1,6 +1,5 @@
 use Rattle.std.proofs.Common.{◌∙◌, ap, subst, Option}
 use Rattle.std.specs.Prelude.{IfOk}
-use Rattle.std.proofs.lemmas.Result.{IfOk-from_err}
 use Rattle.host_core.specs.declared.node.Node.{Node}
 use Rattle.status_db.specs.Held.{IsTableOf}
 use Rattle.status_db.proofs.status_reading.read_at.Goals as goal

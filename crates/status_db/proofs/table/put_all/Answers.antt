@@ -1,4 +1,4 @@
-use Rattle.std.proofs.Common.{◌∙◌, subst, sym, refl, ap, List}
+use Rattle.std.proofs.Common.{◌∙◌, ap, List}
 use Rattle.status_db.specs.declared.record.Record.{Record}
 use Rattle.status_db.specs.Records.{record_in}
 use Rattle.status_db.proofs.Filling.{over, over_none, put_last, standing_front, standing_last}

@@ -1,5 +1,5 @@
-use Rattle.std.proofs.Common.{◌∙◌, sym, ap}
-use Rattle.status_db.proofs.Marks.{marks_more, marks_none}
+use Rattle.std.proofs.Common.{◌∙◌}
+use Rattle.status_db.proofs.Marks.{marks_more}
 use Rattle.status_db.proofs.updates.marks_of.Goals as goal
 
 pub loop-name-preserved : goal.loop-name-preserved

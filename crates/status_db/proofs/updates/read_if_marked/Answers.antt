@@ -1,5 +1,3 @@
-use Rattle.std.proofs.Common.{◌∙◌, sym}
-use Rattle.std.proofs.lemmas.Bool.{not-true}
 use Rattle.status_db.proofs.NotesRead.{taken_more, taken_none}
 use Rattle.status_db.proofs.updates.read_if_marked.Goals as goal
 

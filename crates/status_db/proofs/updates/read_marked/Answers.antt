@@ -1,9 +1,9 @@
-use Rattle.std.proofs.Common.{◌∙◌, sym, ap, subst, rules, arith}
+use Rattle.std.proofs.Common.{subst, rules}
 use Rattle.host_core.specs.Moments.{reads_then}
 use Rattle.host_core.specs.World.{World}
 use Rattle.status_db.specs.Notes.{below_limit}
-use Rattle.status_db.specs.NoteReading.{AreNumbersTaken, HasNone, IsNext, IsNumberDamage}
-use Rattle.status_db.proofs.NotesRead.{default_any, numbers_stopped, taken_start}
+use Rattle.status_db.specs.NoteReading.{IsNext}
+use Rattle.status_db.proofs.NotesRead.{numbers_stopped, taken_start}
 use Rattle.status_db.proofs.updates.read_marked.Goals as goal
 
 pub loop-number-init : goal.loop-number-init

@@ -1,8 +1,3 @@
-use Rattle.std.proofs.Common.{◌∙◌, sym, ap, subst}
-use Rattle.host_core.specs.World.{World}
-use Rattle.host_core.specs.Paths.{Path}
-use Rattle.administration.specs.Files.{NoDirectory}
-use Rattle.status_db.specs.Notes.{IsNoteTaken}
 use Rattle.status_db.proofs.NotesRead.{number_by}
 use Rattle.status_db.proofs.updates.read_number.Goals as goal
 

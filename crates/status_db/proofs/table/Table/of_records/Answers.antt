@@ -1,4 +1,4 @@
-use Rattle.std.proofs.Common.{◌∙◌, sym, subst}
+use Rattle.std.proofs.Common.{subst}
 use Rattle.status_db.specs.Order.{AreInOrder}
 use Rattle.status_db.proofs.Ordered.{same_standing}
 use Rattle.status_db.proofs.table.Table.of_records.Goals as goal
