@@ -77,10 +77,10 @@ kept_on w v rs notes same home updates is = record {
 -- what stands at a note's place is no directory
 
 note_no_directory : (found : Option Node) (note : Option Note) → IsNoteAt found note → NoDirectory found
-note_no_directory None note is = no_directory_none
-note_no_directory (Some (File bytes access)) note is = no_directory_file (File bytes access) (bytes, access, refl)
-note_no_directory (Some (Dir access)) note is = absurd is
-note_no_directory (Some (Link target)) note is = absurd is
+note_no_directory None said is = no_directory_none
+note_no_directory (Some (File bytes access)) said is = no_directory_file (File bytes access) (bytes, access, refl)
+note_no_directory (Some (Dir access)) said is = absurd is
+note_no_directory (Some (Link target)) said is = absurd is
 
 ⊥_prop : (a b : ⊥) → a ≡ b
 ⊥_prop a b = absurd a

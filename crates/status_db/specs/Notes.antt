@@ -51,10 +51,10 @@ pub record IsNote (text : List ℕ) (note : Note) : Type 0 where
 
 -- what stands at a note's place; a directory or a link is no note
 abbrev pub IsNoteAt : Option Node → Option Note → Type 0
-IsNoteAt None note = note ≡ None
-IsNoteAt (Some (File bytes access)) note = (n : Note) × (note ≡ Some n) × IsNote bytes n
-IsNoteAt (Some (Dir access)) note = ⊥
-IsNoteAt (Some (Link target)) note = ⊥
+IsNoteAt None said = said ≡ None
+IsNoteAt (Some (File bytes access)) said = (n : Note) × (said ≡ Some n) × IsNote bytes n
+IsNoteAt (Some (Dir access)) said = ⊥
+IsNoteAt (Some (Link target)) said = ⊥
 
 -- these are all notes
 abbrev pub AreNotes : World → (ℕ → Option Note) → Type 0

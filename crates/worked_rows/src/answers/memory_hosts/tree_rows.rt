@@ -2,12 +2,11 @@
 use super::unpack_rows::WITH_POSTRM;
 use super::{TreeFile, expect, file, path_of, text_of, tree_of};
 use control_fields::write_paragraph;
-use host_core::{Access, Node, Script};
+use host_core::Script;
 use host_memory::MemoryHost;
-use package_tree::{Package, TreeFault, read_tree};
+use package_tree::{Package, read_tree};
 use std::alloc::{AllocError, Global};
 use std::test::Fail;
-use texts::Bytes;
 
 // Adds the name of a script that the package has.
 fn push_script(package: &Package, script: Script, text: &mut String) -> Result<(), AllocError> {
@@ -120,33 +119,4 @@ fn a_tree_is_read_whole(rt: HostRuntime) -> Result<(), Fail> {
     let mut host = tree_of(rt.alloc(), WHOLE, "t")?;
     let row = " /etc /etc/a /etc/b| /etc/a /etc/b| /etc/d| config md5sums";
     expect(&rt, parts(rt.alloc(), &mut host), row)
-}
-
-// How many paths a tree ships, or the path that is too much.
-fn counted(alloc: Global, host: &mut MemoryHost) -> Result<String, AllocError> {
-    match read_tree(alloc, host) {
-        Ok(package) => {
-            let count = package.files.as_slice().len();
-            format!(in alloc; "{count}")
-        }
-        Err(TreeFault::TooLarge(path)) => format!(in alloc; "TooLarge {path}"),
-        Err(_) => String::from_str(alloc, "another fault"),
-    }
-}
-
-// A tree with a file of so many bytes.
-fn large_tree(alloc: Global, count: usize) -> Result<MemoryHost, AllocError> {
-    let mut host = tree_of(alloc, WITH_POSTRM, "t")?;
-    let bytes = Bytes::new(vec![in alloc; 0; count]?);
-    let access = Access::own(0o644);
-    host.place(&path_of(alloc, "/big")?, Node::File { bytes, access })?;
-    Ok(host)
-}
-
-#[test]
-fn files_are_limited(rt: HostRuntime) -> Result<(), Fail> {
-    let mut host = large_tree(rt.alloc(), 67_108_864)?;
-    expect(&rt, counted(rt.alloc(), &mut host), "1")?;
-    let mut host = large_tree(rt.alloc(), 67_108_865)?;
-    expect(&rt, counted(rt.alloc(), &mut host), "TooLarge /big")
 }
