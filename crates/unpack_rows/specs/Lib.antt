@@ -1,0 +1,7 @@
+pub mod Kinds
+pub mod ForwardRows
+pub mod Standing
+pub mod Failures
+pub mod Notes
+pub mod Stages
+pub mod EndStates

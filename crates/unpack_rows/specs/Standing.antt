@@ -1,0 +1,7 @@
+-- A record with another flag and state.
+use Rattle.status_db.specs.declared.record.Record.{Record}
+use Rattle.status_db.specs.declared.words.Flag.{Flag}
+use Rattle.status_db.specs.declared.words.State.{State}
+
+abbrev pub standing_as : Flag → State → Record → Record
+standing_as flag state r = record { name = r.name; want = r.want; flag = flag; state = state; version = r.version; fields = r.fields; writable = r.writable }
