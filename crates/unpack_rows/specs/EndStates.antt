@@ -19,7 +19,7 @@ AreRecorded table (r ∷ rs) = (record_in table r.name ≡ Some r) × AreRecorde
 -- the packages of the rows: the table has their records, and each is of a name of its own
 pub record AreConcerned (start : Option Record) (incoming : Record) (others table : List Record) : Type 0 where
   pub own : record_in table (own_of start incoming).name ≡ start
-  pub others : AreRecorded table others
+  pub recorded : AreRecorded table others
   pub apart : AreApart (own_of start incoming ∷ others)
 
 -- which undo of the package's own failed
@@ -29,6 +29,21 @@ pub data OwnUndo : Type 0 where
   OfPrerm : OwnUndo
   -- that of its new preinst or old postrm
   OfPreinstOrPostrm : OwnUndo
+
+-- another package, whose row is this one: half-configured where its undo failed, else as before
+abbrev pub other_end : ℕ → Record → Fall → List Failed → Record
+other_end row r fall failed = cond (nat_le row fall.row && has_failed row (OfPackage r.name) failed) (half_configured r) r
+
+-- the records of other packages, of which the first has this row; any other is as before
+abbrev pub others_end : ℕ → List Record → Fall → List Failed → (List ℕ → Option Record) → List ℕ → Option Record
+others_end row [] fall failed before q = before q
+others_end row (r ∷ rs) fall failed before q =
+    cond (bytes_eq r.name q) (Some (other_end row r fall failed)) (others_end (row + 1) rs fall failed before q)
+
+-- where all rows succeeded each other package is half-configured
+abbrev pub others_forward : List Record → (List ℕ → Option Record) → List ℕ → Option Record
+others_forward [] before q = before q
+others_forward (r ∷ rs) before q = cond (bytes_eq r.name q) (Some (half_configured r)) (others_forward rs before q)
 
 module _ (start : Option Record) (incoming : Record) where
   abbrev pub own_name : List ℕ
@@ -62,25 +77,10 @@ module _ (start : Option Record) (incoming : Record) where
   abbrev pub own_end : List Record → Fall → List Failed → Option Record
   own_end others fall failed = own_end_by (own_undo others fall failed) (is_preinst_reached others fall)
 
-  -- another package, whose row is this one: half-configured where its undo failed, else as before
-  abbrev pub other_end : ℕ → Record → Fall → List Failed → Record
-  other_end row r fall failed = cond (nat_le row fall.row && has_failed row (OfPackage r.name) failed) (half_configured r) r
-
-  -- the records of other packages, of which the first has this row; any other is as before
-  abbrev pub others_end : ℕ → List Record → Fall → List Failed → (List ℕ → Option Record) → List ℕ → Option Record
-  others_end row [] fall failed before q = before q
-  others_end row (r ∷ rs) fall failed before q =
-      cond (bytes_eq r.name q) (Some (other_end row r fall failed)) (others_end (row + 1) rs fall failed before q)
-
   -- the record of each name after unwinding
   abbrev pub unwound_end : List Record → List Record → Fall → List Failed → List ℕ → Option Record
   unwound_end others table fall failed q =
       cond (bytes_eq own_name q) (own_end others fall failed) (others_end others_row others fall failed (record_in table) q)
-
-  -- where all rows succeeded each other package is half-configured
-  abbrev pub others_forward : List Record → (List ℕ → Option Record) → List ℕ → Option Record
-  others_forward [] before q = before q
-  others_forward (r ∷ rs) before q = cond (bytes_eq r.name q) (Some (half_configured r)) (others_forward rs before q)
 
   -- the record of each name where all rows succeeded, before it is committed
   abbrev pub forward_end : List Record → List Record → List ℕ → Option Record

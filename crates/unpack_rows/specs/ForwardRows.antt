@@ -90,10 +90,17 @@ module _ (name old new : List ℕ) (stored tree : Present) where
     undo = old_call name stored script.Preinst (codes "abort-upgrade" ∷ new ∷ []);
   }
 
-  -- with the rows of other packages, in the order in which they are made
+  -- the row before those of other packages
+  abbrev pub first_rows : State → List Row
+  first_rows start = cond (has_prerm start) (prerm_row ∷ []) []
+
+  -- the rows behind them
+  abbrev pub last_rows : State → List Row
+  last_rows start = preinst_row start ∷ files_row ∷ cond (is_upgrade start) (postrm_row ∷ []) []
+
+  -- the old prerm, the rows of other packages, the new preinst, the files, the old postrm
   abbrev pub rows_from : State → List Row → List Row
-  rows_from start others =
-      cond (has_prerm start) (prerm_row ∷ []) [] ++ others ++ preinst_row start ∷ files_row ∷ cond (is_upgrade start) (postrm_row ∷ []) []
+  rows_from start others = first_rows start ++ (others ++ last_rows start)
 
 -- the rows of an unpack that finds this record of the package
 abbrev pub rows_of : Option Record → Record → Present → Present → List Row → List Row

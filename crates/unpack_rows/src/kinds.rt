@@ -1,8 +1,9 @@
 // Which rows an unpack has.
-ghost use Rattle.std.specs.Prelude.{◌≡◌, IfOk};
+ghost use Rattle.std.specs.Prelude.{◌≡◌, ◌++◌, IfOk, OnOk, map};
 ghost use Rattle.std.specs.Option.{option_copied};
 ghost use Rattle.unpack_rows.specs.ForwardRows.{records_of};
-ghost use Rattle.unpack_rows.specs.Kinds.{has_prerm, is_upgrade, kinds_of, own_of, state_of};
+ghost use Rattle.unpack_rows.specs.declared.kinds.RowKind.TheVariants as kind;
+ghost use Rattle.unpack_rows.specs.Kinds.{first_kinds, has_prerm, is_upgrade, kinds_of, last_kinds, own_of, state_of};
 
 use crate::rows::OtherPackage;
 use status_db::{Record, State};
@@ -20,7 +21,7 @@ pub enum RowKind {
 }
 
 pub(crate) fn state_of(start: Option<&Record>) -> State
-    ensures { result ≡ state_of (option_copied start) }
+    ensures { result ≡ state_of (option_copied start.entry) }
 {
     match start {
         None => State::NotInstalled,
@@ -29,7 +30,7 @@ pub(crate) fn state_of(start: Option<&Record>) -> State
 }
 
 pub(crate) fn own_of<'a>(start: Option<&'a Record>, incoming: &'a Record) -> &'a Record
-    ensures { result.now ≡ own_of (option_copied start) incoming.now }
+    ensures { result.now ≡ own_of (option_copied start.entry) incoming.now }
 {
     match start {
         None => incoming,
@@ -63,26 +64,49 @@ pub(crate) fn is_upgrade(state: State) -> bool
     }
 }
 
+// The row before those of other packages.
+fn first_kinds(alloc: Global, state: State) -> Result<Vec<RowKind>, AllocError>
+    ensures { IfOk result (λ kinds. kinds.items ≡ first_kinds (has_prerm state)) }
+{
+    let mut kinds = Vec::new(alloc);
+    if has_prerm(state) {
+        kinds.push(RowKind::Prerm)?;
+    }
+    Ok(kinds)
+}
+
+fn push_others(kinds: &mut Vec<RowKind>, others: &[OtherPackage]) -> Result<(), AllocError>
+    ensures { OnOk result (kinds.new.items ≡ kinds.old.items ++ map (λ r. kind.Other r) (records_of others.now)) }
+{
+    for other in others {
+        kinds.push(RowKind::Other(other.record.copy()?))?;
+    }
+    Ok(())
+}
+
+// The rows behind those of other packages.
+fn push_last(kinds: &mut Vec<RowKind>, state: State) -> Result<(), AllocError>
+    ensures { OnOk result (kinds.new.items ≡ kinds.old.items ++ last_kinds (is_upgrade state)) }
+{
+    kinds.push(RowKind::Preinst)?;
+    kinds.push(RowKind::Files)?;
+    if is_upgrade(state) {
+        kinds.push(RowKind::Postrm)?;
+    }
+    Ok(())
+}
+
 /// The rows of an unpack that finds this record of the package, in the order in which they are made.
 pub fn kinds_of(
     alloc: Global,
     start: Option<&Record>,
     others: &[OtherPackage],
 ) -> Result<Vec<RowKind>, AllocError>
-    ensures { IfOk result (λ kinds. kinds.items ≡ kinds_of (option_copied start) (records_of others.now)) }
+    ensures { IfOk result (λ kinds. kinds.items ≡ kinds_of (option_copied start.entry) (records_of others.now)) }
 {
     let state = state_of(start);
-    let mut kinds = Vec::new(alloc);
-    if has_prerm(state) {
-        kinds.push(RowKind::Prerm)?;
-    }
-    for other in others {
-        kinds.push(RowKind::Other(other.record.copy()?))?;
-    }
-    kinds.push(RowKind::Preinst)?;
-    kinds.push(RowKind::Files)?;
-    if is_upgrade(state) {
-        kinds.push(RowKind::Postrm)?;
-    }
+    let mut kinds = first_kinds(alloc, state)?;
+    push_others(&mut kinds, others)?;
+    push_last(&mut kinds, state)?;
     Ok(kinds)
 }

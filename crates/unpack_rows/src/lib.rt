@@ -11,6 +11,9 @@ mod standing;
 
 pub use failures::is_spared;
 pub use kinds::{RowKind, kinds_of};
-pub use laws::{each_package_ends_as_noted, each_row_is_of_its_kind, notes_grow_row_by_row};
+pub use laws::{
+    each_package_ends_as_noted, each_row_is_of_its_kind, files_go_with_their_row,
+    notes_grow_row_by_row,
+};
 pub use notes::{Note, note_before, note_undone};
 pub use rows::{OtherPackage, Present, rows_of};

@@ -22,35 +22,23 @@ pub enum Note {
 fn half_configured(old: &Record) -> Result<Note, AllocError>
     ensures { IfOk result (λ n. n ≡ note.Put (half_configured old.now)) }
 {
-    Ok(Note::Put(standing_as(
-        old,
-        old.flag,
-        State::HalfConfigured,
-    )?))
+    Ok(Note::Put(standing_as(old, old.flag, State::HalfConfigured)?))
 }
 
 fn half_installed(old: &Record) -> Result<Note, AllocError>
     ensures { IfOk result (λ n. n ≡ note.Put (half_installed old.now)) }
 {
-    Ok(Note::Put(standing_as(
-        old,
-        Flag::Reinstreq,
-        State::HalfInstalled,
-    )?))
+    Ok(Note::Put(standing_as(old, Flag::Reinstreq, State::HalfInstalled)?))
 }
 
 fn unpacked(old: &Record) -> Result<Note, AllocError>
     ensures { IfOk result (λ n. n ≡ note.Put (unpacked old.now)) }
 {
-    Ok(Note::Put(standing_as(
-        old,
-        old.flag,
-        State::Unpacked,
-    )?))
+    Ok(Note::Put(standing_as(old, old.flag, State::Unpacked)?))
 }
 
 fn as_before(start: Option<&Record>, incoming: &Record) -> Result<Note, AllocError>
-    ensures { IfOk result (λ n. n ≡ as_before (option_copied start) incoming.now (option_copied start)) }
+    ensures { IfOk result (λ n. n ≡ as_before (option_copied start.entry) incoming.now (option_copied start.entry)) }
 {
     match start {
         None => Ok(Note::Drop(incoming.name.copy()?)),
@@ -60,7 +48,7 @@ fn as_before(start: Option<&Record>, incoming: &Record) -> Result<Note, AllocErr
 
 // A package whose prerm's row is still to be undone is unpacked meanwhile.
 fn preinst_undone(start: Option<&Record>, incoming: &Record) -> Result<Note, AllocError>
-    ensures { IfOk result (λ n. Some n ≡ note_undone (option_copied start) incoming.now kind.Preinst) }
+    ensures { IfOk result (λ n. Some n ≡ note_undone (option_copied start.entry) incoming.now kind.Preinst) }
 {
     if has_prerm(state_of(start)) {
         return unpacked(own_of(start, incoming));
@@ -74,7 +62,7 @@ pub fn note_before(
     incoming: &Record,
     kind: &RowKind,
 ) -> Result<Option<Note>, AllocError>
-    ensures { IfOk result (λ note. note ≡ note_before (option_copied start) incoming.now kind.now) }
+    ensures { IfOk result (λ note. note ≡ note_before (option_copied start.entry) incoming.now kind.now) }
 {
     match kind {
         RowKind::Prerm => Ok(Some(half_configured(own_of(start, incoming))?)),
@@ -91,7 +79,7 @@ pub fn note_undone(
     incoming: &Record,
     kind: &RowKind,
 ) -> Result<Option<Note>, AllocError>
-    ensures { IfOk result (λ note. note ≡ note_undone (option_copied start) incoming.now kind.now) }
+    ensures { IfOk result (λ note. note ≡ note_undone (option_copied start.entry) incoming.now kind.now) }
 {
     match kind {
         RowKind::Prerm => Ok(Some(as_before(start, incoming)?)),

@@ -1,8 +1,8 @@
 // The forward rows of an unpack.
-ghost use Rattle.std.specs.Prelude.{◌≡◌, ◌∷◌, [], IfOk, true, codes};
+ghost use Rattle.std.specs.Prelude.{◌≡◌, ◌∷◌, ◌++◌, [], IfOk, OnOk, true};
 ghost use Rattle.std.specs.Option.{option_copied};
 ghost use Rattle.texts.specs.PackageNames.{is_package_name};
-ghost use Rattle.unpack_rows.specs.ForwardRows.{files_row, install_row, is_present, new_call, old_call, others_rows, postrm_row, preinst_row, prerm_row, reinstall_row, rows_from, rows_of, upgrade_row};
+ghost use Rattle.unpack_rows.specs.ForwardRows.{files_row, first_rows, install_row, is_present, last_rows, new_call, old_call, others_rows, postrm_row, preinst_row, prerm_row, reinstall_row, rows_from, rows_of, upgrade_row};
 
 use crate::kinds::{has_prerm, is_upgrade, own_of, state_of};
 use administration::{script_path, tmp_script_path};
@@ -69,12 +69,7 @@ fn with_new(alloc: Global, first: &str, new: &Version) -> Result<Texts, AllocErr
 }
 
 // Where an old version is passed, the new one follows it.
-fn with_both(
-    alloc: Global,
-    first: &str,
-    old: &Version,
-    new: &Version,
-) -> Result<Texts, AllocError>
+fn with_both(alloc: Global, first: &str, old: &Version, new: &Version) -> Result<Texts, AllocError>
     ensures { IfOk result (λ args. args ≡ first.now ∷ old.now ∷ new.now ∷ []) }
 {
     let mut args = word(alloc, first)?;
@@ -217,6 +212,45 @@ fn files_row() -> Row
     }
 }
 
+// The row before those of other packages.
+fn first_rows(alloc: Global, versions: &Versions<'_>, state: State) -> Result<Vec<Row>, AllocError>
+    requires named { is_package_name versions.now.name.now ≡ true }
+    ensures { IfOk result (λ rows. rows.items ≡ first_rows versions.now.name.now versions.now.old.now versions.now.new.now versions.now.stored versions.now.tree state) }
+{
+    let mut rows = Vec::new(alloc);
+    if has_prerm(state) {
+        rows.push(prerm_row(alloc, versions)?)?;
+    }
+    Ok(rows)
+}
+
+fn push_others(rows: &mut Vec<Row>, others: Vec<OtherPackage>) -> Result<(), AllocError>
+    ensures { OnOk result (rows.new.items ≡ rows.old.items ++ others_rows others.items) }
+{
+    for other in others {
+        rows.push(other.row)?;
+    }
+    Ok(())
+}
+
+// The rows behind those of other packages.
+fn push_last(
+    alloc: Global,
+    rows: &mut Vec<Row>,
+    versions: &Versions<'_>,
+    state: State,
+) -> Result<(), AllocError>
+    requires named { is_package_name versions.now.name.now ≡ true }
+    ensures { OnOk result (rows.new.items ≡ rows.old.items ++ last_rows versions.now.name.now versions.now.old.now versions.now.new.now versions.now.stored versions.now.tree state) }
+{
+    rows.push(preinst_row(alloc, versions, state)?)?;
+    rows.push(files_row())?;
+    if is_upgrade(state) {
+        rows.push(postrm_row(alloc, versions)?)?;
+    }
+    Ok(())
+}
+
 fn rows_from(
     alloc: Global,
     versions: &Versions<'_>,
@@ -226,18 +260,9 @@ fn rows_from(
     requires named { is_package_name versions.now.name.now ≡ true }
     ensures { IfOk result (λ rows. rows.items ≡ rows_from versions.now.name.now versions.now.old.now versions.now.new.now versions.now.stored versions.now.tree state (others_rows others.items)) }
 {
-    let mut rows = Vec::new(alloc);
-    if has_prerm(state) {
-        rows.push(prerm_row(alloc, versions)?)?;
-    }
-    for other in others {
-        rows.push(other.row)?;
-    }
-    rows.push(preinst_row(alloc, versions, state)?)?;
-    rows.push(files_row())?;
-    if is_upgrade(state) {
-        rows.push(postrm_row(alloc, versions)?)?;
-    }
+    let mut rows = first_rows(alloc, versions, state)?;
+    push_others(&mut rows, others)?;
+    push_last(alloc, &mut rows, versions, state)?;
     Ok(rows)
 }
 
@@ -252,7 +277,7 @@ pub fn rows_of(
     tree: Present,
     others: Vec<OtherPackage>,
 ) -> Result<Vec<Row>, AllocError>
-    ensures { IfOk result (λ rows. rows.items ≡ rows_of (option_copied start) incoming.now stored tree (others_rows others.items)) }
+    ensures { IfOk result (λ rows. rows.items ≡ rows_of (option_copied start.entry) incoming.now stored tree (others_rows others.items)) }
 {
     let own = own_of(start, incoming);
     let versions = Versions {

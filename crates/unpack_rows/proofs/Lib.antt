@@ -1,0 +1,6 @@
+pub mod RowParts
+pub mod Matching
+pub mod Growth
+pub mod LastNotes
+pub mod Ends
+pub mod Staging
