@@ -13,14 +13,15 @@ use Rattle.cleanup_stack.specs.Place.{Back, Forward}
 use Rattle.status_db.specs.declared.record.Record.{Record}
 use Rattle.status_db.specs.Records.{record_in, AreApart, IsWithout}
 use Rattle.unpack_rows.specs.declared.kinds.RowKind.{RowKind}
-use Rattle.unpack_rows.specs.declared.kinds.RowKind.TheVariants.{Other, Prerm, Preinst, Files, Postrm}
+use Rattle.unpack_rows.specs.declared.kinds.RowKind.TheVariants.{Other}
 use Rattle.unpack_rows.specs.declared.notes.Note.{Note}
 use Rattle.unpack_rows.specs.declared.notes.Note.TheVariants.{Put}
 use Rattle.unpack_rows.specs.EndStates.{AreConcerned, AreRecorded, NoneFailed, OfPrerm, OfPreinstOrPostrm, other_end, others_end, others_forward, own_end_by, forward_end, unwound_end}
 use Rattle.unpack_rows.specs.Failures.{has_failed, is_same}
-use Rattle.unpack_rows.specs.Kinds.{first_kinds, has_prerm, is_upgrade, kinds_of, last_kinds, own_of, owner_of, state_of}
-use Rattle.unpack_rows.specs.Notes.{as_before, half_configured, half_installed, unpacked, note_undone, noted, notes_at, notes_back, notes_forward}
-use Rattle.unpack_rows.proofs.LastNotes.{last_of, last_of-append, made_unless, missed_unless, note_name, note_value, noted_last, said, skipped, taken}
+use Rattle.unpack_rows.specs.Kinds.{first_kinds, has_prerm, is_upgrade, kinds_of, last_kinds, own_of, state_of}
+use Rattle.unpack_rows.specs.Notes.{as_before, half_configured, half_installed, unpacked, noted, notes_at, notes_back, notes_forward}
+use Rattle.unpack_rows.proofs.Unnoted.{files_unnoted, files_unnoted_back, postrm_unnoted}
+use Rattle.unpack_rows.proofs.LastNotes.{last_of, last_of-append, made_unless, missed_unless, note_name, note_value, noted_last, skipped, taken}
 
 le_not : (j i : ℕ) → i < j → nat_le j i ≡ false
 le_not j i less = grind (arith, rules)
@@ -84,27 +85,6 @@ module _ (start : Option Record) (incoming : Record) where
     abbrev over : Option Record → ℕ → List RowKind → List ℕ → Option Record
     over o row ks q = last_of (last_of o (notes_forward start incoming ks) q) (notes_back start incoming row ks failed) q
 
-    -- the files and the postrm have no notes
-    no_notes : (b : Bool) (m : ℕ) → notes_forward start incoming (take m (Files ∷ cond b (Postrm ∷ []) [])) ≡ []
-    no_notes b zero = refl
-    no_notes true (suc zero) = refl
-    no_notes true (suc (suc zero)) = refl
-    no_notes true (suc (suc (suc m))) = refl
-    no_notes false (suc zero) = refl
-    no_notes false (suc (suc m)) = refl
-
-    either : (b : Bool) → cond {A = List Note} b [] [] ≡ []
-    either true = refl
-    either false = refl
-
-    no_notes_back : (b : Bool) (m row : ℕ) → notes_back start incoming row (take m (Files ∷ cond b (Postrm ∷ []) [])) failed ≡ []
-    no_notes_back b zero row = refl
-    no_notes_back true (suc zero) row = either (has_failed row (owner_of (own_of start incoming).name Files) failed)
-    no_notes_back true (suc (suc zero)) row = (λ i. either (own_failed (row + 1)) i ++ cond (has_failed row (owner_of (own_of start incoming).name Files) failed) [] []) ∙ either (has_failed row (owner_of (own_of start incoming).name Files) failed)
-    no_notes_back true (suc (suc (suc m))) row = (λ i. either (own_failed (row + 1)) i ++ cond (has_failed row (owner_of (own_of start incoming).name Files) failed) [] []) ∙ either (has_failed row (owner_of (own_of start incoming).name Files) failed)
-    no_notes_back false (suc zero) row = either (has_failed row (owner_of (own_of start incoming).name Files) failed)
-    no_notes_back false (suc (suc m)) row = either (has_failed row (owner_of (own_of start incoming).name Files) failed)
-
     abbrev half : Option Record
     half = Some (half_installed (own_of start incoming))
 
@@ -112,7 +92,7 @@ module _ (start : Option Record) (incoming : Record) where
     last_step : (o : Option Record) (row m : ℕ) (q : List ℕ) → over o row (take (suc m) (last_kinds upgrade)) q
         ≡ last_of (cond (bytes_eq (own_of start incoming).name q) half o) (cond (own_failed row) [] (undone ∷ [])) q
     last_step o row m q =
-        λ i. last_of (last_of (cond (bytes_eq (own_of start incoming).name q) half o) (no_notes upgrade m i) q) (no_notes_back upgrade m (row + 1) i ++ cond (own_failed row) [] (undone ∷ [])) q
+        λ i. last_of (last_of (cond (bytes_eq (own_of start incoming).name q) half o) (files_unnoted start incoming upgrade m i) q) (files_unnoted_back start incoming failed upgrade m (row + 1) i ++ cond (own_failed row) [] (undone ∷ [])) q
 
     last_over : (o : Option Record) (row m : ℕ) (q : List ℕ) → bytes_eq (own_of start incoming).name q ≡ true → over o row (take (suc m) (last_kinds upgrade)) q ≡ cond (own_failed row) half (note_value undone)
     last_over o row m q e =
@@ -212,12 +192,8 @@ module _ (start : Option Record) (incoming : Record) where
           step false e later = other_missed (record_in table q) row r (rest_of rs m) q e ∙ later
 
     -- where all rows succeeded
-    no_notes_behind : (b : Bool) → notes_forward start incoming (cond b (Postrm ∷ []) []) ≡ []
-    no_notes_behind true = refl
-    no_notes_behind false = refl
-
     preinst_said : (o : Option Record) (q : List ℕ) → last_of o (notes_forward start incoming (last_kinds upgrade)) q ≡ cond (bytes_eq (own_of start incoming).name q) half o
-    preinst_said o q = ap (λ l. last_of (cond (bytes_eq (own_of start incoming).name q) half o) l q) (no_notes_behind upgrade)
+    preinst_said o q = ap (λ l. last_of (cond (bytes_eq (own_of start incoming).name q) half o) l q) (postrm_unnoted start incoming upgrade)
 
     abbrev all_of : List Record → List RowKind
     all_of others = map (λ r. Other r) others ++ last_kinds upgrade

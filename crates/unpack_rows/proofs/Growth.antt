@@ -1,6 +1,5 @@
 -- What notes a row adds.
 use Rattle.std.proofs.Common.{◌≡◌, ℕ, ◌+◌, ◌<◌, ◌≤◌, zero, suc, Bool, true, false, cond, ◌||◌, ◌&&◌, nat_le, List, [], ◌∷◌, ◌++◌, Option, Some, None, length, get_or, take, drop, refl, sym, ap, subst, ◌∙◌, arith, rules, append_assoc}
-use Rattle.std.specs.List.{list_any}
 use Rattle.std.proofs.lemmas.Bool.{true≢false}
 use Rattle.std.proofs.lemmas.List.{append-nil, take_more, get_or-take, length-take-le}
 use Rattle.std.proofs.lemmas.List.Folds.{list_any-append}
@@ -20,6 +19,7 @@ use Rattle.unpack_rows.specs.declared.notes.Note.{Note}
 use Rattle.unpack_rows.specs.Failures.{has_failed, is_same}
 use Rattle.unpack_rows.specs.Kinds.{own_of, owner_of}
 use Rattle.unpack_rows.specs.Notes.{listed, note_before, note_undone, notes_at, notes_back, notes_forward}
+use Rattle.unpack_rows.proofs.Unnoted.{no_note}
 
 or_false : (a b : Bool) → b ≡ false → (a || b) ≡ a
 or_false true b e = refl
@@ -66,10 +66,6 @@ later_failed false j i o p failed less = refl
 later_failed true j i o p failed less =
     list_any-append (λ f. nat_le j f.row && is_same o f.owner) failed (record { row = i; owner = p } ∷ [])
     ∙ or_false (has_failed j o failed) _ (or_false (nat_le j i && is_same o p) false refl ∙ and_false (nat_le j i) (is_same o p) (le_less j i less))
-
-no_note : (b : Bool) → cond {A = List Note} b [] [] ≡ []
-no_note true = refl
-no_note false = refl
 
 nothing_left : (n : ℕ) (l : List RowKind) → drop n (take n l) ≡ []
 nothing_left zero l = refl

@@ -1,5 +1,6 @@
 pub mod RowParts
 pub mod Matching
+pub mod Unnoted
 pub mod Growth
 pub mod LastNotes
 pub mod Ends

@@ -1,5 +1,5 @@
 -- Each row is of the owner that its kind says.
-use Rattle.std.proofs.Common.{◌≡◌, ℕ, ◌<◌, zero, suc, Bool, true, false, cond, List, [], ◌∷◌, ◌++◌, Option, length, get_or, map, refl, sym, ap, subst, ◌∙◌, arith}
+use Rattle.std.proofs.Common.{◌≡◌, ℕ, ◌<◌, zero, suc, Bool, true, false, cond, List, [], ◌∷◌, ◌++◌, Option, length, get_or, map, refl, sym, ap, ◌∙◌, arith}
 use Rattle.unwind_stack.specs.declared.rows.Row.{Row}
 use Rattle.unwind_stack.specs.declared.rows.Owner.TheVariants.{Package as OfPackage}
 use Rattle.cleanup_stack.specs.Place.{Fit}

@@ -1,5 +1,5 @@
 -- How each package ends (Policy 6.6): by its own record before, its own last row and its own failed undo.
-use Rattle.std.specs.Prelude.{◌≡◌, ℕ, ◌+◌, ◌&&◌, Bool, true, false, cond, nat_le, List, [], ◌∷◌, Option, Some, None, length}
+use Rattle.std.specs.Prelude.{◌≡◌, ℕ, ◌+◌, ◌&&◌, Bool, true, false, cond, nat_le, List, [], ◌∷◌, Option, Some, length}
 use Rattle.std.specs.Str.{bytes_eq}
 use Rattle.unwind_stack.specs.declared.fall.Fall.{Fall}
 use Rattle.unwind_stack.specs.declared.rows.Owner.TheVariants.{Package as OfPackage}
