@@ -10,13 +10,14 @@ use Rattle.unwind_stack.specs.declared.rows.Owner.TheVariants.{Package as OfPack
 use Rattle.unwind_stack.specs.declared.fall.Fall.{Fall}
 use Rattle.cleanup_stack.specs.declared.failed.Failed.{Failed}
 use Rattle.cleanup_stack.specs.Place.{Back, Forward}
+use Rattle.cleanup_stack.specs.Transcripts.{Ended, Committed, Unwound}
 use Rattle.status_db.specs.declared.record.Record.{Record}
 use Rattle.status_db.specs.Records.{record_in, AreApart, IsWithout}
 use Rattle.unpack_rows.specs.declared.kinds.RowKind.{RowKind}
 use Rattle.unpack_rows.specs.declared.kinds.RowKind.TheVariants.{Other}
 use Rattle.unpack_rows.specs.declared.notes.Note.{Note}
 use Rattle.unpack_rows.specs.declared.notes.Note.TheVariants.{Put}
-use Rattle.unpack_rows.specs.EndStates.{AreConcerned, AreRecorded, NoneFailed, OfPrerm, OfPreinstOrPostrm, other_end, others_end, others_forward, own_end_by, forward_end, unwound_end}
+use Rattle.unpack_rows.specs.EndStates.{AreConcerned, AreRecorded, NoneFailed, OfPrerm, OfPreinstOrPostrm, other_end, others_end, others_forward, own_end_by, end_of, end_record, forward_end, unwound_end}
 use Rattle.unpack_rows.specs.Failures.{has_failed, is_same}
 use Rattle.unpack_rows.specs.Kinds.{first_kinds, has_prerm, is_upgrade, kinds_of, last_kinds, own_of, state_of}
 use Rattle.unpack_rows.specs.Notes.{as_before, half_configured, half_installed, unpacked, noted, notes_at, notes_back, notes_forward}
@@ -316,7 +317,7 @@ module _ (start : Option Record) (incoming : Record) where
           swaps l = omega arith
 
       -- the records after unwinding are those of the table
-      pub unwound_table : (q : List ℕ) → record_in (noted table (notes_at start incoming (kinds_of start others) (Back 0 fall failed))) q ≡ unwound_end start incoming others table fall failed q
+      unwound_table : (q : List ℕ) → record_in (noted table (notes_at start incoming (kinds_of start others) (Back 0 fall failed))) q ≡ unwound_end start incoming others table fall failed q
       unwound_table q = noted_last (notes_at start incoming (kinds_of start others) (Back 0 fall failed)) table q ∙ by (bytes_eq (own_of start incoming).name q) refl
         where
           by : (b : Bool) → bytes_eq (own_of start incoming).name q ≡ b → last_of (record_in table q) (notes_at start incoming (kinds_by (has_prerm (state_of start))) (Back 0 fall failed)) q
@@ -334,8 +335,12 @@ module _ (start : Option Record) (incoming : Record) where
         ∙ forward_others (is_upgrade (state_of start)) [] table others q e are.recorded are.apart.1
     forward_case false false q e = forward_others (is_upgrade (state_of start)) [] table others q e are.recorded are.apart.1
 
-    pub forward_table : (q : List ℕ) → record_in (noted table (notes_at start incoming (kinds_of start others) (Forward (length (kinds_of start others))))) q ≡ forward_end start incoming others table q
+    forward_table : (q : List ℕ) → record_in (noted table (notes_at start incoming (kinds_of start others) (Forward (length (kinds_of start others))))) q ≡ forward_end start incoming others table q
     forward_table q =
         ap (λ l. record_in (noted table (notes_forward start incoming l)) q) (take_all (length (kinds_of start others)) (kinds_of start others) (omega arith))
         ∙ noted_last (notes_forward start incoming (kinds_of start others)) table q
         ∙ forward_case (has_prerm (state_of start)) (bytes_eq (own_of start incoming).name q) q refl
+
+    pub end_table : (ended : Ended) (q : List ℕ) → record_in (noted table (notes_at start incoming (kinds_of start others) (end_of (length (kinds_of start others)) ended))) q ≡ end_record start incoming others table ended q
+    end_table Committed q = forward_table q
+    end_table (Unwound fall failed) q = unwound_table fall failed q

@@ -4,6 +4,7 @@ use Rattle.std.specs.Str.{bytes_eq}
 use Rattle.unwind_stack.specs.declared.fall.Fall.{Fall}
 use Rattle.unwind_stack.specs.declared.rows.Owner.TheVariants.{Package as OfPackage}
 use Rattle.cleanup_stack.specs.declared.failed.Failed.{Failed}
+use Rattle.cleanup_stack.specs.Place.{Place, Forward, Back}
 use Rattle.cleanup_stack.specs.Transcripts.{Ended, Committed, Unwound}
 use Rattle.status_db.specs.declared.record.Record.{Record}
 use Rattle.status_db.specs.Records.{record_in, AreApart}
@@ -44,6 +45,11 @@ others_end row (r ∷ rs) fall failed before q =
 abbrev pub others_forward : List Record → (List ℕ → Option Record) → List ℕ → Option Record
 others_forward [] before q = before q
 others_forward (r ∷ rs) before q = cond (bytes_eq r.name q) (Some (half_configured r)) (others_forward rs before q)
+
+-- where so many rows end: each has succeeded, or all that were tried are undone
+abbrev pub end_of : ℕ → Ended → Place
+end_of rows Committed = Forward rows
+end_of rows (Unwound fall failed) = Back 0 fall failed
 
 module _ (start : Option Record) (incoming : Record) where
   abbrev pub own_name : List ℕ

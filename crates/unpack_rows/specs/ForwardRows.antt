@@ -24,11 +24,17 @@ is_present p script.Postrm = p.postrm
 
 -- a script of the old version, which is stored; where it isn't there it isn't called
 abbrev pub old_call : List ℕ → Present → Script → List (List ℕ) → Option Call
-old_call name stored s args = cond (is_present stored s) (Some (record { side = Old; «package» = name; script = s; at = script_path name s; args = args })) None
+old_call name stored s args =
+    cond (is_present stored s)
+    (Some (record { side = Old; «package» = name; script = s; at = script_path name s; args = args }))
+    None
 
 -- a script of the incoming tree, from where it lies while the unit runs; where it isn't there it isn't called
 abbrev pub new_call : List ℕ → Present → Script → List (List ℕ) → Option Call
-new_call name tree s args = cond (is_present tree s) (Some (record { side = New; «package» = name; script = s; at = tmp_script_path s; args = args })) None
+new_call name tree s args =
+    cond (is_present tree s)
+    (Some (record { side = New; «package» = name; script = s; at = tmp_script_path s; args = args }))
+    None
 
 -- the files have no call
 abbrev pub files_row : Row
@@ -120,4 +126,5 @@ AreOwn (o ∷ os) = (o.row.owner ≡ OfPackage o.«record».name) × AreOwn os
 
 -- the row at this index is of the owner that its kind says
 abbrev pub Fits : List ℕ → List RowKind → ℕ → Row → Type 0
-Fits name kinds index row = (index < length kinds) × ((k : RowKind) → k ≡ get_or kinds index k → row.owner ≡ owner_of name k)
+Fits name kinds index row =
+    (index < length kinds) × ((k : RowKind) → k ≡ get_or kinds index k → row.owner ≡ owner_of name k)

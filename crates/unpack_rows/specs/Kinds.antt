@@ -44,7 +44,8 @@ last_kinds upgrade = Preinst ∷ Files ∷ cond upgrade (Postrm ∷ []) []
 
 -- the old prerm, the rows of other packages, the new preinst, the files, the old postrm
 abbrev pub kinds_of : Option Record → List Record → List RowKind
-kinds_of start others = first_kinds (has_prerm (state_of start)) ++ (map (λ r. Other r) others ++ last_kinds (is_upgrade (state_of start)))
+kinds_of start others =
+    first_kinds (has_prerm (state_of start)) ++ (map (λ r. Other r) others ++ last_kinds (is_upgrade (state_of start)))
 
 -- whose row it is, where the package is of this name
 abbrev pub owner_of : List ℕ → RowKind → Owner

@@ -64,10 +64,13 @@ module _ (start : Option Record) (incoming : Record) where
   -- Rows are undone from the last on, of which the first has this number; a package with a failed undo gets no further note.
   abbrev pub notes_back : ℕ → List RowKind → List Failed → List Note
   notes_back row [] failed = []
-  notes_back row (k ∷ ks) failed = notes_back (row + 1) ks failed ++ cond (has_failed row (owner_of (own_of start incoming).name k) failed) [] (listed (note_undone k))
+  notes_back row (k ∷ ks) failed =
+      notes_back (row + 1) ks failed
+      ++ cond (has_failed row (owner_of (own_of start incoming).name k) failed) [] (listed (note_undone k))
 
   -- all notes up to a place
   abbrev pub notes_at : List RowKind → Place → List Note
   notes_at kinds (Forward k) = notes_forward (take k kinds)
   notes_at kinds (Ready k) = notes_forward (take (k + 1) kinds)
-  notes_at kinds (Back k fall failed) = notes_forward (take (fall.row + 1) kinds) ++ notes_back k (drop k (take (fall.row + 1) kinds)) failed
+  notes_at kinds (Back k fall failed) =
+      notes_forward (take (fall.row + 1) kinds) ++ notes_back k (drop k (take (fall.row + 1) kinds)) failed

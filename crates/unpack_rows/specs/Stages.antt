@@ -27,4 +27,5 @@ has_files (k ∷ ks) = is_files k || has_files ks
 abbrev pub stage_of : List RowKind → Place → Stage
 stage_of kinds (Forward k) = cond (has_files (take k kinds)) Wrote Unwritten
 stage_of kinds (Ready k) = cond (has_files (take k kinds)) Wrote Unwritten
-stage_of kinds (Back k fall failed) = cond (has_files (take fall.row kinds)) (cond (has_files (take k kinds)) Wrote Restored) Unwritten
+stage_of kinds (Back k fall failed) =
+    cond (has_files (take fall.row kinds)) (cond (has_files (take k kinds)) Wrote Restored) Unwritten

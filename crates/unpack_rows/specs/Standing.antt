@@ -4,4 +4,4 @@ use Rattle.status_db.specs.declared.words.Flag.{Flag}
 use Rattle.status_db.specs.declared.words.State.{State}
 
 abbrev pub standing_as : Flag → State → Record → Record
-standing_as flag state r = record { name = r.name; want = r.want; flag = flag; state = state; version = r.version; fields = r.fields; writable = r.writable }
+standing_as flag state r = record r { flag = flag; state = state }

@@ -6,11 +6,12 @@ ghost use Rattle.cleanup_stack.specs.declared.failed.Failed.{Failed as AFailed};
 ghost use Rattle.cleanup_stack.specs.Place.{Back, Fit, Forward, Place, Ready, blamed, called, worked};
 ghost use Rattle.status_db.specs.declared.record.Record.{Record as ARecord};
 ghost use Rattle.status_db.specs.Records.{record_in};
+ghost use Rattle.cleanup_stack.specs.Transcripts.{Ended};
 ghost use Rattle.unpack_rows.specs.declared.kinds.RowKind.{RowKind as ARowKind};
 ghost use Rattle.unpack_rows.specs.declared.kinds.RowKind.TheVariants.{Files};
 ghost use Rattle.unpack_rows.specs.declared.rows.OtherPackage.{OtherPackage as AnOtherPackage};
 ghost use Rattle.unpack_rows.specs.declared.rows.Present.{Present as APresent};
-ghost use Rattle.unpack_rows.specs.EndStates.{AreConcerned, forward_end, unwound_end};
+ghost use Rattle.unpack_rows.specs.EndStates.{AreConcerned, end_of, end_record};
 ghost use Rattle.unpack_rows.specs.Failures.{has_failed};
 ghost use Rattle.unpack_rows.specs.ForwardRows.{AreOwn, Fits, others_rows, records_of, rows_of};
 ghost use Rattle.unpack_rows.specs.Kinds.{kinds_of, own_of, owner_of};
@@ -34,10 +35,9 @@ pub fn notes_grow_row_by_row()
     ensures put_back { (start : Option ARecord) (incoming : ARecord) (kinds : List ARowKind) (i : ℕ) (k : ARowKind) (fall : AFall) (failed : List AFailed) → i ≤ fall.row → fall.row < length kinds → k ≡ get_or kinds i k → k ≡ Files → notes_at start incoming kinds (Back i fall failed) ≡ notes_at start incoming kinds (Back (i + 1) fall failed) }
 {}
 
-/// Where the table has the packages of the rows, its records after the notes of an end are those that the end table says.
+/// Where the table has the packages of the rows, its records after the notes up to an end are those that the end table says.
 pub fn each_package_ends_as_noted()
-    ensures unwound { (start : Option ARecord) (incoming : ARecord) (others table : List ARecord) (fall : AFall) (failed : List AFailed) → AreConcerned start incoming others table → (q : List ℕ) → record_in (noted table (notes_at start incoming (kinds_of start others) (Back 0 fall failed))) q ≡ unwound_end start incoming others table fall failed q }
-    ensures forward { (start : Option ARecord) (incoming : ARecord) (others table : List ARecord) → AreConcerned start incoming others table → (q : List ℕ) → record_in (noted table (notes_at start incoming (kinds_of start others) (Forward (length (kinds_of start others))))) q ≡ forward_end start incoming others table q }
+    ensures { (start : Option ARecord) (incoming : ARecord) (others table : List ARecord) (ended : Ended) → AreConcerned start incoming others table → (q : List ℕ) → record_in (noted table (notes_at start incoming (kinds_of start others) (end_of (length (kinds_of start others)) ended))) q ≡ end_record start incoming others table ended q }
 {}
 
 /// The files are written by the file row alone and put back by its undo alone; while they are written the package's record is

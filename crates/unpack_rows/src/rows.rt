@@ -1,5 +1,5 @@
 // The forward rows of an unpack.
-ghost use Rattle.std.specs.Prelude.{◌≡◌, ◌∷◌, ◌++◌, [], IfOk, OnOk, true};
+ghost use Rattle.std.specs.Prelude.{◌≡◌, ◌∷◌, ◌++◌, [], IfOk, OnOk, true, codes};
 ghost use Rattle.std.specs.Option.{option_copied};
 ghost use Rattle.texts.specs.PackageNames.{is_package_name};
 ghost use Rattle.unpack_rows.specs.ForwardRows.{files_row, first_rows, install_row, is_present, last_rows, new_call, old_call, others_rows, postrm_row, preinst_row, prerm_row, reinstall_row, rows_from, rows_of, upgrade_row};
@@ -78,6 +78,12 @@ fn with_both(alloc: Global, first: &str, old: &Version, new: &Version) -> Result
     Ok(args)
 }
 
+fn failed_upgrade(alloc: Global, versions: &Versions<'_>) -> Result<Texts, AllocError>
+    ensures { IfOk result (λ args. args ≡ codes "failed-upgrade" ∷ versions.now.old.now ∷ versions.now.new.now ∷ []) }
+{
+    with_both(alloc, "failed-upgrade", versions.old, versions.new)
+}
+
 fn old_call(
     alloc: Global,
     versions: &Versions<'_>,
@@ -124,7 +130,7 @@ fn prerm_row(alloc: Global, versions: &Versions<'_>) -> Result<Row, AllocError>
     ensures { IfOk result (λ row. row ≡ prerm_row versions.now.name.now versions.now.old.now versions.now.new.now versions.now.stored versions.now.tree) }
 {
     let upgrade = with_new(alloc, "upgrade", versions.new)?;
-    let failed = with_both(alloc, "failed-upgrade", versions.old, versions.new)?;
+    let failed = failed_upgrade(alloc, versions)?;
     let abort = with_new(alloc, "abort-upgrade", versions.new)?;
     Ok(Row {
         owner: Owner::Package(versions.name.copy()?),
@@ -139,7 +145,7 @@ fn postrm_row(alloc: Global, versions: &Versions<'_>) -> Result<Row, AllocError>
     ensures { IfOk result (λ row. row ≡ postrm_row versions.now.name.now versions.now.old.now versions.now.new.now versions.now.stored versions.now.tree) }
 {
     let upgrade = with_new(alloc, "upgrade", versions.new)?;
-    let failed = with_both(alloc, "failed-upgrade", versions.old, versions.new)?;
+    let failed = failed_upgrade(alloc, versions)?;
     let abort = with_new(alloc, "abort-upgrade", versions.new)?;
     Ok(Row {
         owner: Owner::Package(versions.name.copy()?),
