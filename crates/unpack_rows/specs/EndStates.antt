@@ -52,6 +52,7 @@ end_of rows Committed = Forward rows
 end_of rows (Unwound fall failed) = Back 0 fall failed
 
 module _ (start : Option Record) (incoming : Record) where
+  -- the package's name
   abbrev pub own_name : List ℕ
   own_name = (own_of start incoming).name
 
@@ -67,6 +68,7 @@ module _ (start : Option Record) (incoming : Record) where
   abbrev pub is_preinst_reached : List Record → Fall → Bool
   is_preinst_reached others fall = nat_le (preinst_row others) fall.row
 
+  -- which undo of the package's own failed, of those that were called
   abbrev pub own_undo : List Record → Fall → List Failed → OwnUndo
   own_undo others fall failed =
       cond (is_preinst_reached others fall && has_failed (preinst_row others) (OfPackage own_name) failed) OfPreinstOrPostrm

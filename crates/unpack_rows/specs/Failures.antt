@@ -6,6 +6,7 @@ use Rattle.unwind_stack.specs.declared.rows.Owner.{Owner}
 use Rattle.unwind_stack.specs.declared.rows.Owner.TheVariants.{Package as OfPackage, Files as OfFiles}
 use Rattle.cleanup_stack.specs.declared.failed.Failed.{Failed}
 
+-- two owners are the same
 abbrev pub is_same : Owner → Owner → Bool
 is_same (OfPackage a) (OfPackage b) = bytes_eq a b
 is_same (OfPackage a) OfFiles = false

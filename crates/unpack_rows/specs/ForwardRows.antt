@@ -113,9 +113,11 @@ abbrev pub rows_of : Option Record → Record → Present → Present → List R
 rows_of start incoming stored tree others =
     rows_from (own_of start incoming).name (own_of start incoming).version incoming.version stored tree (state_of start) others
 
+-- the records of other packages
 abbrev pub records_of : List OtherPackage → List Record
 records_of others = map (λ o. o.«record») others
 
+-- their rows
 abbrev pub others_rows : List OtherPackage → List Row
 others_rows others = map (λ o. o.row) others
 

@@ -36,9 +36,11 @@ is_upgrade state.Unpacked = true
 is_upgrade state.HalfConfigured = true
 is_upgrade state.Installed = true
 
+-- the row before those of other packages, where the old prerm is called
 abbrev pub first_kinds : Bool → List RowKind
 first_kinds prerm = cond prerm (Prerm ∷ []) []
 
+-- the rows behind those of other packages, where it is an upgrade
 abbrev pub last_kinds : Bool → List RowKind
 last_kinds upgrade = Preinst ∷ Files ∷ cond upgrade (Postrm ∷ []) []
 

@@ -14,13 +14,15 @@ use Rattle.unpack_rows.specs.Kinds.{own_of, owner_of, has_prerm, state_of}
 use Rattle.unpack_rows.specs.Failures.{has_failed}
 use Rattle.unpack_rows.specs.Standing.{standing_as}
 
+-- want and flag stay
 abbrev pub half_configured : Record → Record
 half_configured r = standing_as r.flag state.HalfConfigured r
 
+-- it wants reinstallation
 abbrev pub half_installed : Record → Record
 half_installed r = standing_as flag.Reinstreq state.HalfInstalled r
 
--- the flag stays
+-- want and flag stay
 abbrev pub unpacked : Record → Record
 unpacked r = standing_as r.flag state.Unpacked r
 
@@ -30,6 +32,7 @@ noted table [] = table
 noted table (Put r ∷ notes) = noted (put_record r table) notes
 noted table (Drop name ∷ notes) = noted (drop_record name table) notes
 
+-- a note, or none, as a list
 abbrev pub listed : Option Note → List Note
 listed None = []
 listed (Some note) = note ∷ []
@@ -57,11 +60,13 @@ module _ (start : Option Record) (incoming : Record) where
   note_undone Files = None
   note_undone Postrm = None
 
+  -- those before the calls of these rows
   abbrev pub notes_forward : List RowKind → List Note
   notes_forward [] = []
   notes_forward (k ∷ ks) = listed (note_before k) ++ notes_forward ks
 
-  -- Rows are undone from the last on, of which the first has this number; a package with a failed undo gets no further note.
+  -- those after the undo of these rows, the last of them first; the first has this number. A package with a failed undo gets no
+  -- further note.
   abbrev pub notes_back : ℕ → List RowKind → List Failed → List Note
   notes_back row [] failed = []
   notes_back row (k ∷ ks) failed =

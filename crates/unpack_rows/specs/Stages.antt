@@ -4,6 +4,7 @@ use Rattle.cleanup_stack.specs.Place.{Place, Forward, Ready, Back}
 use Rattle.unpack_rows.specs.declared.kinds.RowKind.{RowKind}
 use Rattle.unpack_rows.specs.declared.kinds.RowKind.TheVariants.{Prerm, Other, Preinst, Files, Postrm}
 
+-- what the file row and its undo have done
 pub data Stage : Type 0 where
   -- the file row hasn't written
   Unwritten : Stage
@@ -12,6 +13,7 @@ pub data Stage : Type 0 where
   -- all is put back
   Restored : Stage
 
+-- it is the row of the files
 abbrev pub is_files : RowKind → Bool
 is_files Prerm = false
 is_files (Other r) = false
@@ -19,11 +21,12 @@ is_files Preinst = false
 is_files Files = true
 is_files Postrm = false
 
+-- one of these rows is that of the files
 abbrev pub has_files : List RowKind → Bool
 has_files [] = false
 has_files (k ∷ ks) = is_files k || has_files ks
 
--- a file row that fails writes nothing
+-- the stage at a place; a file row that fails writes nothing
 abbrev pub stage_of : List RowKind → Place → Stage
 stage_of kinds (Forward k) = cond (has_files (take k kinds)) Wrote Unwritten
 stage_of kinds (Ready k) = cond (has_files (take k kinds)) Wrote Unwritten
