@@ -1,5 +1,5 @@
 mod Rows
-mod DigestTexts
+pub mod DigestTexts
 mod ConffileWorlds
 mod Settlings
 mod SettlingLists

@@ -19,7 +19,7 @@ impl Model for Lines {
 }
 
 impl Lines {
-    pub(crate) fn new(alloc: Global) -> Self
+    pub fn new(alloc: Global) -> Self
         ensures { result ≡ [] }
     {
         Lines {
@@ -28,7 +28,7 @@ impl Lines {
         }
     }
 
-    pub(crate) fn push(&mut self, line: Bytes) -> Result<(), AllocError>
+    pub fn push(&mut self, line: Bytes) -> Result<(), AllocError>
         ensures ok { OnOk result (self.new ≡ self.old ++ line ∷ []) }
         ensures err { OnErr result (self.new ≡ self.old) }
     {

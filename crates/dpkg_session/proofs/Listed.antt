@@ -30,7 +30,7 @@ use Rattle.dpkg_session.specs.declared.refusal.Word.{Word}
 use Rattle.dpkg_session.specs.declared.refusal.Word.TheVariants.{Files, Record as ItsRecord, Conffiles}
 use Rattle.dpkg_session.specs.declared.report.Candidate.{Candidate}
 use Rattle.dpkg_session.specs.declared.report.Unit.{Unit as AUnit}
-use Rattle.dpkg_session.specs.Refusals.{any_has, word_of}
+use Rattle.dpkg_session.specs.Refusals.{any_conffiles, word_of}
 use Rattle.dpkg_session.specs.Run.{IsRun}
 use Rattle.dpkg_session.specs.Units.{IsUnitByWord, IsUnitOf}
 use Rattle.dpkg_session.proofs.Runs.{falls_run}
@@ -167,7 +167,7 @@ carried_bare p before e = (cond_none p.ships Files _ e).0
 pub carried_conffiles : (p : Package) (before : List Record) → word_of p before ≡ None → p.has_conffiles ≡ false
 carried_conffiles p before e =
     let rest = (cond_none (is_some (record_in before p.name)) ItsRecord _ (cond_none p.ships Files _ e).1).1 in
-    (or_parts p.has_conffiles _ (cond_none (p.has_conffiles || (any_has before (codes "Conffiles") || any_has before (codes "New-Conffiles"))) Conffiles _ rest).0).0
+    (or_parts p.has_conffiles _ (cond_none (p.has_conffiles || any_conffiles before) Conffiles _ rest).0).0
 
 -- the lists after a run
 

@@ -1,5 +1,5 @@
 -- The refusals of an unpack, in the order in which they are looked for.
-use Rattle.std.specs.Prelude.{◌||◌, ℕ, Bool, List, [], ◌∷◌, Option, Some, None, is_some, codes, cond}
+use Rattle.std.specs.Prelude.{◌||◌, ◌==◌, not, ℕ, Bool, List, [], ◌∷◌, Option, Some, None, is_some, cond, length}
 use Rattle.std.specs.List.{list_any}
 use Rattle.control_fields.specs.Names.{stands}
 use Rattle.package_tree.specs.declared.package.Package.{Package}
@@ -14,6 +14,10 @@ use Rattle.relation_fields.specs.declared.relation_field.RelationField.TheVarian
 -- some record has a field of this name
 abbrev pub any_has : List Record → List ℕ → Bool
 any_has records name = list_any (λ r. stands name r.fields) records
+
+-- some record has conffiles, or digests that aren't settled yet
+abbrev pub any_conffiles : List Record → Bool
+any_conffiles records = list_any (λ r. not (length r.conffiles == 0) || not (length r.pending == 0)) records
 
 -- the tree or a record has a relation field
 abbrev pub has_relation : Package → List Record → RelationField → Bool
@@ -40,7 +44,7 @@ abbrev pub conditions : Package → List Record → List (Word × Bool)
 conditions p records =
     (Files, p.ships)
     ∷ (ItsRecord, is_some (record_in records p.name))
-    ∷ (Conffiles, p.has_conffiles || (any_has records (codes "Conffiles") || any_has records (codes "New-Conffiles")))
+    ∷ (Conffiles, p.has_conffiles || any_conffiles records)
     ∷ relation_conditions p records
 
 abbrev pub relation_word : Package → List Record → Option Word

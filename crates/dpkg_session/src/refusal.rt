@@ -1,6 +1,6 @@
 // Why a unit is refused.
-ghost use Rattle.std.specs.Prelude.{◌≡◌, ◌||◌, codes};
-ghost use Rattle.dpkg_session.specs.Refusals.{any_has, has_relation, relation_word, word_of};
+ghost use Rattle.std.specs.Prelude.{◌≡◌, ◌||◌};
+ghost use Rattle.dpkg_session.specs.Refusals.{any_has, any_conffiles, has_relation, relation_word, word_of};
 
 use package_tree::{Package, TreeFault};
 use relation_fields::RelationField;
@@ -45,10 +45,18 @@ fn has_relation(incoming: &Package, records: &[Record], field: RelationField) ->
     incoming.control.has(field.name().as_bytes()) || any_has(records, field.name())
 }
 
-fn has_conffiles(incoming: &Package, records: &[Record]) -> bool
-    ensures { result ≡ incoming.now.has_conffiles || (any_has records.now (codes "Conffiles") || any_has records.now (codes "New-Conffiles")) }
+fn any_conffiles(records: &[Record]) -> bool
+    ensures { result ≡ any_conffiles records.now }
 {
-    incoming.has_conffiles || any_has(records, "Conffiles") || any_has(records, "New-Conffiles")
+    records.iter().any(|entry| {
+        !entry.conffiles.as_slice().is_empty() || !entry.pending.as_slice().is_empty()
+    })
+}
+
+fn has_conffiles(incoming: &Package, records: &[Record]) -> bool
+    ensures { result ≡ incoming.now.has_conffiles || any_conffiles records.now }
+{
+    incoming.has_conffiles || any_conffiles(records)
 }
 
 fn first_relation(incoming: &Package, records: &[Record]) -> Option<Word>

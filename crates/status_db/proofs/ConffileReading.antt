@@ -3,8 +3,6 @@ use Rattle.std.proofs.Common.{◌≡◌, ℕ, Bool, true, false, cond, ◌&&◌,
 use Rattle.std.specs.Prelude.{IfOk, MatchOption, is_some}
 use Rattle.std.specs.List.{list_any, list_all, AllByRecursion}
 use Rattle.std.specs.Str.{bytes_eq, IsUtf8, is_utf8}
-use Rattle.std.proofs.Props.{props}
-use Rattle.std.proofs.Math.Logic.{∥∥₁_elim}
 use Rattle.std.proofs.lemmas.Bool.{and_parts, false_from_ne_true}
 use Rattle.std.proofs.lemmas.Bool.Decides.{nat_tests}
 use Rattle.std.proofs.lemmas.Slice.Eq.{bytes_eq-Decides}
@@ -13,11 +11,11 @@ use Rattle.host_core.specs.Paths.{is_ship_text}
 use Rattle.control_fields.specs.Names.{lower}
 use Rattle.control_fields.specs.declared.field.Field.{Field}
 use Rattle.conffiles.specs.Digests.{is_lower_digit, is_digest_text}
-use Rattle.status_db.specs.declared.record.Record.{Record}
+use Rattle.version_order.specs.Versions.{IsVersion}
 use Rattle.status_db.specs.Values.{kind_of, IsReadableAs, IsReadable}
-use Rattle.status_db.specs.ConffileFields.{is_ship_path, is_conffile_line, is_pending_line}
-use Rattle.status_db.specs.Paragraphs.{field_in}
-use Rattle.status_db.specs.Conffiles.{lines_of_field, conffile_lines, pending_lines}
+use Rattle.status_db.specs.ConffilePaths.{is_ship_path}
+use Rattle.status_db.specs.ConffileFields.{is_conffile_line, is_pending_line, are_apart, conffile_paths, pending_paths, IsConffileField, IsPendingField}
+use Rattle.status_db.specs.Paragraphs.{field_in, line_of, lines_of_field, conffile_lines, pending_lines}
 use Rattle.status_db.proofs.Lines.{is_printed, weaker, line_utf8}
 
 -- paths
@@ -52,26 +50,41 @@ pub line_tested : {X : Type 0} (o : Option X) (good : Bool) (Q : X → Type 0) �
 line_tested None good Q is = sym is
 line_tested (Some x) good Q is = sym is.0
 
--- the lines of a record's fields
+-- the lines of a paragraph's fields
 
-conffiles_read : (fs : List Field) → AllByRecursion IsReadable fs → list_all is_conffile_line (lines_of_field (field_in (codes "conffiles") fs)) ≡ true
-conffiles_read [] all = refl
-conffiles_read (f ∷ fs) all = by (bytes_eq (lower f.name) (codes "conffiles")) refl (conffiles_read fs all.1)
+found_as : (text : List ℕ) (P : List (List ℕ) → Type 0) → P [] → (fs : List Field) → ((f : Field) → lower f.name ≡ text → IsReadable f → P f.more) → AllByRecursion IsReadable fs → P (lines_of_field (field_in text fs))
+found_as text P none [] here all = none
+found_as text P none (f ∷ fs) here all = by (bytes_eq (lower f.name) text) refl (found_as text P none fs here all.1)
   where
-    by : (b : Bool) → bytes_eq (lower f.name) (codes "conffiles") ≡ b → list_all is_conffile_line (lines_of_field (field_in (codes "conffiles") fs)) ≡ true → list_all is_conffile_line (lines_of_field (cond b (Some f) (field_in (codes "conffiles") fs))) ≡ true
-    by true e rest = (subst (λ (l : List ℕ). IsReadableAs (kind_of l) f) ((bytes_eq-Decides (lower f.name) (codes "conffiles")).0 e) all.0).lines
+    by : (b : Bool) → bytes_eq (lower f.name) text ≡ b → P (lines_of_field (field_in text fs)) → P (lines_of_field (cond b (Some f) (field_in text fs)))
+    by true e rest = here f ((bytes_eq-Decides (lower f.name) text).0 e) all.0
     by false e rest = rest
 
-pending_read : (fs : List Field) → AllByRecursion IsReadable fs → list_all is_pending_line (lines_of_field (field_in (codes "new-conffiles") fs)) ≡ true
-pending_read [] all = refl
-pending_read (f ∷ fs) all = by (bytes_eq (lower f.name) (codes "new-conffiles")) refl (pending_read fs all.1)
+pub conffiles_read : (fs : List Field) → AllByRecursion IsReadable fs → (list_all is_conffile_line (conffile_lines fs) ≡ true) × (are_apart (conffile_paths (conffile_lines fs)) ≡ true)
+conffiles_read fs all =
+    found_as (codes "conffiles") (λ ls. (list_all is_conffile_line ls ≡ true) × (are_apart (conffile_paths ls) ≡ true)) (refl, refl) fs
+    (λ f named good. let is : IsConffileField f = subst (λ (l : List ℕ). IsReadableAs (kind_of l) f) named good in (is.lines, is.apart)) all
+
+pub pending_read : (fs : List Field) → AllByRecursion IsReadable fs → (list_all is_pending_line (pending_lines fs) ≡ true) × (are_apart (pending_paths (pending_lines fs)) ≡ true)
+pending_read fs all =
+    found_as (codes "new-conffiles") (λ ls. (list_all is_pending_line ls ≡ true) × (are_apart (pending_paths ls) ≡ true)) (refl, refl) fs
+    (λ f named good. let is : IsPendingField f = subst (λ (l : List ℕ). IsReadableAs (kind_of l) f) named good in (is.lines, is.apart)) all
+
+-- the version that was configured last
+
+config_found : (fs : List Field) (value : List ℕ) → AllByRecursion IsReadable fs → Some value ≡ line_of (field_in (codes "config-version") fs) → IsVersion value
+config_found [] value all e = absurd (cc e)
+config_found (f ∷ fs) value all e = by (bytes_eq (lower f.name) (codes "config-version")) refl e (config_found fs value all.1)
   where
-    by : (b : Bool) → bytes_eq (lower f.name) (codes "new-conffiles") ≡ b → list_all is_pending_line (lines_of_field (field_in (codes "new-conffiles") fs)) ≡ true → list_all is_pending_line (lines_of_field (cond b (Some f) (field_in (codes "new-conffiles") fs))) ≡ true
-    by true e rest = (subst (λ (l : List ℕ). IsReadableAs (kind_of l) f) ((bytes_eq-Decides (lower f.name) (codes "new-conffiles")).0 e) all.0).lines
-    by false e rest = rest
+    same : (a b : List ℕ) → Some a ≡ Some b → b ≡ a
+    same a b e = cc
 
-pub conffiles_readable : (r : Record) → list_all is_conffile_line (conffile_lines r) ≡ true
-conffiles_readable r = ∥∥₁_elim r.writable (hlevel props) (λ known. conffiles_read r.fields known.readable)
+    by : (b : Bool) → bytes_eq (lower f.name) (codes "config-version") ≡ b → Some value ≡ line_of (cond b (Some f) (field_in (codes "config-version") fs)) → (Some value ≡ line_of (field_in (codes "config-version") fs) → IsVersion value) → IsVersion value
+    by true called e rest = subst IsVersion (same value f.first e) (subst (λ (l : List ℕ). IsReadableAs (kind_of l) f) ((bytes_eq-Decides (lower f.name) (codes "config-version")).0 called) all.0).1
+    by false called e rest = rest e
 
-pub pending_readable : (r : Record) → list_all is_pending_line (pending_lines r) ≡ true
-pending_readable r = ∥∥₁_elim r.writable (hlevel props) (λ known. pending_read r.fields known.readable)
+pub version_read : {E : Type 0} (found : Result (Option (List ℕ)) E) (fs : List Field) (value : List ℕ) → AllByRecursion IsReadable fs → Some value ≡ line_of (field_in (codes "config-version") fs)
+    → IfOk found (λ o. MatchOption o (IsVersion value → ⊥) (λ v. (v ≡ value) × IsVersion value)) → IfOk found (λ o. o ≡ line_of (field_in (codes "config-version") fs))
+version_read (Err e) fs value all said read = tt
+version_read (Ok None) fs value all said read = absurd (read (config_found fs value all said))
+version_read (Ok (Some v)) fs value all said read = ap (λ (x : List ℕ). Some x) read.0 ∙ said

@@ -1,5 +1,5 @@
 -- What is left of a paragraph without the fields of some names.
-use Rattle.std.proofs.Common.{◌≡◌, ℕ, Bool, true, false, cond, not, ◌||◌, List, [], ◌∷◌, ◌++◌, map, Bor, refl, sym, ap, subst, ◌∙◌, append_assoc, codes}
+use Rattle.std.proofs.Common.{◌≡◌, ℕ, Bool, true, false, cond, not, List, [], ◌∷◌, ◌++◌, map, Bor, refl, sym, ap, subst, ◌∙◌, append_assoc, codes}
 use Rattle.std.specs.Prelude.{filter}
 use Rattle.std.specs.Str.{bytes_eq}
 use Rattle.std.specs.List.{list_any, AllByRecursion}
@@ -13,11 +13,11 @@ use Rattle.std.proofs.lemmas.Cmp.{nat_list_eq_equiv}
 use Rattle.control_fields.specs.Names.{lower, is_called, stands}
 use Rattle.control_fields.specs.Spelling.{AreFields}
 use Rattle.control_fields.specs.declared.field.Field.{Field}
-use Rattle.status_db.specs.Fields.{first_names, own_names, is_one_of, fields_but, recorded_fields, other_fields}
+use Rattle.status_db.specs.Fields.{own_names, is_one_of, fields_but, recorded_fields}
 use Rattle.status_db.specs.declared.values.Kind.{Kind}
 use Rattle.status_db.specs.declared.values.Kind.TheVariants.{PackageName, StatusWords, VersionText, Yes, ConffileLines, PendingLines}
 use Rattle.status_db.specs.Values.{kind_of, control_kind, IsReadableAs, IsReadable, IsReadableControl}
-use Rattle.status_db.specs.Writable.{IsWritable, first_fields}
+use Rattle.status_db.specs.Writable.{IsWritable}
 
 -- a name that stands nowhere stands in no part
 
@@ -72,7 +72,7 @@ kept_new names kept all left next ys x f are e walked l same = ∥∥₁_elim ar
 
 -- what is left can be written behind fields of the names that were left out
 
-pub left_over : (keep : Field → Bool) (firsts : List Field) → ((f : Field) → keep f ≡ true → stands f.name firsts ≡ false) → (before fs : List Field) → AreFields before fs → AreFields (firsts ++ filter keep before) (filter keep fs)
+left_over : (keep : Field → Bool) (firsts : List Field) → ((f : Field) → keep f ≡ true → stands f.name firsts ≡ false) → (before fs : List Field) → AreFields before fs → AreFields (firsts ++ filter keep before) (filter keep fs)
 left_over keep firsts apart before [] are = tt
 left_over keep firsts apart before (f ∷ fs) are = by (keep f) refl (left_over keep firsts apart (before ++ f ∷ []) fs are.2)
   where
@@ -88,23 +88,22 @@ left_over keep firsts apart before (f ∷ fs) are = by (keep f) refl (left_over 
 pub swapped : (a b : List ℕ) → bytes_eq a b ≡ false → bytes_eq b a ≡ false
 swapped a b e = nat_list_eq_equiv.symm b a ∙ e
 
-first_apart : (f : Field) (name status version : List ℕ) (more : List (List ℕ)) → list_any (bytes_eq (lower f.name)) (codes "package" ∷ codes "status" ∷ codes "version" ∷ more) ≡ false → stands f.name (first_fields name status version) ≡ false
-first_apart f name status version more out =
-    let l = lower f.name in
-    let a = or_parts (bytes_eq l (codes "package")) (list_any (bytes_eq l) (codes "status" ∷ codes "version" ∷ more)) out in
-    let b = or_parts (bytes_eq l (codes "status")) (list_any (bytes_eq l) (codes "version" ∷ more)) a.1 in
-    let c = or_parts (bytes_eq l (codes "version")) (list_any (bytes_eq l) more) b.1 in
-    or_from (bytes_eq (codes "package") l) (bytes_eq (codes "status") l || (bytes_eq (codes "version") l || false)) (swapped l (codes "package") a.0)
-    (or_from (bytes_eq (codes "status") l) (bytes_eq (codes "version") l || false) (swapped l (codes "status") b.0) (or_from (bytes_eq (codes "version") l) false (swapped l (codes "version") c.0) refl))
+-- what a record keeps
 
-pub recorded_after : (name status version : List ℕ) (fs : List Field) → AreFields [] fs → AreFields (first_fields name status version) (recorded_fields fs)
-recorded_after name status version fs are =
-    left_over (λ f. not (is_one_of own_names f)) (first_fields name status version)
-    (λ f kept. first_apart f name status version (codes "config-version" ∷ codes "removed-since" ∷ codes "conffiles" ∷ codes "new-conffiles" ∷ []) (not-true (is_one_of own_names f) kept)) [] fs are
+pub recorded_written : (fs : List Field) → AreFields [] fs → AreFields [] (recorded_fields fs)
+recorded_written fs are = left_over (λ f. not (is_one_of own_names f)) [] (λ f kept. refl) [] fs are
 
-pub others_after : (name status version : List ℕ) (fs : List Field) → AreFields [] fs → AreFields (first_fields name status version) (other_fields fs)
-others_after name status version fs are =
-    left_over (λ f. not (is_one_of first_names f)) (first_fields name status version) (λ f kept. first_apart f name status version [] (not-true (is_one_of first_names f) kept)) [] fs are
+pub recorded_other : (fs : List Field) → AllByRecursion (λ f. is_one_of own_names f ≡ false) (recorded_fields fs)
+recorded_other [] = tt
+recorded_other (f ∷ fs) = by (is_one_of own_names f) refl (recorded_other fs)
+  where
+    by : (b : Bool) → is_one_of own_names f ≡ b → AllByRecursion (λ f. is_one_of own_names f ≡ false) (recorded_fields fs) → AllByRecursion (λ f. is_one_of own_names f ≡ false) (cond (not b) (f ∷ recorded_fields fs) (recorded_fields fs))
+    by true e rest = rest
+    by false e rest = (e, rest)
+
+pub others_stay : (fs : List Field) → AllByRecursion (λ f. is_one_of own_names f ≡ false) fs → recorded_fields fs ≡ fs
+others_stay [] all = refl
+others_stay (f ∷ fs) all = ap (λ b. cond (not b) (f ∷ recorded_fields fs) (recorded_fields fs)) all.0 ∙ ap (λ (l : List Field). f ∷ l) (others_stay fs all.1)
 
 -- what is left can be read
 
@@ -156,25 +155,27 @@ recorded_readable (f ∷ fs) all =
 pub writable_of : (name other : List ℕ) (fields control : List Field) → name ≡ other → is_package_name other ≡ true → fields ≡ recorded_fields control → ∥ AreFields [] control ∥₁ → ∥ AllByRecursion IsReadableControl control ∥₁ → ∥ IsWritable name fields ∥₁
 writable_of name other fields control is named left are readable = ∥∥₁_elim are (hlevel props) (λ known. ∥∥₁_map readable (λ all. record {
   named = ap is_package_name is ∙ named;
-  written = λ status version. subst (AreFields (first_fields name status version)) (sym left) (recorded_after name status version control known);
+  written = subst (AreFields []) (sym left) (recorded_written control known);
+  others = subst (AllByRecursion (λ f. is_one_of own_names f ≡ false)) (sym left) (recorded_other control);
   readable = subst (AllByRecursion IsReadable) (sym left) (recorded_readable control all);
 }))
 
--- the step of a loop that writes the other fields behind the first
-pub written_new : (name status version : List ℕ) (fields paragraph left next : List Field) (ys : List (Bor Field)) (x : Bor Field) (f : Field) → ∥ IsWritable name fields ∥₁ → paragraph ≡ first_fields name status version ++ map (λ b. b.now) ys
+-- the step of a loop that writes the other fields behind those of the record's own
+pub written_new : (firsts fields paragraph left next : List Field) (ys : List (Bor Field)) (x : Bor Field) (f : Field) → ∥ AreFields firsts fields ∥₁ → paragraph ≡ firsts ++ map (λ b. b.now) ys
     → fields ≡ map (λ b. b.now) ys ++ left → left ≡ x.now ∷ next → f ≡ x.now → stands f.name paragraph ≡ false
-written_new name status version fields paragraph left next ys x f writable e walked l same = ∥∥₁_elim writable (hlevel props)
+written_new firsts fields paragraph left next ys x f are e walked l same = ∥∥₁_elim are (hlevel props)
     (λ known.
-    let are = subst (AreFields (first_fields name status version)) (walked ∙ ap (λ (r : List Field). map (λ b. b.now) ys ++ r) l) (known.written status version) in
-    ap (stands f.name) e ∙ ap (λ (g : Field). stands g.name (first_fields name status version ++ map (λ b. b.now) ys)) same ∙ new_among (first_fields name status version) (map (λ b. b.now) ys) x.now next are)
+    let here = subst (AreFields firsts) (walked ∙ ap (λ (r : List Field). map (λ b. b.now) ys ++ r) l) known in
+    ap (stands f.name) e ∙ ap (λ (g : Field). stands g.name (firsts ++ map (λ b. b.now) ys)) same ∙ new_among firsts (map (λ b. b.now) ys) x.now next here)
 
 pub written_more : (firsts paragraph next : List Field) (ys : List (Bor Field)) (x : Bor Field) (f : Field) → paragraph ≡ firsts ++ map (λ b. b.now) ys → next ≡ paragraph ++ f ∷ [] → f ≡ x.now → next ≡ firsts ++ map (λ b. b.now) (ys ++ x ∷ [])
 written_more firsts paragraph next ys x f e n same =
     n ∙ ap (λ (l : List Field). l ++ f ∷ []) e ∙ ap (λ (g : Field). (firsts ++ map (λ b. b.now) ys) ++ g ∷ []) same ∙ append_assoc firsts (map (λ b. b.now) ys) (x.now ∷ []) ∙ ap (λ (l : List Field). firsts ++ l) (sym (map-append (λ (b : Bor Field). b.now) ys (x ∷ [])))
 
-pub writable_others : (name other : List ℕ) (fields paragraph : List Field) → name ≡ other → is_package_name other ≡ true → fields ≡ other_fields paragraph → ∥ AreFields [] paragraph ∥₁ → AllByRecursion IsReadable paragraph → ∥ IsWritable name fields ∥₁
+pub writable_others : (name other : List ℕ) (fields paragraph : List Field) → name ≡ other → is_package_name other ≡ true → fields ≡ recorded_fields paragraph → ∥ AreFields [] paragraph ∥₁ → AllByRecursion IsReadable paragraph → ∥ IsWritable name fields ∥₁
 writable_others name other fields paragraph is named left are all = ∥∥₁_map are (λ known. record {
   named = ap is_package_name is ∙ named;
-  written = λ status version. subst (AreFields (first_fields name status version)) (sym left) (others_after name status version paragraph known);
-  readable = subst (AllByRecursion IsReadable) (sym left) (kept_readable (λ f. not (is_one_of first_names f)) paragraph all);
+  written = subst (AreFields []) (sym left) (recorded_written paragraph known);
+  others = subst (AllByRecursion (λ f. is_one_of own_names f ≡ false)) (sym left) (recorded_other paragraph);
+  readable = subst (AllByRecursion IsReadable) (sym left) (kept_readable (λ f. not (is_one_of own_names f)) paragraph all);
 })

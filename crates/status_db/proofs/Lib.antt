@@ -3,8 +3,15 @@ pub mod Tables
 pub mod Kept
 pub mod ControlValues
 pub mod Lines
+pub mod Answered
+pub mod TrimmedPaths
+pub mod PathOrder
+pub mod Placing
+pub mod ShipLines
+pub mod EntryLines
+pub mod OwnFields
+pub mod SameRecords
 pub mod ConffileReading
-pub mod ConfigReading
 pub mod Apart
 pub mod NameSets
 pub mod Parsing

@@ -24,7 +24,7 @@ use Rattle.status_db.specs.declared.words.Flag.TheVariants as flag
 use Rattle.status_db.specs.declared.words.State.{State}
 use Rattle.status_db.specs.declared.words.State.TheVariants as state
 use Rattle.status_db.specs.Words.{want_word, flag_word, state_word, status_text}
-use Rattle.status_db.specs.Writable.{line_field}
+use Rattle.status_db.specs.Paragraphs.{line_field}
 
 -- a sign of ASCII, and the same or a space
 abbrev pub is_visible : ℕ → Bool
@@ -141,7 +141,7 @@ state_end state.Unpacked = ((λ e. cc e), refl)
 state_end state.HalfConfigured = ((λ e. cc e), refl)
 state_end state.Installed = ((λ e. cc e), refl)
 
-both_printed : (a b : List ℕ) → list_all is_printed a ≡ true → list_all is_printed b ≡ true → list_all is_printed (a ++ b) ≡ true
+pub both_printed : (a b : List ℕ) → list_all is_printed a ≡ true → list_all is_printed b ≡ true → list_all is_printed (a ++ b) ≡ true
 both_printed a b e f = list_all-append is_printed a b ∙ and_from (list_all is_printed a) (list_all is_printed b) e f
 
 pub status_printed : (w : Want) (g : Flag) (s : State) → list_all is_printed (status_text w g s) ≡ true
@@ -168,13 +168,13 @@ status_end w g s =
 
 -- fields of one line
 
-name_of : (name : List ℕ) → list_all is_visible name ≡ true → 0 < length name → get_or name 0 0 ≢ 35 → get_or name 0 0 ≢ 45 → IsName name
+pub name_of : (name : List ℕ) → list_all is_visible name ≡ true → 0 < length name → get_or name 0 0 ≢ 35 → get_or name 0 0 ≢ 45 → IsName name
 name_of name e some hash dash = (some, hash, dash, λ k lt. in_name (get_or name k 0) (at_place is_visible name k 0 lt e))
 
 no_colon : (b : ℕ) → not (eqb b 58) ≡ true → b ≢ 58
 no_colon b e = grind (arith, nat_tests)
 
-lacks_colon : (name : List ℕ) → list_all (λ b. not (eqb b 58)) name ≡ true → Lacks name 58
+pub lacks_colon : (name : List ℕ) → list_all (λ b. not (eqb b 58)) name ≡ true → Lacks name 58
 lacks_colon name e i lt is = no_colon (get_or name i 0) (at_place (λ b. not (eqb b 58)) name i 0 lt e) is
 
 pub line_is_field : (name value : List ℕ) → IsName name → Lacks name 58 → list_all is_printed value ≡ true → trim_end value ≡ value → trim_start value ≡ value → IsField (line_field name value)
@@ -187,6 +187,14 @@ package_is_field value e =
 pub version_is_field : (value : List ℕ) → list_all is_visible value ≡ true → IsField (line_field (codes "Version") value)
 version_is_field value e =
     line_is_field (codes "Version") value (name_of (codes "Version") refl (omega arith) (omega arith) (omega arith)) (lacks_colon (codes "Version") refl) (visible_printed value e) (visible_end value e) (visible_start value e)
+
+pub config_is_field : (value : List ℕ) → list_all is_visible value ≡ true → IsField (line_field (codes "Config-Version") value)
+config_is_field value e =
+    line_is_field (codes "Config-Version") value (name_of (codes "Config-Version") refl (omega arith) (omega arith) (omega arith)) (lacks_colon (codes "Config-Version") refl) (visible_printed value e) (visible_end value e) (visible_start value e)
+
+pub removed_is_field : IsField (line_field (codes "Removed-Since") (codes "yes"))
+removed_is_field =
+    line_is_field (codes "Removed-Since") (codes "yes") (name_of (codes "Removed-Since") refl (omega arith) (omega arith) (omega arith)) (lacks_colon (codes "Removed-Since") refl) refl refl refl
 
 pub status_is_field : (w : Want) (g : Flag) (s : State) → IsField (line_field (codes "Status") (status_text w g s))
 status_is_field w g s =

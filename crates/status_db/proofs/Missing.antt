@@ -1,5 +1,6 @@
 -- What is missing where a paragraph isn't read, and what it says where it is.
 use Rattle.std.proofs.Common.{◌≡◌, inl, inr, ℕ, Bool, true, false, cond, Option, None, Some, List, [], ◌∷◌, refl, sym, ap, subst, ◌∙◌, codes}
+use Rattle.std.specs.Prelude.{is_some}
 use Rattle.std.specs.List.{AllByRecursion}
 use Rattle.std.specs.Str.{bytes_eq}
 use Rattle.std.proofs.lemmas.Bool.{false≢true}
@@ -13,9 +14,9 @@ use Rattle.status_db.specs.declared.words.Flag.{Flag}
 use Rattle.status_db.specs.declared.words.State.{State}
 use Rattle.status_db.specs.declared.words.State.TheVariants.{NotInstalled}
 use Rattle.status_db.specs.Words.{is_not_installed, status_text}
-use Rattle.status_db.specs.Fields.{other_fields}
+use Rattle.status_db.specs.Fields.{recorded_fields}
 use Rattle.status_db.specs.Values.{kind_of, IsReadableAs, IsReadable}
-use Rattle.status_db.specs.Paragraphs.{field_in, Says, IsNamed, SaysEntry}
+use Rattle.status_db.specs.Paragraphs.{field_in, Says, IsNamed, earlier_version, conffile_lines, pending_lines, AreConffilesOf, ArePendingOf, SaysEntry}
 use Rattle.status_db.specs.Damage.{IsMissing}
 use Rattle.status_db.proofs.Parsing.{gone_state}
 use Rattle.status_db.proofs.Sayings.{says_same}
@@ -66,18 +67,35 @@ missing_version fs w g s says there none all =
 
 -- what is read
 
+-- what is read of a paragraph's record, part by part
+pub record IsReadOf (fs : List Field) (r : Record) (name v : List ℕ) (w : Want) (g : Flag) (s : State) : Type 0 where
+  pub name_is : r.name ≡ name
+  pub want_is : r.want ≡ w
+  pub flag_is : r.flag ≡ g
+  pub state_is : r.state ≡ s
+  pub version_is : r.version ≡ v
+  pub config_is : r.config_version ≡ earlier_version s fs
+  pub removed_is : r.removed_since ≡ is_some (field_in (codes "removed-since") fs)
+  pub conffiles_are : AreConffilesOf (conffile_lines fs) r.conffiles
+  pub pending_are : ArePendingOf (pending_lines fs) r.pending
+  pub fields_are : r.fields ≡ recorded_fields fs
+
 pub said_record : (fs : List Field) (r : Record) (package_name name v : List ℕ) (w : Want) (g : Flag) (s : State) → IsNamed fs name → Says (codes "status") fs (status_text w g s) → Says (codes "version") fs v → is_not_installed s ≡ false → package_name ≡ name
-    → r.name ≡ name → r.want ≡ w → r.flag ≡ g → r.state ≡ s → r.version ≡ v → r.fields ≡ other_fields fs → SaysEntry fs package_name (r ∷ [])
-said_record fs r package_name name v w g s named status version there same name_is want_is flag_is state_is version_is fields_is = record {
+    → IsReadOf fs r name v w g s → SaysEntry fs package_name (r ∷ [])
+said_record fs r package_name name v w g s named status version there same is = record {
   named = subst (IsNamed fs) (sym same) named;
   stands_for = inr (
     r,
     record {
-      name = subst (Says (codes "package") fs) (sym name_is) named.0;
-      status = subst (Says (codes "status") fs) (λ i. status_text (sym want_is i) (sym flag_is i) (sym state_is i)) status;
-      version = subst (Says (codes "version") fs) (sym version_is) version;
-      others = fields_is;
-      stands = ap is_not_installed state_is ∙ there;
+      name = subst (Says (codes "package") fs) (sym is.name_is) named.0;
+      status = subst (Says (codes "status") fs) (λ i. status_text (sym is.want_is i) (sym is.flag_is i) (sym is.state_is i)) status;
+      version = subst (Says (codes "version") fs) (sym is.version_is) version;
+      config_version = is.config_is ∙ ap (λ (q : State). earlier_version q fs) (sym is.state_is);
+      removed_since = is.removed_is;
+      conffiles = is.conffiles_are;
+      pending = is.pending_are;
+      others = is.fields_are;
+      stands = ap is_not_installed is.state_is ∙ there;
     },
     refl,
   );

@@ -19,14 +19,14 @@ behind a b x y p q e =
     let both : 32 ∷ x ≡ 32 ∷ y = append_cancel_left a (32 ∷ x) (32 ∷ y) (e ∙ ap (λ (l : List ℕ). l ++ 32 ∷ y) (sym same)) in
     cc both
 
-want_lacks : (w : Want) → Lacks (want_word w) 32
+pub want_lacks : (w : Want) → Lacks (want_word w) 32
 want_lacks want.Unknown = lacks_blank (want_word want.Unknown) refl
 want_lacks want.Install = lacks_blank (want_word want.Install) refl
 want_lacks want.Hold = lacks_blank (want_word want.Hold) refl
 want_lacks want.Deinstall = lacks_blank (want_word want.Deinstall) refl
 want_lacks want.Purge = lacks_blank (want_word want.Purge) refl
 
-flag_lacks : (g : Flag) → Lacks (flag_word g) 32
+pub flag_lacks : (g : Flag) → Lacks (flag_word g) 32
 flag_lacks flag.Ok = lacks_blank (flag_word flag.Ok) refl
 flag_lacks flag.Reinstreq = lacks_blank (flag_word flag.Reinstreq) refl
 

@@ -31,7 +31,7 @@ called_found text (g ∷ front) f rest named none =
     let parts = or_parts (bytes_eq (lower g.name) text) (is_called text front) none in
     ap (λ b. cond b (Some g) (field_in text (front ++ f ∷ rest))) parts.0 ∙ called_found text front f rest named parts.1
 
-not_called : (text : List ℕ) (fs : List Field) → is_called text fs ≡ false → field_in text fs ≡ None
+pub not_called : (text : List ℕ) (fs : List Field) → is_called text fs ≡ false → field_in text fs ≡ None
 not_called text [] none = refl
 not_called text (g ∷ fs) none =
     let parts = or_parts (bytes_eq (lower g.name) text) (is_called text fs) none in

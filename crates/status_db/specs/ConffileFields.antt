@@ -1,14 +1,15 @@
 -- The lines of the fields `Conffiles` and `New-Conffiles`.
-use Rattle.std.specs.Prelude.{◌≡◌, ◌&&◌, ◌||◌, not, ℕ, suc, Bool, true, cond, List, [], ◌∷◌, Option, Some, None, map, take, drop, codes}
+use Rattle.std.specs.Prelude.{◌≡◌, ◌&&◌, not, ℕ, suc, Bool, true, false, cond, List, [], ◌∷◌, ◌++◌, map, take, drop, codes}
 use Rattle.std.specs.List.{list_any, list_all}
-use Rattle.std.specs.Str.{bytes_eq, is_utf8}
+use Rattle.std.specs.Str.{bytes_eq}
 use Rattle.hex.specs.Hex.{encode_lower}
-use Rattle.host_core.specs.Paths.{is_ship_text}
 use Rattle.control_fields.specs.Names.{is_blank, trim_end}
 use Rattle.control_fields.specs.declared.field.Field.{Field}
 use Rattle.conffiles.specs.Digests.{is_digest_text}
-use Rattle.status_db.specs.declared.conffile_fields.ConffileEntry.{ConffileEntry}
-use Rattle.status_db.specs.declared.conffile_fields.PendingDigest.{PendingDigest}
+use Rattle.status_db.specs.ConffilePaths.{is_ship_path}
+use Rattle.status_db.specs.Digests.{is_recorded_text, digest_word}
+use Rattle.status_db.specs.declared.entries.ConffileEntry.{ConffileEntry}
+use Rattle.status_db.specs.declared.entries.PendingDigest.{PendingDigest}
 
 -- how much of a text stands before its last word: what ends with the last blank
 abbrev pub word_start : List ℕ → ℕ
@@ -64,14 +65,6 @@ pub record PendingWords : Type 0 where
 abbrev pub pending_words : List ℕ → PendingWords
 pending_words line = record { path = words_before (line_text line); digest = last_word (line_text line) }
 
--- the text of a path that a package may ship
-abbrev pub is_ship_path : List ℕ → Bool
-is_ship_path text = is_utf8 text && is_ship_text text
-
--- 32 hexadecimal digits in lower case, or `newconffile` where no version is settled yet
-abbrev pub is_recorded_text : List ℕ → Bool
-is_recorded_text text = bytes_eq text (codes "newconffile") || is_digest_text text
-
 -- a line of `Conffiles` that can be read
 abbrev pub is_conffile_line : List ℕ → Bool
 is_conffile_line line = is_recorded_text (conffile_words line).digest && is_ship_path (conffile_words line).path
@@ -104,14 +97,23 @@ pub record IsPendingField (f : Field) : Type 0 where
   pub lines : list_all is_pending_line f.more ≡ true
   pub apart : are_apart (pending_paths f.more) ≡ true
 
--- the word for the digest of the last version settled
-abbrev pub digest_word : Option (List ℕ) → List ℕ
-digest_word None = codes "newconffile"
-digest_word (Some digest) = encode_lower digest
-
 -- an entry as the words of its line
 abbrev pub words_of_conffile : ConffileEntry → ConffileWords
 words_of_conffile e = record { path = e.path; digest = digest_word e.digest; obsolete = e.obsolete; remove_on_upgrade = e.remove_on_upgrade }
 
 abbrev pub words_of_pending : PendingDigest → PendingWords
 words_of_pending p = record { path = p.path; digest = encode_lower p.digest }
+
+-- a blank and the word, where it holds
+abbrev pub flag_text : Bool → List ℕ → List ℕ
+flag_text false word = []
+flag_text true word = 32 ∷ word
+
+-- the line of an entry: ` PATH DIGEST`, and the flags behind them
+abbrev pub conffile_line : ConffileEntry → List ℕ
+conffile_line e =
+    32 ∷ (e.path ++ 32 ∷ (digest_word e.digest ++ (flag_text e.obsolete (codes "obsolete") ++ flag_text e.remove_on_upgrade (codes "remove-on-upgrade"))))
+
+-- ` PATH DIGEST`
+abbrev pub pending_line : PendingDigest → List ℕ
+pending_line p = 32 ∷ (p.path ++ 32 ∷ encode_lower p.digest)

@@ -5,10 +5,6 @@ use Rattle.std.specs.Str.{bytes_eq}
 use Rattle.control_fields.specs.Names.{lower}
 use Rattle.control_fields.specs.declared.field.Field.{Field}
 
--- the fields that stand first in a status paragraph
-abbrev pub first_names : List (List ℕ)
-first_names = codes "package" ∷ codes "status" ∷ codes "version" ∷ []
-
 -- the fields that a record has of its own
 abbrev pub own_names : List (List ℕ)
 own_names = codes "package" ∷ codes "status" ∷ codes "version" ∷ codes "config-version" ∷ codes "removed-since" ∷ codes "conffiles" ∷ codes "new-conffiles" ∷ []
@@ -21,10 +17,6 @@ is_one_of names field = list_any (bytes_eq (lower field.name)) names
 abbrev pub fields_but : List (List ℕ) → List Field → List Field
 fields_but names fields = filter (λ f. not (is_one_of names f)) fields
 
--- what a record keeps of a control file
+-- what a record keeps of a control file or a status paragraph, beside what it has of its own
 abbrev pub recorded_fields : List Field → List Field
 recorded_fields fields = fields_but own_names fields
-
--- the fields of a status paragraph behind the first three
-abbrev pub other_fields : List Field → List Field
-other_fields fields = fields_but first_names fields

@@ -5,8 +5,11 @@ ghost use Rattle.std.specs.Str.{bytes_eq};
 ghost use Rattle.hex.specs.Hex.{encode_lower};
 ghost use Rattle.control_fields.specs.Names.{is_blank, trim_end};
 ghost use Rattle.conffiles.specs.Digests.{is_digest_text};
-ghost use Rattle.status_db.specs.ConffileFields.{word_start, last_word, words_before, without_word, line_text, text_before_removal, text_before_flags, conffile_words, pending_words, is_ship_path, is_recorded_text, is_conffile_line, is_pending_line, are_apart, conffile_paths, pending_paths, IsConffileField, IsPendingField, digest_word, words_of_conffile, words_of_pending};
+ghost use Rattle.status_db.specs.ConffilePaths.{is_ship_path, is_trimmed};
+ghost use Rattle.status_db.specs.Digests.{is_recorded_text, digest_word};
+ghost use Rattle.status_db.specs.ConffileFields.{word_start, last_word, words_before, without_word, line_text, text_before_removal, text_before_flags, conffile_words, pending_words, is_conffile_line, is_pending_line, are_apart, conffile_paths, pending_paths, IsConffileField, IsPendingField, words_of_conffile, words_of_pending};
 
+use crate::entries::{ConffileEntry, PendingDigest};
 use crate::names::Names;
 use conffiles::Digest;
 use control_fields::Field;
@@ -15,23 +18,6 @@ use std::alloc::{AllocError, Global};
 use std::str;
 use texts::{Bytes, Text};
 
-/// A conffile of a package: the digest of its last version settled, if there is one, whether the
-/// package's current version doesn't ship it, and whether an upgrade is to remove it.
-#[derive(Drop)]
-pub struct ConffileEntry {
-    pub path: ShipPath,
-    pub digest: Option<Digest>,
-    pub obsolete: bool,
-    pub remove_on_upgrade: bool,
-}
-
-/// A shipped conffile's digest that isn't settled yet.
-#[derive(Drop)]
-pub struct PendingDigest {
-    pub path: ShipPath,
-    pub digest: Digest,
-}
-
 fn is_blank(b: u8) -> bool
     ensures { result ≡ is_blank b }
 {
@@ -39,7 +25,7 @@ fn is_blank(b: u8) -> bool
 }
 
 // Without the spaces and tabs at the end.
-fn trim_end(text: &[u8]) -> &[u8]
+pub(crate) fn trim_end(text: &[u8]) -> &[u8]
     ensures { result.now ≡ trim_end text.now }
 {
     let mut rest = text;
@@ -174,12 +160,7 @@ pub(crate) fn conffile_of(alloc: Global, line: &[u8]) -> Result<Option<ConffileE
     let obsolete = is_obsolete(line);
     let remove_on_upgrade = is_removed_on_upgrade(line);
     match ship_path(alloc, conffile_path(line))? {
-        Some(path) => Ok(Some(ConffileEntry {
-            path,
-            digest,
-            obsolete,
-            remove_on_upgrade,
-        })),
+        Some(path) => Ok(Some(ConffileEntry::new(path, digest, obsolete, remove_on_upgrade))),
         None => Ok(None),
     }
 }
@@ -192,7 +173,7 @@ pub(crate) fn pending_of(alloc: Global, line: &[u8]) -> Result<Option<PendingDig
         return Ok(None);
     };
     match ship_path(alloc, pending_path(line))? {
-        Some(path) => Ok(Some(PendingDigest { path, digest })),
+        Some(path) => Ok(Some(PendingDigest::new(path, digest))),
         None => Ok(None),
     }
 }
@@ -236,15 +217,6 @@ fn are_pending_lines(alloc: Global, lines: &[Bytes]) -> Result<bool, AllocError>
         }
     }
     Ok(true)
-}
-
-/// Whether one of the lines of `Conffiles` has this path.
-pub(crate) fn has_conffile_path(lines: &[Bytes], path: &[u8]) -> bool
-    ensures { result ≡ list_any (bytes_eq path.now) (conffile_paths lines.now) }
-{
-    lines
-        .iter()
-        .any(|line| path == conffile_path(line.as_slice()))
 }
 
 // Whether nothing stands on the field's own line.

@@ -1,26 +1,20 @@
-// The conffiles of a record.
-ghost use Rattle.std.specs.Prelude.{◌≡◌, List, map, true, IfOk};
-ghost use Rattle.std.specs.List.{list_all};
-ghost use Rattle.status_db.specs.declared.conffile_fields.ConffileEntry.{ConffileEntry as AConffileEntry};
-ghost use Rattle.status_db.specs.declared.conffile_fields.PendingDigest.{PendingDigest as APendingDigest};
-ghost use Rattle.status_db.specs.Conffiles.{lines_of_field};
-ghost use Rattle.status_db.specs.Paragraphs.{field_in};
-ghost use Rattle.status_db.specs.ConffileFields.{conffile_words, pending_words, is_conffile_line, is_pending_line, words_of_conffile, words_of_pending};
+// The conffiles of a record, in path order.
+ghost use Rattle.std.specs.Prelude.{◌≡◌, ◌++◌, ◌∷◌, [], ◌≤◌, ℕ, List, map, true, false, length, IfOk, OnOk, OnErr};
+ghost use Rattle.std.specs.List.{list_all, insert, AllByRecursion};
+ghost use Rattle.status_db.specs.declared.entries.ConffileEntry.{ConffileEntry as AConffileEntry};
+ghost use Rattle.status_db.specs.declared.entries.PendingDigest.{PendingDigest as APendingDigest};
+ghost use Rattle.status_db.specs.ConffilePaths.{is_before, AreInOrder, placed_by};
 
-use crate::conffile_fields::{
-    ConffileEntry, PendingDigest, conffile_of, has_conffile_path, pending_of,
-};
-use crate::reading::field_in;
-use crate::record::Record;
-use control_fields::Paragraph;
+use crate::entries::{ConffileEntry, PendingDigest};
 use host_core::ShipPath;
 use std::alloc::{AllocError, Global};
+use std::cmp::Ordering;
 use std::marker::Model;
-use texts::Bytes;
 
-/// The conffiles of a record, in the order of the field.
+/// The conffiles of a record, in path order, each path once.
 #[derive(Drop)]
 pub struct ConffileEntries {
+    alloc: Global,
     items: Vec<ConffileEntry>,
 }
 
@@ -28,11 +22,14 @@ impl Model for ConffileEntries {
     ghost Value = { List AConffileEntry };
 
     ghost view = { λ e. e.items.items };
+
+    ghost invariant = { λ e. AreInOrder (map (λ x. x.path) e.items.items) };
 }
 
-/// The digests that aren't settled yet, in the order of the field.
+/// The digests that aren't settled yet, in path order, each path once.
 #[derive(Drop)]
 pub struct PendingDigests {
+    alloc: Global,
     items: Vec<PendingDigest>,
 }
 
@@ -40,82 +37,167 @@ impl Model for PendingDigests {
     ghost Value = { List APendingDigest };
 
     ghost view = { λ p. p.items.items };
+
+    ghost invariant = { λ p. AreInOrder (map (λ x. x.path) p.items.items) };
+}
+
+fn is_before(path: &ShipPath, other: &ShipPath) -> bool
+    ensures { result ≡ is_before path.now other.now }
+{
+    path.as_str().as_bytes().cmp(other.as_str().as_bytes()) == Ordering::Less
+}
+
+// The index of the first entry whose path isn't before this one.
+fn place_of(entries: &[ConffileEntry], path: &ShipPath) -> usize
+    ensures within { result ≤ length entries.now }
+    ensures place { (e : AConffileEntry) → e.path ≡ path.now → placed_by (λ x. x.path) e entries.now ≡ insert entries.now result e }
+{
+    for (i, entry) in entries.iter().enumerate() {
+        if !is_before(&entry.path, path) {
+            return i;
+        }
+    }
+    entries.len()
+}
+
+fn place_of_pending(pending: &[PendingDigest], path: &ShipPath) -> usize
+    ensures within { result ≤ length pending.now }
+    ensures place { (p : APendingDigest) → p.path ≡ path.now → placed_by (λ x. x.path) p pending.now ≡ insert pending.now result p }
+{
+    for (i, digest) in pending.iter().enumerate() {
+        if !is_before(&digest.path, path) {
+            return i;
+        }
+    }
+    pending.len()
 }
 
 impl ConffileEntries {
+    ghost use Rattle.status_db.specs.Conffiles.{has_entry};
+
+    pub fn new(alloc: Global) -> ConffileEntries
+        ensures { result ≡ [] }
+    {
+        ConffileEntries {
+            alloc,
+            items: Vec::new(alloc),
+        }
+    }
+
     pub fn as_slice(&self) -> &[ConffileEntry]
         ensures { result.now ≡ self.now }
     {
         self.items.as_slice()
     }
+
+    /// Whether one of them has this path.
+    pub fn has(&self, path: &ShipPath) -> bool
+        ensures { result ≡ has_entry self.now path.now }
+    {
+        self.items
+            .iter()
+            .any(|entry| path.as_str() == entry.path.as_str())
+    }
+
+    /// Puts an entry in its place; `has` tells whether its path stands already.
+    pub fn put(&mut self, entry: ConffileEntry) -> Result<(), AllocError>
+        requires { has_entry self.old entry.path ≡ false }
+        ensures ok { OnOk result (self.new ≡ placed_by (λ e. e.path) entry self.old) }
+        ensures err { OnErr result (self.new ≡ self.old) }
+    {
+        let place = place_of(self.items.as_slice(), &entry.path);
+        self.items.insert(place, entry)?;
+        Ok(())
+    }
+
+    /// Adds an entry behind all others.
+    pub fn push(&mut self, entry: ConffileEntry) -> Result<(), AllocError>
+        requires { AllByRecursion (λ e. is_before e.path entry.path ≡ true) self.old }
+        ensures ok { OnOk result (self.new ≡ self.old ++ entry ∷ []) }
+        ensures err { OnErr result (self.new ≡ self.old) }
+    {
+        self.items.push(entry)?;
+        Ok(())
+    }
+
+    /// What holds of all such entries.
+    pub fn law(&self)
+        ensures { AreInOrder (map (λ e. e.path) self.now) }
+    {
+        let _ = &self.items;
+    }
+
+    /// Equal entries, or want of memory.
+    pub fn copy(&self) -> Result<ConffileEntries, AllocError>
+        ensures { IfOk result (λ copy. copy ≡ self.now) }
+    {
+        let mut items = Vec::new(self.alloc);
+        for entry in &self.items {
+            items.push(entry.copy()?)?;
+        }
+        Ok(ConffileEntries {
+            alloc: self.alloc,
+            items,
+        })
+    }
 }
 
 impl PendingDigests {
+    ghost use Rattle.status_db.specs.Conffiles.{has_pending};
+
+    pub fn new(alloc: Global) -> PendingDigests
+        ensures { result ≡ [] }
+    {
+        PendingDigests {
+            alloc,
+            items: Vec::new(alloc),
+        }
+    }
+
     pub fn as_slice(&self) -> &[PendingDigest]
         ensures { result.now ≡ self.now }
     {
         self.items.as_slice()
     }
-}
 
-fn conffiles_of(alloc: Global, lines: &[Bytes]) -> Result<ConffileEntries, AllocError>
-    requires { list_all is_conffile_line lines.now ≡ true }
-    ensures { IfOk result (λ entries. map words_of_conffile entries ≡ map conffile_words lines.now) }
-{
-    let mut items = Vec::new(alloc);
-    for line in lines {
-        if let Some(entry) = conffile_of(alloc, line.as_slice())? {
-            items.push(entry)?;
+    /// Whether one of them has this path.
+    pub fn has(&self, path: &ShipPath) -> bool
+        ensures { result ≡ has_pending self.now path.now }
+    {
+        self.items
+            .iter()
+            .any(|digest| path.as_str() == digest.path.as_str())
+    }
+
+    /// Puts a digest in its place; `has` tells whether its path stands already.
+    pub fn put(&mut self, digest: PendingDigest) -> Result<(), AllocError>
+        requires { has_pending self.old digest.path ≡ false }
+        ensures ok { OnOk result (self.new ≡ placed_by (λ p. p.path) digest self.old) }
+        ensures err { OnErr result (self.new ≡ self.old) }
+    {
+        let place = place_of_pending(self.items.as_slice(), &digest.path);
+        self.items.insert(place, digest)?;
+        Ok(())
+    }
+
+    /// What holds of all such digests.
+    pub fn law(&self)
+        ensures { AreInOrder (map (λ p. p.path) self.now) }
+    {
+        let _ = &self.items;
+    }
+
+    /// Equal ones, or want of memory.
+    pub fn copy(&self) -> Result<PendingDigests, AllocError>
+        ensures { IfOk result (λ copy. copy ≡ self.now) }
+    {
+        let mut items = Vec::new(self.alloc);
+        for digest in &self.items {
+            items.push(digest.copy()?)?;
         }
-    }
-    Ok(ConffileEntries { items })
-}
-
-fn pending_digests_of(alloc: Global, lines: &[Bytes]) -> Result<PendingDigests, AllocError>
-    requires { list_all is_pending_line lines.now ≡ true }
-    ensures { IfOk result (λ pending. map words_of_pending pending ≡ map pending_words lines.now) }
-{
-    let mut items = Vec::new(alloc);
-    for line in lines {
-        if let Some(digest) = pending_of(alloc, line.as_slice())? {
-            items.push(digest)?;
-        }
-    }
-    Ok(PendingDigests { items })
-}
-
-// The lines that go on with the field of a name, which is given in lower case.
-fn lines_in<'a>(fields: &'a Paragraph, lower: &[u8]) -> &'a [Bytes]
-    ensures { result.now ≡ lines_of_field (field_in lower.now fields.now) }
-{
-    match field_in(fields, lower) {
-        Some(field) => field.more.as_slice(),
-        None => &[],
-    }
-}
-
-impl Record {
-    ghost use Rattle.status_db.specs.Conffiles.{conffile_lines, pending_lines, has_conffile};
-
-    /// Its conffiles.
-    pub fn conffiles(&self, alloc: Global) -> Result<ConffileEntries, AllocError>
-        ensures { IfOk result (λ entries. map words_of_conffile entries ≡ map conffile_words (conffile_lines self.now)) }
-    {
-        conffiles_of(alloc, lines_in(&self.fields, b"conffiles"))
-    }
-
-    /// The digests of its shipped conffiles that aren't settled yet.
-    pub fn pending(&self, alloc: Global) -> Result<PendingDigests, AllocError>
-        ensures { IfOk result (λ pending. map words_of_pending pending ≡ map pending_words (pending_lines self.now)) }
-    {
-        pending_digests_of(alloc, lines_in(&self.fields, b"new-conffiles"))
-    }
-
-    /// Whether one of its conffiles has this path. Takes no memory.
-    pub fn has_conffile(&self, path: &ShipPath) -> bool
-        ensures { result ≡ has_conffile self.now path.now }
-    {
-        let lines = lines_in(&self.fields, b"conffiles");
-        has_conffile_path(lines, path.as_str().as_bytes())
+        Ok(PendingDigests {
+            alloc: self.alloc,
+            items,
+        })
     }
 }

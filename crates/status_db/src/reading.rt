@@ -1,5 +1,5 @@
 // Reading the status file's text.
-ghost use Rattle.std.specs.Prelude.{◌≡◌, ◌≢◌, ◌↔◌, ◌++◌, ◌∷◌, [], ℕ, List, true, None, Some, IfOk, IfErr, IfSome, IfNone, OnOk, IsTrue, MatchOption, codes, option_copied};
+ghost use Rattle.std.specs.Prelude.{◌≡◌, ◌≢◌, ◌↔◌, ◌++◌, ◌∷◌, [], ℕ, List, true, None, Some, IfOk, IfErr, IfSome, IfNone, OnOk, IsTrue, MatchOption, codes, option_copied, is_some};
 ghost use Rattle.std.specs.List.{list_any, AllByRecursion};
 ghost use Rattle.std.specs.Option.{option_to_list};
 ghost use Rattle.std.specs.Str.{bytes_eq};
@@ -12,17 +12,20 @@ ghost use Rattle.status_db.specs.declared.words.Flag.{Flag as AFlag};
 ghost use Rattle.status_db.specs.declared.words.State.{State as AState};
 ghost use Rattle.status_db.specs.declared.reading.StatusFault.TheVariants.{NoMemory};
 ghost use Rattle.status_db.specs.Words.{status_text};
-ghost use Rattle.status_db.specs.Fields.{other_fields};
+ghost use Rattle.status_db.specs.Fields.{recorded_fields};
 ghost use Rattle.status_db.specs.Records.{AreApart, standing};
 ghost use Rattle.status_db.specs.Values.{IsReadable};
-ghost use Rattle.status_db.specs.Paragraphs.{field_in, Says, IsNamed, IsGone, IsEntry, SaysEntry, Enters};
+ghost use Rattle.status_db.specs.Paragraphs.{field_in, line_of, Says, IsNamed, IsGone, earlier_version, conffile_lines, pending_lines, AreConffilesOf, ArePendingOf, IsEntry, SaysEntry, Enters};
 ghost use Rattle.status_db.specs.Damage.{IsMissing, IsTaken, IsFaultyWhole, IsBadField, HasLines, line_in};
 ghost use Rattle.status_db.specs.Faults.{IsEntryFault, IsTableFault, IsTextFault, IsEndFault, IsSound};
 ghost use Rattle.status_db.specs.Status.{IsStatus};
 
+use crate::conffile_lists::{ConffileEntries, PendingDigests};
+use crate::conffile_reading::{conffiles_of, lines_in, pending_digests_of};
 use crate::names::Names;
-use crate::record::{Record, is_first};
+use crate::record::{Record, recorded_fields};
 use crate::values::{Status, is_readable, one_line, read_status, read_version};
+use crate::words::State;
 use control_fields::{ControlFault, Field, Located, Paragraph, read_located};
 use std::alloc::{AllocError, AllocFailed, Global};
 use texts::{Text, package_name};
@@ -155,18 +158,56 @@ struct Entry {
     kept: Option<Record>,
 }
 
-// The fields of a status paragraph but Package, Status and Version.
-fn other_fields(alloc: Global, paragraph: &Paragraph) -> Result<Paragraph, AllocError>
-    requires { ∥ AreFields [] paragraph.now ∥₁ }
-    ensures { IfOk result (λ p. p ≡ other_fields paragraph.now) }
+// What a paragraph says of its package's last configuration, and of its conffiles.
+#[derive(Drop)]
+struct Earlier {
+    config_version: Option<Version>,
+    removed_since: bool,
+    conffiles: ConffileEntries,
+    pending: PendingDigests,
+}
+
+// What stands on the own line of the field of a name, which is given in lower case.
+fn own_line_in<'a>(fields: &'a Paragraph, lower: &[u8]) -> Option<&'a [u8]>
+    ensures { option_copied result ≡ line_of (field_in lower.now fields.now) }
 {
-    let mut kept = Paragraph::new(alloc);
-    for field in paragraph.fields() {
-        if !is_first(field.name.as_slice()) {
-            kept.push(field.copy()?)?;
-        }
+    match field_in(fields, lower) {
+        Some(field) => Some(field.first.as_slice()),
+        None => None,
     }
-    Ok(kept)
+}
+
+// Config-Version, but of an installed package.
+fn earlier_version(
+    alloc: Global,
+    state: State,
+    fields: &Paragraph,
+) -> Result<Option<Version>, AllocError>
+    requires { AllByRecursion IsReadable fields.now }
+    ensures { IfOk result (λ version. version ≡ earlier_version state fields.now) }
+{
+    if state.is_installed() {
+        return Ok(None);
+    }
+    match own_line_in(fields, b"config-version") {
+        Some(value) => read_version(alloc, value),
+        None => Ok(None),
+    }
+}
+
+fn read_earlier(alloc: Global, state: State, fields: &Paragraph) -> Result<Earlier, AllocError>
+    requires { AllByRecursion IsReadable fields.now }
+    ensures config { IfOk result (λ e. e.config_version ≡ earlier_version state fields.now) }
+    ensures removed { IfOk result (λ e. e.removed_since ≡ is_some (field_in (codes "removed-since") fields.now)) }
+    ensures conffiles { IfOk result (λ e. AreConffilesOf (conffile_lines fields.now) e.conffiles) }
+    ensures pending { IfOk result (λ e. ArePendingOf (pending_lines fields.now) e.pending) }
+{
+    Ok(Earlier {
+        config_version: earlier_version(alloc, state, fields)?,
+        removed_since: field_in(fields, b"removed-since").is_some(),
+        conffiles: conffiles_of(alloc, lines_in(fields, b"conffiles"))?,
+        pending: pending_digests_of(alloc, lines_in(fields, b"new-conffiles"))?,
+    })
 }
 
 fn record_of(
@@ -184,15 +225,29 @@ fn record_of(
     ensures flag { IfOk result (λ r. r.flag ≡ status.flag) }
     ensures state { IfOk result (λ r. r.state ≡ status.state) }
     ensures version { IfOk result (λ r. r.version ≡ version) }
-    ensures fields { IfOk result (λ r. r.fields ≡ other_fields fields.now) }
+    ensures config { IfOk result (λ r. r.config_version ≡ earlier_version status.state fields.now) }
+    ensures removed { IfOk result (λ r. r.removed_since ≡ is_some (field_in (codes "removed-since") fields.now)) }
+    ensures conffiles { IfOk result (λ r. AreConffilesOf (conffile_lines fields.now) r.conffiles) }
+    ensures pending { IfOk result (λ r. ArePendingOf (pending_lines fields.now) r.pending) }
+    ensures fields { IfOk result (λ r. r.fields ≡ recorded_fields fields.now) }
 {
+    let Earlier {
+        config_version,
+        removed_since,
+        conffiles,
+        pending,
+    } = read_earlier(alloc, status.state, fields)?;
     Ok(Record {
         name: Text::from_str(alloc, name)?,
         want: status.want,
         flag: status.flag,
         state: status.state,
         version,
-        fields: other_fields(alloc, fields)?,
+        config_version,
+        removed_since,
+        conffiles,
+        pending,
+        fields: recorded_fields(alloc, fields)?,
     })
 }
 

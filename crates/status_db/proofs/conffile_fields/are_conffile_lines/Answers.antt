@@ -1,7 +1,7 @@
 use Rattle.std.proofs.Common.{◌≡◌, ℕ, List, sym, ap, ◌∙◌}
 use Rattle.std.specs.List.{list_any}
 use Rattle.std.specs.Str.{bytes_eq}
-use Rattle.status_db.specs.declared.conffile_fields.ConffileEntry.{ConffileEntry}
+use Rattle.status_db.specs.declared.entries.ConffileEntry.{ConffileEntry}
 use Rattle.status_db.specs.ConffileFields.{ConffileWords, conffile_words, is_conffile_line, words_of_conffile}
 use Rattle.status_db.proofs.Apart.{known, unknown, some_read, read_more, stood}
 use Rattle.status_db.proofs.conffile_fields.are_conffile_lines.Goals as goal

@@ -1,7 +1,7 @@
 use Rattle.std.proofs.Common.{◌≡◌, ℕ, List, sym, ap, ◌∙◌}
 use Rattle.std.specs.List.{list_any}
 use Rattle.std.specs.Str.{bytes_eq}
-use Rattle.status_db.specs.declared.conffile_fields.PendingDigest.{PendingDigest}
+use Rattle.status_db.specs.declared.entries.PendingDigest.{PendingDigest}
 use Rattle.status_db.specs.ConffileFields.{PendingWords, pending_words, is_pending_line, words_of_pending}
 use Rattle.status_db.proofs.Apart.{known, unknown, some_read, read_more, stood}
 use Rattle.status_db.proofs.conffile_fields.are_pending_lines.Goals as goal

@@ -21,4 +21,15 @@ returns-clause-some c =
     let r = c.in_ok-kept in
     let version = rw c.in-Some-2.is at c.in_ok-version.ensures.some in
     said_record fs r.kept c.in_ok-package.package c.in-Some.name.now c.in-Some-2.version s.want s.flag s.state c.in-Some.ensures.some c.in-Some-status_in.ensures.some version.0 (sym c.is_not_installed.ensures ∙ c.if-is_not_installed.false)
-    c.in_ok-package.ensures r.ensures.name r.ensures.want r.ensures.flag r.ensures.state r.ensures.version r.ensures.fields
+    c.in_ok-package.ensures record {
+      name_is = r.ensures.name;
+      want_is = r.ensures.want;
+      flag_is = r.ensures.flag;
+      state_is = r.ensures.state;
+      version_is = r.ensures.version;
+      config_is = r.ensures.config;
+      removed_is = r.ensures.removed;
+      conffiles_are = r.ensures.conffiles;
+      pending_are = r.ensures.pending;
+      fields_are = r.ensures.fields;
+    }

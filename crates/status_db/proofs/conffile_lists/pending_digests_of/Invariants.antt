@@ -1,6 +1,0 @@
-use Rattle.std.proofs.Common.{◌≡◌, map, take}
-use Rattle.status_db.specs.ConffileFields.{words_of_pending, pending_words}
-use Rattle.status_db.proofs.conffile_lists.pending_digests_of.Given as goal
-
-abbrev pub invariant-loop-line : goal.invariant-loop-line
-invariant-loop-line l = map words_of_pending l.items.items ≡ map pending_words (take l.line-index l.lines)
