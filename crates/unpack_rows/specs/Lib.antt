@@ -1,6 +1,5 @@
 pub mod Kinds
 pub mod ForwardRows
-pub mod Standing
 pub mod Failures
 pub mod Notes
 pub mod Stages

@@ -12,7 +12,7 @@ use Rattle.unpack_rows.specs.declared.notes.Note.{Note}
 use Rattle.unpack_rows.specs.declared.notes.Note.TheVariants.{Put, Drop}
 use Rattle.unpack_rows.specs.Kinds.{own_of, owner_of, has_prerm, state_of}
 use Rattle.unpack_rows.specs.Failures.{has_failed}
-use Rattle.unpack_rows.specs.Standing.{standing_as}
+use Rattle.status_db.specs.Standings.{standing_as}
 
 -- want and flag stay
 abbrev pub half_configured : Record → Record

@@ -7,7 +7,6 @@ mod kinds;
 mod laws;
 mod notes;
 mod rows;
-mod standing;
 
 pub use failures::is_spared;
 pub use kinds::{RowKind, kinds_of};

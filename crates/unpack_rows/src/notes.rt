@@ -7,7 +7,6 @@ ghost use Rattle.unpack_rows.specs.declared.kinds.RowKind.TheVariants as kind;
 ghost use Rattle.unpack_rows.specs.declared.notes.Note.TheVariants as note;
 
 use crate::kinds::{RowKind, has_prerm, own_of, state_of};
-use crate::standing::standing_as;
 use status_db::{Flag, Record, State};
 use std::alloc::AllocError;
 use texts::Text;
@@ -22,19 +21,19 @@ pub enum Note {
 fn half_configured(old: &Record) -> Result<Note, AllocError>
     ensures { IfOk result (λ n. n ≡ note.Put (half_configured old.now)) }
 {
-    Ok(Note::Put(standing_as(old, old.flag, State::HalfConfigured)?))
+    Ok(Note::Put(old.standing_as(old.flag, State::HalfConfigured)?))
 }
 
 fn half_installed(old: &Record) -> Result<Note, AllocError>
     ensures { IfOk result (λ n. n ≡ note.Put (half_installed old.now)) }
 {
-    Ok(Note::Put(standing_as(old, Flag::Reinstreq, State::HalfInstalled)?))
+    Ok(Note::Put(old.standing_as(Flag::Reinstreq, State::HalfInstalled)?))
 }
 
 fn unpacked(old: &Record) -> Result<Note, AllocError>
     ensures { IfOk result (λ n. n ≡ note.Put (unpacked old.now)) }
 {
-    Ok(Note::Put(standing_as(old, old.flag, State::Unpacked)?))
+    Ok(Note::Put(old.standing_as(old.flag, State::Unpacked)?))
 }
 
 fn as_before(start: Option<&Record>, incoming: &Record) -> Result<Note, AllocError>
