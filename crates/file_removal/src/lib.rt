@@ -1,0 +1,6 @@
+//! Taking paths of a package away.
+#![tactic(auto)]
+
+mod leaving;
+
+pub use leaving::Leaving;
