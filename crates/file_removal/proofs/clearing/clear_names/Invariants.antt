@@ -1,0 +1,15 @@
+use Rattle.std.proofs.Common.{◌≡◌, IsTrue, take}
+use Rattle.host_core.specs.Host.{AtEachMoment, Silent, faults}
+use Rattle.file_removal.specs.Clearing.{Cleared, IsClearing}
+use Rattle.file_removal.proofs.clearing.clear_names.Given as goal
+
+abbrev pub invariant-loop-name : goal.invariant-loop-name
+invariant-loop-name g l =
+    let old = g.H.Host.state l.fn.host in
+    let now = g.H.Host.state l.host in
+    record {
+      silent : Silent old now;
+      counts : faults now ≡ faults old;
+      cleared : IsTrue now.honest → Cleared (take l.name-index l.names) old.world now.world;
+      any_moment : AtEachMoment (IsClearing l.names) old now;
+    }

@@ -1,0 +1,19 @@
+use Rattle.std.proofs.Common.{◌≡◌, IsTrue, length, drop, ◌≤◌}
+use Rattle.host_core.specs.Host.{AtEachMoment, Silent, faults}
+use Rattle.file_removal.specs.Removal.{RemovedBy, IsRemovingBy}
+use Rattle.file_removal.proofs.removal.remove_each.Given as goal
+
+abbrev pub invariant-loop-count : goal.invariant-loop-count
+invariant-loop-count g l =
+    let old = g.H.Host.state l.fn.host in
+    let now = g.H.Host.state l.host in
+    record {
+      within : l.count ≤ length l.leaving;
+      silent : Silent old now;
+      counts : faults now ≡ faults old;
+      removed : IsTrue now.honest → RemovedBy l.directories_only (drop l.count l.leaving) old.world now.world;
+      any_moment : AtEachMoment (IsRemovingBy l.directories_only l.leaving) old now;
+    }
+
+abbrev pub decreases-loop-count : goal.decreases-loop-count
+decreases-loop-count g l = l.count

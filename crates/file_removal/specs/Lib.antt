@@ -1,0 +1,4 @@
+pub mod Removal
+pub mod Visits
+pub mod Clearing
+pub mod Committing
