@@ -1,5 +1,5 @@
 -- Which paths of a package's list go (Policy 6.6, 6.8).
-use Rattle.std.specs.Prelude.{◌||◌, not, Bool, List, [], map}
+use Rattle.std.specs.Prelude.{◌||◌, not, ℕ, Bool, List, [], map}
 use Rattle.std.specs.List.{list_any}
 use Rattle.std.specs.Str.{bytes_eq}
 use Rattle.host_core.specs.Paths.{Path}

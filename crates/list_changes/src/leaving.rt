@@ -54,7 +54,7 @@ fn has_other_owner(
 fn is_within_home(at: &str) -> bool
     ensures { result ≡ is_within home_path at.now }
 {
-    at == "/var/lib/dpkg" || at.starts_with("/var/lib/dpkg/")
+    at == "/var/lib/dpkg" || at.as_bytes().starts_with(b"/var/lib/dpkg/")
 }
 
 // The texts of conffiles' paths.

@@ -1,7 +1,7 @@
 // The list of a package behind an unpack, or behind the removal of its files.
 ghost use Rattle.std.specs.Prelude.{◌≡◌, ◌≢◌, ◌<◌, ◌↔◌, ◌⊎◌, ◌++◌, ◌∷◌, ℕ, Contains, IfOk, OnOk, MatchOption, length, get_or, true};
 ghost use Rattle.std.specs.List.{AllByRecursion};
-ghost use Rattle.host_core.specs.Paths.{Path, is_path};
+ghost use Rattle.host_core.specs.Paths.{Path};
 ghost use Rattle.file_lists.specs.Owners.{AreListPaths, IsListable};
 ghost use Rattle.list_changes.specs.NewList.{IsAbove, IsAboveOne, IsNewList};
 
@@ -18,9 +18,9 @@ fn cut_last(path: &str) -> Option<(&str, &str)>
 
 // Adds the directories above a path, without the root.
 fn add_parents(alloc: Global, paths: &mut Paths, path: &RootPath) -> Result<(), AllocError>
-    ensures paths { OnOk result ((q : Path) → Contains paths.new q ↔ (Contains paths.old q ⊎ IsAbove q path.now)) }
-    ensures listable { AllByRecursion IsListable paths.old → IsListable path.now → OnOk result (AllByRecursion IsListable paths.new) }
+    ensures { OnOk result ((q : Path) → Contains paths.new q ↔ (Contains paths.old q ⊎ IsAbove q path.now)) }
 {
+    path.law();
     let mut rest = path.as_str();
     while let Some((front, _)) = cut_last(rest) {
         if front.is_empty() {
@@ -34,8 +34,7 @@ fn add_parents(alloc: Global, paths: &mut Paths, path: &RootPath) -> Result<(), 
 
 // The same of each of some paths.
 fn add_all_parents(alloc: Global, paths: &mut Paths, of: &[RootPath]) -> Result<(), AllocError>
-    ensures paths { OnOk result ((q : Path) → Contains paths.new q ↔ (Contains paths.old q ⊎ IsAboveOne q of.now)) }
-    ensures listable { AllByRecursion IsListable paths.old → AllByRecursion IsListable of.now → OnOk result (AllByRecursion IsListable paths.new) }
+    ensures { OnOk result ((q : Path) → Contains paths.new q ↔ (Contains paths.old q ⊎ IsAboveOne q of.now)) }
 {
     for path in of {
         add_parents(alloc, paths, path)?;
