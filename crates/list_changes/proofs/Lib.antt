@@ -1,0 +1,3 @@
+pub mod Above
+pub mod Listings
+pub mod Going

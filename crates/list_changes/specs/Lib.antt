@@ -1,0 +1,2 @@
+pub mod NewList
+pub mod Leaving
