@@ -1,0 +1,5 @@
+pub mod Apart
+pub mod Listings
+pub mod Moments
+pub mod Closings
+pub mod Areas
