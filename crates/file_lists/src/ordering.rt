@@ -55,7 +55,7 @@ fn sorted_paths(alloc: Global, paths: Paths) -> Result<BTreeSet<String>, AllocEr
 }
 
 /// These paths in the order of their bytes, each once.
-pub fn in_order(alloc: Global, paths: Paths) -> Result<Paths, AllocError>
+pub(crate) fn in_order(alloc: Global, paths: Paths) -> Result<Paths, AllocError>
     requires { AllByRecursion IsListable paths }
     ensures paths { IfOk result AreListPaths }
     ensures same { IfOk result (IsSameSet paths) }

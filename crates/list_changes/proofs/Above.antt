@@ -1,7 +1,7 @@
 -- The directories above a path, the nearest first.
 use Rattle.std.proofs.Common.{◌≡◌, ◌≢◌, ◌==◌, ◌⊎◌, ◌↔◌, inl, inr, ℕ, zero, suc, ◌+◌, ◌-◌, ◌<◌, ◌≤◌, Bool, true, false, List, [], ◌∷◌, ◌++◌, length, get_or, take, drop, refl, sym, ap, subst, ◌∙◌, append_assoc, arith, Contains, Option, Some, None, Bor}
 use Rattle.std.specs.Prelude.{MatchOption, ◌&&◌, nat_le}
-use Rattle.std.specs.List.{AllByRecursion, list_all}
+use Rattle.std.specs.List.{list_all}
 use Rattle.std.specs.Str.Pattern.{RFindsChar}
 use Rattle.std.proofs.lemmas.Bool.{and_parts, eqb-true, true≢false, le-leb, leb-true}
 use Rattle.std.proofs.lemmas.List.{get_or-append_right, length-append, take-append-drop}
@@ -80,10 +80,13 @@ no_empty_list p rest e = absurd (omega (arith, length-append p (47 ∷ rest), ap
 
 module _ (old : List Path) (path rest : Path) (now : List Path) (so_far : IsClimbing old path rest now) where
   all_added : ((q : Path) → IsAbove q rest → ⊥) → (q : Path) → Contains now q ↔ (Contains old q ⊎ IsAbove q path)
-  all_added none q = (so_far.added q, λ is. elim is [
-    | inl has ↦ so_far.kept q has
-    | inr above ↦ elim (so_far.whole q above) [ inl has ↦ has | inr left ↦ absurd (none q left) ]
-  ])
+  all_added none q = (
+    so_far.added q,
+    λ is. elim is [
+      | inl has ↦ so_far.kept q has
+      | inr above ↦ elim (so_far.whole q above) [ inl has ↦ has | inr left ↦ absurd (none q left) ]
+    ],
+  )
 
   -- there is no further directory
   pub climbed_plain : Plain rest → (q : Path) → Contains now q ↔ (Contains old q ⊎ IsAbove q path)

@@ -122,9 +122,7 @@ pub fn leaving_of(
     let texts = texts_of(alloc, conffiles)?;
     let mut leaving = Vec::new(alloc);
     for path in listed {
-        leaving.push(leaving_at(
-            alloc, lists, diversions, name, &places, &texts, path,
-        )?)?;
+        leaving.push(leaving_at(alloc, lists, diversions, name, &places, &texts, path)?)?;
     }
     Ok(leaving)
 }

@@ -3,6 +3,7 @@
 #![tactic(auto)]
 
 mod leaving;
+mod ordering;
 mod parents;
 mod union;
 

@@ -6,7 +6,8 @@ ghost use Rattle.file_lists.specs.Owners.{AreListPaths, IsListable};
 ghost use Rattle.list_changes.specs.NewList.{IsAbove, IsAboveOne, IsNewList};
 
 use crate::union::add_all;
-use file_lists::{Paths, in_order};
+use crate::ordering::in_order;
+use file_lists::Paths;
 use host_core::RootPath;
 use std::alloc::{AllocError, Global};
 

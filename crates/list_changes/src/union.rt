@@ -4,7 +4,8 @@ ghost use Rattle.std.specs.List.{AllByRecursion};
 ghost use Rattle.host_core.specs.Paths.{Path};
 ghost use Rattle.file_lists.specs.Owners.{AreListPaths, IsListable};
 
-use file_lists::{Paths, in_order};
+use crate::ordering::in_order;
+use file_lists::Paths;
 use host_core::RootPath;
 use std::alloc::{AllocError, Global};
 

@@ -3,3 +3,4 @@ pub mod Listings
 pub mod Moments
 pub mod Closings
 pub mod Areas
+pub mod Concludings

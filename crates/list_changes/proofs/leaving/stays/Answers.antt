@@ -10,6 +10,6 @@ returns c =
     let at = c.args.at.now in
     let text = c.as_str-text.ensures in
     IfOk-weaker c.has_other_owner.result _ _ (λ has is paths told. is ∙ sym (last_decides _ _ _ _
-      (no_root at (ap (λ p. length p == 0) (sym text) ∙ sym c.is_empty.ensures ∙ c.if-is_empty.false))
-      (ap (is_within home_path) (sym text) ∙ sym c.is_within_home.ensures ∙ c.if-is_within_home.false)
-      (sym (told at) ∙ ap (contains_text c.args.to_come.now) (sym text) ∙ sym c.contains.ensures ∙ c.if-contains.false))) c.has_other_owner.ensures
+    (no_root at (ap (λ p. length p == 0) (sym text) ∙ sym c.is_empty.ensures ∙ c.if-is_empty.false))
+    (ap (is_within home_path) (sym text) ∙ sym c.is_within_home.ensures ∙ c.if-is_within_home.false)
+    (sym (told at) ∙ ap (contains_text c.args.to_come.now) (sym text) ∙ sym c.contains.ensures ∙ c.if-contains.false))) c.has_other_owner.ensures

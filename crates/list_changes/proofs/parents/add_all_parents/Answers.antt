@@ -1,4 +1,4 @@
-use Rattle.std.proofs.Common.{◌↔◌, ◌⊎◌, List, Contains, subst, take, arith}
+use Rattle.std.proofs.Common.{◌↔◌, ◌⊎◌, List, Contains, subst, arith}
 use Rattle.std.proofs.lemmas.List.{take_all}
 use Rattle.host_core.specs.Paths.{Path}
 use Rattle.list_changes.specs.NewList.{IsAboveOne}

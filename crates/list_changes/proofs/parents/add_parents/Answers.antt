@@ -1,4 +1,4 @@
-use Rattle.std.proofs.Common.{◌≡◌, ◌++◌, ◌∷◌, [], List, sym, ap, subst, ◌∙◌, rules}
+use Rattle.std.proofs.Common.{◌++◌, ◌∷◌, [], sym, ap, subst, ◌∙◌, rules}
 use Rattle.host_core.specs.Paths.{Path, is_path}
 use Rattle.host_core.proofs.PathLaws.{front_is_path}
 use Rattle.list_changes.proofs.Above.{IsClimbing, climbing_start, climbing_on, climbed_root, climbed_plain, empty_is, some_is}

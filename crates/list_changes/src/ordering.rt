@@ -1,0 +1,60 @@
+// Paths in the order of their bytes, each once.
+ghost use Rattle.std.specs.Prelude.{◌≡◌, IfOk, ℕ, List, Contains, ◌↔◌, IsTrue};
+ghost use Rattle.std.specs.List.{list_any, AllByRecursion};
+ghost use Rattle.std.specs.Str.{bytes_eq};
+ghost use Rattle.std.specs.BTreeSet.{contains_text};
+ghost use Rattle.std.specs.Ordering.{nat_cmp, is_lt};
+ghost use Rattle.std.specs.Cmp.Lexicographic.{slice_cmp};
+ghost use Rattle.file_lists.specs.Owners.{IsListable, AreListPaths, IsSameSet};
+ghost use Rattle.file_lists.specs.Increasing.{AreIncreasing};
+
+use file_lists::Paths;
+use host_core::RootPath;
+use std::alloc::{AllocError, Global};
+use std::cmp::Ordering;
+use std::collections::BTreeSet;
+
+fn is_before(path: &RootPath, other: &RootPath) -> bool
+    ensures { result ≡ is_lt (slice_cmp nat_cmp path.now other.now) }
+{
+    path.as_str().as_bytes().cmp(other.as_str().as_bytes()) == Ordering::Less
+}
+
+fn are_increasing(paths: &[RootPath]) -> bool
+    ensures { IsTrue result → AreIncreasing paths.now }
+{
+    for at in 1..paths.len() {
+        if !is_before(&paths[at - 1], &paths[at]) {
+            return false;
+        }
+    }
+    true
+}
+
+// The texts of these paths in the order of their bytes.
+fn sorted_paths(alloc: Global, paths: Paths) -> Result<BTreeSet<String>, AllocError>
+    ensures { IfOk result (λ set. (q : List ℕ) → contains_text set q ≡ list_any (bytes_eq q) paths) }
+{
+    let mut set = BTreeSet::new(alloc);
+    for path in &paths.items {
+        set.insert(String::from_str(alloc, path.as_str())?)?;
+    }
+    Ok(set)
+}
+
+/// These paths in the order of their bytes, each once.
+pub(crate) fn in_order(alloc: Global, paths: Paths) -> Result<Paths, AllocError>
+    requires { AllByRecursion IsListable paths }
+    ensures paths { IfOk result AreListPaths }
+    ensures same { IfOk result (IsSameSet paths) }
+{
+    if are_increasing(paths.as_slice()) {
+        return Ok(paths);
+    }
+    let mut set = sorted_paths(alloc, paths)?;
+    let mut items = Vec::new(alloc);
+    while let Some(text) = set.pop_first() {
+        items.push(RootPath::new(text))?;
+    }
+    Ok(Paths { items })
+}
