@@ -5,8 +5,8 @@ ghost use Rattle.host_core.specs.Paths.{Path};
 ghost use Rattle.file_lists.specs.Owners.{AreListPaths, IsListable};
 ghost use Rattle.list_changes.specs.NewList.{IsAbove, IsAboveOne, IsNewList};
 
-use crate::union::add_all;
 use crate::ordering::in_order;
+use crate::union::add_all;
 use file_lists::Paths;
 use host_core::RootPath;
 use std::alloc::{AllocError, Global};
