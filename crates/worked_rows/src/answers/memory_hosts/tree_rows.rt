@@ -4,7 +4,7 @@ use super::{TreeFile, expect, file, path_of, text_of, tree_of};
 use control_fields::write_paragraph;
 use host_core::Script;
 use host_memory::MemoryHost;
-use package_tree::{Package, read_tree};
+use package_tree::{OtherFiles, Package, ShipMap, ShipPaths, read_tree};
 use std::alloc::{AllocError, Global};
 use std::test::Fail;
 
@@ -82,28 +82,41 @@ const WHOLE: &[TreeFile] = &[
     ("t", "/etc/b", "b"),
 ];
 
-// What a package ships, its conffiles, the paths that go, and the other files of DEBIAN.
-fn parts_text(alloc: Global, package: &Package) -> Result<String, AllocError> {
-    let mut text = String::new(alloc);
-    for file in package.files.as_slice() {
+// Adds what a package ships, each path behind a blank.
+fn push_files(files: &ShipMap, text: &mut String) -> Result<(), AllocError> {
+    for file in files.as_slice() {
         text.push(' ')?;
         text.push_str(file.path.as_str())?;
     }
-    text.push('|')?;
-    for path in package.conffiles.as_slice() {
+    Ok(())
+}
+
+fn push_paths(paths: &ShipPaths, text: &mut String) -> Result<(), AllocError> {
+    for path in paths.as_slice() {
         text.push(' ')?;
         text.push_str(path.as_str())?;
     }
-    text.push('|')?;
-    for path in package.flagged.as_slice() {
-        text.push(' ')?;
-        text.push_str(path.as_str())?;
-    }
-    text.push('|')?;
-    for other in package.others.as_slice() {
+    Ok(())
+}
+
+fn push_others(others: &OtherFiles, text: &mut String) -> Result<(), AllocError> {
+    for other in others.as_slice() {
         text.push(' ')?;
         text.push_str(other.name.as_str())?;
     }
+    Ok(())
+}
+
+// What a package ships, its conffiles, the paths that go, and the other files of DEBIAN.
+fn parts_text(alloc: Global, package: &Package) -> Result<String, AllocError> {
+    let mut text = String::new(alloc);
+    push_files(&package.files, &mut text)?;
+    text.push('|')?;
+    push_paths(&package.conffiles, &mut text)?;
+    text.push('|')?;
+    push_paths(&package.flagged, &mut text)?;
+    text.push('|')?;
+    push_others(&package.others, &mut text)?;
     Ok(text)
 }
 
