@@ -1,5 +1,5 @@
 // A command is broken off at each of its steps in turn, and what is found when the root is opened again is judged.
-use crate::machine::{Machine, TreeFile, make_machine};
+use crate::machine::{Machine, RootFile, TreeFile, make_machine};
 use host_memory::{Effect, Ending, MemoryHost};
 use std::alloc::AllocError;
 use std::process::Abort;
@@ -8,12 +8,21 @@ use std::test::Fail;
 // A file, and the texts of which it may have one; an empty text where none may stand.
 pub(crate) type Found = (&'static str, &'static [&'static str]);
 
-// A command over an empty root, how its calls end, what may be found wherever it is broken off, and what it leaves.
+// What stands at some paths together, and what the command of the row, given then, answers.
+pub(crate) struct Moment {
+    pub(crate) stands: &'static [RootFile],
+    pub(crate) again: &'static str,
+}
+
+// A command over a root that holds these files, how its calls end, and what it leaves where it isn't broken off. Wherever it
+// is broken off, each file of `found` is one of its texts, and one of the moments is there, if the row has any.
 pub(crate) struct Row {
+    pub(crate) files: &'static [RootFile],
     pub(crate) trees: &'static [TreeFile],
     pub(crate) endings: &'static [Ending],
     pub(crate) line: &'static str,
     pub(crate) found: &'static [Found],
+    pub(crate) moments: &'static [Moment],
     pub(crate) left: &'static [Found],
 }
 
@@ -32,10 +41,12 @@ pub(crate) struct Loss {
     fill: u8,
 }
 
-// How a run went: whether the fault came, and how many steps on names a loss might undo.
+// How a run went: whether the fault came, whether the command ended all the same, and how many steps on names a loss might
+// undo.
 #[derive(Clone, Copy)]
 struct Ran {
     met: bool,
+    ended: bool,
     names: usize,
 }
 
@@ -52,9 +63,12 @@ const FILLS: &[u8] = &[0, 255];
 const LIMIT: usize = 1000;
 
 // No tree is named so: the root is opened, and nothing else is done.
-const OPENING: &str = "dpkg_cli unpack absent";
+pub(crate) const OPENING: &str = "dpkg_cli unpack absent";
 
-const OPENED: &str = "refused absent NoControl\n||1\n";
+pub(crate) const OPENED: &str = "refused absent NoControl\n||1\n";
+
+// So ends the answer of a command that was broken off.
+const BROKEN_OFF: &str = "|2\n";
 
 fn plan(host: &mut MemoryHost, how: Break) {
     match how {
@@ -81,14 +95,17 @@ impl Machine {
         }
     }
 
-    fn ran(&self) -> Ran {
+    fn ran(&self, answer: &str) -> Ran {
+        let ended = !answer.ends_with(BROKEN_OFF);
         match &self.root {
             Some(host) => Ran {
                 met: !host.awaits_fault(),
+                ended,
                 names: host.names_since_barrier(),
             },
             None => Ran {
                 met: false,
+                ended,
                 names: 0,
             },
         }
@@ -122,52 +139,83 @@ impl Machine {
         Ok(())
     }
 
-    fn judge(&mut self, found: &[Found], text: &mut String) -> Result<(), AllocError> {
-        self.judge_opening(text)?;
+    fn judge_files(&mut self, found: &[Found], text: &mut String) -> Result<(), AllocError> {
         for file in found {
             self.judge_file(file, text)?;
         }
         Ok(())
     }
 
+    // Whether all this stands.
+    fn has(&mut self, files: &[RootFile]) -> Result<bool, AllocError> {
+        for (path, text) in files {
+            if self.text_at(path)?.as_str() != *text {
+                return Ok(false);
+            }
+        }
+        Ok(true)
+    }
+
+    // What the command is to answer now, if this is one of the moments.
+    fn again(&mut self, moments: &'static [Moment]) -> Result<Option<&'static str>, AllocError> {
+        for moment in moments {
+            if self.has(moment.stands)? {
+                return Ok(Some(moment.again));
+            }
+        }
+        Ok(None)
+    }
+
+    // Gives the command again: it is to answer so, and to leave what it leaves where it isn't broken off.
+    fn finish(&mut self, row: &Row, again: &str, text: &mut String) -> Result<(), AllocError> {
+        let answer = self.answer(row.line)?;
+        if answer.as_str() != again {
+            text.push_str("again: ")?;
+            text.push_str(answer.as_str())?;
+        }
+        self.judge_files(row.left, text)
+    }
+
+    fn judge_moment(&mut self, row: &Row, text: &mut String) -> Result<(), AllocError> {
+        if row.moments.is_empty() {
+            return Ok(());
+        }
+        match self.again(row.moments)? {
+            Some(again) => self.finish(row, again, text),
+            None => text.push_str("none of the moments"),
+        }
+    }
+
+    // Opens the root again, and adds what is found that may not be. A command that wasn't broken off stands whole.
+    fn judge(&mut self, row: &Row, ran: Ran, text: &mut String) -> Result<(), AllocError> {
+        self.judge_opening(text)?;
+        self.judge_files(row.found, text)?;
+        if ran.ended || !ran.met {
+            self.judge_files(row.left, text)?;
+        }
+        self.judge_moment(row, text)
+    }
+
     // Runs a command, which is broken off so, and recovers the root.
     fn run(&mut self, line: &str, how: Break, loss: Option<Loss>) -> Result<Ran, AllocError> {
         self.plan(how);
-        let _ = self.answer(line)?;
-        let ran = self.ran();
+        let answer = self.answer(line)?;
+        let ran = self.ran(answer.as_str());
         self.recover(loss)?;
         Ok(ran)
     }
 
-    // Opens the root again, and adds what is found that may not be.
     fn try_row(
         &mut self,
-        line: &str,
+        row: &Row,
         how: Break,
         loss: Option<Loss>,
-        found: &[Found],
         text: &mut String,
     ) -> Result<Ran, AllocError> {
-        let ran = self.run(line, how, loss)?;
-        self.judge(found, text)?;
+        let ran = self.run(row.line, how, loss)?;
+        self.judge(row, ran, text)?;
         Ok(ran)
     }
-}
-
-fn check_found(
-    rt: &(impl Abort + AllocGlobal),
-    row: &Row,
-    how: Break,
-    loss: Option<Loss>,
-    found: &[Found],
-) -> Result<Ran, Fail> {
-    let alloc = rt.alloc();
-    let mut text = String::new(alloc);
-    let ran = make_machine(alloc, row.trees, row.endings)?.try_row(
-        row.line, how, loss, found, &mut text,
-    )?;
-    assert!(rt; text.is_empty(), "{how:?} {loss:?}: {text}");
-    Ok(ran)
 }
 
 fn check(
@@ -176,7 +224,13 @@ fn check(
     how: Break,
     loss: Option<Loss>,
 ) -> Result<Ran, Fail> {
-    check_found(rt, row, how, loss, row.found)
+    let alloc = rt.alloc();
+    let mut text = String::new(alloc);
+    let ran = make_machine(alloc, row.files, row.trees, row.endings)?.try_row(
+        row, how, loss, &mut text,
+    )?;
+    assert!(rt; text.is_empty(), "{how:?} {loss:?}: {text}");
+    Ok(ran)
 }
 
 // A stop behind so many steps, with each effect.
@@ -225,7 +279,7 @@ fn check_read(rt: &(impl Abort + AllocGlobal), row: &Row, before: usize) -> Resu
 // Power is lost behind the command, of which no name step survives that isn't on the disk.
 fn check_left(rt: &(impl Abort + AllocGlobal), row: &Row) -> Result<(), Fail> {
     let loss = Some(Loss { keep: 0, fill: 255 });
-    check_found(rt, row, Break::Read(LIMIT), loss, row.left)?;
+    check(rt, row, Break::Read(LIMIT), loss)?;
     Ok(())
 }
 

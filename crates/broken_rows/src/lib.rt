@@ -4,6 +4,10 @@
 #[cfg(test)]
 mod breaking;
 #[cfg(test)]
+mod diversion_rows;
+#[cfg(test)]
 mod machine;
+#[cfg(test)]
+mod opening_rows;
 #[cfg(test)]
 mod unpack_rows;

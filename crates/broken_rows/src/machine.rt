@@ -7,7 +7,10 @@ use host_core::{Access, Host, HostFault, Node, RootPath};
 use host_memory::{Ending, Entry, MemoryHost, Planned};
 use std::alloc::{AllocError, Global};
 use std::str;
-use texts::Bytes;
+use texts::{Bytes, Text};
+
+// A file under the root: its path, and what it holds.
+pub(crate) type RootFile = (&'static str, &'static str);
 
 // A file of a tree: the word that names the tree, the path under it, and what stands there.
 pub(crate) type TreeFile = (&'static str, &'static str, &'static str);
@@ -61,23 +64,37 @@ fn planned(alloc: Global, ending: Ending) -> Result<Planned, AllocError> {
     Ok(Planned { ending, change })
 }
 
-fn root_of(alloc: Global, endings: &[Ending]) -> Result<MemoryHost, AllocError> {
+// A root that holds these files, and nothing else.
+fn root_with(alloc: Global, files: &[RootFile]) -> Result<MemoryHost, AllocError> {
     let mut host = MemoryHost::new(alloc)?;
+    for (path, text) in files {
+        put(alloc, &mut host, path, text)?;
+    }
+    Ok(host)
+}
+
+fn root_of(
+    alloc: Global,
+    files: &[RootFile],
+    endings: &[Ending],
+) -> Result<MemoryHost, AllocError> {
+    let mut host = root_with(alloc, files)?;
     for ending in endings {
         host.plan(planned(alloc, *ending)?)?;
     }
     Ok(host)
 }
 
-// An empty root whose calls end as told, and then with status 0.
+// A root with these files whose calls end as told, and then with status 0.
 pub(crate) fn make_machine(
     alloc: Global,
+    files: &[RootFile],
     trees: &'static [TreeFile],
     endings: &[Ending],
 ) -> Result<Machine, AllocError> {
     Ok(Machine {
         alloc,
-        root: Some(root_of(alloc, endings)?),
+        root: Some(root_of(alloc, files, endings)?),
         trees,
         faults: 0,
     })
@@ -95,11 +112,29 @@ fn text_of(bytes: &[u8]) -> &str {
     str::from_utf8(bytes).unwrap_or("bytes that are no text")
 }
 
-// What a file holds; nothing where none stands.
+// Tells a directory by its names, each with a space before it.
+fn told_of(alloc: Global, names: &[Text]) -> Result<String, AllocError> {
+    let mut text = String::from_str(alloc, "directory:")?;
+    for name in names {
+        text.push(' ')?;
+        text.push_str(name.as_str())?;
+    }
+    Ok(text)
+}
+
+fn names_at(alloc: Global, host: &mut MemoryHost, path: &str) -> Result<String, AllocError> {
+    match host.list(&path_of(alloc, path)?) {
+        Ok(listing) => told_of(alloc, listing.names.as_slice()),
+        Err(_) => Err(AllocError),
+    }
+}
+
+// What a file holds, or the names in a directory; nothing where none stands.
 fn text_at(alloc: Global, host: &mut MemoryHost, path: &str) -> Result<String, AllocError> {
     match host.node(&path_of(alloc, path)?) {
         Ok(Some(Node::File { bytes, .. })) => String::from_str(alloc, text_of(bytes.as_slice())),
-        Ok(Some(_)) => String::from_str(alloc, "directory"),
+        Ok(Some(Node::Dir { .. })) => names_at(alloc, host, path),
+        Ok(Some(Node::Link { .. })) => String::from_str(alloc, "link"),
         Ok(None) => Ok(String::new(alloc)),
         Err(_) => Err(AllocError),
     }
@@ -119,7 +154,7 @@ impl Machine {
         format!(in alloc; "{out}|{err}|{status}\n")
     }
 
-    // What a file under the root holds.
+    // What a file under the root holds, or the names in a directory.
     pub(crate) fn text_at(&mut self, path: &str) -> Result<String, AllocError> {
         match &mut self.root {
             Some(host) => text_at(self.alloc, host, path),

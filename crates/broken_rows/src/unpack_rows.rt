@@ -37,35 +37,43 @@ const HALF_INSTALLED: &[Found] = &[(STATUS, &[HALF]), LIST, PREINST, CI];
 const FAILED: Ending = Ending::Ended(Outcome::Exit(1));
 
 const SUCCEEDS: Row = Row {
+    files: &[],
     trees: TREES,
     endings: &[],
     line: LINE,
     found: DONE,
+    moments: &[],
     left: &[(STATUS, &[UNPACKED]), LIST, PREINST, CI],
 };
 
 const FAILS: Row = Row {
+    files: &[],
     trees: TREES,
     endings: &[FAILED],
     line: LINE,
     found: ABORTED,
+    moments: &[],
     left: &[(STATUS, &[""]), LIST, PREINST, CI],
 };
 
 // The device fails while the script runs.
 const CUT_OFF: Row = Row {
+    files: &[],
     trees: TREES,
     endings: &[Ending::CutOff],
     line: LINE,
     found: ABORTED,
+    moments: &[],
     left: HALF_INSTALLED,
 };
 
 const UNDO_FAILS: Row = Row {
+    files: &[],
     trees: TREES,
     endings: &[FAILED, Ending::Ended(Outcome::Killed)],
     line: LINE,
     found: ABORTED,
+    moments: &[],
     left: HALF_INSTALLED,
 };
 
