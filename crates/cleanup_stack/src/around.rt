@@ -22,8 +22,8 @@ pub trait Around<H: Host> {
 
     ghost task: { Self → Self.Task };
 
-    /// The name of what it holds by `&mut`, which stays the same.
-    ghost reference: { Self → ℕ };
+    /// The names of what it holds by `&mut`, which stay the same.
+    ghost reference: { Self → List ℕ };
 
     /// Which row may stand at which place of the list.
     ghost fits: { Self.Task → ℕ → Row → Type 0 };

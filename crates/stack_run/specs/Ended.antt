@@ -1,0 +1,44 @@
+-- How a whole run of rows ends, and for what it failed.
+use Rattle.std.specs.Prelude.{◌≡◌, ℕ, List, [], ◌∷◌, Option, Some, None, length}
+use Rattle.host_core.specs.declared.call.Call.{Call}
+use Rattle.unwind_stack.specs.declared.fall.Fall.{Fall}
+use Rattle.unwind_stack.specs.declared.fall.StepFault.{StepFault}
+use Rattle.unwind_stack.specs.declared.rows.Row.{Row}
+use Rattle.cleanup_stack.specs.Place.{Place, Forward, Back}
+use Rattle.cleanup_stack.specs.Transcripts.{Ended, Committed, Unwound}
+use Rattle.stack_run.specs.declared.failure.Failure.{Failure}
+use Rattle.stack_run.specs.declared.failure.Failure.TheVariants as failure
+use Rattle.stack_run.specs.declared.unwinding.Unwinding.{Unwinding}
+
+-- rows that all succeeded, or that were unwound
+abbrev pub ended_as : Option Unwinding → Ended
+ended_as None = Committed
+ended_as (Some u) = Unwound u.fall u.failed.items
+
+-- where so many rows end
+abbrev pub end_place : ℕ → Option Unwinding → Place
+end_place rows None = Forward rows
+end_place rows (Some u) = Back 0 u.fall u.failed.items
+
+-- the row of an index
+abbrev pub row_at : List Row → ℕ → Option Row
+row_at [] index = None
+row_at (row ∷ rows) zero = Some row
+row_at (row ∷ rows) (suc index) = row_at rows index
+
+abbrev pub call_of : Option Call → Option Failure
+call_of None = None
+call_of (Some call) = Some (failure.OfCall call)
+
+abbrev pub forward_of : Option Row → Option Failure
+forward_of None = None
+forward_of (Some row) = call_of row.forward
+
+-- for what it failed: the step fault of the files, or else the forward call of the row that failed
+abbrev pub failure_of : List Row → ℕ → Option StepFault → Option Failure
+failure_of rows index (Some fault) = Some (failure.OfFiles fault)
+failure_of rows index None = forward_of (row_at rows index)
+
+abbrev pub IsCauseOf : List Row → Option Unwinding → Type 0
+IsCauseOf rows None = Unit {0}
+IsCauseOf rows (Some u) = failure_of rows u.fall.row u.fall.fault ≡ Some u.failure

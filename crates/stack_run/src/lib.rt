@@ -1,0 +1,2 @@
+//! stack_run
+#![tactic(auto)]

@@ -1,0 +1,71 @@
+-- The commit of an unpack, in Policy's order (6.6): old paths go, the list and the control files are the new ones, places leave other
+-- packages' lists, what only the installer writes goes, and then the records are noted, the package's own last.
+use Rattle.std.specs.Prelude.{◌≡◌, ◌⊎◌, ℕ, List, ◌++◌}
+use Rattle.host_core.specs.Paths.{Path}
+use Rattle.host_core.specs.World.{World, KeepsBut}
+use Rattle.host_core.specs.declared.node.Node.{Node}
+use Rattle.administration.specs.Places.{list_path}
+use Rattle.control_members.specs.Stored.{AreReplaced, AreReplacing, AreStored}
+use Rattle.control_members.specs.declared.member.Member.{Member}
+use Rattle.diversions.specs.declared.entry.Diversion.{Diversion}
+use Rattle.file_lists.specs.Writing.{list_file, with_list}
+use Rattle.file_lists.specs.declared.paths.PackageList.{PackageList}
+use Rattle.file_removal.specs.declared.leaving.Leaving.{Leaving}
+use Rattle.status_db.specs.Held.{AreKept, CanOpenRecords, HasRecords, is_record_place}
+use Rattle.status_db.specs.declared.record.Record.{Record}
+use Rattle.unpack_moves.specs.Closing.{HasReleased, HasRenewed, MayRelease, MayRenew}
+use Rattle.unpack_commit.specs.Takeover.{put_records}
+
+-- what a commit does, beside the notes
+pub record Changes : Type 0 where
+  pub name : List ℕ
+  -- the paths of the old list, and which of them go
+  pub leaving : List Leaving
+  -- the new list, and the control files
+  pub listed : List Path
+  pub members : List Member
+  -- the places that leave the lists of these packages
+  pub places : List Path
+  pub losers : List (List ℕ)
+  -- names that only the installer writes
+  pub names : List Path
+
+-- at each moment of noting records one after another: the first of them are noted
+pub record AreNoting (records : List Record) (before : List Record) (old now : World) : Type 0 where
+  pub front : List Record
+  pub back : List Record
+  pub are : records ≡ front ++ back
+  pub has : HasRecords now (put_records front before)
+  pub opens : CanOpenRecords now
+  pub rest : KeepsBut is_record_place old now
+
+-- the records are noted, and only they have changed
+pub record HaveNoted (after : List Record) (old new : World) : Type 0 where
+  pub has : HasRecords new after
+  pub rest : KeepsBut is_record_place old new
+
+module _ (c : Changes) (entries : List Diversion) (lists : List PackageList) where
+  -- all of it, by the worlds between its parts
+  pub record HasCommitted (after : List Record) (old new : World) : Type 0 where
+    pub renewed : World
+    pub stored : World
+    pub released : World
+    pub stale : List Path
+    pub renewal : HasRenewed c.leaving (list_path c.name) (list_file c.listed) old renewed
+    pub replaced : AreReplaced c.name c.members stale renewed stored
+    pub whole : AreStored c.name c.members stored
+    pub release : HasReleased entries c.places c.losers (with_list c.name c.listed lists) c.names stored released
+    pub noted : HaveNoted after released new
+
+  -- at each moment: the paths go and the list is written; or control files take the place of the old ones; or places leave other
+  -- lists and names are cleared; or the records are noted
+  pub data MayCommit (records before : List Record) (old now : World) : Type 0 where
+    renewing : MayRenew c.leaving (list_path c.name) (list_file c.listed) old now → HasRecords now before → CanOpenRecords now → MayCommit records before old now
+    replacing : (renewed : World) (stale : List Path) → HasRenewed c.leaving (list_path c.name) (list_file c.listed) old renewed
+        → AreReplacing c.name c.members stale renewed now → HasRecords now before → CanOpenRecords now → MayCommit records before old now
+    releasing : (renewed stored : World) (stale : List Path) → HasRenewed c.leaving (list_path c.name) (list_file c.listed) old renewed
+        → AreReplaced c.name c.members stale renewed stored → AreStored c.name c.members stored
+        → MayRelease entries c.places c.losers (with_list c.name c.listed lists) c.names stored now → HasRecords now before → CanOpenRecords now → MayCommit records before old now
+    noting : (renewed stored released : World) (stale : List Path) → HasRenewed c.leaving (list_path c.name) (list_file c.listed) old renewed
+        → AreReplaced c.name c.members stale renewed stored → AreStored c.name c.members stored
+        → HasReleased entries c.places c.losers (with_list c.name c.listed lists) c.names stored released → AreNoting records before released now → MayCommit records before old now

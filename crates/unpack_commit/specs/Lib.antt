@@ -1,0 +1,2 @@
+pub mod Takeover
+pub mod Commit

@@ -1,0 +1,2 @@
+//! unpack_commit
+#![tactic(auto)]

@@ -1,0 +1,2 @@
+//! unpack_plan
+#![tactic(auto)]

@@ -1,0 +1,119 @@
+-- What holds while the rows of an unpack run: at each place of the run, and at each moment.
+use Rattle.std.specs.Prelude.{◌≡◌, ◌<◌, ◌≤◌, ◌+◌, ℕ, Bool, false, IsTrue, List, ◌++◌, Option, Some, None, length}
+use Rattle.host_core.specs.Paths.{Path}
+use Rattle.host_core.specs.World.{World, Change}
+use Rattle.host_core.specs.Events.{Event, Ran, changes_of, scripts_of}
+use Rattle.host_core.specs.Host.{State, Falls, calls, finished}
+use Rattle.administration.specs.Places.{list_path}
+use Rattle.unwind_stack.specs.declared.fall.StepFault.{StepFault}
+use Rattle.cleanup_stack.specs.Place.{Place, Forward, Ready, Back}
+use Rattle.file_check.specs.Clashes.{owning}
+use Rattle.file_check.specs.Sound.{AllSound, IsFirstFault}
+use Rattle.file_lists.specs.Writing.{IsListReady, list_file}
+use Rattle.file_lists.specs.declared.paths.PackageList.{PackageList}
+use Rattle.file_steps.specs.Unpacked.{IsRearranged}
+use Rattle.file_works.specs.declared.work.Work.{Work}
+use Rattle.status_db.specs.Held.{CanOpenRecords, HasRecords, IsKept}
+use Rattle.status_db.specs.Recorded.{Recorded}
+use Rattle.status_db.specs.Records.{record_in}
+use Rattle.status_db.specs.declared.record.Record.{Record}
+use Rattle.unpack_moves.specs.Listing.{MayList, MayUnlist}
+use Rattle.unpack_rows.specs.Kinds.{own_of}
+use Rattle.unpack_rows.specs.Notes.{half_installed, noted, notes_at}
+use Rattle.unpack_rows.specs.Stages.{Stage, Unwritten, Wrote, Restored, stage_of}
+use Rattle.unpack_run.specs.Task.{Task, IsSound, kinds, lists_at, name, places_at}
+use Rattle.unpack_run.specs.Trail.{AreOrdered, Follows, HasCome, HasFiles, HasGoneBack}
+
+-- what changes while the rows run
+pub record Holding : Type 0 where
+  pub database : Recorded
+  pub lists : List PackageList
+  pub lists_closed : Bool
+  pub places : List Path
+  pub works : List Work
+
+-- how far rows of this number can be
+abbrev pub IsWithin : ℕ → Place → Type 0
+IsWithin rows (Forward k) = k ≤ rows
+IsWithin rows (Ready k) = k < rows
+IsWithin rows (Back k fall failed) = (k ≤ fall.row + 1) × (fall.row < rows)
+
+-- the table of records at a place
+abbrev pub table_at : Task → Place → List Record
+table_at t place = noted t.records (notes_at t.found t.incoming (kinds t) place)
+
+-- the works as the file row finds them; once it has written, in the order of their places
+abbrev pub AreWorksAt : Task → Place → Stage → List Work → Type 0
+AreWorksAt t (Forward k) Unwritten works = works ≡ t.works
+AreWorksAt t (Ready k) Unwritten works = works ≡ t.works
+AreWorksAt t (Back k fall failed) Unwritten works = Unit {0}
+AreWorksAt t place Wrote works = AreOrdered t works
+AreWorksAt t place Restored works = AreOrdered t works
+
+-- the world at a place, after these changes of script calls
+pub record IsThere (t : Task) (g : Holding) (place : Place) (change : Change) (now : World) : Type 0 where
+  pub kept : IsKept g.database now
+  pub ready : IsListReady (name t) now
+  pub came : HasCome t (stage_of (kinds t) place) g.works change now
+
+pub record At (t : Task) (g : Holding) (s : State) (place : Place) : Type 0 where
+  pub sound : IsSound t
+  pub falls : Falls t.start s
+  pub within : IsWithin (length (kinds t)) place
+  pub records : g.database.records ≡ table_at t place
+  pub open : g.database.closed ≡ false
+  pub lists : g.lists ≡ lists_at t (stage_of (kinds t) place)
+  pub lists_open : g.lists_closed ≡ false
+  pub places : g.places ≡ places_at t (stage_of (kinds t) place)
+  pub works : AreWorksAt t place (stage_of (kinds t) place) g.works
+  -- all script calls since the rows began have ended
+  pub since : List Event
+  pub events : s.events ≡ t.start.events ++ since
+  pub ran : List Ran
+  pub ended : scripts_of since ≡ finished ran
+  pub world : IsTrue s.honest → IsThere t g place (changes_of since) s.world
+
+-- the step fault of the shipped paths in a world, or none
+abbrev pub HasFault : Task → World → Option StepFault → Type 0
+HasFault t w None = AllSound (owning t.entries t.lists t.yields (name t)) t.works w
+HasFault t w (Some fault) = IsFirstFault (owning t.entries t.lists t.yields (name t)) t.works w fault
+
+-- The step fault of the file row after all these calls of the host: that in a world to which those since the rows began, and
+-- notes, have led.
+pub record IsFileFault (t : Task) (past : List Ran) (fault : Option StepFault) : Type 0 where
+  pub ran : List Ran
+  pub calls_are : past ≡ calls t.start ++ ran
+  pub found : World
+  pub came : Follows t.places (changes_of (finished ran)) t.start.world found
+  pub has : HasFault t found fault
+
+-- the package is noted as half-installed, to be installed again
+abbrev pub IsMarked : Task → List Record → Type 0
+IsMarked t table = record_in table (name t) ≡ Some (half_installed (own_of t.found t.incoming))
+
+-- How far the files are at a moment: from the first step outside the administration until they are put back the package is
+-- marked, and its list names all that it has and all that comes.
+pub data IsAmid (t : Task) (table : List Record) (change : Change) (now : World) : Type 0 where
+  untouched : Follows t.places change t.start.world now → IsAmid t table change now
+  writing : (works : List Work) (found : World) → IsRearranged t.works works → IsMarked t table
+      → Follows t.places change t.start.world found → MayList (list_path (name t)) (list_file t.union) works found now → IsAmid t table change now
+  written : (works : List Work) → IsRearranged t.works works → IsMarked t table → HasFiles t works change now → IsAmid t table change now
+  going_back : (works : List Work) (last : World) → IsRearranged t.works works → IsMarked t table
+      → HasFiles t works change last → MayUnlist (list_path (name t)) (list_file t.listed) works last now → IsAmid t table change now
+  back : (works : List Work) → IsRearranged t.works works → HasGoneBack t works change now → IsAmid t table change now
+
+-- At each moment the next opening finds the records of before with the first of the rows' notes, and nothing in its way.
+pub record Stops (t : Task) (es : List Event) (now : World) : Type 0 where
+  pub since : List Event
+  pub events : es ≡ t.start.events ++ since
+  pub place : Place
+  pub within : IsWithin (length (kinds t)) place
+  pub records : HasRecords now (table_at t place)
+  pub opens : CanOpenRecords now
+  pub ready : IsListReady (name t) now
+  pub files : IsAmid t (table_at t place) (changes_of since) now
+
+-- the rows can begin: the records stand, and nothing is in the list's way
+pub record IsBegun (t : Task) (d : Recorded) (w : World) : Type 0 where
+  pub kept : IsKept d w
+  pub ready : IsListReady (name t) w

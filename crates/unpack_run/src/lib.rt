@@ -1,0 +1,2 @@
+//! unpack_run
+#![tactic(auto)]
