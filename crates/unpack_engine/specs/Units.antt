@@ -1,98 +1,55 @@
--- The parts of a unit, and the whole.
-use Rattle.std.specs.Prelude.{◌≡◌, true, false, List, [], ◌++◌}
+-- The unit of an unpack: what it does, from the world that it finds to the one that it leaves, and what holds at each moment of it
+-- (Policy 6.6).
+use Rattle.std.specs.Prelude.{◌≡◌, ◌⊎◌, ◌↔◌, ℕ, Bool, true, false, IsTrue, List, [], ◌∷◌, ◌++◌, Option, Some, None, Contains, length}
 use Rattle.host_core.specs.Paths.{Path}
-use Rattle.host_core.specs.World.{World, KeepsBut, is_kept}
-use Rattle.host_core.specs.Events.{Ran}
-use Rattle.host_core.specs.Host.{State, Silent, calls}
+use Rattle.host_core.specs.World.{World, Change, KeepsBut}
+use Rattle.host_core.specs.Events.{Ran, Event, changes_of, scripts_of}
+use Rattle.host_core.specs.Host.{State, Silent, calls, finished}
 use Rattle.host_core.specs.Loss.{IsLater}
-use Rattle.administration.specs.Places.{tmp_path, is_within}
-use Rattle.unwind_stack.specs.Transcript.{Ended, Committed as AllSucceeded, Unwound, Legal, Tells, BrokeOff}
+use Rattle.administration.specs.Directories.{IsRemoved}
+use Rattle.administration.specs.Places.{list_path, tmp_path, is_within}
+use Rattle.unwind_stack.specs.Transcript.{Tells}
 use Rattle.unwind_stack.specs.declared.rows.Called.{Called}
-use Rattle.package_tree.specs.declared.package.Package.{Package}
-use Rattle.unpack_engine.specs.OwnFiles.{IsCleared, IsClearing, IsInstalled, IsChanging, IsOwnReady}
-use Rattle.unpack_engine.specs.Incoming.{AreLaidOut, IsLaying}
+use Rattle.cleanup_stack.specs.Transcripts.{Ended, Committed, Unwound, IfHonest, Legal}
+use Rattle.control_members.specs.LaidOut.{AreLaidOut, IsLaying}
+use Rattle.control_members.specs.Stored.{AreTaken}
+use Rattle.file_lists.specs.declared.paths.PackageList.{PackageList}
+use Rattle.file_works.specs.declared.work.Work.{Work}
+use Rattle.status_db.specs.Recorded.{Recorded}
+use Rattle.status_db.specs.Records.{record_in, put_record}
 use Rattle.status_db.specs.declared.record.Record.{Record}
-use Rattle.status_db.specs.declared.words.Flag.TheVariants as flag
-use Rattle.status_db.specs.declared.words.State.TheVariants as state
-use Rattle.status_db.specs.Records.{drop_record}
-use Rattle.status_db.specs.Status.{IsNoted, IsNoting}
-use Rattle.unpack_engine.specs.declared.rows.Turn.{Turn}
-use Rattle.unpack_engine.specs.declared.rows.Turn.TheVariants.{Committed, Undone, UndoFailed}
-use Rattle.unpack_engine.specs.EndStates.{own_undo_failed}
-use Rattle.unpack_engine.specs.ForwardRows.{rows_of, gives}
-use Rattle.unpack_engine.specs.Unpack.{MadeCalls, Unpacks}
-use Rattle.unpack_engine.specs.Stages.{IsPutAs, IsNotingAs}
+use Rattle.unpack_rows.specs.EndStates.{end_of, end_record}
+use Rattle.unpack_rows.specs.Stages.{stage_of}
+use Rattle.unpack_run.specs.Task.{Task, kinds, lists_at, name}
+use Rattle.unpack_run.specs.Trail.{AreOrdered, HasCome}
+use Rattle.unpack_run.specs.At.{IsFileFault, Stops, table_at}
+use Rattle.unpack_commit.specs.Commit.{Changes, HasCommitted, MayCommit}
+use Rattle.unpack_commit.specs.Takeover.{losers, losing_records, put_records, taken_places, yields_of}
+use Rattle.unpack_plan.specs.Planned.{Job, Planned, IsPlanned}
 
--- What stands once the unit has begun, by the worlds after each of its three parts.
-pub record BegunWorlds (p : Package) (after : List Record) (old now : World) : Type 0 where
-  pub cleared : World
-  pub laid : World
-  pub own_cleared : IsCleared p.name old cleared
-  pub own_ready : IsOwnReady p.name cleared
-  pub scripts_laid : AreLaidOut p.scripts laid
-  pub tmp_alone : KeepsBut (is_within tmp_path) cleared laid
-  pub noted : IsNoted after laid now
+-- the package's record as the unit finds it
+abbrev pub found : Job → Option Record
+found j = record_in j.records j.«package».name
 
--- the package is noted as half-installed, and to be installed again
-abbrev pub BegunTable : Package → List Record → List Record → Type 0
-BegunTable p before after = IsPutAs p flag.Reinstreq state.HalfInstalled before after
+-- what stays the same while the rows run
+abbrev pub task_of : Job → Planned → State → List Path → Task
+task_of j p start places = record {
+  start = start; records = j.records; lists = j.lists; entries = j.entries; places = places;
+  found = found j; incoming = p.incoming; others = []; yields = yields_of j.records;
+  works = p.works; listed = p.listed; union = p.union;
+}
 
--- at each moment of the beginning
-pub data IsBeginning (p : Package) (before : List Record) (old now : World) : Type 0 where
-  clearing : IsClearing p.name old now → IsBeginning p before old now
-  laying : (cleared : World) → IsCleared p.name old cleared → IsLaying cleared now → IsBeginning p before old now
-  noting : (cleared laid : World) → IsCleared p.name old cleared → IsLaying cleared laid → IsNotingAs p flag.Reinstreq state.HalfInstalled before laid now → IsBeginning p before old now
+-- (HasBegun, the beginning: of a package without a record what is left under its name in `info/` goes: its list and control files;
+--  then the tree's control files are laid out in `tmp.ci`.
+--  HasLeft by how the rows ended: Committed: HasCommitted from the world where the files stand (HasFiles) and then tmp.ci is gone;
+--  Unwound: HasCome of the stage of Back 0, then, where the package has no record at the end, its list goes, then tmp.ci is gone.)
 
--- how the unit is finished, by the turn that its rows took
-abbrev pub FinishedWorlds : Package → Turn → List Record → World → World → Type 0
-FinishedWorlds p Committed after old new = (stored : World) × IsInstalled p.name p.scripts old stored × IsOwnReady p.name stored × IsNoted after stored new
-FinishedWorlds p Undone after old new = IsNoted after old new
-FinishedWorlds p UndoFailed after old new = new ≡ old
+-- the packages of a unit: the one that was named, and each whose record differs, in the order of names
+-- IsTouched name before after touched
 
-abbrev pub FinishedTable : Package → Turn → List Record → List Record → Type 0
-FinishedTable p Committed before after = IsPutAs p flag.Ok state.Unpacked before after
-FinishedTable p Undone before after = after ≡ drop_record p.name before
-FinishedTable p UndoFailed before after = after ≡ before
+-- IsEnd: the record of each name at the end: end_record of unpack_rows where unwound; where committed, the fresh record and those of
+-- packages that lost conffiles, all other names as before
 
--- at each moment of the end
-pub data IsFinishing (p : Package) (turn : Turn) (before : List Record) (old now : World) : Type 0 where
-  storing : turn ≡ Committed → IsChanging p.name p.scripts old now → IsFinishing p turn before old now
-  unpacked : turn ≡ Committed → (stored : World) → IsInstalled p.name p.scripts old stored → IsOwnReady p.name stored → IsNotingAs p flag.Ok state.Unpacked before stored now → IsFinishing p turn before old now
-  forgetting : turn ≡ Undone → IsNoting (drop_record p.name before) old now → IsFinishing p turn before old now
-  left : turn ≡ UndoFailed → now ≡ old → IsFinishing p turn before old now
-
--- how the rows ended, as the turn tells it
-abbrev pub EndsAs : Package → Turn → Ended → Type 0
-EndsAs p Committed AllSucceeded = Unit {0}
-EndsAs p Committed (Unwound fall owners) = ⊥
-EndsAs p Undone AllSucceeded = ⊥
-EndsAs p Undone (Unwound fall owners) = own_undo_failed p owners ≡ false
-EndsAs p UndoFailed AllSucceeded = ⊥
-EndsAs p UndoFailed (Unwound fall owners) = own_undo_failed p owners ≡ true
-
--- the whole unit, with the calls that were told
-pub record HasUnpacked (p : Package) (places : List Path) (turn : Turn) (before after : List Record) (old new : State) (told now : List Called) : Type 0 where
-  pub ended : Ended
-  pub ts : List Ran
-  pub is_end : EndsAs p turn ended
-  pub calls : calls new ≡ calls old ++ ts
-  pub tells : Tells ts told now
-  pub unit : Unpacks p places before after ended ts old new
-
--- How far the script calls of a unit came: none was begun; it was broken off where these calls could have come; or they are
--- all of them.
-pub data CameTo (p : Package) (places : List Path) (before : List Record) (ts more : List Ran) (old new : State) : Type 0 where
-  nowhere : ts ≡ [] → Silent old new → CameTo p places before ts more old new
-  broke_off : (last : State) → MadeCalls (is_kept places) p before ts old last → BrokeOff (is_kept places) more last new → CameTo p places before ts more old new
-  whole : (last : State) → MadeCalls (is_kept places) p before ts old last → more ≡ [] → Silent last new → IsLater last new → CameTo p places before ts more old new
-
--- The calls of a unit, whatever its answer: the first of some that are legal for its rows. They were made one after another,
--- none before all was ready for them, and they are told.
-pub record HasCalled (p : Package) (places : List Path) (before : List Record) (old new : State) (told now : List Called) : Type 0 where
-  pub ended : Ended
-  pub ts : List Ran
-  pub more : List Ran
-  pub legal : Legal gives [] ended (rows_of p) (ts ++ more)
-  pub calls : calls new ≡ calls old ++ ts
-  pub tells : Tells ts told now
-  pub came : CameTo p places before ts more old new
+-- pub record HasUnpacked (j : Job) (places : List Path) (ended : Ended) (after : Recorded) (lists : List PackageList) (old new : State) (told now : List Called)
+-- pub data IsAmid (j : Job) (places : List Path) (old : World) (so_far : List Event) (now : World)
+-- pub record HasCalled (j : Job) (places : List Path) (old new : State) (told now : List Called)
