@@ -1,4 +1,4 @@
-use Rattle.std.proofs.Common.{◌≡◌, List, Option, Some, None, sym, ap, subst, ◌∙◌, length, rules, tt}
+use Rattle.std.proofs.Common.{◌≡◌, List, Option, Some, None, sym, ap, subst, ◌∙◌, length}
 use Rattle.cleanup_stack.specs.Place.{Back, Fit}
 use Rattle.cleanup_stack.specs.Transcripts.{Ended}
 use Rattle.unwind_stack.specs.declared.fall.Fall.{Fall}
@@ -34,8 +34,8 @@ returns-in_err-unwind_rows-clause-told g c =
 pub returns-in_err-unwind_rows-clause-any_moment : goal.returns-in_err-unwind_rows-clause-any_moment
 returns-in_err-unwind_rows-clause-any_moment g c = next_part _ g.A.Around.stops _ _ c.step_rows.ensures.task _ _ _ c.step_rows.ensures.any_moment c.unwind_rows.ensures.any_moment
 
-pub returns-in_ok-unwind_rows-clause-calls : goal.returns-in_ok-unwind_rows-clause-calls
-returns-in_ok-unwind_rows-clause-calls g c =
+pub returns-clause-calls : goal.returns-clause-calls
+returns-clause-calls g c =
     let A = g.A.Around in
     let t = A.task c.args.around.now in
     let fault = A.file_step_fault t in
@@ -43,15 +43,15 @@ returns-in_ok-unwind_rows-clause-calls g c =
     (subst (λ (o : Option Stopped). HasStopped fault o c.args.rows.items c.step_rows.new.stack (g.H.Host.state c.args.host.now) (g.H.Host.state c.step_rows.new.host) c.args.told.now.items c.step_rows.new.told.items) c.in-Some.is c.in_ok-stopped.ensures.calls)
     (c.steps_and_an_unwind_are_a_run.ensures.unwound t) c.in_ok-unwind_rows.field-0 c.in_ok-unwind_rows.ensures.fall c.in_ok-unwind_rows.ensures.calls
 
-pub returns-in_ok-unwind_rows-clause-cause : goal.returns-in_ok-unwind_rows-clause-cause
-returns-in_ok-unwind_rows-clause-cause g c =
+pub returns-clause-cause : goal.returns-clause-cause
+returns-clause-cause g c =
     let A = g.A.Around in
     let fault = A.file_step_fault (A.task c.args.around.now) in
     let fell = subst (λ (o : Option Stopped). HasStopped fault o c.args.rows.items c.step_rows.new.stack (g.H.Host.state c.args.host.now) (g.H.Host.state c.step_rows.new.host) c.args.told.now.items c.step_rows.new.told.items) c.in-Some.is c.in_ok-stopped.ensures.calls in
     failed_for c.in-Some.stopped c.args.rows.items fell.before fell.after fell.row fell.rows_are c.in_ok-unwind_rows.field-0 fell.fell_at fell.forward_is c.in_ok-unwind_rows.ensures.fall c.in_ok-unwind_rows.ensures.cause
 
-pub returns-in_ok-unwind_rows-clause-told : goal.returns-in_ok-unwind_rows-clause-told
-returns-in_ok-unwind_rows-clause-told g c =
+pub returns-clause-told : goal.returns-clause-told
+returns-clause-told g c =
     let A = g.A.Around in
     let t = A.task c.args.around.now in
     let fault = A.file_step_fault t in
@@ -59,5 +59,5 @@ returns-in_ok-unwind_rows-clause-told g c =
     (subst (λ (o : Option Stopped). HasStopped fault o c.args.rows.items c.step_rows.new.stack (g.H.Host.state c.args.host.now) (g.H.Host.state c.step_rows.new.host) c.args.told.now.items c.step_rows.new.told.items) c.in-Some.is c.in_ok-stopped.ensures.calls)
     (c.what_is_broken_off_begins_a_run.ensures.unwind t) c.unwind_rows.ensures.told
 
-pub returns-in_ok-unwind_rows-clause-any_moment : goal.returns-in_ok-unwind_rows-clause-any_moment
-returns-in_ok-unwind_rows-clause-any_moment g c = next_part _ g.A.Around.stops _ _ c.step_rows.ensures.task _ _ _ c.step_rows.ensures.any_moment c.unwind_rows.ensures.any_moment
+pub returns-clause-any_moment : goal.returns-clause-any_moment
+returns-clause-any_moment g c = next_part _ g.A.Around.stops _ _ c.step_rows.ensures.task _ _ _ c.step_rows.ensures.any_moment c.unwind_rows.ensures.any_moment

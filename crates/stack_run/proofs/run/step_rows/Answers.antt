@@ -1,6 +1,5 @@
-use Rattle.std.proofs.Common.{◌≡◌, List, [], ◌∷◌, ◌++◌, Option, Some, None, length, refl, sym, ap, subst, ◌∙◌, append_assoc, length-append, arith, rules}
+use Rattle.std.proofs.Common.{◌≡◌, ◌+◌, List, [], ◌∷◌, ◌++◌, Option, Some, None, length, refl, sym, ap, subst, ◌∙◌, append_assoc, length-append, arith, rules}
 use Rattle.std.proofs.lemmas.List.{append-nil}
-use Rattle.std.proofs.lemmas.Grind.{common_steps}
 use Rattle.host_core.specs.World.{is_kept}
 use Rattle.unwind_stack.specs.declared.rows.Row.{Row}
 use Rattle.unwind_stack.specs.declared.fall.Fall.{Fall}
@@ -16,7 +15,7 @@ loop-row-init g c =
     let s = g.H.Host.state c.args.host.now in
     let t = A.task c.args.around.now in
     record {
-      left = refl;
+      left = search rules;
       stack = c.requires.empty;
       succeeded = c.steps_and_an_unwind_are_a_run.ensures.none t s s c.args.told.now.items (nothing_done s);
       place = c.requires.place;
@@ -37,8 +36,8 @@ step-requires-clause-row g c =
     let here = fit_at fits c.args.rows.items c.loop-row.yielded c.in-Some.row c.next.new.self.rest.items (search rules) c.requires.rows in
     subst (λ t. A.fits t (length c.loop-row.stack) c.in-Some.row) (sym inv.task) (subst (λ (l : List Row). fits (length l) c.in-Some.row) (sym inv.stack) here)
 
-pub loop-row-preserved : goal.loop-row-preserved
-loop-row-preserved g c =
+pub loop-row-preserved-in_default : goal.loop-row-preserved-in_default
+loop-row-preserved-in_default g c =
     let A = g.A.Around in
     let inv = c.loop-row.invariant in
     let t = A.task c.args.around.now in
@@ -48,11 +47,12 @@ loop-row-preserved g c =
     let xs = c.loop-row.yielded in
     let row = c.in-Some.row in
     let was = c.loop-row.told.items in
+    let walk : c.args.rows.items ≡ xs ++ row ∷ c.next.new.self.rest.items = search rules in
     let now = c.step.new.told.items in
     let stepped = subst (λ (o : Option Fall). HasStepped (A.file_step_fault t) row o b d was now) c.in_default.is
     (subst (λ u. HasStepped (A.file_step_fault u) row c.in_ok-fall.field-0 b d was now) inv.task c.in_ok-fall.ensures.calls) in
     record {
-      left = inv.left ∙ grind (arith, common_steps);
+      left = walk ∙ sym (append_assoc xs (row ∷ []) c.next.new.self.rest.items);
       stack = c.in_ok-fall.ensures.rows ∙ ap (λ (l : List Row). l ++ row ∷ []) inv.stack;
       succeeded = c.steps_and_an_unwind_are_a_run.ensures.step t xs row a b d c.args.told.now.items was now inv.succeeded stepped;
       place = subst (λ n. A.at c.step.new.around d (Forward n)) (ap (λ (l : List Row). length l + 1) inv.stack ∙ sym (length-append xs (row ∷ [])))
@@ -62,3 +62,55 @@ loop-row-preserved g c =
       reference = c.step.ensures.reference ∙ inv.reference;
       counts = c.in_ok-fall.ensures.counts ∙ inv.counts;
     }
+
+pub returns-in_err-forward-clause-told : goal.returns-in_err-forward-clause-told
+returns-in_err-forward-clause-told g c =
+    let inv = c.loop-row.invariant in
+    let a = g.H.Host.state c.args.host.now in
+    let b = g.H.Host.state c.loop-row.host in
+    let was = c.loop-row.told.items in
+    subst (λ (l : List Row). Begun (MayRun l) a b c.args.told.now.items was) (sym inv.left)
+    (c.what_is_broken_off_begins_a_run.ensures.beside (g.A.Around.task c.args.around.now) c.loop-row.yielded c.loop-row.row-iterator.rest.items a b b c.args.told.now.items was inv.succeeded (nothing_done b))
+
+pub returns-in_err-fall-clause-told : goal.returns-in_err-fall-clause-told
+returns-in_err-fall-clause-told g c =
+    let inv = c.loop-row.invariant in
+    let a = g.H.Host.state c.args.host.now in
+    let b = g.H.Host.state c.loop-row.host in
+    let d = g.H.Host.state c.step.new.host in
+    let was = c.loop-row.told.items in
+    let now = c.step.new.told.items in
+    let walk : c.args.rows.items ≡ c.loop-row.yielded ++ c.in-Some.row ∷ c.next.new.self.rest.items = search rules in
+    subst (λ (l : List Row). Begun (MayRun l) a d c.args.told.now.items now) (sym walk)
+    (c.what_is_broken_off_begins_a_run.ensures.step (g.A.Around.task c.args.around.now) c.loop-row.yielded c.next.new.self.rest.items c.in-Some.row a b d c.args.told.now.items was now inv.succeeded c.step.ensures.told)
+
+pub returns-in_err-fall-clause-any_moment : goal.returns-in_err-fall-clause-any_moment
+returns-in_err-fall-clause-any_moment g c =
+    let inv = c.loop-row.invariant in
+    next_part _ g.A.Around.stops _ _ inv.task _ _ _ inv.any_moment c.step.ensures.any_moment
+
+pub returns-in-Some-2-clause-told : goal.returns-in-Some-2-clause-told
+returns-in-Some-2-clause-told g c =
+    let inv = c.loop-row.invariant in
+    let a = g.H.Host.state c.args.host.now in
+    let b = g.H.Host.state c.loop-row.host in
+    let d = g.H.Host.state c.step.new.host in
+    let was = c.loop-row.told.items in
+    let now = c.step.new.told.items in
+    let walk : c.args.rows.items ≡ c.loop-row.yielded ++ c.in-Some.row ∷ c.next.new.self.rest.items = search rules in
+    subst (λ (l : List Row). Begun (MayRun l) a d c.args.told.now.items now) (sym walk)
+    (c.what_is_broken_off_begins_a_run.ensures.step (g.A.Around.task c.args.around.now) c.loop-row.yielded c.next.new.self.rest.items c.in-Some.row a b d c.args.told.now.items was now inv.succeeded c.step.ensures.told)
+
+pub returns-in-Some-2-clause-any_moment : goal.returns-in-Some-2-clause-any_moment
+returns-in-Some-2-clause-any_moment g c =
+    let inv = c.loop-row.invariant in
+    next_part _ g.A.Around.stops _ _ inv.task _ _ _ inv.any_moment c.step.ensures.any_moment
+
+pub returns-clause-told : goal.returns-clause-told
+returns-clause-told g c =
+    let inv = c.loop-row.invariant in
+    let a = g.H.Host.state c.args.host.now in
+    let b = g.H.Host.state c.loop-row.host in
+    let was = c.loop-row.told.items in
+    subst (λ (l : List Row). Begun (MayRun l) a b c.args.told.now.items was) (sym inv.left)
+    (c.what_is_broken_off_begins_a_run.ensures.beside (g.A.Around.task c.args.around.now) c.loop-row.yielded c.loop-row.row-iterator.rest.items a b b c.args.told.now.items was inv.succeeded (nothing_done b))
