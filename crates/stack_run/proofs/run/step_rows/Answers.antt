@@ -63,6 +63,33 @@ loop-row-preserved-in_default g c =
       counts = c.in_ok-fall.ensures.counts ∙ inv.counts;
     }
 
+pub loop-row-preserved : goal.loop-row-preserved
+loop-row-preserved g c =
+    let A = g.A.Around in
+    let inv = c.loop-row.invariant in
+    let t = A.task c.args.around.now in
+    let a = g.H.Host.state c.args.host.now in
+    let b = g.H.Host.state c.loop-row.host in
+    let d = g.H.Host.state c.step.new.host in
+    let xs = c.loop-row.yielded in
+    let row = c.in-Some.row in
+    let was = c.loop-row.told.items in
+    let walk : c.args.rows.items ≡ xs ++ row ∷ c.next.new.self.rest.items = search rules in
+    let now = c.step.new.told.items in
+    let stepped = subst (λ (o : Option Fall). HasStepped (A.file_step_fault t) row o b d was now) c.in_default.is
+    (subst (λ u. HasStepped (A.file_step_fault u) row c.in_ok-fall.field-0 b d was now) inv.task c.in_ok-fall.ensures.calls) in
+    record {
+      left = walk ∙ sym (append_assoc xs (row ∷ []) c.next.new.self.rest.items);
+      stack = c.in_ok-fall.ensures.rows ∙ ap (λ (l : List Row). l ++ row ∷ []) inv.stack;
+      succeeded = c.steps_and_an_unwind_are_a_run.ensures.step t xs row a b d c.args.told.now.items was now inv.succeeded stepped;
+      place = subst (λ n. A.at c.step.new.around d (Forward n)) (ap (λ (l : List Row). length l + 1) inv.stack ∙ sym (length-append xs (row ∷ [])))
+          (subst (λ (o : Option Fall). A.at c.step.new.around d (leads (length c.loop-row.stack) o)) c.in_default.is c.in_ok-fall.ensures.place);
+      any_moment = next_part _ A.stops _ _ inv.task _ _ _ inv.any_moment c.step.ensures.any_moment;
+      task = c.step.ensures.task ∙ inv.task;
+      reference = c.step.ensures.reference ∙ inv.reference;
+      counts = c.in_ok-fall.ensures.counts ∙ inv.counts;
+    }
+
 pub returns-in_err-forward-clause-told : goal.returns-in_err-forward-clause-told
 returns-in_err-forward-clause-told g c =
     let inv = c.loop-row.invariant in
