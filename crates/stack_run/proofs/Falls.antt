@@ -1,5 +1,5 @@
 -- Runs in which a row failed.
-use Rattle.std.proofs.Common.{◌≡◌, List, [], ◌∷◌, ◌++◌, Option, Some, None, IsSome, length, refl, sym, ap, subst, ◌∙◌}
+use Rattle.std.proofs.Common.{◌≡◌, List, [], ◌∷◌, ◌++◌, Option, Some, None, IsSome, length, sym, subst}
 use Rattle.host_core.specs.Events.{Ran}
 use Rattle.host_core.specs.Host.{State, calls}
 use Rattle.unwind_stack.specs.declared.rows.Called.{Called}

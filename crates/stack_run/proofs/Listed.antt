@@ -1,5 +1,5 @@
 -- Lists of rows, and what a row has that fails.
-use Rattle.std.proofs.Common.{◌≡◌, ◌<◌, ◌+◌, ℕ, Bool, IsTrue, true, false, List, [], ◌∷◌, ◌++◌, Option, Some, None, IsSome, length, refl, sym, ap, subst, ◌∙◌, arith, append_assoc, length-append, get_or}
+use Rattle.std.proofs.Common.{◌≡◌, ℕ, Bool, IsTrue, false, List, [], ◌∷◌, ◌++◌, Option, Some, None, IsSome, length, refl, sym, ap, subst, ◌∙◌, arith, append_assoc, length-append, get_or}
 use Rattle.std.proofs.lemmas.List.{append-nil, get_or_append_left, get_or_at}
 use Rattle.host_core.specs.Paths.{Path}
 use Rattle.host_core.specs.World.{World}
@@ -12,7 +12,6 @@ use Rattle.unwind_stack.specs.declared.fall.Fall.{Fall}
 use Rattle.unwind_stack.specs.Transcript.{Goes, Tries}
 use Rattle.cleanup_stack.specs.Place.{Fit}
 use Rattle.cleanup_stack.specs.Stops.{AtEachStop, stops_then}
-use Rattle.stack_run.specs.declared.failure.Failure.{Failure}
 use Rattle.stack_run.specs.declared.stopped.Stopped.{Stopped}
 use Rattle.stack_run.specs.declared.unwinding.Unwinding.{Unwinding}
 use Rattle.stack_run.specs.Ended.{IsCauseOf, cause_of, failure_of, forward_of, row_at}

@@ -1,9 +1,7 @@
-use Rattle.std.proofs.Common.{◌≡◌, List, Option, Some, None, sym, ap, subst, ◌∙◌, length}
-use Rattle.cleanup_stack.specs.Place.{Back, Fit}
-use Rattle.cleanup_stack.specs.Transcripts.{Ended}
-use Rattle.unwind_stack.specs.declared.fall.Fall.{Fall}
+use Rattle.std.proofs.Common.{Option, sym, subst}
+use Rattle.cleanup_stack.specs.Place.{Fit}
 use Rattle.stack_run.specs.declared.stopped.Stopped.{Stopped}
-use Rattle.stack_run.specs.Stepping.{HasFallen, HasStopped, stop_place}
+use Rattle.stack_run.specs.Stepping.{HasStopped}
 use Rattle.stack_run.proofs.Falls.{has_begun, has_run, is_called}
 use Rattle.stack_run.proofs.Listed.{failed_for, fit_stack, next_part}
 use Rattle.stack_run.proofs.run.run_on.Goals as goal

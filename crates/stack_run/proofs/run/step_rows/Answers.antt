@@ -1,10 +1,9 @@
-use Rattle.std.proofs.Common.{◌≡◌, ◌+◌, List, [], ◌∷◌, ◌++◌, Option, Some, None, length, refl, sym, ap, subst, ◌∙◌, append_assoc, length-append, arith, rules}
-use Rattle.std.proofs.lemmas.List.{append-nil}
+use Rattle.std.proofs.Common.{◌≡◌, ◌+◌, List, [], ◌∷◌, ◌++◌, Option, length, refl, sym, ap, subst, ◌∙◌, append_assoc, length-append, rules}
 use Rattle.host_core.specs.World.{is_kept}
 use Rattle.unwind_stack.specs.declared.rows.Row.{Row}
 use Rattle.unwind_stack.specs.declared.fall.Fall.{Fall}
-use Rattle.cleanup_stack.specs.Place.{Back, Forward, Fit, leads}
-use Rattle.cleanup_stack.specs.Telling.{Begun, HasStepped, HasSucceeded}
+use Rattle.cleanup_stack.specs.Place.{Forward, leads}
+use Rattle.cleanup_stack.specs.Telling.{Begun, HasStepped}
 use Rattle.cleanup_stack.specs.Transcripts.{MayRun}
 use Rattle.stack_run.proofs.Listed.{at_once, fit_at, next_part, nothing_done}
 use Rattle.stack_run.proofs.run.step_rows.Goals as goal
@@ -96,7 +95,7 @@ returns-in_err-forward-clause-told g c =
     let a = g.H.Host.state c.args.host.now in
     let b = g.H.Host.state c.loop-row.host in
     let was = c.loop-row.told.items in
-    subst (λ (l : List Row). Begun (MayRun l) a b c.args.told.now.items was) (sym inv.left)
+    subst (λ (l : List Row). Begun (MayRun l) a b c.args.told.now.items was) (sym {A = List Row} inv.left)
     (c.what_is_broken_off_begins_a_run.ensures.beside (g.A.Around.task c.args.around.now) c.loop-row.yielded c.loop-row.row-iterator.rest.items a b b c.args.told.now.items was inv.succeeded (nothing_done b))
 
 pub returns-in_err-fall-clause-told : goal.returns-in_err-fall-clause-told
@@ -139,5 +138,5 @@ returns-clause-told g c =
     let a = g.H.Host.state c.args.host.now in
     let b = g.H.Host.state c.loop-row.host in
     let was = c.loop-row.told.items in
-    subst (λ (l : List Row). Begun (MayRun l) a b c.args.told.now.items was) (sym inv.left)
+    subst (λ (l : List Row). Begun (MayRun l) a b c.args.told.now.items was) (sym {A = List Row} inv.left)
     (c.what_is_broken_off_begins_a_run.ensures.beside (g.A.Around.task c.args.around.now) c.loop-row.yielded c.loop-row.row-iterator.rest.items a b b c.args.told.now.items was inv.succeeded (nothing_done b))
