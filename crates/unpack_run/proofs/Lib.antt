@@ -1,0 +1,4 @@
+pub mod RowKinds
+pub mod Hooks
+pub mod Notables
+pub mod HookRows
