@@ -34,10 +34,10 @@ Leads t g s p r entry = IsWithin (length (kinds t)) r × (stage_of (kinds t) r �
     × (notes_at t.found t.incoming (kinds t) r ≡ notes_at t.found t.incoming (kinds t) p ++ listed entry)
 
 module _ (t : Task) (g : Holding) (s u : State) (p r : Place) (entry : Option Note) (at : At t g s p) (leads : Leads t g s p r entry) (silent : Silent s u) where
-  pub noted_place : {T : Type 0} (result : Result T HostFault) (now : Recorded) (P : List Event → World → Type 0) → Since P s u → OnOk result (now.records ≡ noted g.database.records (listed entry)) → OnOk result (now.closed ≡ false)
+  pub noted_place : {T : Type 0} (result : Result T HostFault) (now : Recorded) → AtEachMoment (IsNoting g.database.records (noted g.database.records (listed entry))) s u → OnOk result (now.records ≡ noted g.database.records (listed entry)) → OnOk result (now.closed ≡ false)
       → Leaves result (IsNoted now) s u → OnOk result (At t (record g { database = now }) u r)
-  noted_place (Ok x) now P since is opened has = at_noted t g s p r leads.0 leads.1 leads.2 at u entry leads.3 silent now P is opened since has
-  noted_place (Err e) now P since is opened has = tt
+  noted_place (Ok x) now since is opened has = at_noted t g s p r leads.0 leads.1 leads.2 at u entry leads.3 silent now (λ so_far. IsNoting g.database.records (noted g.database.records (listed entry)) s.world) is opened since has
+  noted_place (Err e) now since is opened has = tt
 
   pub noted_moments : AtEachMoment (IsNoting g.database.records (noted g.database.records (listed entry))) s u → AtEachStop (Stops t) s u
   noted_moments since = noting_stops t g s p r leads.0 leads.1 leads.2 at u entry leads.3 silent since

@@ -1,9 +1,10 @@
-use Rattle.std.proofs.Common.{◌≡◌, ◌+◌, ◌||◌, true, false, get_or, refl, sym, ap, subst, ◌∙◌, rules}
+use Rattle.std.proofs.Common.{◌≡◌, List, ◌+◌, ◌||◌, true, false, get_or, refl, sym, ap, subst, ◌∙◌, rules}
 use Rattle.cleanup_stack.specs.Place.{Forward, Ready}
 use Rattle.unpack_rows.specs.Notes.{note_before}
 use Rattle.unpack_run.specs.Notable.{IsNotable}
 use Rattle.unpack_run.proofs.Hooks.{stops_here}
 use Rattle.unpack_run.proofs.HookRows.{Leads, before_can, noted_moments, noted_place, prepared}
+use Rattle.unpack_rows.specs.declared.kinds.RowKind.{RowKind}
 use Rattle.unpack_run.specs.At.{At, Holding, holding}
 use Rattle.unpack_run.specs.Task.{Task, kinds, name, task_of}
 use Rattle.unpack_run.proofs.around.UnpackingAround.prepare.Goals as goal
@@ -24,8 +25,8 @@ write_note-requires-clause-notable g c =
     let h : Holding = holding self.database.now self.lists.now self.places.now self.works.now.items in
     let s = g.H.Host.state c.args.host.now in
     let at = c.requires.place in
-    let k = c.index-self-index.result in
-    let is = subst (λ l. k ≡ get_or l c.args.index k) self.kinds_are c.index-self-index.is in
+    let k = c.kind-kind.result.now in
+    let is : k ≡ get_or (kinds t) c.args.index k = subst (λ (l : List RowKind). k ≡ get_or l c.args.index k) self.kinds_are c.kind-kind.ensures in
     let entry_is : c.in_ok-entry.entry ≡ note_before t.found t.incoming k = search rules in
     subst IsNotable (sym entry_is) (before_can t h s c.args.index k c.requires.row.0 is)
 
@@ -45,12 +46,12 @@ returns-clause-place g c =
     let h : Holding = holding self.database.now self.lists.now self.places.now self.works.now.items in
     let s = g.H.Host.state c.args.host.now in
     let at = c.requires.place in
-    let k = c.index-self-index.result in
-    let is = subst (λ l. k ≡ get_or l c.args.index k) self.kinds_are c.index-self-index.is in
+    let k = c.kind-kind.result.now in
+    let is : k ≡ get_or (kinds t) c.args.index k = subst (λ (l : List RowKind). k ≡ get_or l c.args.index k) self.kinds_are c.kind-kind.ensures in
     let entry_is : c.in_ok-entry.entry ≡ note_before t.found t.incoming k = search rules in
     let u = g.H.Host.state c.write_note.new.host in
     let leads = subst (Leads t h s (Forward c.args.index) (Ready c.args.index)) (sym entry_is) (prepared t h s c.args.index k c.requires.row.0 is) in
-    noted_place t h s u (Forward c.args.index) (Ready c.args.index) c.in_ok-entry.entry at leads c.write_note.ensures.silent c.write_note.result c.write_note.new.database _ c.write_note.ensures.any_moment c.write_note.ensures.records c.write_note.ensures.opened c.write_note.ensures.kept
+    noted_place t h s u (Forward c.args.index) (Ready c.args.index) c.in_ok-entry.entry at leads c.write_note.ensures.silent c.write_note.result c.write_note.new.database c.write_note.ensures.any_moment c.write_note.ensures.records c.write_note.ensures.opened c.write_note.ensures.kept
 
 pub returns-clause-any_moment : goal.returns-clause-any_moment
 returns-clause-any_moment g c =
@@ -59,8 +60,8 @@ returns-clause-any_moment g c =
     let h : Holding = holding self.database.now self.lists.now self.places.now self.works.now.items in
     let s = g.H.Host.state c.args.host.now in
     let at = c.requires.place in
-    let k = c.index-self-index.result in
-    let is = subst (λ l. k ≡ get_or l c.args.index k) self.kinds_are c.index-self-index.is in
+    let k = c.kind-kind.result.now in
+    let is : k ≡ get_or (kinds t) c.args.index k = subst (λ (l : List RowKind). k ≡ get_or l c.args.index k) self.kinds_are c.kind-kind.ensures in
     let entry_is : c.in_ok-entry.entry ≡ note_before t.found t.incoming k = search rules in
     let u = g.H.Host.state c.write_note.new.host in
     let leads = subst (Leads t h s (Forward c.args.index) (Ready c.args.index)) (sym entry_is) (prepared t h s c.args.index k c.requires.row.0 is) in
