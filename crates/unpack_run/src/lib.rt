@@ -6,5 +6,7 @@ mod around;
 mod files;
 mod notes;
 mod plan;
+mod run;
 
 pub use plan::Rows;
+pub use run::run_unpack_rows;
