@@ -49,6 +49,7 @@ module _ (t : Task) (works : List Work) (c d : Change) (v w : World) where
     found = has.found;
     written = has.written;
     before = has.before;
+    home = has.home;
     listed = has.listed;
     from = has.from;
     since = follows_then (all_places t) has.late d has.written v w has.since next;
