@@ -1,0 +1,4 @@
+pub mod Standing
+pub mod Rearranged
+pub mod FileWorlds
+pub mod FileRow
