@@ -39,7 +39,6 @@ use Rattle.unpack_run.specs.Task.{IsFileRow, Task, kinds, name}
 use Rattle.unpack_run.proofs.FileRow.{at_back, at_stopped, at_written, file_fault}
 use Rattle.unpack_run.proofs.Rearranged.{sound_same}
 
-
 pub same_moved : (xs ys : List Work) → IsSameBut xs ys → IsRearranged xs ys
 same_moved xs ys same = rearranged xs ys ys same (IsPermutation-refl ys)
 

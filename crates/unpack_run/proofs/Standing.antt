@@ -51,9 +51,9 @@ module _ (rs : List Record) (notes : ℕ) (name : List ℕ) (v now : World) wher
   list_still : KeepsBesideFile (list_path name) v now → NoDirectory (now (list_path name)) → NoDirectory (now (temporary (list_path name))) → Stands rs notes name v → Stands rs notes name now
   list_still rest target spare stands =
       let still : (q : Path) → bytes_eq (list_path name) q ≡ false → bytes_eq (temporary (list_path name)) q ≡ false → now q ≡ v q =
-          λ q list side. rest q (λ e. apart_by (list_path name) q list (sym e)) (λ e. apart_by (temporary (list_path name)) q side (sym e)) in
+      λ q list side. rest q (λ e. apart_by (list_path name) q list (sym e)) (λ e. apart_by (temporary (list_path name)) q side (sym e)) in
       let records : (q : Path) → is_record_place q ≡ true → now q ≡ v q =
-          λ q is. rest q (λ e. true≢false (sym is ∙ ap is_record_place e)) (λ e. true≢false (sym is ∙ ap is_record_place e)) in
+      λ q is. rest q (λ e. true≢false (sym is ∙ ap is_record_place e)) (λ e. true≢false (sym is ∙ ap is_record_place e)) in
       record {
         kept = kept_on v now rs notes records (subst IsDirectory (sym (still home_path refl refl)) stands.kept.unblocked.home)
             (subst IsDirectory (sym (still updates_path refl refl)) stands.kept.unblocked.updates) stands.kept;
