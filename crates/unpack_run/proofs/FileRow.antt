@@ -90,16 +90,16 @@ module _ (t : Task) (d : Recorded) (lists : Filed) (places : List Path) (works :
     at_next : (filed : Filed) (now : List Path) (ordered : List Work) → notes_at t.found t.incoming (kinds t) next ≡ notes_at t.found t.incoming (kinds t) place
         → IsWithin (length (kinds t)) next → filed.lists ≡ lists_at t stage → filed.closed ≡ false → now ≡ places_at t stage → AreWorksAt t next stage ordered
         → (IsTrue u.honest → Stands d.records d.notes (name t) u.world) → (IsTrue u.honest → HasCome t stage ordered (changes_of at.since) u.world) → At t (holding d filed now ordered) u next
-    at_next filed now ordered notes within lists_are open places_are works_are stands came =
+    at_next filed now ordered notes within lists_are opened places_are works_are stands came =
         let none = silent_added s u moments.added silent moments.events in
         record {
           sound = at.sound;
           falls = λ h. at.falls (silent.honest h);
           within = within;
           records = at.records ∙ ap (noted t.records) (sym notes);
-          open = at.open;
+          opened = at.opened;
           lists = lists_are ∙ ap (lists_at t) (sym stage_is);
-          lists_open = open;
+          lists_open = opened;
           places = places_are ∙ ap (places_at t) (sym stage_is);
           works = subst (λ st. AreWorksAt t next st ordered) (sym stage_is) works_are;
           since = at.since ++ moments.added;
