@@ -3,3 +3,7 @@ pub mod Rearranged
 pub mod FileWorlds
 pub mod FileRow
 pub mod Answering
+pub mod RowKinds
+pub mod Hooks
+pub mod Notables
+pub mod HookRows
