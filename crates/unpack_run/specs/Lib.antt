@@ -4,3 +4,4 @@ pub mod At
 pub mod Notable
 pub mod Follows
 pub mod Stays
+pub mod FileMoves

@@ -8,6 +8,7 @@ ghost use Rattle.unpack_run.specs.At.{At, IsFileFault, Stops, holding};
 ghost use Rattle.unpack_run.specs.Task.{IsFileRow, kinds, task_of};
 
 use crate::around::Unpacking;
+use crate::file_moves::{check_and_write, put_back};
 use cleanup_stack::Failed;
 use host_core::{Host, HostFault};
 use unwind_stack::{Fall, StepFault};
@@ -32,9 +33,15 @@ pub(crate) fn write_row<H: Host>(
     ensures counts { Counts (H.state host.old) (H.state host.new) result }
 {
     let _index = index;
-    let _unpacking = unpacking;
-    let _host = host;
-    Err(HostFault::NoMemory)
+    check_and_write(
+        unpacking.alloc,
+        host,
+        unpacking.lists,
+        unpacking.places,
+        unpacking.diversions,
+        unpacking.plan,
+        unpacking.works,
+    )
 }
 
 /// The undo of the file row, which has written.
@@ -58,10 +65,13 @@ pub(crate) fn restore_row<H: Host>(
     ensures silent { Silent (H.state host.old) (H.state host.new) }
     ensures counts { Counts (H.state host.old) (H.state host.new) result }
 {
-    let _index = index;
-    let _unpacking = unpacking;
-    let _host = host;
-    let _fall = fall;
-    let _failed = failed;
-    Err(HostFault::NoMemory)
+    let _at = (index, fall, failed);
+    put_back(
+        unpacking.alloc,
+        host,
+        unpacking.lists,
+        unpacking.places,
+        unpacking.plan,
+        unpacking.works.as_slice(),
+    )
 }

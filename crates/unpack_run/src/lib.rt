@@ -3,6 +3,7 @@
 #![tactic(auto)]
 
 mod around;
+mod file_moves;
 mod files;
 mod notes;
 mod plan;
