@@ -1,5 +1,5 @@
 -- Where the rows begin.
-use Rattle.std.proofs.Common.{◌≡◌, ℕ, ◌≤◌, false, List, [], length, refl, sym, arith}
+use Rattle.std.proofs.Common.{◌≡◌, false, List, [], refl, sym, arith}
 use Rattle.std.proofs.lemmas.List.{append-nil}
 use Rattle.host_core.specs.Paths.{Path}
 use Rattle.host_core.specs.Host.{State, Needs}
@@ -11,7 +11,7 @@ use Rattle.status_db.specs.Recorded.{Recorded}
 use Rattle.unpack_run.specs.declared.plan.Rows.{Rows}
 use Rattle.unpack_run.specs.At.{At, IsBegun, holding}
 use Rattle.unpack_run.specs.Follows.{follows_none}
-use Rattle.unpack_run.specs.Task.{IsSound, kinds, task_of}
+use Rattle.unpack_run.specs.Task.{IsSound, task_of}
 
 pub at_begin : (s : State) (d : Recorded) (l : Filed) (entries : List Diversion) (places : List Path) (works : List Work) (plan : Rows) → IsSound (task_of s d l entries places works plan) → d.closed ≡ false → l.closed ≡ false
     → Needs s (IsBegun (task_of s d l entries places works plan) d) → At (task_of s d l entries places works plan) (holding d l places works) s (Forward 0)

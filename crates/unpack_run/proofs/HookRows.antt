@@ -1,9 +1,7 @@
 -- The hooks of an unpack's rows: each leads to the next place.
-use Rattle.std.proofs.Common.{◌≡◌, ◌≢◌, ℕ, ◌+◌, ◌<◌, ◌≤◌, Bool, true, false, cond, ◌||◌, List, [], ◌∷◌, ◌++◌, Option, Some, None, IsTrue, Result, Ok, Err, OnOk, length, get_or, refl, sym, ap, subst, ◌∙◌, arith}
+use Rattle.std.proofs.Common.{◌≡◌, ℕ, ◌+◌, ◌<◌, ◌≤◌, Bool, true, false, cond, ◌||◌, List, [], ◌++◌, Option, Result, Ok, Err, OnOk, length, get_or, refl, sym, ap, ◌∙◌, arith}
 use Rattle.std.proofs.lemmas.List.{append-nil}
-use Rattle.host_core.specs.World.{World}
-use Rattle.host_core.specs.Events.{Event}
-use Rattle.host_core.specs.Host.{State, AtEachMoment, Leaves, Silent, Since}
+use Rattle.host_core.specs.Host.{State, AtEachMoment, Leaves, Silent}
 use Rattle.host_core.specs.declared.fault.HostFault.{HostFault}
 use Rattle.unwind_stack.specs.declared.fall.Fall.{Fall}
 use Rattle.unwind_stack.specs.declared.rows.Owner.{Owner}
@@ -13,11 +11,10 @@ use Rattle.cleanup_stack.specs.Stops.{AtEachStop}
 use Rattle.status_db.specs.Noting.{IsNoted, IsNoting}
 use Rattle.status_db.specs.Recorded.{Recorded}
 use Rattle.unpack_rows.specs.Failures.{has_failed}
-use Rattle.unpack_rows.specs.Kinds.{own_of, owner_of}
+use Rattle.unpack_rows.specs.Kinds.{owner_of}
 use Rattle.unpack_rows.specs.Notes.{listed, note_before, note_undone, noted, notes_at}
-use Rattle.unpack_rows.specs.Stages.{Stage, is_files, stage_of}
+use Rattle.unpack_rows.specs.Stages.{is_files, stage_of}
 use Rattle.unpack_rows.specs.declared.kinds.RowKind.{RowKind}
-use Rattle.unpack_rows.specs.declared.kinds.RowKind.TheVariants.{Files}
 use Rattle.unpack_rows.specs.declared.notes.Note.{Note}
 use Rattle.unpack_rows.proofs.Growth.{notes_called, notes_put_back, notes_ready, notes_undone}
 use Rattle.unpack_rows.proofs.Staging.{stage_called, stage_spared, stage_undone}

@@ -1,12 +1,12 @@
 -- From one place of the rows to the next, with a note or with nothing.
-use Rattle.std.proofs.Common.{◌≡◌, ◌≢◌, inl, inr, ℕ, ◌<◌, false, List, [], ◌∷◌, ◌++◌, Option, Some, None, IsTrue, length, refl, sym, ap, subst, ◌∙◌, append_assoc}
+use Rattle.std.proofs.Common.{◌≡◌, inl, inr, false, List, [], ◌∷◌, ◌++◌, Option, IsTrue, length, refl, sym, ap, subst, ◌∙◌, append_assoc}
 use Rattle.std.proofs.lemmas.List.{append-nil}
 use Rattle.host_core.specs.World.{Change, World, is_kept}
 use Rattle.host_core.specs.Events.{Event, changes_of, scripts_of}
 use Rattle.host_core.specs.Host.{State, AtEachMoment, Silent, Since}
 use Rattle.host_core.specs.Moments.{scripts_of-append}
 use Rattle.host_core.specs.Scripts.{changes_of-append, no_change, only_start, silent_added}
-use Rattle.cleanup_stack.specs.Place.{Back, Forward, Place, Ready, called}
+use Rattle.cleanup_stack.specs.Place.{Place}
 use Rattle.cleanup_stack.specs.Stops.{AtEachStop, stops_quiet}
 use Rattle.file_works.specs.declared.work.Work.{Work}
 use Rattle.status_db.specs.Held.{HasRecords}
@@ -18,7 +18,7 @@ use Rattle.unpack_rows.specs.Notes.{listed, noted, notes_at}
 use Rattle.unpack_rows.specs.Stages.{Stage, Unwritten, Wrote, Restored, stage_of}
 use Rattle.unpack_rows.specs.declared.notes.Note.{Note}
 use Rattle.unpack_rows.specs.declared.notes.Note.TheVariants.{Put, Drop}
-use Rattle.unpack_run.specs.At.{AreFound, AreWorksAt, At, Holding, IsThere, IsWithin, Stops, table_at}
+use Rattle.unpack_run.specs.At.{AreFound, AreWorksAt, At, Holding, IsWithin, Stops, table_at}
 use Rattle.unpack_run.specs.Follows.{come_noted, ready_noted}
 use Rattle.unpack_run.specs.Stays.{holds_at, stop_at}
 use Rattle.unpack_run.specs.Task.{Task, kinds, lists_at, name, places_at}

@@ -1,5 +1,5 @@
 -- Each note beside the rows can be written.
-use Rattle.std.proofs.Common.{◌≡◌, ℕ, ◌<◌, zero, suc, Bool, true, false, cond, List, [], ◌∷◌, ◌++◌, Option, Some, None, length, get_or, map, refl, sym, ap, subst, ◌∙◌, arith}
+use Rattle.std.proofs.Common.{◌≡◌, ℕ, ◌<◌, zero, suc, Bool, true, false, cond, List, [], ◌∷◌, ◌++◌, Option, Some, None, length, get_or, map, refl, sym, subst, ◌∙◌, arith}
 use Rattle.std.specs.Str.{bytes_eq}
 use Rattle.status_db.specs.Records.{AreStanding, record_in}
 use Rattle.status_db.specs.Words.{is_not_installed}
@@ -9,7 +9,7 @@ use Rattle.unpack_rows.specs.Kinds.{first_kinds, has_prerm, is_upgrade, kinds_of
 use Rattle.unpack_rows.specs.Notes.{as_before, note_before, note_undone, unpacked}
 use Rattle.unpack_rows.specs.declared.kinds.RowKind.{RowKind}
 use Rattle.unpack_rows.specs.declared.kinds.RowKind.TheVariants.{Prerm, Other, Preinst, Files, Postrm}
-use Rattle.unpack_rows.specs.declared.notes.Note.TheVariants.{Put, Drop}
+use Rattle.unpack_rows.specs.declared.notes.Note.TheVariants.{Put}
 use Rattle.unpack_run.specs.Notable.{IsNotable}
 
 some_is : (a b : Record) → Some a ≡ Some b → a ≡ b

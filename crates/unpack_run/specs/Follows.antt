@@ -2,7 +2,7 @@
 use Rattle.std.specs.Prelude.{◌≡◌, ◌||◌, ℕ, Bool, true, false, List, [], ◌∷◌, ◌++◌, codes, nat_eq}
 use Rattle.std.specs.List.{list_any, starts_with}
 use Rattle.std.specs.Str.{bytes_eq}
-use Rattle.std.proofs.Common.{IsTrue, refl, sym, ◌∙◌, ap, subst, append_assoc}
+use Rattle.std.proofs.Common.{refl, sym, ◌∙◌, ap, subst, append_assoc}
 use Rattle.std.proofs.lemmas.Bool.{true≢false}
 use Rattle.std.proofs.lemmas.List.{append-nil}
 use Rattle.std.proofs.lemmas.Slice.Eq.{bytes_eq-Decides}
@@ -10,14 +10,14 @@ use Rattle.host_core.specs.Paths.{Path, is_named_by, is_own, is_owned_by, own_pl
 use Rattle.host_core.specs.World.{World, Change, changed, Avoids, IsDirectory, KeepsBut, SameOn, is_kept}
 use Rattle.host_core.specs.Events.{Event, Finished, Ran, changes_of, follow_all, scripts_of}
 use Rattle.host_core.specs.Host.{finished}
-use Rattle.host_core.specs.Scripts.{Avoids-append, changed-append, changed_at, changed_kept}
+use Rattle.host_core.specs.Scripts.{Avoids-append, changed-append, changed_at}
 use Rattle.administration.specs.Files.{NoDirectory}
 use Rattle.administration.specs.Places.{home_path, info_path, list_path, status_path, temporary, updates_path}
 use Rattle.file_lists.specs.Writing.{IsListReady}
 use Rattle.file_works.specs.declared.work.Work.{Work}
 use Rattle.status_db.specs.Held.{AreKept, is_record_place}
 use Rattle.status_db.specs.declared.record.Record.{Record}
-use Rattle.status_db.proofs.NotedWorlds.{kept_on, records_on}
+use Rattle.status_db.proofs.NotedWorlds.{kept_on}
 use Rattle.unpack_rows.specs.Stages.{Stage, Unwritten, Wrote, Restored}
 use Rattle.unpack_run.specs.Task.{Task, all_places, places_at}
 use Rattle.unpack_run.specs.Trail.{Follows, HasCome, HasFiles, HasGoneBack}

@@ -2,7 +2,6 @@
 use Rattle.std.specs.Prelude.{◌≡◌, List, ◌++◌, length}
 use Rattle.std.proofs.Common.{IsTrue, refl, sym, ◌∙◌, ap, subst, append_assoc}
 use Rattle.std.proofs.lemmas.List.{map-append}
-use Rattle.host_core.specs.Paths.{Path}
 use Rattle.host_core.specs.World.{World, Avoids, Change, SameOn, changed, is_kept}
 use Rattle.host_core.specs.Events.{Event, Finished, Ran, changes_of, scripts_of}
 use Rattle.host_core.specs.Host.{State, Calls, OnlyScripts, finished}

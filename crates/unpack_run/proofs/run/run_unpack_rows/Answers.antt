@@ -1,4 +1,4 @@
-use Rattle.std.proofs.Common.{◌≡◌, IfOk, List, rules, sym, subst}
+use Rattle.std.proofs.Common.{◌≡◌, IfOk, List, sym, subst}
 use Rattle.host_core.specs.Paths.{Path}
 use Rattle.host_core.specs.Host.{State}
 use Rattle.cleanup_stack.specs.Place.{Forward}

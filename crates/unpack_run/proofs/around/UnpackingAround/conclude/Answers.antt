@@ -1,10 +1,8 @@
-use Rattle.std.proofs.Common.{◌≡◌, List, ◌+◌, ◌||◌, true, false, get_or, refl, sym, ap, subst, ◌∙◌, rules}
 use Rattle.cleanup_stack.specs.Place.{Ready}
 use Rattle.unpack_run.proofs.Hooks.{stops_here}
 use Rattle.unpack_run.proofs.HookRows.{concluded}
 use Rattle.unpack_run.proofs.RowKinds.{kind_at, not_files}
-use Rattle.unpack_rows.specs.declared.kinds.RowKind.{RowKind}
-use Rattle.unpack_run.specs.At.{At, Holding, holding}
+use Rattle.unpack_run.specs.At.{Holding, holding}
 use Rattle.unpack_run.specs.Task.{Task, kinds, name, task_of}
 use Rattle.unpack_run.proofs.around.UnpackingAround.conclude.Goals as goal
 

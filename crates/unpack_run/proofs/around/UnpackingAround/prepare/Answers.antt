@@ -1,12 +1,12 @@
-use Rattle.std.proofs.Common.{◌≡◌, List, ◌+◌, ◌||◌, true, false, get_or, refl, sym, ap, subst, ◌∙◌, rules}
+use Rattle.std.proofs.Common.{◌≡◌, List, get_or, sym, subst, rules}
 use Rattle.cleanup_stack.specs.Place.{Forward, Ready}
 use Rattle.unpack_rows.specs.Notes.{note_before}
 use Rattle.unpack_run.specs.Notable.{IsNotable}
 use Rattle.unpack_run.proofs.Hooks.{stops_here}
 use Rattle.unpack_run.proofs.HookRows.{Leads, before_can, noted_moments, noted_place, prepared}
 use Rattle.unpack_rows.specs.declared.kinds.RowKind.{RowKind}
-use Rattle.unpack_run.specs.At.{At, Holding, holding}
-use Rattle.unpack_run.specs.Task.{Task, kinds, name, task_of}
+use Rattle.unpack_run.specs.At.{Holding, holding}
+use Rattle.unpack_run.specs.Task.{Task, kinds, task_of}
 use Rattle.unpack_run.proofs.around.UnpackingAround.prepare.Goals as goal
 
 pub returns-in_err-entry-clause-any_moment : goal.returns-in_err-entry-clause-any_moment

@@ -1,10 +1,9 @@
-use Rattle.std.proofs.Common.{◌≡◌, List, ◌+◌, ◌||◌, true, false, get_or, refl, sym, ap, subst, ◌∙◌, rules}
+use Rattle.std.proofs.Common.{◌+◌}
 use Rattle.cleanup_stack.specs.Place.{Back}
 use Rattle.unpack_run.proofs.Hooks.{stops_here}
 use Rattle.unpack_run.proofs.HookRows.{not_written}
 use Rattle.unpack_run.proofs.RowKinds.{file_row}
-use Rattle.unpack_rows.specs.declared.kinds.RowKind.{RowKind}
-use Rattle.unpack_run.specs.At.{At, Holding, holding}
+use Rattle.unpack_run.specs.At.{Holding, holding}
 use Rattle.unpack_run.specs.Task.{Task, kinds, name, task_of}
 use Rattle.unpack_run.proofs.around.UnpackingAround.put_back.Goals as goal
 

@@ -1,4 +1,4 @@
-use Rattle.std.proofs.Common.{◌≡◌, List, ◌+◌, ◌||◌, true, false, get_or, refl, sym, ap, subst, ◌∙◌, rules}
+use Rattle.std.proofs.Common.{◌≡◌, List, ◌+◌, ◌||◌, true, false, get_or, sym, subst, ◌∙◌, rules}
 use Rattle.cleanup_stack.specs.Place.{Back, blamed}
 use Rattle.unpack_rows.specs.Failures.{has_failed}
 use Rattle.unpack_rows.specs.Notes.{note_undone}
@@ -7,7 +7,7 @@ use Rattle.unpack_run.proofs.Hooks.{stops_here}
 use Rattle.unpack_run.proofs.HookRows.{Leads, noted_moments, noted_place, spared, undone, undone_can}
 use Rattle.unpack_run.proofs.RowKinds.{kind_at, not_files}
 use Rattle.unpack_rows.specs.declared.kinds.RowKind.{RowKind}
-use Rattle.unpack_run.specs.At.{At, Holding, holding}
+use Rattle.unpack_run.specs.At.{Holding, holding}
 use Rattle.unpack_run.specs.Task.{Task, kinds, name, task_of}
 use Rattle.unpack_run.proofs.around.UnpackingAround.undone.Goals as goal
 
