@@ -65,7 +65,9 @@ pub(crate) fn restore_row<H: Host>(
     ensures silent { Silent (H.state host.old) (H.state host.new) }
     ensures counts { Counts (H.state host.old) (H.state host.new) result }
 {
-    let _at = (index, fall, failed);
+    let _index = index;
+    let _fall = fall;
+    let _failed = failed;
     put_back(
         unpacking.alloc,
         host,
