@@ -16,7 +16,7 @@ use Rattle.cleanup_stack.specs.declared.failed.Failed.{Failed}
 use Rattle.file_check.specs.Clashes.{owning}
 use Rattle.file_check.specs.Sound.{AllSound, IsFirstFault}
 use Rattle.file_lists.specs.Filed.{Filed}
-use Rattle.file_lists.specs.Writing.{IsListReady, list_file, list_text, with_list}
+use Rattle.file_lists.specs.Writing.{list_file, list_text, with_list}
 use Rattle.file_steps.specs.Unpacked.{IsRearranged}
 use Rattle.file_works.specs.declared.work.Work.{Work}
 use Rattle.file_works.specs.Files.{Each}
@@ -25,7 +25,7 @@ use Rattle.file_works.specs.Names.{AllInOrder, IsNamed}
 use Rattle.file_writing.specs.Back.{CanGoBack}
 use Rattle.status_db.specs.Held.{HasRecords}
 use Rattle.status_db.specs.Recorded.{Recorded}
-use Rattle.unpack_moves.specs.Listing.{HasUnlisted, MayList, MayUnlist}
+use Rattle.unpack_moves.specs.Listing.{HasUnlisted, MayUnlist}
 use Rattle.unpack_rows.proofs.Growth.{notes_put_back, notes_worked}
 use Rattle.unpack_rows.proofs.Staging.{marked, stage_before, stage_failed, stage_put_back, stage_wrote}
 use Rattle.unpack_rows.specs.Notes.{noted, notes_at}
@@ -38,7 +38,7 @@ use Rattle.unpack_run.specs.At.{AreWorksAt, At, HasFault, IsAmid, IsFileFault, I
 use Rattle.unpack_run.specs.FileMoves.{HasWrittenRow, MayWriteRow, places_before, places_of}
 use Rattle.unpack_run.specs.Follows.{follows_none}
 use Rattle.unpack_run.specs.Task.{IsFileRow, Task, all_places, kinds, lists_at, name, places_at}
-use Rattle.unpack_run.specs.Trail.{AreOrdered, Follows, HasCome, HasFiles, HasGoneBack}
+use Rattle.unpack_run.specs.Trail.{AreOrdered, Follows, HasCome, HasFiles}
 use Rattle.unpack_run.proofs.FileWorlds.{home_before, still_written}
 use Rattle.unpack_run.proofs.Rearranged.{length_rearranged, named_rearranged, places_cut, places_enough}
 use Rattle.unpack_run.proofs.RowKinds.{kind_at}
