@@ -1,5 +1,5 @@
 -- The administration stands while the list and the files of a package are written or put back.
-use Rattle.std.proofs.Common.{◌≡◌, ◌≢◌, ◌⊎◌, inl, inr, ℕ, Bool, true, false, List, [], ◌∷◌, ◌++◌, Some, IsTrue, codes, nat_eq, refl, sym, ap, subst, ◌∙◌}
+use Rattle.std.proofs.Common.{◌≡◌, ◌≢◌, ◌⊎◌, inl, inr, ℕ, Bool, true, false, List, [], ◌∷◌, ◌++◌, Some, codes, nat_eq, refl, sym, ap, subst, ◌∙◌}
 use Rattle.std.specs.Prelude.{◌||◌}
 use Rattle.std.specs.List.{list_any, starts_with}
 use Rattle.std.specs.Str.{bytes_eq}
@@ -8,15 +8,13 @@ use Rattle.std.proofs.lemmas.Slice.Eq.{bytes_eq-Decides}
 use Rattle.host_core.specs.Paths.{Path, is_below_administration}
 use Rattle.host_core.specs.World.{World, IsDirectory, IsFile}
 use Rattle.host_core.specs.declared.node.Node.{Node}
-use Rattle.host_core.specs.declared.suffix.Suffix.TheVariants.{Tmp, Inst}
-use Rattle.host_core.specs.Suffixes.{suffix_text}
 use Rattle.administration.specs.Files.{KeepsBesideFile, NoDirectory, IsReplaced, IsReplacing}
 use Rattle.administration.specs.Places.{home_path, info_path, list_path, status_path, temporary, updates_path}
 use Rattle.administration.proofs.WholeFiles.{no_directory_at, no_directory_file, no_directory_none}
 use Rattle.administration.proofs.Within.{rest_of}
 use Rattle.file_lists.specs.Writing.{IsListReady}
 use Rattle.file_works.specs.declared.work.Work.{Work}
-use Rattle.file_works.specs.Files.{Each, Misses, HasPutBack, PutBack, IsWhole, before, between, behind, IsAmid, is_written}
+use Rattle.file_works.specs.Files.{Each, Misses, HasPutBack, PutBack, IsWhole, before, between, behind, IsAmid}
 use Rattle.file_works.specs.Free.{IsWrittenFrom}
 use Rattle.file_works.specs.Names.{IsNamed}
 use Rattle.file_writing.proofs.Written.{keeps_directory, written_amid}
