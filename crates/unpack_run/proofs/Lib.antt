@@ -1,0 +1,10 @@
+pub mod Standing
+pub mod Rearranged
+pub mod FileWorlds
+pub mod FileRow
+pub mod Answering
+pub mod RowKinds
+pub mod Hooks
+pub mod Notables
+pub mod HookRows
+pub mod Begins
