@@ -18,7 +18,7 @@ entry_paths entries = map (λ e. e.path) entries
 
 -- conffiles that the record keeps beside what is shipped: obsolete ones, and those that go with the upgrade
 abbrev pub staying : List Shipped → List ConffileEntry → List Path
-staying files entries = filter (λ q. not (is_shipped files q)) (entry_paths entries)
+staying files entries = entry_paths (filter (λ e. not (is_shipped files e.path)) entries)
 
 -- the paths of both, each once, in order
 pub record IsUnion (listed shipped union : List Path) : Type 0 where

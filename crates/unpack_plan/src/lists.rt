@@ -55,15 +55,16 @@ fn staying_paths(
     entries: &[ConffileEntry],
     shipped: &BTreeSet<String>,
 ) -> Result<Vec<RootPath>, AllocError>
-    ensures paths { IfOk result (λ paths. paths.items ≡ filter (λ q. not (contains_text shipped.now q)) (entry_paths entries.now)) }
+    ensures paths { IfOk result (λ paths. paths.items ≡ entry_paths (filter (λ e. not (contains_text shipped.now e.path)) entries.now)) }
     ensures listable { IfOk result (λ paths. AllByRecursion IsListable paths.items) }
 {
     let mut paths = Vec::new(alloc);
     for entry in entries {
-        entry.path.law();
-        if !shipped.contains(entry.path.as_str()) {
-            paths.push(entry.path.at()?)?;
+        if shipped.contains(entry.path.as_str()) {
+            continue;
         }
+        entry.path.law();
+        paths.push(entry.path.at()?)?;
     }
     Ok(paths)
 }
@@ -81,7 +82,8 @@ fn new_list(
 {
     let set = shipped_texts(alloc, files)?;
     let staying = staying_paths(alloc, fresh.conffiles.as_slice(), &set)?;
-    list_of(alloc, shipped, staying.as_slice())
+    let paths = list_of(alloc, shipped, staying.as_slice())?;
+    Ok(paths)
 }
 
 // Which of the old paths go.

@@ -19,11 +19,11 @@ fn member_of(other: OtherFile) -> Member
     }
 }
 
-fn other_members(alloc: Global, others: OtherFiles) -> Result<Vec<Member>, AllocError>
-    ensures { IfOk result (λ members. (name : List ℕ) → member_node members.items name ≡ other_node others name) }
+fn other_members(alloc: Global, others: Vec<OtherFile>) -> Result<Vec<Member>, AllocError>
+    ensures { IfOk result (λ members. (name : List ℕ) → member_node members.items name ≡ other_node others.items name) }
 {
     let mut members = Vec::new(alloc);
-    for other in others.into_vec() {
+    for other in others {
         members.push(member_of(other))?;
     }
     Ok(members)
@@ -37,6 +37,7 @@ pub(crate) fn own_members(
 ) -> Result<Members, AllocError>
     ensures { IfOk result (AreMembersOf scripts others) }
 {
-    let others = other_members(alloc, others)?;
-    Members::of(alloc, scripts, others)
+    let others = other_members(alloc, others.into_vec())?;
+    let members = Members::of(alloc, scripts, others)?;
+    Ok(members)
 }

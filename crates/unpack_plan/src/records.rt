@@ -32,14 +32,15 @@ impl Ships for ShippedPaths {
 pub(crate) fn incoming_record(alloc: Global, package: &Package) -> Result<Record, AllocError>
     ensures { IfOk result (IsIncoming package.now) }
 {
-    Record::of_package(
+    let record = Record::of_package(
         alloc,
         &package.name,
         &package.version,
         &package.control,
         Flag::Ok,
         State::Unpacked,
-    )
+    )?;
+    Ok(record)
 }
 
 // The conffiles of the record to come.
@@ -73,7 +74,7 @@ pub(crate) fn fresh_record(
     };
     let digests = digests_of(alloc, files, package.conffiles.as_slice())?;
     let entries = entries_after(alloc, found, &digests, package.flagged.as_slice(), &ships)?;
-    Record::unpacked(
+    let record = Record::unpacked(
         alloc,
         &package.name,
         &package.version,
@@ -81,7 +82,8 @@ pub(crate) fn fresh_record(
         found,
         entries,
         digests,
-    )
+    )?;
+    Ok(record)
 }
 
 /// An equal record, where there is one.
