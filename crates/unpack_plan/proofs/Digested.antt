@@ -28,7 +28,7 @@ all_both P [] b first second = second
 all_both P (x ∷ a) b first second = (first.0, all_both P a b first.1 second)
 
 module _ (path : Path) where
-  IsEarlier : PathDigest → Type 0
+  abbrev pub IsEarlier : PathDigest → Type 0
   IsEarlier d = is_before d.0 path ≡ true
 
   at_node : (q : Path) (node : Node) → is_before q path ≡ true → AllByRecursion IsEarlier (digest_at q node)
@@ -60,11 +60,11 @@ not_before q p same before = true≢false (sym (subst (λ (x : Path). is_before 
 -- no digest has a path that is behind them all
 pub none_pending : (path : Path) (pending : List PendingDigest) → AllByRecursion (λ p. is_before p.path path ≡ true) pending → has_pending pending path ≡ false
 none_pending path [] all = refl
-none_pending path (p ∷ pending) all = at (bytes_eq path p.path) refl
+none_pending path (p ∷ pending) all = at (none_pending path pending all.1) (bytes_eq path p.path) refl
   where
-    at : (b : Bool) → bytes_eq path p.path ≡ b → has_pending (p ∷ pending) path ≡ false
-    at true e = absurd (not_before path p.path ((bytes_eq-Decides path p.path).0 e) all.0)
-    at false e = ap (λ b. cond b true (has_pending pending path)) e ∙ none_pending path pending all.1
+    at : has_pending pending path ≡ false → (b : Bool) → bytes_eq path p.path ≡ b → has_pending (p ∷ pending) path ≡ false
+    at rest true e = absurd (not_before path p.path ((bytes_eq-Decides path p.path).0 e) all.0)
+    at rest false e = ap (λ b. cond b true (has_pending pending path)) e ∙ rest
 
 -- one more
 pub digest_put : (path bytes : Path) (d : PendingDigest) (old new : List PendingDigest) → AllByRecursion (λ p. is_before p.path path ≡ true) old → d.path ≡ path → new ≡ placed_by (λ (p : PendingDigest). p.path) d old → map told_digest new ≡ map told_digest old ++ (path, d.digest) ∷ []

@@ -21,7 +21,7 @@ use Rattle.unpack_moves.specs.Concluding.{AreElsewhere}
 use Rattle.unpack_moves.proofs.Apart.{apart, goes_on}
 use Rattle.unpack_plan.specs.Names.{backups}
 
-work_at : Path → Work
+abbrev work_at : Path → Work
 work_at p = record { path = p; place = p; target = p ++ suffix_text New; backup = p ++ suffix_text Tmp; fresh = p ++ suffix_text Inst; node = Link []; had = None }
 
 home_is_plain : (p : Path) (s : Suffix) → home_path ≢ p ++ suffix_text s
@@ -52,7 +52,7 @@ backups_elsewhere (x ∷ works) named q within =
     ap (λ b. b || is_among (backups works) q) (apart_test q x.backup (backup_apart x q named.0 within)) ∙ backups_elsewhere works named.1 q within
 
 pub elsewhere_more : (names : List Path) (n : Path) → AreElsewhere names → AreElsewhere (n ∷ []) → AreElsewhere (names ++ n ∷ [])
-elsewhere_more [] n before one = one
+elsewhere_more [] n before one q within = one q within
 elsewhere_more (m ∷ names) n before one q within =
     ap (λ b. b || is_among (names ++ n ∷ []) q) (first (bytes_eq q m) (is_among names q) (before q within)) ∙ elsewhere_more names n (λ r in_r. second (bytes_eq r m) (is_among names r) (before r in_r)) one q within
   where

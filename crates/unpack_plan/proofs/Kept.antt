@@ -1,6 +1,6 @@
 -- The other files of a tree as control files.
 use Rattle.std.proofs.Common.{◌≡◌, ℕ, Bool, true, false, not, cond, List, [], ◌∷◌, ◌++◌, Option, Some, None, codes, drop, get_or, length, map, refl, sym, ap, subst, ◌∙◌, arith, nat_eq}
-use Rattle.std.specs.Prelude.{◌×◌, ◌||◌, ◌&&◌, nat_le, ◌==◌}
+use Rattle.std.specs.Prelude.{◌||◌, ◌&&◌, nat_le, ◌==◌}
 use Rattle.std.specs.List.{list_all, list_any}
 use Rattle.std.specs.Str.{bytes_eq}
 use Rattle.std.proofs.lemmas.Bool.{and_parts, false≢true, true≢false, false_from_ne_true}
@@ -12,7 +12,7 @@ use Rattle.control_members.specs.Names.{is_member_name, is_member_sign, other_us
 use Rattle.control_members.specs.declared.member.Member.{Member}
 use Rattle.package_tree.specs.OtherNames.{is_name_byte, is_other_name, is_suffix_name, is_taken}
 use Rattle.package_tree.specs.declared.other_file.OtherFile.{OtherFile}
-use Rattle.unpack_plan.specs.Members.{other_node}
+use Rattle.unpack_plan.specs.Members.{Named, named_member, named_other, other_node}
 
 -- names
 
@@ -77,15 +77,6 @@ other_is_member name is =
     (all_of (list_all is_member_sign name) _ (sym (signs_of name) ∙ signs.0) (ap not (no_use name (not_true (is_taken name) free.0) (not_true (is_suffix_name name) free.1)))))
 
 -- names with their files
-
-abbrev pub Named : Type 0
-Named = Path × Node
-
-abbrev pub named_member : Member → Named
-named_member m = (m.name, m.node)
-
-abbrev pub named_other : OtherFile → Named
-named_other o = (o.name, o.node)
 
 abbrev node_in : List Named → Path → Option Node
 node_in [] name = None

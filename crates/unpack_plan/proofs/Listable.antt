@@ -24,11 +24,11 @@ listable_more (q ∷ paths) p all one = (all.0, listable_more paths p all.1 one)
 
 list_paths : (lists : List PackageList) (name : List ℕ) → AllByRecursion (λ l. AreListPaths l.paths) lists → AreListPaths (paths_of lists name)
 list_paths [] name all = record { order = tt; room = tt }
-list_paths (l ∷ lists) name all = by (bytes_eq name l.name)
+list_paths (l ∷ lists) name all = by (list_paths lists name all.1) (bytes_eq name l.name)
   where
-    by : (b : Bool) → AreListPaths (cond b l.paths (paths_of lists name))
-    by true = all.0
-    by false = list_paths lists name all.1
+    by : AreListPaths (paths_of lists name) → (b : Bool) → AreListPaths (cond b l.paths (paths_of lists name))
+    by rest true = all.0
+    by rest false = rest
 
 -- what a package lists
 pub listed_are : (lists : List PackageList) (name : List ℕ) → AreLists lists → AreListPaths (paths_of lists name)

@@ -1,6 +1,6 @@
 -- What of the shipped is a conffile is a file.
 use Rattle.std.proofs.Common.{◌≡◌, true, false, List, [], ◌∷◌, ℕ, sym, ap, subst, ◌∙◌}
-use Rattle.std.specs.Prelude.{◌×◌, Contains}
+use Rattle.std.specs.Prelude.{Contains}
 use Rattle.std.proofs.Props.{props}
 use Rattle.std.proofs.Math.Logic.{∥∥₁_elim}
 use Rattle.std.proofs.lemmas.Bool.{false≢true, false_from_ne_true}

@@ -100,7 +100,7 @@ fn old_leaving(
     ensures spares { IfOk result (λ leaving. SparesAdministration leaving.items) }
 {
     let conffiles = entry_paths(alloc, found)?;
-    leaving_of(
+    let leaving = leaving_of(
         alloc,
         lists,
         diversions,
@@ -108,7 +108,8 @@ fn old_leaving(
         new_list,
         conffiles.as_slice(),
         listed,
-    )
+    )?;
+    Ok(leaving)
 }
 
 /// The lists of an unpack, and which of the old paths go.

@@ -41,7 +41,8 @@ fn waiting_name(
 {
     let place = diversions.ship_place(name, path);
     place.law();
-    place.beside(Suffix::New)
+    let beside = place.beside(Suffix::New)?;
+    Ok(beside)
 }
 
 // Adds that of each path which isn't in the set.

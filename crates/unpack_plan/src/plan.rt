@@ -58,40 +58,22 @@ pub fn plan_of(
 ) -> Result<Plan, AllocError>
     ensures { IfOk result (λ p. IsPlanned (record { «package» = incoming; records = database.now.records; lists = lists.now.lists; entries = diversions.now.entries; stored = stored }) (planned p)) }
 {
-    let found = database.get(&incoming.name);
+    let old = database.get(&incoming.name);
+    let found = copied(old)?;
     let record = incoming_record(alloc, &incoming)?;
-    let fresh = fresh_record(alloc, &incoming, found)?;
-    let rows = own_rows(alloc, found, &record, stored, &incoming.scripts)?;
-    let kinds = own_kinds(alloc, found)?;
+    let fresh = fresh_record(alloc, &incoming, old)?;
+    let rows = own_rows(alloc, old, &record, stored, &incoming.scripts)?;
+    let kinds = own_kinds(alloc, old)?;
     let files = incoming.files.as_slice();
-    let changes = changes_of(
-        alloc,
-        lists,
-        diversions,
-        &incoming.name,
-        files,
-        found,
-        &fresh,
-    )?;
+    let changes = changes_of(alloc, lists, diversions, &incoming.name, files, old, &fresh)?;
+    let name = incoming.name;
     let conffiles = incoming.conffiles;
-    let works = own_works(
-        alloc,
-        &incoming.name,
-        diversions,
-        incoming.files,
-        &conffiles,
-    )?;
-    let names = cleared_names(
-        alloc,
-        diversions,
-        &incoming.name,
-        found,
-        conffiles.as_slice(),
-        works.as_slice(),
-    )?;
+    let works = own_works(alloc, &name, diversions, incoming.files, &conffiles)?;
+    let kept = conffiles.as_slice();
+    let names = cleared_names(alloc, diversions, &name, old, kept, works.as_slice())?;
     let members = own_members(alloc, incoming.scripts, incoming.others)?;
     Ok(Plan {
-        found: copied(found)?,
+        found,
         incoming: record,
         fresh,
         rows,

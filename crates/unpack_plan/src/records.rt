@@ -29,14 +29,14 @@ impl Ships for ShippedPaths {
 }
 
 /// The record of a package as its tree tells of it: unpacked, wanted installed, without conffiles.
-pub(crate) fn incoming_record(alloc: Global, package: &Package) -> Result<Record, AllocError>
-    ensures { IfOk result (IsIncoming package.now) }
+pub(crate) fn incoming_record(alloc: Global, tree: &Package) -> Result<Record, AllocError>
+    ensures { IfOk result (IsIncoming tree.now) }
 {
     let record = Record::of_package(
         alloc,
-        &package.name,
-        &package.version,
-        &package.control,
+        &tree.name,
+        &tree.version,
+        &tree.control,
         Flag::Ok,
         State::Unpacked,
     )?;
@@ -62,23 +62,23 @@ fn entries_after(
 /// The record of the unpacked package.
 pub(crate) fn fresh_record(
     alloc: Global,
-    package: &Package,
+    tree: &Package,
     found: Option<&Record>,
 ) -> Result<Record, AllocError>
-    ensures { IfOk result (IsFresh package.now (option_copied found.entry)) }
+    ensures { IfOk result (IsFresh tree.now (option_copied found.entry)) }
 {
-    package.files.law();
-    let files = package.files.as_slice();
+    tree.files.law();
+    let files = tree.files.as_slice();
     let ships = ShippedPaths {
         texts: shipped_texts(alloc, files)?,
     };
-    let digests = digests_of(alloc, files, package.conffiles.as_slice())?;
-    let entries = entries_after(alloc, found, &digests, package.flagged.as_slice(), &ships)?;
+    let digests = digests_of(alloc, files, tree.conffiles.as_slice())?;
+    let entries = entries_after(alloc, found, &digests, tree.flagged.as_slice(), &ships)?;
     let record = Record::unpacked(
         alloc,
-        &package.name,
-        &package.version,
-        &package.control,
+        &tree.name,
+        &tree.version,
+        &tree.control,
         found,
         entries,
         digests,

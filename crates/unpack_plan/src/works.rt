@@ -43,5 +43,6 @@ pub(crate) fn own_works(
     files.law();
     conffiles.law();
     let pairs = pairs_of(alloc, files.into_vec())?;
-    works_of(alloc, name, diversions, pairs, conffiles.as_slice())
+    let works = works_of(alloc, name, diversions, pairs, conffiles.as_slice())?;
+    Ok(works)
 }

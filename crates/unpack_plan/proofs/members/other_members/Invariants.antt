@@ -1,5 +1,5 @@
 use Rattle.std.proofs.Common.{◌≡◌, ◌++◌, map}
-use Rattle.unpack_plan.proofs.Kept.{named_member, named_other}
+use Rattle.unpack_plan.specs.Members.{named_member, named_other}
 use Rattle.unpack_plan.proofs.members.other_members.Given as goal
 
 abbrev pub invariant-loop-other : goal.invariant-loop-other
