@@ -1,6 +1,7 @@
 -- Digests behind one another.
 use Rattle.std.proofs.Common.{◌≡◌, ◌+◌, ◌<◌, ℕ, Bool, true, false, cond, List, [], ◌∷◌, ◌++◌, length, take, get_or, map, refl, sym, ap, subst, ◌∙◌, append-nil}
-use Rattle.std.specs.List.{AllByRecursion, flat_map, list_any}
+use Rattle.std.specs.Prelude.{◌||◌}
+use Rattle.std.specs.List.{AllByRecursion, flat_map}
 use Rattle.std.specs.Str.{bytes_eq}
 use Rattle.std.specs.Ordering.{is_lt}
 use Rattle.std.proofs.lemmas.Bool.{true≢false}
@@ -64,7 +65,7 @@ none_pending path (p ∷ pending) all = at (none_pending path pending all.1) (by
   where
     at : has_pending pending path ≡ false → (b : Bool) → bytes_eq path p.path ≡ b → has_pending (p ∷ pending) path ≡ false
     at rest true e = absurd (not_before path p.path ((bytes_eq-Decides path p.path).0 e) all.0)
-    at rest false e = ap (λ b. cond b true (has_pending pending path)) e ∙ rest
+    at rest false e = ap (λ b. b || has_pending pending path) e ∙ rest
 
 -- one more
 pub digest_put : (path bytes : Path) (d : PendingDigest) (old new : List PendingDigest) → AllByRecursion (λ p. is_before p.path path ≡ true) old → d.path ≡ path → new ≡ placed_by (λ (p : PendingDigest). p.path) d old → map told_digest new ≡ map told_digest old ++ (path, d.digest) ∷ []

@@ -17,7 +17,7 @@ use file_lists::{FileLists, Paths};
 use file_removal::Leaving;
 use host_core::RootPath;
 use list_changes::{leaving_of, list_of, union_of};
-use package_tree::Shipped;
+use package_tree::{Package, Shipped};
 use status_db::{ConffileEntry, Record};
 use std::alloc::{AllocError, Global};
 use std::collections::BTreeSet;
@@ -121,8 +121,8 @@ pub(crate) struct ListChanges {
     pub(crate) leaving: Vec<Leaving>,
 }
 
-/// Those of a package that ships these files, with the record found and the one that it ends with.
-pub(crate) fn changes_of(
+// Those of a package that ships these files, with the record found and the one that it ends with.
+fn changes_of(
     alloc: Global,
     lists: &FileLists,
     diversions: &Diversions,
@@ -157,4 +157,25 @@ pub(crate) fn changes_of(
         new_list,
         leaving,
     })
+}
+
+/// Those of an unpack of a tree.
+pub(crate) fn own_changes(
+    alloc: Global,
+    lists: &FileLists,
+    diversions: &Diversions,
+    tree: &Package,
+    found: Option<&Record>,
+    fresh: &Record,
+) -> Result<ListChanges, AllocError>
+    ensures listed { IfOk result (λ c. c.listed ≡ listed_paths lists.now.lists tree.now.name) }
+    ensures listed_paths { IfOk result (λ c. AreListPaths c.listed) }
+    ensures union { IfOk result (λ c. IsUnion c.listed (paths_of tree.now.files) c.union) }
+    ensures new_list { IfOk result (λ c. IsAfter tree.now.files fresh.now c.new_list) }
+    ensures leaving { IfOk result (λ c. c.leaving.items ≡ old_leaving diversions.now.entries lists.now.lists tree.now.name (option_copied found.entry) c.new_list c.listed) }
+    ensures spares { IfOk result (λ c. SparesAdministration c.leaving.items) }
+{
+    let files = tree.files.as_slice();
+    let changes = changes_of(alloc, lists, diversions, &tree.name, files, found, fresh)?;
+    Ok(changes)
 }

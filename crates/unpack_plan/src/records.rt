@@ -28,8 +28,8 @@ impl Ships for ShippedPaths {
     }
 }
 
-/// The record of a package as its tree tells of it: unpacked, wanted installed, without conffiles.
-pub(crate) fn incoming_record(alloc: Global, tree: &Package) -> Result<Record, AllocError>
+// The record of a package as its tree tells of it: unpacked, wanted installed, without conffiles.
+fn incoming_record(alloc: Global, tree: &Package) -> Result<Record, AllocError>
     ensures { IfOk result (IsIncoming tree.now) }
 {
     let record = Record::of_package(
@@ -59,8 +59,8 @@ fn entries_after(
     }
 }
 
-/// The record of the unpacked package.
-pub(crate) fn fresh_record(
+// The record of the unpacked package.
+fn fresh_record(
     alloc: Global,
     tree: &Package,
     found: Option<&Record>,
@@ -86,12 +86,40 @@ pub(crate) fn fresh_record(
     Ok(record)
 }
 
-/// An equal record, where there is one.
-pub(crate) fn copied(found: Option<&Record>) -> Result<Option<Record>, AllocError>
+// An equal record, where there is one.
+fn copied(found: Option<&Record>) -> Result<Option<Record>, AllocError>
     ensures { IfOk result (λ copy. copy ≡ option_copied found.entry) }
 {
     match found {
         Some(found) => Ok(Some(found.copy()?)),
         None => Ok(None),
     }
+}
+
+/// The record found, the one noted where none was, and the one noted last.
+#[derive(Drop)]
+pub(crate) struct OwnRecords {
+    pub(crate) found: Option<Record>,
+    pub(crate) incoming: Record,
+    pub(crate) fresh: Record,
+}
+
+/// Those of an unpack of this tree.
+pub(crate) fn own_records(
+    alloc: Global,
+    tree: &Package,
+    found: Option<&Record>,
+) -> Result<OwnRecords, AllocError>
+    ensures found { IfOk result (λ r. r.found ≡ option_copied found.entry) }
+    ensures incoming { IfOk result (λ r. IsIncoming tree.now r.incoming) }
+    ensures fresh { IfOk result (λ r. IsFresh tree.now (option_copied found.entry) r.fresh) }
+{
+    let incoming = incoming_record(alloc, tree)?;
+    let fresh = fresh_record(alloc, tree, found)?;
+    let found = copied(found)?;
+    Ok(OwnRecords {
+        found,
+        incoming,
+        fresh,
+    })
 }

@@ -30,7 +30,7 @@ unpacked-requires-clause-readable c =
 pub returns : goal.returns
 returns c =
     let tree = c.args.tree.now in
-    let found = entries_of (option_copied c.args.found.entry) in
+    let found = entries_of (option_copied c.args.found) in
     let record' = c.in_ok-record.record in
     let u = c.in_ok-record.ensures in
     let files = c.as_slice-files.ensures in
