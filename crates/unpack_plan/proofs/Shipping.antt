@@ -24,8 +24,8 @@ file_test n is = ap is_file is.2
 module _ (files : List Shipped) (conffiles flagged : List Path) (order : AreInOrder (paths_of files)) (fits : ∥ AreFitting files conffiles flagged ∥₁) where
   no_conffile : (f : Shipped) → Contains files f → is_file f.node ≡ false → is_conffile conffiles f.path ≡ false
   no_conffile f has no_file = false_from_ne_true (is_conffile conffiles f.path) (λ is. ∥∥₁_elim fits (hlevel props) (λ fit.
-    let at = fit.shipped f.path (any_contains conffiles f.path is) in
-    false≢true (sym no_file ∙ ap (λ (x : Shipped). is_file x.node) (one_at files f at.0 order has at.1 (sym at.2)) ∙ file_test at.0.node at.3)))
+      let at = fit.shipped f.path (any_contains conffiles f.path is) in
+      false≢true (sym no_file ∙ ap (λ (x : Shipped). is_file x.node) (one_at files f at.0 order has at.1 (sym at.2)) ∙ file_test at.0.node at.3)))
 
   each_fits : (fs : List Shipped) → ((f : Shipped) → Contains fs f → Contains files f) → FitsConffiles conffiles (pairs_of fs)
   each_fits [] among = tt

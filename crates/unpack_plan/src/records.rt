@@ -60,11 +60,7 @@ fn entries_after(
 }
 
 // The record of the unpacked package.
-fn fresh_record(
-    alloc: Global,
-    tree: &Package,
-    found: Option<&Record>,
-) -> Result<Record, AllocError>
+fn fresh_record(alloc: Global, tree: &Package, found: Option<&Record>) -> Result<Record, AllocError>
     ensures { IfOk result (IsFresh tree.now (option_copied found.entry)) }
 {
     tree.files.law();
