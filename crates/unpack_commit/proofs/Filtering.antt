@@ -15,19 +15,22 @@ module _ {X : Type 0} (keep : X → Bool) (xs : List X) (i : ℕ) (x : X) (lt : 
       filter_more keep xs i x lt ∙ ap (λ y. filter keep (take i xs) ++ cond (keep y) (y ∷ []) []) (sym at) ∙ ap (λ t. filter keep (take i xs) ++ cond t (x ∷ []) []) is
 
   -- one that is kept, and one that isn't
-  pub kept_more : keep x ≡ true → filter keep (take (i + 1) xs) ≡ filter keep (take i xs) ++ x ∷ []
-  kept_more is = one_more true is
+  pub kept_more : keep x ≡ true → (so_far now : List X) (copy : X) → so_far ≡ filter keep (take i xs) → copy ≡ x → now ≡ so_far ++ copy ∷ [] → now ≡ filter keep (take (i + 1) xs)
+  kept_more is so_far now copy before same more =
+      more ∙ ap (λ (l : List X). l ++ copy ∷ []) before ∙ ap (λ y. filter keep (take i xs) ++ y ∷ []) same ∙ sym (one_more true is)
 
-  pub left_out : keep x ≡ false → filter keep (take (i + 1) xs) ≡ filter keep (take i xs)
-  left_out is = one_more false is ∙ append-nil (filter keep (take i xs))
+  pub left_out : keep x ≡ false → (so_far now : List X) → so_far ≡ filter keep (take i xs) → now ≡ so_far → now ≡ filter keep (take (i + 1) xs)
+  left_out is so_far now before same = same ∙ before ∙ sym (one_more false is ∙ append-nil (filter keep (take i xs)))
 
   -- what is told of each
   module _ {Y : Type 0} (f : X → Y) where
-    pub told_more : keep x ≡ true → map f (filter keep (take (i + 1) xs)) ≡ map f (filter keep (take i xs)) ++ f x ∷ []
-    told_more is = ap (map f) (kept_more is) ∙ map-append f (filter keep (take i xs)) (x ∷ [])
+    pub told_more : keep x ≡ true → (so_far now : List Y) (y : Y) → so_far ≡ map f (filter keep (take i xs)) → y ≡ f x → now ≡ so_far ++ y ∷ [] → now ≡ map f (filter keep (take (i + 1) xs))
+    told_more is so_far now y before same more =
+        more ∙ ap (λ (l : List Y). l ++ y ∷ []) before ∙ ap (λ z. map f (filter keep (take i xs)) ++ z ∷ []) same
+        ∙ sym (ap (map f) (one_more true is) ∙ map-append f (filter keep (take i xs)) (x ∷ []))
 
-    pub untold : keep x ≡ false → map f (filter keep (take (i + 1) xs)) ≡ map f (filter keep (take i xs))
-    untold is = ap (map f) (left_out is)
+    pub untold : keep x ≡ false → (so_far now : List Y) → so_far ≡ map f (filter keep (take i xs)) → now ≡ so_far → now ≡ map f (filter keep (take (i + 1) xs))
+    untold is so_far now before same = same ∙ before ∙ sym (ap (map f) (one_more false is ∙ append-nil (filter keep (take i xs))))
 
 -- what stands in path order stands so when some are left out
 

@@ -49,11 +49,11 @@ pub losing_differs : (entries : List Diversion) (places : List Path) (r : Record
 losing_differs entries places r loses e = elim (or_cases (list_any (λ x. is_at entries places r.name x.path) r.conffiles) (list_any (λ p. is_at entries places r.name p.path) r.pending) loses) [
   | inl some ↦
       let less = fewer (λ x. is_at entries places r.name x.path) r.conffiles some in
-      let same = ap (λ (x : Record). length x.conffiles) e in
+      let same : length (filter (λ x. not (is_at entries places r.name x.path)) r.conffiles) ≡ length r.conffiles = ap (λ (x : Record). length x.conffiles) e in
       absurd (omega (arith, less, same))
   | inr some ↦
       let less = fewer (λ p. is_at entries places r.name p.path) r.pending some in
-      let same = ap (λ (x : Record). length x.pending) e in
+      let same : length (filter (λ p. not (is_at entries places r.name p.path)) r.pending) ≡ length r.pending = ap (λ (x : Record). length x.pending) e in
       absurd (omega (arith, less, same))
 ]
 

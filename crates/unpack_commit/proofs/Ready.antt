@@ -46,8 +46,7 @@ module _ (xs : List Leaving) (name : Path) (node : Node) (old new : World) (spar
   members_ready_renewed owner ready =
       let info = info_is_no_list name in
       ready_beside owner old new (renewed_same info_path refl info.0 info.1) (λ word member. (let m = member_is_no_list owner word name member in
-      let s = spare_is_no_list owner word name member in
-      (
+      let s = spare_is_no_list owner word name member in (
         renewed_same (stored_member_path owner word) (below_within home_path (codes "info/" ++ (owner ++ 46 ∷ word))) m.0 m.1,
         renewed_same (temporary (stored_member_path owner word)) (below_within home_path ((codes "info/" ++ (owner ++ 46 ∷ word)) ++ codes ".dpkg-inst")) s.0 s.1,
       ))) ready

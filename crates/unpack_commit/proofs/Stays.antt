@@ -24,7 +24,7 @@ use Rattle.unpack_moves.specs.Concluding.{AreElsewhere}
 use Rattle.unpack_moves.proofs.Areas.{released_keeps, releasing_keeps, renewed_keeps, renewing_keeps}
 
 -- the first byte of a name in the directory of the administration: `i` for what is in `info`
-byte : Path → ℕ
+pub byte : Path → ℕ
 byte p = get_or p 14 0
 
 -- all within the administration is as before, but `info` and what is in it

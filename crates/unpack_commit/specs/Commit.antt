@@ -15,7 +15,7 @@ use Rattle.status_db.specs.Held.{CanOpenRecords, HasRecords, is_record_place}
 use Rattle.status_db.specs.declared.record.Record.{Record}
 use Rattle.unpack_moves.specs.Closing.{HasReleased, HasRenewed, MayRelease, MayRenew}
 use Rattle.unpack_commit.specs.Takeover.{put_records}
-use Rattle.unpack_commit.specs.declared.commit.Change.{Change}
+use Rattle.unpack_commit.specs.declared.change.Change.{Change}
 
 -- what a commit does, beside the notes
 pub record Changes : Type 0 where

@@ -2,14 +2,17 @@
 //! and places that it took over leave other packages (Policy 6.6).
 #![tactic(auto)]
 
-mod commit;
+mod change;
+mod committing;
 mod laws;
 mod losing;
+mod moving;
 mod noting;
 mod storing;
 mod taken;
 mod takeover;
 
-pub use commit::{Change, commit};
+pub use change::Change;
+pub use committing::commit;
 pub use laws::{a_losing_record_changes, what_a_commit_leaves};
 pub use takeover::{Takeover, takeover_of, yields_of};

@@ -5,7 +5,7 @@ use Rattle.control_members.proofs.Starting.{since_here}
 use Rattle.status_db.specs.Held.{HasRecords}
 use Rattle.status_db.specs.Records.{put_record}
 use Rattle.unpack_commit.specs.Takeover.{put_records}
-use Rattle.unpack_commit.proofs.Noting.{noting_start, put_more, since_noting, some_noted, standing_at}
+use Rattle.unpack_commit.proofs.NotedOnes.{noting_start, put_more, since_noting, some_noted, standing_at}
 use Rattle.unpack_commit.proofs.noting.note_records.Goals as goal
 
 pub loop-entry-init : goal.loop-entry-init

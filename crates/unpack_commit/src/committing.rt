@@ -12,29 +12,15 @@ ghost use Rattle.unpack_moves.specs.Concluding.{AreElsewhere};
 ghost use Rattle.unpack_commit.specs.Commit.{AreListsAmid, HasCommitted, HasSomeNoted, MayCommit, changes_of, committed_lists};
 ghost use Rattle.unpack_commit.specs.Takeover.{put_records};
 
+use crate::change::Change;
+use crate::moving::{give_free, renew};
 use crate::noting::note_records;
 use crate::storing::store_members;
-use control_members::Members;
 use diversions::Diversions;
 use file_lists::{FileLists, Paths};
-use file_removal::Leaving;
-use host_core::{Host, HostFault, RootPath};
+use host_core::{Host, HostFault};
 use status_db::{NotedDatabase, Record};
 use std::alloc::Global;
-use texts::{Text, Texts};
-use unpack_moves::{release, renew_list};
-
-/// What a commit does beside the new list and the notes: of a package the paths of the old list, and which of them go; the
-/// new control files; the places that leave the lists of these packages; and names that only the installer writes.
-#[derive(Drop)]
-pub struct Change {
-    pub name: Text,
-    pub leaving: Vec<Leaving>,
-    pub members: Members,
-    pub places: Vec<RootPath>,
-    pub losers: Texts,
-    pub names: Vec<RootPath>,
-}
 
 /// Makes a package's list, control files and record the new ones; the records of packages that lose conffiles are noted
 /// before it: the package's own is the last, so that until then it isn't unpacked.
@@ -71,24 +57,8 @@ pub fn commit<H: Host>(
     ensures silent { Silent (H.state host.old) (H.state host.new) }
     ensures counts { Counts (H.state host.old) (H.state host.new) result }
 {
-    let name = &change.name;
-    renew_list(
-        alloc,
-        host,
-        lists,
-        name,
-        change.leaving.as_slice(),
-        new_list,
-    )?;
-    store_members(alloc, host, name, &change.members)?;
-    release(
-        alloc,
-        host,
-        lists,
-        diversions,
-        change.places.as_slice(),
-        change.losers.as_slice(),
-        change.names.as_slice(),
-    )?;
+    renew(alloc, host, lists, change, new_list)?;
+    store_members(alloc, host, &change.name, &change.members)?;
+    give_free(alloc, host, lists, diversions, change)?;
     note_records(alloc, host, database, records)
 }

@@ -1,18 +1,21 @@
 -- The parts of a commit, one after another.
-use Rattle.std.proofs.Common.{IsTrue, List}
+use Rattle.std.proofs.Common.{◌≡◌, ◌⊎◌, inl, inr, true, IsTrue, List, [], Result, Ok, Err, OnOk, refl, ap, ◌∙◌}
+use Rattle.std.specs.Prelude.{OnErr}
 use Rattle.host_core.specs.World.{World}
 use Rattle.host_core.specs.Host.{State, AtEachMoment}
 use Rattle.host_core.specs.Moments.{since_then, since_weaker_if}
 use Rattle.administration.specs.Places.{list_path}
 use Rattle.diversions.specs.declared.entry.Diversion.{Diversion}
 use Rattle.file_lists.specs.declared.paths.PackageList.{PackageList}
+use Rattle.file_lists.specs.Filed.{Filed}
+use Rattle.file_lists.specs.Taking.{without_all}
 use Rattle.file_lists.specs.Writing.{list_file}
 use Rattle.status_db.specs.Held.{IsKept}
 use Rattle.status_db.specs.Recorded.{Recorded}
 use Rattle.status_db.specs.declared.record.Record.{Record}
 use Rattle.unpack_moves.specs.Closing.{HasReleased, HasRenewed, MayRelease, MayRenew, SparesAdministration}
 use Rattle.unpack_moves.specs.Concluding.{AreElsewhere}
-use Rattle.unpack_commit.specs.Commit.{AreNoting, Changes, HasCommitted, HasStored, HaveNoted, IsStoring, MayCommit, renewed_lists}
+use Rattle.unpack_commit.specs.Commit.{AreListsAmid, AreNoting, Changes, HasCommitted, HasSomeNoted, HasStored, HaveNoted, IsStoring, MayCommit, committed_lists, renewed_lists}
 use Rattle.unpack_commit.proofs.Stays.{kept_opens, kept_stays, released_stays, releasing_stays, renewed_stays, renewing_stays, written_stays}
 
 -- what holds at each moment of the first part, and of the second behind it
@@ -107,3 +110,34 @@ module _ (c : Changes) (entries : List Diversion) (lists : List PackageList) whe
                 let h2 = releasing.honest h3 in
                 let h1 = storing.honest h2 in
                 may_note s0.world s1.world s2.world s3.world now (renewed h1) (stored h2) (released h3) is)) noting
+
+-- what holds whatever the answer
+
+pub on_ok_as : {T E : Type 0} (result : Result T E) (P : Type 0) → P → OnOk result P
+on_ok_as (Ok x) P is = is
+on_ok_as (Err e) P is = tt
+
+pub on_err_as : {T E : Type 0} (result : Result T E) (P : Type 0) → P → OnErr result P
+on_err_as (Ok x) P is = tt
+on_err_as (Err e) P is = is
+
+-- the lists
+
+module _ (c : Changes) (entries : List Diversion) (old : Filed) where
+  pub lists_both : (renewed released : Filed) → renewed ≡ record old { lists = renewed_lists c entries old.lists } → released ≡ record renewed { lists = without_all entries c.places c.losers renewed.lists } → released ≡ record old { lists = committed_lists c entries old.lists }
+  lists_both renewed released first second = second ∙ ap (λ (f : Filed). record f { lists = without_all entries c.places c.losers f.lists }) first
+
+  pub lists_first : (now : Filed) → (now ≡ record old { closed = true }) ⊎ (now ≡ old) → (now.closed ≡ true) ⊎ AreListsAmid c entries old.lists now.lists
+  lists_first now (inl shut) = inl (ap (λ (f : Filed). f.closed) shut)
+  lists_first now (inr same) = inr (inl (ap (λ (f : Filed). f.lists) same))
+
+  pub lists_amid : (renewed : Filed) → renewed ≡ record old { lists = renewed_lists c entries old.lists } → (renewed.closed ≡ true) ⊎ AreListsAmid c entries old.lists renewed.lists
+  lists_amid renewed first = inr (inr (inl (ap (λ (f : Filed). f.lists) first)))
+
+  pub lists_last : (renewed now : Filed) → renewed ≡ record old { lists = renewed_lists c entries old.lists } → (now.closed ≡ true) ⊎ (now ≡ record renewed { lists = without_all entries c.places c.losers renewed.lists })
+      → (now.closed ≡ true) ⊎ AreListsAmid c entries old.lists now.lists
+  lists_last renewed now first (inl shut) = inl shut
+  lists_last renewed now first (inr second) = inr (inr (inr (ap (λ (f : Filed). f.lists) (lists_both renewed now first second))))
+
+pub none_noted : (records table : List Record) → HasSomeNoted records table table
+none_noted records table = record { front = []; back = records; are = refl; table = refl }
