@@ -48,7 +48,7 @@ no_leaving_place (x ∷ xs) q spares within =
     here true true goes e =
         absurd (true≢false (sym within ∙ ap (is_within home_path) ((bytes_eq-Decides q x.place).0 e) ∙ spares x (0, omega arith, refl) goes))
 
-no_list_place : (list q : Path) → q ≢ list → q ≢ temporary list → is_list_place list q ≡ false
+pub no_list_place : (list q : Path) → q ≢ list → q ≢ temporary list → is_list_place list q ≡ false
 no_list_place list q ne_list ne_spare =
     or_from (bytes_eq q list) (bytes_eq q (temporary list)) (false_from_ne_true (bytes_eq q list) (λ e. ne_list ((bytes_eq-Decides q list).0 e)))
     (false_from_ne_true (bytes_eq q (temporary list)) (λ e. ne_spare ((bytes_eq-Decides q (temporary list)).0 e)))
