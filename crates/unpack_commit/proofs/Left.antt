@@ -1,12 +1,12 @@
 -- What a commit leaves.
-use Rattle.std.proofs.Common.{◌≡◌, ◌≢◌, ℕ, suc, ◌<◌, ◌≤◌, ◌||◌, Bool, true, false, not, cond, List, [], ◌∷◌, ◌++◌, codes, filter, length, Some, inl, inr, refl, sym, ap, subst, ◌∙◌, arith, Contains}
+use Rattle.std.proofs.Common.{◌≡◌, ◌≢◌, ◌<◌, ◌≤◌, ◌||◌, Bool, true, false, not, cond, List, [], ◌∷◌, ◌++◌, codes, filter, length, Some, inl, inr, refl, sym, ap, subst, ◌∙◌, arith, Contains}
 use Rattle.std.specs.List.{list_any}
 use Rattle.std.proofs.lemmas.Bool.{or_cases, or_from, true≢false}
 use Rattle.std.proofs.lemmas.List.{append_cancel_left, append_cancel_right}
 use Rattle.std.proofs.lemmas.List.Elements.{Contains-append_right}
 use Rattle.host_core.specs.Paths.{Path}
 use Rattle.host_core.specs.World.{World}
-use Rattle.administration.specs.Places.{home_path, is_within, list_name, list_path, temporary}
+use Rattle.administration.specs.Places.{home_path, is_within, list_name, list_path}
 use Rattle.administration.proofs.Within.{below_within}
 use Rattle.control_members.specs.Stored.{AreStored, stored_member_path}
 use Rattle.control_members.proofs.Apart.{no_list_temporary}

@@ -1,6 +1,5 @@
-use Rattle.std.proofs.Common.{◌≡◌, ◌+◌, take, refl, sym, ap, subst, rules, ◌∙◌}
+use Rattle.std.proofs.Common.{refl, sym, ap, subst, rules, ◌∙◌}
 use Rattle.std.proofs.lemmas.List.{take_all}
-use Rattle.host_core.specs.Moments.{since_now}
 use Rattle.control_members.proofs.Starting.{since_here}
 use Rattle.status_db.specs.Held.{HasRecords}
 use Rattle.status_db.specs.Records.{put_record}
