@@ -59,16 +59,16 @@ losing_differs entries places r loses e = elim (or_cases (list_any (λ x. is_at 
 
 -- names of lists
 
-same_list : (name other : Path) → list_path name ≡ list_path other → name ≡ other
+pub same_list : (name other : Path) → list_path name ≡ list_path other → name ≡ other
 same_list name other e = append_cancel_right name other (codes ".list") (append_cancel_left (codes "/var/lib/dpkg/info/") (list_name name) (list_name other) e)
 
-no_other : (names : List Path) (name : Path) → (Contains names name → ⊥) → IsNoList names (list_path name)
+pub no_other : (names : List Path) (name : Path) → (Contains names name → ⊥) → IsNoList names (list_path name)
 no_other names name none other has = (λ e. none (subst (λ (n : Path). Contains names n) (sym (same_list name other e)) has), λ e. no_list_temporary name (list_path other) e)
 
-list_within : (name : Path) → is_within home_path (list_path name) ≡ true
+pub list_within : (name : Path) → is_within home_path (list_path name) ≡ true
 list_within name = below_within home_path (codes "info/" ++ list_name name)
 
-member_within : (owner name : Path) → is_within home_path (stored_member_path owner name) ≡ true
+pub member_within : (owner name : Path) → is_within home_path (stored_member_path owner name) ≡ true
 member_within owner name = below_within home_path (codes "info/" ++ (owner ++ 46 ∷ name))
 
 first_of_names : (x : Path) (xs : List Path) → Contains (x ∷ xs) x

@@ -5,3 +5,5 @@ pub mod NotedOnes
 pub mod Parts
 pub mod Left
 pub mod Filtering
+pub mod StillReady
+pub mod Those

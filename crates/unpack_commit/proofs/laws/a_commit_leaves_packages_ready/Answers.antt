@@ -1,0 +1,8 @@
+use Rattle.unpack_commit.proofs.StillReady.{lists_still_ready, members_still_ready}
+use Rattle.unpack_commit.proofs.laws.a_commit_leaves_packages_ready.Goals as goal
+
+pub returns-clause-members : goal.returns-clause-members
+returns-clause-members c = λ change entries lists after old new owner spares elsewhere has ready. members_still_ready change entries lists after old new spares elsewhere has owner ready
+
+pub returns-clause-lists : goal.returns-clause-lists
+returns-clause-lists c = λ change entries lists after old new name spares elsewhere none has ready. lists_still_ready change entries lists after old new spares elsewhere has name none ready
