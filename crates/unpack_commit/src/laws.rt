@@ -44,8 +44,11 @@ pub fn losers_are_packages()
     ensures standing { (entries : List Diversion) (places names : List Path) (records : List ARecord) → AreStanding records → AreStanding (losing_records entries places names records) }
 {}
 
-/// Behind a commit control files can be replaced as before it, and lists written: no directory is in the way.
+/// At each moment of a commit, and in its end, control files can be replaced and lists written as before it: no directory
+/// is in the way. Of the lists that lose places nothing is said.
 pub fn a_commit_leaves_packages_ready()
     ensures members { (c : Changes) (entries : List Diversion) (lists : List PackageList) (after : List ARecord) (old new : World) (owner : Path) → SparesAdministration c.leaving → AreElsewhere c.names → HasCommitted c entries lists after old new → IsMembersReady owner old → IsMembersReady owner new }
     ensures lists { (c : Changes) (entries : List Diversion) (lists : List PackageList) (after : List ARecord) (old new : World) (name : Path) → SparesAdministration c.leaving → AreElsewhere c.names → (Contains c.losers name → ⊥) → HasCommitted c entries lists after old new → IsListReady name old → IsListReady name new }
+    ensures members_amid { (c : Changes) (entries : List Diversion) (lists : List PackageList) (records before : List ARecord) (old now : World) (owner : Path) → SparesAdministration c.leaving → AreElsewhere c.names → MayCommit c entries lists records before old now → IsMembersReady owner old → IsMembersReady owner now }
+    ensures lists_amid { (c : Changes) (entries : List Diversion) (lists : List PackageList) (records before : List ARecord) (old now : World) (name : Path) → SparesAdministration c.leaving → AreElsewhere c.names → (Contains c.losers name → ⊥) → MayCommit c entries lists records before old now → IsListReady name old → IsListReady name now }
 {}
