@@ -5,7 +5,7 @@ use Rattle.host_core.specs.Paths.{Path}
 use Rattle.file_lists.specs.Filed.{Filed}
 use Rattle.file_lists.specs.Taking.{without_all}
 use Rattle.unpack_moves.specs.Closing.{HasReleased, MayRelease}
-use Rattle.unpack_commit.proofs.moving.give_free.Goals as goal
+use Rattle.unpack_commit.proofs.moving.release_places.Goals as goal
 
 pub release-requires-clause-named : goal.release-requires-clause-named
 release-requires-clause-named g c = λ name has. c.requires.named name (subst (λ l. Contains l name) c.as_slice-losers.ensures has)
