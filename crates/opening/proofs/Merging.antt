@@ -1,0 +1,86 @@
+-- All was read, and then the notes are merged into the status file.
+use Rattle.std.proofs.Common.{◌≡◌, ℕ, true, IsTrue, List, ◌∷◌, ◌++◌, Option, Some, None, Result, Ok, Err, IfOk, IsErrAnd, refl, sym, ap, subst, ◌∙◌}
+use Rattle.std.specs.Prelude.{IsSome}
+use Rattle.host_core.specs.World.{World, IsDirectory}
+use Rattle.host_core.specs.Host.{State, Falls, Since}
+use Rattle.host_core.specs.Moments.{since_now, since_then, since_weaker, since_weaker_if}
+use Rattle.administration.specs.Fault.{CountsAdministration}
+use Rattle.administration.specs.Places.{home_path, info_path, diversions_path, tmp_path, list_path, temporary}
+use Rattle.administration.specs.declared.fault.AdministrationFault.{AdministrationFault}
+use Rattle.administration.proofs.WholeFiles.{no_directory_at}
+use Rattle.diversions.specs.declared.entry.Diversion.{Diversion}
+use Rattle.diversions.specs.Lines.{HasEntries}
+use Rattle.file_lists.specs.Info.{IsSound}
+use Rattle.file_lists.specs.declared.paths.PackageList.{PackageList}
+use Rattle.status_db.specs.Fault.{CountsRecord}
+use Rattle.status_db.specs.Held.{AreKept, HasRecords}
+use Rattle.status_db.specs.Noting.{AreMerged, AreNoted, IsMerging}
+use Rattle.status_db.specs.declared.record.Record.{Record}
+use Rattle.status_db.specs.declared.record_fault.RecordFault.{RecordFault}
+use Rattle.status_db.specs.declared.record_fault.RecordFault.TheVariants as fault
+use Rattle.opening.specs.Leaving.{IsOpening, IsOpeningOrMerging}
+use Rattle.opening.specs.Opened.{IsFound, IsListed}
+use Rattle.opening.specs.Parts.{IsDamaged, Opens, OpensAndMerges, fault_in, names_of, parts, told}
+use Rattle.opening.proofs.KeptLists.{has_lists_kept}
+
+-- a fault of merging is no damage
+
+pub told_sound : (given : RecordFault) (as_told : AdministrationFault) → as_told ≡ told given → IsDamaged (Some as_told) → ⊥
+told_sound fault.Device as_told is damaged = subst (λ f. IsDamaged (Some f)) is damaged
+told_sound fault.NoMemory as_told is damaged = subst (λ f. IsDamaged (Some f)) is damaged
+told_sound fault.Closed as_told is damaged = subst (λ f. IsDamaged (Some f)) is damaged
+
+pub told_counts : {T U : Type 0} (given : RecordFault) (as_told : AdministrationFault) (a b : State) → as_told ≡ told given → CountsRecord {T = T} a b (Err given) → CountsAdministration {T = U} a b (Err as_told)
+told_counts {T} {U} fault.Device as_told a b is counts = subst (λ f. CountsAdministration {T = U} a b (Err f)) (sym is) counts
+told_counts {T} {U} fault.NoMemory as_told a b is counts = subst (λ f. CountsAdministration {T = U} a b (Err f)) (sym is) counts
+told_counts {T} {U} fault.Closed as_told a b is counts = subst (λ f. CountsAdministration {T = U} a b (Err f)) (sym is) counts
+
+-- where no note stands nothing has to be merged
+pub nothing_merged : (records : List Record) (notes : ℕ) (w : World) → notes ≡ 0 → AreKept records notes w → AreNoted records 0 w w
+nothing_merged records notes w none kept = record { kept = subst (λ n. AreKept records n w) none kept; rest = λ q out. refl }
+
+pub merged_noted : (records : List Record) (old new : World) → AreMerged records old new → AreNoted records 0 old new
+merged_noted records old new merged = record { kept = merged.kept; rest = merged.rest }
+
+-- what was found stays so, and no note stands any more
+
+listed_noted : (records : List Record) (names : List (List ℕ)) (lists : List PackageList) (u v : World) → AreNoted records 0 u v → IsListed u names lists → IsListed v names lists
+listed_noted records names lists u v noted listed = record {
+  sound = λ entry plain. subst (IsSound names entry) (sym (noted.rest (info_path ++ 47 ∷ entry) refl)) (listed.sound entry plain);
+  lists = has_lists_kept u v names lists (λ name known. noted.rest (list_path name) refl) listed.lists;
+}
+
+pub found_noted : (records : List Record) (notes : ℕ) (lists : List PackageList) (entries : List Diversion) (u v : World) → IsFound records notes lists entries u → AreNoted records 0 u v → IsFound records 0 lists entries v
+found_noted records notes lists entries u v found noted = record {
+  home = noted.kept.unblocked.home;
+  info = subst IsDirectory (sym (noted.rest info_path refl)) found.info;
+  updates = noted.kept.unblocked.updates;
+  text = λ bad. found.text (bad.0, bad.1, bad.2, subst IsSome (noted.rest (info_path ++ 47 ∷ bad.0) refl) bad.3);
+  diversions = subst (λ n. HasEntries n entries) (sym (noted.rest diversions_path refl)) found.diversions;
+  diversions_spare = no_directory_at (v (temporary diversions_path)) (u (temporary diversions_path)) (noted.rest (temporary diversions_path) refl) found.diversions_spare;
+  tmp = noted.rest tmp_path refl ∙ found.tmp;
+  records = noted.kept;
+  standing = found.standing;
+  listed = listed_noted records (names_of records) lists u v noted found.listed;
+}
+
+-- of all that was done
+
+pub opens_failed : (fault : AdministrationFault) (u v : World) → Opens parts (Some fault) u v → OpensAndMerges (Some fault) u v
+opens_failed fault u v opens = record { read = v; found = Some fault; opens = opens; merges = (refl, refl) }
+
+pub opens_merged : (fault : Option AdministrationFault) (table : List Record) (u v w : World) → Opens parts None u v → HasRecords v table → (IsDamaged fault → ⊥) → IsMerging table v w → OpensAndMerges fault u w
+opens_merged fault table u v w opens records sound merging = record {
+  read = v;
+  found = None;
+  opens = opens;
+  merges = record { sound = sound; table = table; records = records; merging = merging };
+}
+
+pub moments_opening : (a b : State) → Since (λ so_far. IsOpening a.world) a b → Since (λ so_far. IsOpeningOrMerging a.world) a b
+moments_opening a b since = since_weaker (λ so_far. IsOpening a.world) (λ so_far. IsOpeningOrMerging a.world) a b (λ so_far w is. IsOpeningOrMerging.opening is) since
+
+pub moments_merging : (table : List Record) (a b c : State) → Since (λ so_far. IsOpening a.world) a b → (IsTrue b.honest → HasRecords b.world table) → Falls b c → Since (λ so_far. IsMerging table b.world) b c → Since (λ so_far. IsOpeningOrMerging a.world) a c
+moments_merging table a b c first records falls second = since_then (λ so_far. IsOpeningOrMerging a.world) a b c (moments_opening a b first)
+    (since_weaker_if (λ so_far. IsMerging table b.world) (λ so_far. IsOpeningOrMerging a.world) b c (λ h so_far w merging.
+    IsOpeningOrMerging.merging b.world table (since_now (λ so_far. IsOpening a.world) a b first (falls h)) (records (falls h)) merging) second)
