@@ -171,10 +171,10 @@ note_not_broken text note (first ∷ rest) begun None line is read told =
     ]
 
 not_damaged_note : (node : Option Node) (note : Option Note) (line : ℕ) → IsNoteAt node note → IsNoteDamage node line → ⊥
-not_damaged_note None note line is damage = damage
-not_damaged_note (Some (File bytes access)) note line is damage = note_not_broken bytes is.0 damage.paragraphs damage.begun damage.fault line is.2 damage.read damage.told
-not_damaged_note (Some (Dir access)) note line is damage = is
-not_damaged_note (Some (Link target)) note line is damage = is
+not_damaged_note None given line is damage = damage
+not_damaged_note (Some (File bytes access)) given line is damage = note_not_broken bytes is.0 damage.paragraphs damage.begun damage.fault line is.2 damage.read damage.told
+not_damaged_note (Some (Dir access)) given line is damage = is
+not_damaged_note (Some (Link target)) given line is damage = is
 
 -- the status file and the notes
 
