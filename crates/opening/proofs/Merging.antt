@@ -1,10 +1,9 @@
 -- All was read, and then the notes are merged into the status file.
-use Rattle.std.proofs.Common.{◌≡◌, ℕ, true, IsTrue, List, ◌∷◌, ◌++◌, Option, Some, None, Result, Ok, Err, IfOk, IsErrAnd, refl, sym, ap, subst, ◌∙◌}
+use Rattle.std.proofs.Common.{◌≡◌, ℕ, IsTrue, List, ◌∷◌, ◌++◌, Option, Some, None, refl, sym, subst, ◌∙◌}
 use Rattle.std.specs.Prelude.{IsSome}
 use Rattle.host_core.specs.World.{World, IsDirectory}
 use Rattle.host_core.specs.Host.{State, Falls, Since}
 use Rattle.host_core.specs.Moments.{since_now, since_then, since_weaker, since_weaker_if}
-use Rattle.administration.specs.Fault.{CountsAdministration}
 use Rattle.administration.specs.Places.{home_path, info_path, diversions_path, tmp_path, list_path, temporary}
 use Rattle.administration.specs.declared.fault.AdministrationFault.{AdministrationFault}
 use Rattle.administration.proofs.WholeFiles.{no_directory_at}
@@ -12,35 +11,13 @@ use Rattle.diversions.specs.declared.entry.Diversion.{Diversion}
 use Rattle.diversions.specs.Lines.{HasEntries}
 use Rattle.file_lists.specs.Info.{IsSound}
 use Rattle.file_lists.specs.declared.paths.PackageList.{PackageList}
-use Rattle.status_db.specs.Fault.{CountsRecord}
-use Rattle.status_db.specs.Held.{AreKept, HasRecords}
-use Rattle.status_db.specs.Noting.{AreMerged, AreNoted, IsMerging}
+use Rattle.status_db.specs.Held.{HasRecords}
+use Rattle.status_db.specs.Noting.{AreNoted, IsMerging}
 use Rattle.status_db.specs.declared.record.Record.{Record}
-use Rattle.status_db.specs.declared.record_fault.RecordFault.{RecordFault}
-use Rattle.status_db.specs.declared.record_fault.RecordFault.TheVariants as fault
 use Rattle.opening.specs.Leaving.{IsOpening, IsOpeningOrMerging}
 use Rattle.opening.specs.Opened.{IsFound, IsListed}
-use Rattle.opening.specs.Parts.{IsDamaged, Opens, OpensAndMerges, fault_in, names_of, parts, told}
+use Rattle.opening.specs.Parts.{IsDamaged, Opens, OpensAndMerges, names_of, parts}
 use Rattle.opening.proofs.KeptLists.{has_lists_kept}
-
--- a fault of merging is no damage
-
-pub told_sound : (given : RecordFault) (as_told : AdministrationFault) → as_told ≡ told given → IsDamaged (Some as_told) → ⊥
-told_sound fault.Device as_told is damaged = subst (λ f. IsDamaged (Some f)) is damaged
-told_sound fault.NoMemory as_told is damaged = subst (λ f. IsDamaged (Some f)) is damaged
-told_sound fault.Closed as_told is damaged = subst (λ f. IsDamaged (Some f)) is damaged
-
-pub told_counts : {T U : Type 0} (given : RecordFault) (as_told : AdministrationFault) (a b : State) → as_told ≡ told given → CountsRecord {T = T} a b (Err given) → CountsAdministration {T = U} a b (Err as_told)
-told_counts {T} {U} fault.Device as_told a b is counts = subst (λ f. CountsAdministration {T = U} a b (Err f)) (sym is) counts
-told_counts {T} {U} fault.NoMemory as_told a b is counts = subst (λ f. CountsAdministration {T = U} a b (Err f)) (sym is) counts
-told_counts {T} {U} fault.Closed as_told a b is counts = subst (λ f. CountsAdministration {T = U} a b (Err f)) (sym is) counts
-
--- where no note stands nothing has to be merged
-pub nothing_merged : (records : List Record) (notes : ℕ) (w : World) → notes ≡ 0 → AreKept records notes w → AreNoted records 0 w w
-nothing_merged records notes w none kept = record { kept = subst (λ n. AreKept records n w) none kept; rest = λ q out. refl }
-
-pub merged_noted : (records : List Record) (old new : World) → AreMerged records old new → AreNoted records 0 old new
-merged_noted records old new merged = record { kept = merged.kept; rest = merged.rest }
 
 -- what was found stays so, and no note stands any more
 

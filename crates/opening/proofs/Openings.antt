@@ -521,5 +521,5 @@ found_ok (Ok o) d u v opens is table free listed diverted =
 found_ok (Err fault) d u v opens is table free listed diverted = tt
 
 pub found_open : (result : Result AnOpened AdministrationFault) (d : Recorded) → IfOk result (λ o. o.database ≡ d) → d.closed ≡ false → IfOk result (λ o. o.database.closed ≡ false)
-found_open (Ok o) d is open = ap (λ (x : Recorded). x.closed) is ∙ open
-found_open (Err fault) d is open = tt
+found_open (Ok o) d is opened = ap (λ (x : Recorded). x.closed) is ∙ opened
+found_open (Err fault) d is opened = tt
