@@ -141,18 +141,40 @@ module _ (u v : World) (opening : IsOpening u v) where
   undamaged_opening whole = record {
     sound = (
       root_stays whole.sound.0,
-      way_stays var_path refl whole.sound.1.0,
-      way_stays lib_path refl whole.sound.1.1.0,
-      way_stays home_path refl whole.sound.1.1.1.0,
-      records_stay whole.sound.1.1.1.1.0,
-      spare_stays (temporary status_path) refl refl whole.sound.1.1.1.1.1.0,
-      way_stays updates_path refl whole.sound.1.1.1.1.1.1.0,
-      way_stays info_path refl whole.sound.1.1.1.1.1.1.1.0,
-      info_stays whole.sound.1.1.1.1.1.1.1.1.0,
-      diversions_stay whole.sound.1.1.1.1.1.1.1.1.1.0,
-      spare_stays (temporary diversions_path) refl refl whole.sound.1.1.1.1.1.1.1.1.1.1.0,
-      leftovers_stay whole,
-      tt,
+      (
+        way_stays var_path refl whole.sound.1.0,
+        (
+          way_stays lib_path refl whole.sound.1.1.0,
+          (
+            way_stays home_path refl whole.sound.1.1.1.0,
+            (
+              records_stay whole.sound.1.1.1.1.0,
+              (
+                spare_stays (temporary status_path) refl refl whole.sound.1.1.1.1.1.0,
+                (
+                  way_stays updates_path refl whole.sound.1.1.1.1.1.1.0,
+                  (
+                    way_stays info_path refl whole.sound.1.1.1.1.1.1.1.0,
+                    (
+                      info_stays whole.sound.1.1.1.1.1.1.1.1.0,
+                      (
+                        diversions_stay whole.sound.1.1.1.1.1.1.1.1.1.0,
+                        (
+                          spare_stays (temporary diversions_path) refl refl whole.sound.1.1.1.1.1.1.1.1.1.1.0,
+                          (
+                            leftovers_stay whole,
+                            tt,
+                          ),
+                        ),
+                      ),
+                    ),
+                  ),
+                ),
+              ),
+            ),
+          ),
+        ),
+      ),
     );
     leftovers = λ name plain. no_directory_left (tmp_path ++ 47 ∷ name) refl (whole.leftovers name plain);
   }
@@ -198,18 +220,40 @@ module _ (table : List Record) (u v : World) (has : HasRecords u table) (merging
   undamaged_merging whole = record {
     sound = (
       (λ file line faulty. whole.sound.0 file line (faulty.0, faulty.1, no_directory_at (u root_path) (v root_path) (sym (merging.rest root_path refl)) faulty.2)),
-      way_merging var_path (merging.rest var_path refl) whole.sound.1.0,
-      way_merging lib_path (merging.rest lib_path refl) whole.sound.1.1.0,
-      way_merging home_path (merging.rest home_path refl) whole.sound.1.1.1.0,
-      records_merging,
-      (λ file line faulty. merging.opens.unblocked.status_spare faulty.2),
-      way_merging updates_path (merging.rest updates_path refl) whole.sound.1.1.1.1.1.1.0,
-      way_merging info_path (merging.rest info_path refl) whole.sound.1.1.1.1.1.1.1.0,
-      info_merging whole.sound.1.1.1.1.1.1.1.1.0,
-      (λ file line faulty. whole.sound.1.1.1.1.1.1.1.1.1.0 file line (faulty.0, subst (λ (found : Option Node). IsDamageAt found line) (merging.rest diversions_path refl) faulty.1)),
-      (λ file line faulty. whole.sound.1.1.1.1.1.1.1.1.1.1.0 file line (faulty.0, faulty.1, subst IsDirectory (merging.rest (temporary diversions_path) refl) faulty.2)),
-      leftovers_merging whole.sound.1.1.1.1.1.1.1.1.1.1.1.0 whole,
-      tt,
+      (
+        way_merging var_path (merging.rest var_path refl) whole.sound.1.0,
+        (
+          way_merging lib_path (merging.rest lib_path refl) whole.sound.1.1.0,
+          (
+            way_merging home_path (merging.rest home_path refl) whole.sound.1.1.1.0,
+            (
+              records_merging,
+              (
+                (λ file line faulty. merging.opens.unblocked.status_spare faulty.2),
+                (
+                  way_merging updates_path (merging.rest updates_path refl) whole.sound.1.1.1.1.1.1.0,
+                  (
+                    way_merging info_path (merging.rest info_path refl) whole.sound.1.1.1.1.1.1.1.0,
+                    (
+                      info_merging whole.sound.1.1.1.1.1.1.1.1.0,
+                      (
+                        (λ file line faulty. whole.sound.1.1.1.1.1.1.1.1.1.0 file line (faulty.0, subst (λ (found : Option Node). IsDamageAt found line) (merging.rest diversions_path refl) faulty.1)),
+                        (
+                          (λ file line faulty. whole.sound.1.1.1.1.1.1.1.1.1.1.0 file line (faulty.0, faulty.1, subst IsDirectory (merging.rest (temporary diversions_path) refl) faulty.2)),
+                          (
+                            leftovers_merging whole.sound.1.1.1.1.1.1.1.1.1.1.1.0 whole,
+                            tt,
+                          ),
+                        ),
+                      ),
+                    ),
+                  ),
+                ),
+              ),
+            ),
+          ),
+        ),
+      ),
     );
     leftovers = λ name plain. no_directory_at (v (tmp_path ++ 47 ∷ name)) (u (tmp_path ++ 47 ∷ name)) (merging.rest (tmp_path ++ 47 ∷ name) refl) (whole.leftovers name plain);
   }

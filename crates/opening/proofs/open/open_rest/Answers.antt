@@ -40,7 +40,7 @@ returns-in_err-lists-clause-opens g c = λ h.
     let h1 = c.make_way.ensures.silent.honest h2 in
     stopped_before (Spare (temporary status_path) ∷ Way updates_path ∷ Way info_path ∷ Info ∷ []) (Diversions ∷ Spare (temporary diversions_path) ∷ Leftovers ∷ []) _ c.from_residual-in_err-lists.result _ _ c.from_residual-in_err-lists.ensures.1
     (opens_then (Spare (temporary status_path) ∷ []) (Way updates_path ∷ Way info_path ∷ Info ∷ []) _ _ _ _ ((refl, refl), tt) (c.in_ok-check_spare.ensures.opens h1)
-    (opens_then (Way updates_path ∷ []) (Way info_path ∷ Info ∷ []) _ _ _ _ (refl, (tt, tt)) (c.in_ok-make_way.ensures.opens h2) (c.in_err-lists.ensures.opens h)))
+    (opens_then (Way updates_path ∷ []) (Way info_path ∷ Info ∷ []) _ _ _ _ (refl, tt) (c.in_ok-make_way.ensures.opens h2) (c.in_err-lists.ensures.opens h)))
 
 pub returns-in_err-lists-clause-any_moment : goal.returns-in_err-lists-clause-any_moment
 returns-in_err-lists-clause-any_moment g c =
@@ -52,7 +52,7 @@ returns-clause-opens g c = λ h.
     let h2 = c.open_info.ensures.silent.honest h3 in
     let h1 = c.make_way.ensures.silent.honest h2 in
     opens_then (Spare (temporary status_path) ∷ []) (Way updates_path ∷ Way info_path ∷ Info ∷ Diversions ∷ Spare (temporary diversions_path) ∷ Leftovers ∷ []) _ _ _ _ ((refl, refl), tt) (c.in_ok-check_spare.ensures.opens h1)
-    (opens_then (Way updates_path ∷ []) (Way info_path ∷ Info ∷ Diversions ∷ Spare (temporary diversions_path) ∷ Leftovers ∷ []) _ _ _ _ (refl, (tt, tt)) (c.in_ok-make_way.ensures.opens h2)
+    (opens_then (Way updates_path ∷ []) (Way info_path ∷ Info ∷ Diversions ∷ Spare (temporary diversions_path) ∷ Leftovers ∷ []) _ _ _ _ (refl, tt) (c.in_ok-make_way.ensures.opens h2)
     (opens_then (Way info_path ∷ Info ∷ []) (Diversions ∷ Spare (temporary diversions_path) ∷ Leftovers ∷ []) _ _ _ _ (refl, (tt, tt)) (c.in_ok-lists.ensures.opens h3) (c.open_settled.ensures.opens h)))
 
 pub returns-clause-listed : goal.returns-clause-listed
