@@ -1,10 +1,10 @@
 -- All was read, and then the notes are merged into the status file.
-use Rattle.std.proofs.Common.{◌≡◌, ℕ, IsTrue, List, ◌∷◌, ◌++◌, Option, Some, None, refl, sym, subst, ◌∙◌}
+use Rattle.std.proofs.Common.{ℕ, IsTrue, List, ◌∷◌, ◌++◌, Option, Some, None, refl, sym, subst, ◌∙◌}
 use Rattle.std.specs.Prelude.{IsSome}
 use Rattle.host_core.specs.World.{World, IsDirectory}
 use Rattle.host_core.specs.Host.{State, Falls, Since}
 use Rattle.host_core.specs.Moments.{since_now, since_then, since_weaker, since_weaker_if}
-use Rattle.administration.specs.Places.{home_path, info_path, diversions_path, tmp_path, list_path, temporary}
+use Rattle.administration.specs.Places.{info_path, diversions_path, tmp_path, list_path, temporary}
 use Rattle.administration.specs.declared.fault.AdministrationFault.{AdministrationFault}
 use Rattle.administration.proofs.WholeFiles.{no_directory_at}
 use Rattle.diversions.specs.declared.entry.Diversion.{Diversion}

@@ -7,7 +7,7 @@ use Rattle.std.proofs.Props.{props}
 use Rattle.std.proofs.Math.Logic.{∥∥₁_elim}
 use Rattle.std.proofs.lemmas.Bool.{true≢false}
 use Rattle.std.proofs.lemmas.List.{map-append}
-use Rattle.host_core.specs.World.{World, IsDirectory}
+use Rattle.host_core.specs.World.{World}
 use Rattle.host_core.specs.declared.node.Node.{Node}
 use Rattle.host_core.specs.declared.node.Node.TheVariants.{File, Dir, Link}
 use Rattle.administration.specs.Places.{status_path}
@@ -22,7 +22,7 @@ use Rattle.status_db.specs.Records.{record_in, standing}
 use Rattle.status_db.specs.Paragraphs.{field_in, Says, IsGone, IsRecordOf, SaysEntry, IsEntry, Enters}
 use Rattle.status_db.specs.Damage.{IsMissing, IsFaultyEntry, IsFaultOf, IsFirstFault}
 use Rattle.status_db.specs.Held.{HasRecords, Holds}
-use Rattle.status_db.specs.NoteDamage.{AreNotesFine, AreNotesDamaged, AreRecordsDamaged, IsFaultyNote, IsFaultyNumber, IsFaultyRest, IsFineNumber, IsNoteDamage, IsNoteFault}
+use Rattle.status_db.specs.NoteDamage.{AreNotesFine, AreNotesDamaged, AreRecordsDamaged, IsFaultyNote, IsFaultyNumber, IsFaultyRest, IsFineNumber, IsNoteDamage}
 use Rattle.status_db.specs.Notes.{IsNote, IsNoteAt, Lookup, Note, entered, limit, note_path, with_notes}
 use Rattle.status_db.specs.Status.{IsStatus, IsStatusAt, IsDamageAt}
 use Rattle.status_db.proofs.Ordered.{one_table}

@@ -35,7 +35,7 @@ use Rattle.opening.specs.declared.open.Opened.{Opened as AnOpened}
 use Rattle.status_db.specs.declared.record.Record.{Record}
 use Rattle.status_db.specs.Held.{IsFree}
 use Rattle.status_db.specs.NoteDamage.{AreNotesFine, IsRecordsDamage}
-use Rattle.status_db.specs.Notes.{IsNoteAt, limit, note_path}
+use Rattle.status_db.specs.Notes.{IsNoteAt, note_path}
 use Rattle.status_db.specs.Recorded.{Recorded}
 use Rattle.status_db.proofs.NotedWorlds.{records_same}
 use Rattle.host_core.specs.declared.node.Node.{Node}

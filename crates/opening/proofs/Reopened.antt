@@ -1,10 +1,10 @@
 -- An opening that was broken off leaves what the next one reads.
-use Rattle.std.proofs.Common.{◌≡◌, ◌⊎◌, ◌<◌, inl, inr, ℕ, true, false, List, [], ◌∷◌, ◌++◌, Option, Some, None, refl, sym, subst, ◌∙◌}
+use Rattle.std.proofs.Common.{◌≡◌, inl, inr, ℕ, true, false, List, [], ◌∷◌, ◌++◌, Option, None, refl, sym, subst}
 use Rattle.std.specs.Prelude.{IsSome}
 use Rattle.std.specs.List.{AllByRecursion}
 use Rattle.std.proofs.Props.{props}
-use Rattle.std.proofs.Math.Logic.{∥∥₁_elim, ∥∥₁_prop, ∥∥₁_map}
-use Rattle.host_core.proofs.Nodes.{none_stands, directory_stands}
+use Rattle.std.proofs.Math.Logic.{∥∥₁_elim, ∥∥₁_prop}
+use Rattle.host_core.proofs.Nodes.{none_stands}
 use Rattle.host_core.specs.Paths.{Path}
 use Rattle.host_core.specs.World.{World, IsDirectory, IsLoose}
 use Rattle.host_core.specs.declared.node.Node.{Node}
@@ -20,14 +20,14 @@ use Rattle.file_lists.specs.Lists.{HasLists}
 use Rattle.file_lists.specs.declared.paths.PackageList.{PackageList}
 use Rattle.status_db.specs.Held.{CanOpenRecords, HasRecords, Holds}
 use Rattle.status_db.specs.NoteDamage.{AreNotesDamaged, AreNotesFine, AreRecordsDamaged, IsFaultyNumber, IsFineNumber, IsNoteDamage}
-use Rattle.status_db.specs.Notes.{IsNoteAt, Note, limit, note_path}
+use Rattle.status_db.specs.Notes.{IsNoteAt, note_path}
 use Rattle.status_db.specs.Noting.{IsMerging}
 use Rattle.status_db.specs.Status.{IsStatusAt}
 use Rattle.status_db.specs.Status as status
 use Rattle.status_db.specs.declared.record.Record.{Record}
 use Rattle.status_db.proofs.NotedWorlds.{records_same}
-use Rattle.opening.specs.Leaving.{IsOpening, IsOpeningOrMerging, IsNewWay, is_way, lib_path, root_path, var_path}
-use Rattle.opening.specs.Parts.{Part, Root, Way, Records, Spare, Info, Diversions, Leftovers, IsFaulty, IsFirstFault, IsTable, names_of, parts}
+use Rattle.opening.specs.Leaving.{IsOpening, IsOpeningOrMerging, is_way, lib_path, root_path, var_path}
+use Rattle.opening.specs.Parts.{Part, Root, Way, Records, Spare, Info, Diversions, Leftovers, IsFirstFault, names_of, parts}
 use Rattle.opening.specs.Undamaged.{HasNoFault, IsUndamaged}
 use Rattle.opening.proofs.KeptLists.{has_lists_kept}
 use Rattle.opening.proofs.OneTable.{one_holding, one_records, records_not_damaged}
