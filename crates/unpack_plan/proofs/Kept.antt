@@ -1,11 +1,11 @@
 -- The other files of a tree as control files.
-use Rattle.std.proofs.Common.{◌≡◌, ℕ, Bool, true, false, not, cond, List, [], ◌∷◌, ◌++◌, Option, Some, None, codes, drop, get_or, length, map, refl, sym, ap, subst, ◌∙◌, arith, nat_eq}
-use Rattle.std.specs.Prelude.{◌||◌, ◌&&◌, nat_le, ◌==◌}
+use Rattle.std.proofs.Common.{◌≡◌, ℕ, Bool, true, false, not, cond, List, [], ◌∷◌, Option, Some, None, codes, length, map, refl, sym, ap, ◌∙◌, nat_eq}
+use Rattle.std.specs.Prelude.{◌||◌, ◌&&◌, nat_le}
 use Rattle.std.specs.List.{list_all, list_any}
 use Rattle.std.specs.Str.{bytes_eq}
 use Rattle.std.proofs.lemmas.Bool.{and_parts, false≢true, true≢false, false_from_ne_true}
 use Rattle.std.proofs.lemmas.Slice.Eq.{bytes_eq-Decides}
-use Rattle.host_core.specs.Paths.{Path, reserved_suffixes}
+use Rattle.host_core.specs.Paths.{Path}
 use Rattle.host_core.specs.declared.node.Node.{Node}
 use Rattle.control_members.specs.Members.{member_node, member_of, node_of}
 use Rattle.control_members.specs.Names.{is_member_name, is_member_sign, other_uses}

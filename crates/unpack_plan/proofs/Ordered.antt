@@ -1,16 +1,15 @@
 -- Shipped paths in their order.
-use Rattle.std.proofs.Common.{◌≡◌, ◌+◌, ◌<◌, ℕ, zero, suc, true, List, [], ◌∷◌, ◌++◌, length, take, get_or, refl, sym, ap, subst, ◌∙◌, arith, inl, inr}
-use Rattle.std.specs.Prelude.{Contains, map}
+use Rattle.std.proofs.Common.{◌≡◌, ◌<◌, ℕ, zero, suc, true, List, [], ◌∷◌, length, take, get_or, sym, ap, subst, ◌∙◌, arith, inl, inr}
+use Rattle.std.specs.Prelude.{Contains}
 use Rattle.std.specs.List.{AllByRecursion}
-use Rattle.std.specs.Ordering.{nat_cmp, is_lt}
-use Rattle.std.specs.Cmp.Lexicographic.{slice_cmp}
+use Rattle.std.specs.Ordering.{is_lt}
 use Rattle.host_core.specs.Paths.{Path}
 use Rattle.file_lists.specs.Increasing.{AreIncreasing}
 use Rattle.file_lists.proofs.Increasing.{not_before_itself}
 use Rattle.package_tree.specs.ShipMap.{paths_of}
 use Rattle.package_tree.specs.Shipped.{AreInOrder, IsBefore}
 use Rattle.package_tree.specs.declared.shipped.Shipped.{Shipped}
-use Rattle.package_tree.proofs.Ordered.{none_in, first_or_later, in_first}
+use Rattle.package_tree.proofs.Ordered.{none_in, first_or_later}
 use Rattle.status_db.specs.ConffilePaths.{is_before}
 
 pub increasing : (paths : List Path) → AreInOrder paths → AreIncreasing paths

@@ -1,12 +1,11 @@
 -- What of the shipped is a conffile is a file.
-use Rattle.std.proofs.Common.{◌≡◌, true, false, List, [], ◌∷◌, ℕ, sym, ap, subst, ◌∙◌}
+use Rattle.std.proofs.Common.{◌≡◌, true, false, List, [], ◌∷◌, sym, ap, ◌∙◌}
 use Rattle.std.specs.Prelude.{Contains}
 use Rattle.std.proofs.Props.{props}
 use Rattle.std.proofs.Math.Logic.{∥∥₁_elim}
 use Rattle.std.proofs.lemmas.Bool.{false≢true, false_from_ne_true}
 use Rattle.host_core.specs.Paths.{Path}
 use Rattle.host_core.specs.World.{IsFile, is_file}
-use Rattle.host_core.specs.declared.node.Access.{Access}
 use Rattle.host_core.specs.declared.node.Node.{Node}
 use Rattle.file_check.specs.Ships.{is_conffile, FitsConffiles}
 use Rattle.file_lists.proofs.Entries.{any_contains}

@@ -1,5 +1,5 @@
 -- What the package lists before, while and after its files are written (Policy 6.6), and which of the old paths go.
-use Rattle.std.specs.Prelude.{◌≡◌, ◌↔◌, ◌⊎◌, ℕ, not, List, Option, map, filter, Contains}
+use Rattle.std.specs.Prelude.{◌↔◌, ◌⊎◌, ℕ, not, List, Option, map, filter, Contains}
 use Rattle.host_core.specs.Paths.{Path}
 use Rattle.diversions.specs.declared.entry.Diversion.{Diversion}
 use Rattle.file_lists.specs.Owners.{AreListPaths}

@@ -1,5 +1,5 @@
 // The digests of the conffiles that a package ships.
-ghost use Rattle.std.specs.Prelude.{◌≡◌, ◌++◌, ℕ, true, List, IfOk, OnOk, map, Contains};
+ghost use Rattle.std.specs.Prelude.{◌≡◌, ◌++◌, true, List, IfOk, OnOk, map};
 ghost use Rattle.std.specs.List.{AllByRecursion};
 ghost use Rattle.std.specs.BTreeSet.{contains_text};
 ghost use Rattle.host_core.specs.Paths.{Path};

@@ -1,14 +1,12 @@
 // What the package lists before, while and after its files are written, and which of the old paths go.
-ghost use Rattle.std.specs.Prelude.{◌≡◌, ◌++◌, ℕ, not, List, IfOk, OnOk, filter};
+ghost use Rattle.std.specs.Prelude.{◌≡◌, not, IfOk, filter};
 ghost use Rattle.std.specs.BTreeSet.{contains_text};
 ghost use Rattle.std.specs.List.{AllByRecursion};
 ghost use Rattle.std.specs.Option.{option_copied};
 ghost use Rattle.file_lists.specs.Owners.{AreListPaths, IsListable, paths_of as listed_paths};
-ghost use Rattle.host_core.specs.Paths.{Path};
 ghost use Rattle.package_tree.specs.ShipMap.{paths_of};
 ghost use Rattle.unpack_moves.specs.Closing.{SparesAdministration};
 ghost use Rattle.unpack_plan.specs.Lists.{entry_paths, staying, IsAfter, IsUnion, old_leaving};
-ghost use Rattle.unpack_plan.specs.Records.{is_shipped};
 
 use crate::conffile_paths::entry_paths;
 use crate::texts_of::shipped_texts;

@@ -1,5 +1,5 @@
 // What an unpack is going to do.
-ghost use Rattle.std.specs.Prelude.{◌≡◌, IfOk};
+ghost use Rattle.std.specs.Prelude.{IfOk};
 ghost use Rattle.unpack_plan.specs.Planned.{planned, IsPlanned};
 
 use crate::contents::contents_of;

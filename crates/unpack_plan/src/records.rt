@@ -1,10 +1,9 @@
 // The records of the package beside an unpack.
-ghost use Rattle.std.specs.Prelude.{◌≡◌, ℕ, Bool, List, IfOk};
+ghost use Rattle.std.specs.Prelude.{◌≡◌, IfOk};
 ghost use Rattle.std.specs.BTreeSet.{contains_text};
 ghost use Rattle.std.specs.Option.{option_copied};
-ghost use Rattle.host_core.specs.Paths.{Path};
 ghost use Rattle.status_db.specs.Conffiles.{committed_entries as committed};
-ghost use Rattle.unpack_plan.specs.Records.{entries_of, is_shipped, IsFresh, IsIncoming};
+ghost use Rattle.unpack_plan.specs.Records.{entries_of, IsFresh, IsIncoming};
 
 use crate::digests::digests_of;
 use crate::texts_of::shipped_texts;

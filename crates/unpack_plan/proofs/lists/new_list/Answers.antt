@@ -1,10 +1,8 @@
-use Rattle.std.proofs.Common.{◌≡◌, ◌∙◌, Bool, List, not, sym, ap, subst}
+use Rattle.std.proofs.Common.{◌≡◌, ◌∙◌, Bool, List, not, ap, subst}
 use Rattle.std.specs.BTreeSet.{contains_text}
-use Rattle.std.specs.List.{filter, AllByRecursion}
-use Rattle.file_lists.specs.Owners.{IsListable}
+use Rattle.std.specs.List.{filter}
 use Rattle.host_core.specs.Paths.{Path}
 use Rattle.list_changes.specs.NewList.{IsNewList}
-use Rattle.package_tree.specs.ShipMap.{paths_of}
 use Rattle.status_db.specs.declared.entries.ConffileEntry.{ConffileEntry}
 use Rattle.unpack_plan.specs.Lists.{entry_paths, staying}
 use Rattle.unpack_plan.specs.Records.{is_shipped}

@@ -1,7 +1,6 @@
-use Rattle.std.proofs.Common.{◌∙◌, [], sym, ap, subst}
+use Rattle.std.proofs.Common.{[], sym, subst}
 use Rattle.std.specs.List.{AllByRecursion}
 use Rattle.file_lists.specs.Owners.{IsListable}
-use Rattle.host_core.specs.Paths.{Path}
 use Rattle.package_tree.specs.declared.shipped.Shipped.{Shipped}
 use Rattle.unpack_plan.proofs.Gathered.{mapped_more}
 use Rattle.unpack_plan.proofs.Listable.{ship_listable, listable_more}

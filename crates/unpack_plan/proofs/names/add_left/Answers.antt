@@ -1,4 +1,4 @@
-use Rattle.std.proofs.Common.{◌≡◌, ◌++◌, ◌∙◌, [], ◌∷◌, Bool, List, not, map, sym, ap, subst}
+use Rattle.std.proofs.Common.{◌≡◌, ◌++◌, ◌∙◌, Bool, List, not, map, sym, ap, subst}
 use Rattle.std.specs.BTreeSet.{contains_text}
 use Rattle.std.specs.List.{filter}
 use Rattle.file_check.specs.Ships.{is_conffile}

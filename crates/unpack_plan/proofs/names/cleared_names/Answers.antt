@@ -1,7 +1,5 @@
-use Rattle.std.proofs.Common.{List, sym, ap, subst, ◌∙◌, ◌++◌}
-use Rattle.host_core.specs.Paths.{Path}
+use Rattle.std.proofs.Common.{sym, subst}
 use Rattle.unpack_moves.specs.Concluding.{AreElsewhere}
-use Rattle.unpack_plan.specs.Names.{left_names}
 use Rattle.unpack_plan.proofs.Elsewhere.{backups_elsewhere}
 use Rattle.unpack_plan.proofs.names.cleared_names.Goals as goal
 
