@@ -8,3 +8,4 @@ pub mod Sparing
 pub mod Elsewhere
 pub mod Kept
 pub mod Own
+pub mod Fresh
