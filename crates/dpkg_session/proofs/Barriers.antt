@@ -1,28 +1,32 @@
 -- A barrier behind what was done.
-use Rattle.std.proofs.Common.{◌≡◌, inl, inr, IsTrue, List, [], ◌∷◌, ◌++◌, Some, None, Result, Ok, Err, refl, sym, ap, subst, ◌∙◌}
-use Rattle.std.proofs.lemmas.Bool.{true≢false}
+use Rattle.std.proofs.Common.{◌≡◌, inl, inr, IsTrue, List, [], ◌∷◌, ◌++◌, Option, Some, None, Result, Ok, Err, refl, sym, ap, subst, ◌∙◌, append_assoc}
 use Rattle.std.proofs.lemmas.List.{append-nil}
-use Rattle.host_core.specs.Paths.{Path}
-use Rattle.host_core.specs.World.{World, Step, Barrier, Avoids, changed, is_kept}
-use Rattle.host_core.specs.Events.{Event, Did, Failed, changes_of, follow, follow_all}
-use Rattle.host_core.specs.Host.{State, Does, Happens, Silent, Since, Stops}
-use Rattle.host_core.specs.Loss.{IsAnswered, IsLater, IsOnDisk}
-use Rattle.host_core.specs.Moments.{ThroughEvent, since_failed, since_fails, since_goes, since_now, since_then, silent_then}
-use Rattle.host_core.specs.Scripts.{changes_of-append}
-use Rattle.host_core.specs.declared.fault.HostFault.{HostFault}
-use Rattle.host_core.specs.declared.fault.HostFault.TheVariants.{Device, NoMemory}
 use Rattle.administration.specs.Fault.{fault_of}
 use Rattle.administration.specs.declared.fault.AdministrationFault.{AdministrationFault}
-use Rattle.opening.specs.Leaving.{HasMadeWays, IsOpening}
-use Rattle.opening.specs.Parts.{Opens, parts}
-use Rattle.package_tree.specs.declared.package.Package.{Package}
-use Rattle.status_db.specs.declared.record.Record.{Record}
-use Rattle.unpack_engine.proofs.Whole.{silent_calls}
-use Rattle.unpack_engine.specs.ForwardRows.{gives, rows_of}
-use Rattle.unpack_engine.specs.Units.{CameTo, HasCalled, HasUnpacked}
-use Rattle.unpack_engine.specs.Unpack.{IsAmid, IsLeft}
-use Rattle.unpack_engine.specs.declared.rows.Turn.{Turn}
-use Rattle.unwind_stack.specs.Transcript.{Legal}
+use Rattle.cleanup_stack.specs.Telling.{Begun}
+use Rattle.host_core.specs.Paths.{Path}
+use Rattle.host_core.specs.World.{World, Step, Barrier}
+use Rattle.host_core.specs.Events.{Event, Ran, Did, Failed, changes_of, scripts_of, follow, follow_all}
+use Rattle.host_core.specs.Host.{State, Does, Happens, Needs, Silent, Since, Stops}
+use Rattle.host_core.specs.Loss.{IsAnswered, IsLater, IsOnDisk}
+use Rattle.host_core.specs.Moments.{ThroughEvent, scripts_of-append, since_failed, since_fails, since_goes, since_now, since_then, silent_then}
+use Rattle.host_core.specs.Scripts.{changes_of-append, no_change}
+use Rattle.host_core.specs.declared.fault.HostFault.{HostFault}
+use Rattle.host_core.specs.declared.fault.HostFault.TheVariants.{Device, NoMemory}
+use Rattle.cleanup_stack.specs.Transcripts.{Ended}
+use Rattle.file_lists.specs.declared.paths.PackageList.{PackageList}
+use Rattle.file_works.specs.declared.work.Work.{Work}
+use Rattle.opening.specs.Leaving.{IsOpeningOrMerging}
+use Rattle.opening.specs.Parts.{HasMerged, IsDamaged, Merges, Opens, OpensAndMerges, parts}
+use Rattle.stack_run.specs.declared.unwinding.Unwinding.{Unwinding}
+use Rattle.status_db.specs.Noting.{IsMerging}
+use Rattle.status_db.specs.Recorded.{Recorded}
+use Rattle.unpack_engine.specs.Order.{IsInOrder}
+use Rattle.unpack_engine.specs.Units.{Given, HasCalled, HasFailedFor, HasLeft, HasRunRows, HasUnpacked, IsAmid, IsStage}
+use Rattle.unpack_plan.specs.Planned.{Planned}
+use Rattle.unpack_run.specs.At.{IsAmid as AreFilesAmid, Stops as RowsStop}
+use Rattle.unpack_run.specs.Task.{Task}
+use Rattle.unpack_run.specs.Trail.{HasCome}
 use Rattle.unwind_stack.specs.declared.rows.Called.{Called}
 
 -- all is on the disk
@@ -43,19 +47,17 @@ barrier_world (Err Device) s t (Stops.some u is goes) h = elim (is h) [
 ]
 barrier_world (Err NoMemory) s t does h = does.world
 
--- what holds at each moment, and asks of what was done for the scripts' changes alone, goes on to hold
-pub since_to_disk : (P : List Event → World → Type 0) (result : Result Unit HostFault) (a b c : State) → ((x y : List Event) (w : World) → changes_of x ≡ changes_of y → P x w → P y w)
+-- what holds at each moment, and asks no more of what was done than which scripts were called and what they changed, goes on
+-- to hold
+pub since_to_disk : (P : List Event → World → Type 0) (result : Result Unit HostFault) (a b c : State) → ((x quiet : List Event) (w : World) → scripts_of quiet ≡ [] → P x w → P (x ++ quiet) w)
     → Since P a b → Does Barrier b c result → Since P a c
 since_to_disk P result a b c still first does = since_then P a b c first (more result does)
   where
     Q : List Event → World → Type 0
     Q so_far w = P (first.added ++ so_far) w
 
-    quiet : (x : List Event) → changes_of x ≡ [] → changes_of first.added ≡ changes_of (first.added ++ x)
-    quiet x none = sym (changes_of-append first.added x ∙ ap (λ l. changes_of first.added ++ l) none ∙ append-nil (changes_of first.added))
-
-    here : IsTrue b.honest → (x : List Event) → changes_of x ≡ [] → Q x b.world
-    here h x none = still first.added (first.added ++ x) b.world (quiet x none) (since_now P a b first h)
+    here : IsTrue b.honest → (x : List Event) → scripts_of x ≡ [] → Q x b.world
+    here h x none = still first.added x b.world none (since_now P a b first h)
 
     through : IsTrue b.honest → ThroughEvent Q b.world (Did Barrier)
     through h = record { before = here h [] refl; inside = λ d cut. absurd cut.1; behind = here h (Did Barrier ∷ []) refl }
@@ -73,64 +75,122 @@ since_to_disk P result a b c still first does = since_then P a b c first (more r
         (λ h. elim (is h) [ inl same ↦ after u (goes.honest h) same | inr part ↦ absurd part ])
     more (Err NoMemory) does = record { added = []; events = does.events ∙ sym (append-nil b.events); honest = does.honest; world = does.world; each = λ h. here (does.honest h) [] refl }
 
--- the unit of a package
+-- events that call no script add nothing to what is said of a unit at a moment
 
-pub amid_still : (p : Package) (places : List Path) (before : List Record) (old : World) (x y : List Event) (now : World) → changes_of x ≡ changes_of y → IsAmid p places before old x now → IsAmid p places before old y now
-amid_still p places before old x y now same amid = record {
-  stage = amid.stage;
-  is_stage = amid.is_stage;
+quiet_changes : (x quiet : List Event) → scripts_of quiet ≡ [] → changes_of (x ++ quiet) ≡ changes_of x
+quiet_changes x quiet none = changes_of-append x quiet ∙ ap (λ l. changes_of x ++ l) (no_change quiet none) ∙ append-nil (changes_of x)
+
+quiet_scripts : (x quiet : List Event) → scripts_of quiet ≡ [] → scripts_of x ≡ [] → scripts_of (x ++ quiet) ≡ []
+quiet_scripts x quiet none silent = scripts_of-append x quiet ∙ ap (λ (l : List Event). l ++ scripts_of quiet) silent ∙ none
+
+rows_still : (t : Task) (es quiet : List Event) (now : World) → scripts_of quiet ≡ [] → RowsStop t es now → RowsStop t (es ++ quiet) now
+rows_still t es quiet now none stops = record {
+  since = stops.since ++ quiet;
+  events = ap (λ (l : List Event). l ++ quiet) stops.events ∙ append_assoc t.start.events stops.since quiet;
+  place = stops.place;
+  within = stops.within;
+  records = stops.records;
+  opens = stops.opens;
+  ready = stops.ready;
+  files = subst (λ c. AreFilesAmid t _ c now) (sym (quiet_changes stops.since quiet none)) stops.files;
+}
+
+module _ (g : Given) (places : List Path) (p : Planned) where
+  ran_still : (ended : Ended) (works : List Work) (x quiet : List Event) (old last : World) → scripts_of quiet ≡ [] → HasRunRows g places p ended works x old last → HasRunRows g places p ended works (x ++ quiet) old last
+  ran_still ended works x quiet old last none ran = record { begun = ran.begun; begins = ran.begins; came = subst (λ c. HasCome _ _ works c last) (sym (quiet_changes x quiet none)) ran.came }
+
+  stage_still : (old : World) (x quiet : List Event) (now : World) → scripts_of quiet ≡ [] → IsStage g places p old x now → IsStage g places p old (x ++ quiet) now
+  stage_still old x quiet now none (IsStage.clearing silent may) = IsStage.clearing (quiet_scripts x quiet none silent) may
+  stage_still old x quiet now none (IsStage.laying silent cleared has lays) = IsStage.laying (quiet_scripts x quiet none silent) cleared has lays
+  stage_still old x quiet now none (IsStage.running begun before more is silent begins stops) =
+      IsStage.running begun before (more ++ quiet) (ap (λ (l : List Event). l ++ quiet) is ∙ append_assoc before more quiet) silent begins
+      (subst (λ l. RowsStop _ l now) (append_assoc begun.events more quiet) (rows_still _ (begun.events ++ more) quiet now none stops))
+  stage_still old x quiet now none (IsStage.following ended works last ran may) = IsStage.following ended works last (ran_still ended works x quiet old last none ran) may
+  stage_still old x quiet now none (IsStage.leaving ended works last followed ran has lays) = IsStage.leaving ended works last followed (ran_still ended works x quiet old last none ran) has lays
+
+pub amid_still : (g : Given) (places : List Path) (old : World) (x quiet : List Event) (now : World) → scripts_of quiet ≡ [] → IsAmid g places old x now → IsAmid g places old (x ++ quiet) now
+amid_still g places old x quiet now none amid = record {
+  stored = amid.stored;
+  plan = amid.plan;
+  seen = amid.seen;
+  planned = amid.planned;
+  stage = stage_still g places amid.plan old x quiet now none amid.stage;
+  table = amid.table;
+  is_table = amid.is_table;
   records = amid.records;
-  status_spare = amid.status_spare;
-  spares = amid.spares;
+  opens = amid.opens;
   incoming = amid.incoming;
-  avoids = subst (Avoids (is_kept places)) same amid.avoids;
-  rest = λ q out. amid.rest q out ∙ ap (λ c. changed c old q) same;
+  loose = amid.loose;
 }
 
-pub unpacked_to_disk : (p : Package) (places : List Path) (turn : Turn) (before after : List Record) (s m t : State) (told now : List Called) → HasUnpacked p places turn before after s m told now → Happens (Did Barrier ∷ []) m t → Silent m t → IsLater m t → HasUnpacked p places turn before after s t told now
-unpacked_to_disk p places turn before after s m t told now is goes silent later = record {
-  ended = is.ended;
-  ts = is.ts;
-  is_end = is.is_end;
-  calls = silent_calls m t silent ∙ is.calls;
-  tells = is.tells;
-  unit = record {
-    legal = is.unit.legal;
-    last = is.unit.last;
-    made = is.unit.made;
-    since = silent_then is.unit.last m t is.unit.since silent;
-    later = since_then _ is.unit.last m t is.unit.later later;
-    records = is.unit.records;
-    leaves = λ h. subst (IsLeft p places after is.ended is.ts s.world) (sym goes.world) (is.unit.leaves (goes.honest h));
-  };
+-- the unit of a package, with a barrier behind it
+
+pub unpacked_to_disk : (g : Given) (places : List Path) (ended : Ended) (after : Recorded) (lists : List PackageList) (s m t : State) (told now : List Called) → HasUnpacked g places ended after lists s m told now
+    → Happens (Did Barrier ∷ []) m t → Silent m t → IsLater m t → HasUnpacked g places ended after lists s t told now
+unpacked_to_disk g places ended after lists s m t told now is goes silent later = record {
+  stored = is.stored;
+  plan = is.plan;
+  begun = is.begun;
+  mid = is.mid;
+  last = is.last;
+  seen = λ h. is.seen (goes.honest h);
+  planned = is.planned;
+  quiet = is.quiet;
+  until = is.until;
+  begins = λ h. is.begins (goes.honest h);
+  run = is.run;
+  between = is.between;
+  rows_end = is.rows_end;
+  since = silent_then is.last m t is.since silent;
+  later = since_then _ is.last m t is.later later;
+  leaves = λ h. subst (HasLeft g places is.plan ended is.mid.works is.mid.lists is.mid.database.records is.last.world) (sym goes.world) (is.leaves (goes.honest h));
+  records = is.records;
+  lists_are = is.lists_are;
 }
 
-pub called_unpacked : (p : Package) (places : List Path) (turn : Turn) (before after : List Record) (s m t : State) (told now : List Called) → HasUnpacked p places turn before after s m told now → Silent m t → IsLater m t → HasCalled p places before s t told now
-called_unpacked p places turn before after s m t told now is silent later = record {
-  ended = is.ended;
-  ts = is.ts;
-  more = [];
-  legal = subst (Legal gives [] is.ended (rows_of p)) (sym (append-nil is.ts)) is.unit.legal;
-  calls = silent_calls m t silent ∙ is.calls;
-  tells = is.tells;
-  came = CameTo.whole is.unit.last is.unit.made refl (silent_then is.unit.last m t is.unit.since silent) (since_then _ is.unit.last m t is.unit.later later);
+pub failed_behind : (g : Given) (s m t : State) (u : Option Unwinding) → HasFailedFor g s m u → Silent m t → HasFailedFor g s t u
+failed_behind g s m t u failed behind = record { stored = failed.stored; plan = failed.plan; seen = λ h. failed.seen (behind.honest h); planned = failed.planned; cause = failed.cause }
+
+begun_behind : (P : List Ran → Type 0) (s m t : State) (told now : List Called) → Begun P s m told now → Silent m t → Begun P s t told now
+begun_behind P s m t told now begun behind = record {
+  ts = begun.ts;
+  more = begun.more;
+  first_of = begun.first_of;
+  honest = λ h. begun.honest (behind.honest h);
+  cut = begun.cut;
+  scripts = behind.scripts ∙ begun.scripts;
+  cut_short = begun.cut_short;
+  tells = begun.tells;
 }
+
+pub called_behind : (g : Given) (s m t : State) (told now : List Called) → HasCalled g s m told now → Silent m t → HasCalled g s t told now
+called_behind g s m t told now (HasCalled.nothing silent same) behind = HasCalled.nothing (silent_then s m t silent behind) same
+called_behind g s m t told now (HasCalled.some stored plan seen planned begun) behind = HasCalled.some stored plan (λ h. seen (behind.honest h)) planned (begun_behind _ s m t told now begun behind)
+
+pub order_behind : (d : Recorded) (lists : List PackageList) (m t : State) → Happens (Did Barrier ∷ []) m t → Needs m (IsInOrder d lists) → Needs t (IsInOrder d lists)
+order_behind d lists m t goes order = λ h. subst (IsInOrder d lists) (sym goes.world) (order (goes.honest h))
 
 -- an opening
 
-pub opening_to_disk : (result : Result Unit HostFault) (a b c : State) → Since (λ so_far. IsOpening a.world) a b → Does Barrier b c result → Since (λ so_far. IsOpening a.world) a c
-opening_to_disk result a b c first does = since_to_disk (λ so_far. IsOpening a.world) result a b c (λ x y w same is. is) first does
+pub opening_to_disk : (result : Result Unit HostFault) (a b c : State) → Since (λ so_far. IsOpeningOrMerging a.world) a b → Does Barrier b c result → Since (λ so_far. IsOpeningOrMerging a.world) a c
+opening_to_disk result a b c first does = since_to_disk (λ so_far. IsOpeningOrMerging a.world) result a b c (λ x quiet w none is. is) first does
 
 -- where the barrier failed it is refused for that, and all else stands
-pub opens_stopped : (fault : HostFault) (given : AdministrationFault) (old now later : World) → given ≡ fault_of fault → later ≡ now → Opens parts None old now → Opens parts (Some given) old later
-opens_stopped fault given old now later is same opens = subst (λ f. Opens parts (Some f) old later) (sym is) (by fault)
+pub opens_stopped : (fault : HostFault) (given : AdministrationFault) (old now later : World) → given ≡ fault_of fault → later ≡ now → OpensAndMerges None old now → OpensAndMerges (Some given) old later
+opens_stopped fault given old now later is same opens = by opens.found opens.opens opens.merges
   where
-    opening : IsOpening old later
-    opening = subst (IsOpening old) (sym same) opens.changes
+    sound : (f : HostFault) → IsDamaged (Some (fault_of f)) → ⊥
+    sound Device damaged = damaged
+    sound NoMemory damaged = damaged
 
-    made : HasMadeWays old later
-    made = subst (HasMadeWays old) (sym same) (opens.made (λ e. cc e))
+    merged : HasMerged None opens.read now → HasMerged (Some given) opens.read later
+    merged has = record {
+      sound = λ damaged. sound fault (subst (λ f. IsDamaged (Some f)) is damaged);
+      table = has.table;
+      records = has.records;
+      merging = subst (IsMerging has.table opens.read) (sym same) has.merging;
+    }
 
-    by : (f : HostFault) → Opens parts (Some (fault_of f)) old later
-    by Device = record { changes = opening; finds = tt; made = λ no. absurd (no refl); left = λ spares. elim spares [ inl e ↦ absurd (true≢false e) | inr e ↦ absurd e ] }
-    by NoMemory = record { changes = opening; finds = tt; made = λ no. made; left = λ spares. elim spares [ inl e ↦ absurd (true≢false e) | inr e ↦ absurd e ] }
+    by : (found : Option AdministrationFault) → Opens parts found old opens.read → Merges found None opens.read now → OpensAndMerges (Some given) old later
+    by None goes merges = record { read = opens.read; found = None; opens = goes; merges = merged merges }
+    by (Some f) goes merges = absurd (let e : None ≡ Some f = merges.0 in cc)

@@ -20,16 +20,17 @@ pub data Ran : Type 0 where
   Diverted : (asked : Diverting) (unit : AUnit) → Ran
   Undiverted : (asked : Undiverting) (unit : AUnit) → Ran
 
--- only the diversions are others
-abbrev pub IsRetabled : Held → Held → Type 0
-IsRetabled before after = before ≡ record after { entries = before.entries }
+-- only the diversions may be others
+pub record KeepsRest (before after : Held) : Type 0 where
+  pub records : after.records ≡ before.records
+  pub lists : after.lists ≡ before.lists
 
 -- the units of a command
 abbrev pub HasDone : Ran → Held → Held → State → State → Type 0
 HasDone (Unpacked candidates units) before after s t = IsRun candidates units before after s t
 HasDone (Diverted asked unit) before after s t =
-    IsDiverted asked (seen_of before.records.records before.lists asked.owner asked.path) before.entries after.entries unit s t × IsRetabled before after
-HasDone (Undiverted asked unit) before after s t = IsUndiverted asked before.entries after.entries unit s t × IsRetabled before after
+    IsDiverted asked (seen_of before.records.records before.lists asked.owner asked.path) before.entries after.entries unit s t × KeepsRest before after
+HasDone (Undiverted asked unit) before after s t = IsUndiverted asked before.entries after.entries unit s t × KeepsRest before after
 
 -- the administration stands for these records, lists and diversions
 abbrev pub Stands : Held → World → Type 0

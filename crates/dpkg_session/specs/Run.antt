@@ -1,6 +1,6 @@
 -- A run of units, one after another.
 use Rattle.std.specs.Prelude.{◌≡◌, ◌⊎◌, List, [], ◌∷◌, ◌++◌, length, take, drop, Option, Some, None, IfSome, Result, Ok, Err}
-use Rattle.host_core.specs.Events.{Event}
+use Rattle.host_core.specs.Events.{Event, scripts_of}
 use Rattle.host_core.specs.Host.{State, AtEachMomentOf}
 use Rattle.host_core.specs.Loss.{IsAnswered}
 use Rattle.host_core.specs.World.{World}
@@ -19,10 +19,14 @@ pub record AddsUnit (c : Candidate) (before after : Held) (s t : State) (old new
   pub grown : new ≡ old ++ unit ∷ []
   pub is : IsUnit c before after unit s t
 
+-- at each moment of the unpack of a package: nothing is done yet, or it is under way
+abbrev pub IsAmidUnpack : Package → Held → World → List Event → World → Type 0
+IsAmidUnpack p before old so_far now = ((now ≡ old) × (scripts_of so_far ≡ [])) ⊎ IsAmid (given_by p before) (places_of before) old so_far now
+
 -- at each moment of the unit of a package: nothing has changed where it is refused
 abbrev pub IsAmidByRule : Package → Option Rule → Held → World → List Event → World → Type 0
 IsAmidByRule p (Some rule) before old so_far now = now ≡ old
-IsAmidByRule p None before old so_far now = IsAmid (given_by p before) (places_of before) old so_far now
+IsAmidByRule p None before old so_far now = IsAmidUnpack p before old so_far now
 
 -- at each moment of the unit of a tree
 abbrev pub IsAmidUnitOf : Result Package TreeFault → Held → World → List Event → World → Type 0
