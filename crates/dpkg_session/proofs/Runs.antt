@@ -1,8 +1,9 @@
 -- How a run goes on with one unit more.
-use Rattle.std.specs.Prelude.{MatchBool}
+use Rattle.std.specs.Prelude.{MatchBool, IfSome, length, take, drop}
 use Rattle.std.proofs.Common.{◌≡◌, ◌⊎◌, inl, inr, ℕ, Bool, true, false, List, [], ◌∷◌, ◌++◌, Option, Some, None, Result, Ok, Err, IsTrue, refl, sym, ap, subst, ◌∙◌, ◌+◌}
+use Rattle.std.proofs.Math.Seq.{take-append_seam, drop-append_seam}
 use Rattle.std.proofs.lemmas.Bool.{true≢false}
-use Rattle.host_core.specs.Host.{State, Counts, Needs, faults}
+use Rattle.host_core.specs.Host.{State, Counts, Needs, Since, faults}
 use Rattle.host_core.specs.declared.fault.HostFault.{HostFault}
 use Rattle.host_core.specs.declared.fault.HostFault.TheVariants as host
 use Rattle.package_tree.specs.declared.package.Package.{Package}
@@ -18,7 +19,7 @@ use Rattle.dpkg_session.specs.declared.report.Reply.{Reply}
 use Rattle.dpkg_session.specs.declared.report.Reply.TheVariants.{Done, Refused, Failed, Broken}
 use Rattle.dpkg_session.specs.declared.report.Unit.{Unit as AUnit}
 use Rattle.dpkg_session.specs.Held.{Held}
-use Rattle.dpkg_session.specs.Run.{IsRun, RunsUnit}
+use Rattle.dpkg_session.specs.Run.{HasRun, IsAmidNext, IsBrokenNext, IsRun, RunsUnit}
 use Rattle.dpkg_session.specs.Units.{AnswersUnpack, CountsReply, IsUnit, IsUnitOf, IsUnitByRule, IsRefused, IsRefusedUnit, IsBroken, IsBrokenBy, breakage_of, reply_to, rule_for}
 
 pub run_more : (cs : List Candidate) (us : List AUnit) (c : Candidate) (u : AUnit) (before mid after : Held) (s m t : State) → IsRun cs us before mid s m → RunsUnit c mid after u m t → IsRun (cs ++ c ∷ []) (us ++ u ∷ []) before after s t
@@ -27,6 +28,23 @@ run_more [] [] c u before mid after s m t so_far unit =
 run_more [] (v ∷ us) c u before mid after s m t so_far unit = absurd so_far
 run_more (q ∷ cs) [] c u before mid after s m t so_far unit = absurd so_far
 run_more (q ∷ cs) (v ∷ us) c u before mid after s m t so_far unit = (so_far.0, so_far.1, so_far.2, run_more cs us c u so_far.1 mid after so_far.0 m t so_far.3 unit)
+
+-- the run of the first candidates, and what holds of the rest
+pub has_run : (cs done rest : List Candidate) (us : List AUnit) (last : Option AUnit) (before mid : Held) (s m t : State) → cs ≡ done ++ rest → length us ≡ length done → IsRun done us before mid s m
+    → Since (IsAmidNext rest mid m.world) m t → IfSome last (IsBrokenNext rest mid m t) → HasRun cs us last before s t
+has_run cs done rest us last before mid s m t split count run since broken = record {
+  after = mid;
+  end = m;
+  run = subst (λ l. IsRun l us before mid s m) (sym fronts) run;
+  since = subst (λ l. Since (IsAmidNext l mid m.world) m t) (sym rests) since;
+  broken = subst (λ l. IfSome last (IsBrokenNext l mid m t)) (sym rests) broken;
+}
+  where
+    fronts : take (length us) cs ≡ done
+    fronts = ap (λ n. take n cs) count ∙ ap (take (length done)) split ∙ take-append_seam done rest
+
+    rests : drop (length us) cs ≡ rest
+    rests = ap (λ n. drop n cs) count ∙ ap (drop (length done)) split ∙ drop-append_seam done rest
 
 -- no lie is forgotten over a run
 pub falls_run : (cs : List Candidate) (us : List AUnit) (before after : Held) (s t : State) → IsRun cs us before after s t → IsTrue t.honest → IsTrue s.honest
