@@ -1,55 +1,256 @@
 -- The unit of an unpack: what it does, from the world that it finds to the one that it leaves, and what holds at each moment of it
 -- (Policy 6.6).
-use Rattle.std.specs.Prelude.{◌≡◌, ◌⊎◌, ◌↔◌, ℕ, Bool, true, false, IsTrue, List, [], ◌∷◌, ◌++◌, Option, Some, None, Contains, length}
+use Rattle.std.specs.Prelude.{◌≡◌, ◌≢◌, ◌⊎◌, ◌↔◌, ℕ, Bool, true, false, IsTrue, List, [], ◌∷◌, ◌++◌, Option, Some, None, Contains, is_some, length, filter, not}
+use Rattle.std.specs.Str.{bytes_eq}
 use Rattle.host_core.specs.Paths.{Path}
-use Rattle.host_core.specs.World.{World, Change, KeepsBut}
-use Rattle.host_core.specs.Events.{Ran, Event, changes_of, scripts_of}
-use Rattle.host_core.specs.Host.{State, Silent, calls, finished}
+use Rattle.host_core.specs.World.{World, KeepsBut}
+use Rattle.host_core.specs.Events.{Event, changes_of, scripts_of}
+use Rattle.host_core.specs.Host.{State, Silent}
 use Rattle.host_core.specs.Loss.{IsLater}
+use Rattle.host_core.specs.declared.call.Script.{Script}
 use Rattle.administration.specs.Directories.{IsRemoved}
-use Rattle.administration.specs.Places.{list_path, tmp_path, is_within}
-use Rattle.unwind_stack.specs.Transcript.{Tells}
+use Rattle.administration.specs.Files.{IsDropped, IsDropping}
+use Rattle.administration.specs.Places.{list_path, script_path, tmp_path, is_within}
 use Rattle.unwind_stack.specs.declared.rows.Called.{Called}
-use Rattle.cleanup_stack.specs.Transcripts.{Ended, Committed, Unwound, IfHonest, Legal}
-use Rattle.control_members.specs.LaidOut.{AreLaidOut, IsLaying}
-use Rattle.control_members.specs.Stored.{AreTaken}
+use Rattle.cleanup_stack.specs.Place.{Place, Forward}
+use Rattle.cleanup_stack.specs.Telling.{Begun, HasRun}
+use Rattle.cleanup_stack.specs.Transcripts.{Ended, Committed, Unwound, MayRun}
+use Rattle.control_members.specs.LaidOut.{AreLaidOut, IsIncoming, IsLaying}
+use Rattle.control_members.specs.Names.{is_member_name}
+use Rattle.control_members.specs.Stored.{AreStored, stored_member_path}
+use Rattle.diversions.specs.declared.entry.Diversion.{Diversion}
+use Rattle.file_lists.specs.Increasing.{AreIncreasing}
+use Rattle.file_lists.specs.Info.{AreLoose}
+use Rattle.file_lists.specs.Taking.{without_all}
+use Rattle.file_lists.specs.Writing.{with_list}
 use Rattle.file_lists.specs.declared.paths.PackageList.{PackageList}
 use Rattle.file_works.specs.declared.work.Work.{Work}
+use Rattle.package_tree.specs.declared.package.Package.{Package}
+use Rattle.status_db.specs.Held.{CanOpenRecords, HasRecords}
 use Rattle.status_db.specs.Recorded.{Recorded}
-use Rattle.status_db.specs.Records.{record_in, put_record}
+use Rattle.status_db.specs.Records.{record_in}
 use Rattle.status_db.specs.declared.record.Record.{Record}
-use Rattle.unpack_rows.specs.EndStates.{end_of, end_record}
+use Rattle.stack_run.specs.Ended.{IsCauseOf}
+use Rattle.stack_run.specs.declared.unwinding.Unwinding.{Unwinding}
+use Rattle.unpack_rows.specs.EndStates.{end_of}
+use Rattle.unpack_rows.specs.ForwardRows.{is_present}
+use Rattle.unpack_rows.specs.Kinds.{kinds_of}
+use Rattle.unpack_rows.specs.Notes.{noted, notes_at}
 use Rattle.unpack_rows.specs.Stages.{stage_of}
-use Rattle.unpack_run.specs.Task.{Task, kinds, lists_at, name}
-use Rattle.unpack_run.specs.Trail.{AreOrdered, HasCome}
-use Rattle.unpack_run.specs.At.{IsFileFault, Stops, table_at}
+use Rattle.unpack_rows.specs.declared.kinds.RowKind.{RowKind}
+use Rattle.unpack_rows.specs.declared.rows.Present.{Present}
+use Rattle.unpack_run.specs.Task.{Task, lists_at}
+use Rattle.unpack_run.specs.Trail.{HasCome}
+use Rattle.unpack_run.specs.At.{At, Holding, IsFileFault, IsWithin, Stops}
 use Rattle.unpack_commit.specs.Commit.{Changes, HasCommitted, MayCommit}
 use Rattle.unpack_commit.specs.Takeover.{losers, losing_records, put_records, taken_places, yields_of}
 use Rattle.unpack_plan.specs.Planned.{Job, Planned, IsPlanned}
 
--- the package's record as the unit finds it
-abbrev pub found : Job → Option Record
-found j = record_in j.records j.«package».name
+-- the tree, and what the administration says of records, lists and diversions when the unit begins
+pub record Given : Type 0 where
+  pub «package» : Package
+  pub records : List Record
+  pub lists : List PackageList
+  pub entries : List Diversion
 
--- what stays the same while the rows run
-abbrev pub task_of : Job → Planned → State → List Path → Task
-task_of j p start places = record {
-  start = start; records = j.records; lists = j.lists; entries = j.entries; places = places;
-  found = found j; incoming = p.incoming; others = []; yields = yields_of j.records;
-  works = p.works; listed = p.listed; union = p.union;
-}
+abbrev pub given : Package → List Record → List PackageList → List Diversion → Given
+given «package» records lists entries = record { «package» = «package»; records = records; lists = lists; entries = entries }
 
--- (HasBegun, the beginning: of a package without a record what is left under its name in `info/` goes: its list and control files;
---  then the tree's control files are laid out in `tmp.ci`.
---  HasLeft by how the rows ended: Committed: HasCommitted from the world where the files stand (HasFiles) and then tmp.ci is gone;
---  Unwound: HasCome of the stage of Back 0, then, where the package has no record at the end, its list goes, then tmp.ci is gone.)
+-- with the scripts of the old version that are stored
+abbrev pub job_of : Given → Present → Job
+job_of g stored = record { «package» = g.«package»; records = g.records; lists = g.lists; entries = g.entries; stored = stored }
 
--- the packages of a unit: the one that was named, and each whose record differs, in the order of names
--- IsTouched name before after touched
+-- which scripts are stored with a package, by its record: without one none is looked for
+abbrev pub IsSeen : Option Record → List ℕ → World → Present → Type 0
+IsSeen None name w stored = (script : Script) → is_present stored script ≡ false
+IsSeen (Some r) name w stored = (script : Script) → is_present stored script ≡ is_some (w (script_path name script))
 
--- IsEnd: the record of each name at the end: end_record of unpack_rows where unwound; where committed, the fresh record and those of
--- packages that lost conffiles, all other names as before
+-- a path that is neither the list of a package nor one of its stored control files
+pub record IsBesideOwn (name : List ℕ) (q : Path) : Type 0 where
+  pub list : q ≢ list_path name
+  pub members : (member : Path) → is_member_name member ≡ true → q ≢ stored_member_path name member
 
--- pub record HasUnpacked (j : Job) (places : List Path) (ended : Ended) (after : Recorded) (lists : List PackageList) (old new : State) (told now : List Called)
--- pub data IsAmid (j : Job) (places : List Path) (old : World) (so_far : List Event) (now : World)
--- pub record HasCalled (j : Job) (places : List Path) (old new : State) (told now : List Called)
+-- nothing is left in `info` under this name, and all else is as before
+pub record IsCleared (name : List ℕ) (old new : World) : Type 0 where
+  pub list : new (list_path name) ≡ None
+  pub members : AreStored name [] new
+  pub rest : (q : Path) → IsBesideOwn name q → new q ≡ old q
+
+-- at each moment: what stood there, or nothing
+pub record IsClearing (name : List ℕ) (old now : World) : Type 0 where
+  pub less : (q : Path) → (now q ≡ old q) ⊎ (now q ≡ None)
+  pub rest : (q : Path) → IsBesideOwn name q → now q ≡ old q
+
+-- what a name without a record left behind goes; a package that has a record keeps its files
+abbrev pub HasCleared : Option Record → List ℕ → World → World → Type 0
+HasCleared None name old new = IsCleared name old new
+HasCleared (Some r) name old new = new ≡ old
+
+abbrev pub MayClear : Option Record → List ℕ → World → World → Type 0
+MayClear None name old now = IsClearing name old now
+MayClear (Some r) name old now = now ≡ old
+
+-- the list of a package that has no record in the end goes too
+abbrev pub HasDropped : Option Record → List ℕ → World → World → Type 0
+HasDropped None name old new = IsDropped (list_path name) old new
+HasDropped (Some r) name old new = new ≡ old
+
+abbrev pub MayDrop : Option Record → List ℕ → World → World → Type 0
+MayDrop None name old now = IsDropping (list_path name) old now
+MayDrop (Some r) name old now = now ≡ old
+
+module _ (g : Given) (places : List Path) (p : Planned) where
+  abbrev pub package_name : List ℕ
+  package_name = g.«package».name
+
+  -- the package's record as the unit finds it
+  abbrev pub found : Option Record
+  found = record_in g.records package_name
+
+  -- the other packages of which only conffiles are left
+  abbrev pub other_yields : List (List ℕ)
+  other_yields = filter (λ name. not (bytes_eq name package_name)) (yields_of g.records)
+
+  -- what stays the same while the rows run, from the host where they begin
+  abbrev pub task_of : State → Task
+  task_of start = record {
+    start = start; records = g.records; lists = g.lists; entries = g.entries; places = places;
+    found = found; incoming = p.incoming; others = []; yields = yields_of g.records;
+    works = p.works; listed = p.listed; union = p.union;
+  }
+
+  -- what is left under the package's name is gone, and then the tree's control files are laid out
+  pub record HasBegun (old new : World) : Type 0 where
+    pub cleared : World
+    pub clears : HasCleared found package_name old cleared
+    pub lays : KeepsBut (is_within tmp_path) cleared new
+    pub laid : AreLaidOut p.members new
+
+  -- what the commit does, beside the notes, once the files were written so
+  abbrev pub changes : List Work → List PackageList → Changes
+  changes works lists = record {
+    name = package_name; leaving = p.leaving; listed = p.new_list; members = p.members;
+    places = taken_places works; losers = losers g.entries (taken_places works) lists other_yields;
+    names = p.names;
+  }
+
+  -- what it notes: the records that lose conffiles, and the package's own last
+  abbrev pub commit_records : List Work → List Record → List Record
+  commit_records works table = losing_records g.entries (taken_places works) other_yields table ++ p.fresh ∷ []
+
+  -- the records in the end, by how the rows ended and the table that they left
+  abbrev pub end_table : Ended → List Work → List Record → List Record
+  end_table Committed works table = put_records (commit_records works table) table
+  end_table (Unwound fall failed) works table = table
+
+  -- the lists in the end, by those that the rows left
+  abbrev pub end_lists : Ended → List Work → List PackageList → List PackageList
+  end_lists Committed works lists = without_all g.entries (taken_places works) (changes works lists).losers (with_list package_name p.new_list lists)
+  end_lists (Unwound fall failed) works lists = lists
+
+  -- what follows the rows: the commit, or for a package that has no record now the end of its list
+  abbrev pub HasFollowed : Ended → List Work → List PackageList → List Record → World → World → Type 0
+  HasFollowed Committed works lists table old new = HasCommitted (changes works lists) g.entries lists (end_table Committed works table) old new
+  HasFollowed (Unwound fall failed) works lists table old new = HasDropped (record_in table package_name) package_name old new
+
+  abbrev pub MayFollow : Ended → List Work → List PackageList → List Record → World → World → Type 0
+  MayFollow Committed works lists table old now = MayCommit (changes works lists) g.entries lists (commit_records works table) table old now
+  MayFollow (Unwound fall failed) works lists table old now = MayDrop (record_in table package_name) package_name old now
+
+  -- and then `tmp.ci` goes
+  pub record HasLeft (ended : Ended) (works : List Work) (lists : List PackageList) (table : List Record) (old new : World) : Type 0 where
+    pub followed : World
+    pub follows : HasFollowed ended works lists table old followed
+    pub removed : IsRemoved tmp_path followed new
+
+  -- the kinds of its rows, and the records with the notes up to a place of them
+  abbrev pub row_kinds : List RowKind
+  row_kinds = kinds_of found []
+
+  abbrev pub table_after : Place → List Record
+  table_after place = noted g.records (notes_at found p.incoming row_kinds place)
+
+  -- where the rows of a unit end
+  abbrev pub last_place : Ended → Place
+  last_place ended = end_of (length p.rows) ended
+
+  -- the unit began, its rows ran and ended so, and script calls changed so much
+  pub record HasRunRows (ended : Ended) (works : List Work) (so_far : List Event) (old last : World) : Type 0 where
+    pub begun : State
+    pub begins : HasBegun old begun.world
+    pub came : HasCome (task_of begun) (stage_of row_kinds (last_place ended)) works (changes_of so_far) last
+
+  -- How far a unit is: it begins, its rows run, it is committed or what it wrote is undone, and `tmp.ci` goes.
+  pub data IsStage (old : World) (so_far : List Event) (now : World) : Type 0 where
+    clearing : scripts_of so_far ≡ [] → MayClear found package_name old now → IsStage old so_far now
+    laying : scripts_of so_far ≡ [] → (cleared : World) → HasCleared found package_name old cleared → IsLaying cleared now → IsStage old so_far now
+    running : (begun : State) (before more : List Event) → so_far ≡ before ++ more → scripts_of before ≡ [] → HasBegun old begun.world
+        → Stops (task_of begun) (begun.events ++ more) now → IsStage old so_far now
+    following : (ended : Ended) (works : List Work) (last : World) (ran : HasRunRows ended works so_far old last)
+        → MayFollow ended works (lists_at (task_of ran.begun) (stage_of row_kinds (last_place ended))) (table_after (last_place ended)) last now → IsStage old so_far now
+    leaving : (ended : Ended) (works : List Work) (last followed : World) (ran : HasRunRows ended works so_far old last)
+        → HasFollowed ended works (lists_at (task_of ran.begun) (stage_of row_kinds (last_place ended))) (table_after (last_place ended)) last followed
+        → IsLaying followed now → IsStage old so_far now
+
+  -- The records at a moment: those of before with the notes up to a place of the rows; where all rows succeeded, also with the
+  -- first records of the commit.
+  pub data IsTableAmid (table : List Record) : Type 0 where
+    noting : (place : Place) → IsWithin (length row_kinds) place → table ≡ table_after place → IsTableAmid table
+    committing : (works : List Work) (front back : List Record) → commit_records works (table_after (last_place Committed)) ≡ front ++ back
+        → table ≡ put_records front (table_after (last_place Committed)) → IsTableAmid table
+
+-- The whole unit. It looks which scripts are stored, and plans; it begins, calls its rows' scripts and none else, and commits or
+-- undoes. These records and lists are left.
+pub record HasUnpacked (g : Given) (places : List Path) (ended : Ended) (after : Recorded) (lists : List PackageList) (old new : State) (told now : List Called) : Type 0 where
+  pub stored : Present
+  pub plan : Planned
+  pub begun : State
+  pub mid : Holding
+  pub last : State
+  pub seen : IsTrue new.honest → IsSeen (record_in g.records g.«package».name) g.«package».name old.world stored
+  pub planned : IsPlanned (job_of g stored) plan
+  pub quiet : Silent old begun
+  pub until : IsLater old begun
+  pub begins : IsTrue new.honest → HasBegun g places plan old.world begun.world
+  pub run : HasRun (IsFileFault (task_of g places plan begun)) ended plan.rows begun last told now
+  pub between : IsLater begun last
+  pub rows_end : At (task_of g places plan begun) mid last (last_place g places plan ended)
+  pub since : Silent last new
+  pub later : IsLater last new
+  pub leaves : IsTrue new.honest → HasLeft g places plan ended mid.works mid.lists mid.database.records last.world new.world
+  pub records : after.records ≡ end_table g places plan ended mid.works mid.database.records
+  pub lists_are : lists ≡ end_lists g places plan ended mid.works mid.lists
+
+-- At each moment of it: it is at some stage, the next opening finds the records of before with the first of the unit's notes, and
+-- nothing that it can't take away is in its way.
+pub record IsAmid (g : Given) (places : List Path) (old : World) (so_far : List Event) (now : World) : Type 0 where
+  pub stored : Present
+  pub plan : Planned
+  pub seen : IsSeen (record_in g.records g.«package».name) g.«package».name old stored
+  pub planned : IsPlanned (job_of g stored) plan
+  pub stage : IsStage g places plan old so_far now
+  pub table : List Record
+  pub is_table : IsTableAmid g places plan table
+  pub records : HasRecords now table
+  pub opens : CanOpenRecords now
+  pub incoming : IsIncoming now
+  pub loose : AreLoose now
+
+-- The calls of a unit, whatever its answer: none; or the first of some that are legal for its rows, and they are told.
+pub data HasCalled (g : Given) (old new : State) (told now : List Called) : Type 0 where
+  nothing : Silent old new → now ≡ told → HasCalled g old new told now
+  some : (stored : Present) (plan : Planned) → (IsTrue new.honest → IsSeen (record_in g.records g.«package».name) g.«package».name old.world stored)
+      → IsPlanned (job_of g stored) plan → Begun (MayRun plan.rows) old new told now → HasCalled g old new told now
+
+-- the failure that is told is that of a row of the plan
+pub record HasFailedFor (g : Given) (old new : State) (u : Option Unwinding) : Type 0 where
+  pub stored : Present
+  pub plan : Planned
+  pub seen : IsTrue new.honest → IsSeen (record_in g.records g.«package».name) g.«package».name old.world stored
+  pub planned : IsPlanned (job_of g stored) plan
+  pub cause : IsCauseOf plan.rows u
+
+-- the packages of a unit, in the order of names: the one that was named, and each whose record differs since
+pub record IsTouched (name : List ℕ) (before after : List Record) (touched : List (List ℕ)) : Type 0 where
+  pub order : AreIncreasing touched
+  pub exact : (q : List ℕ) → Contains touched q ↔ ((q ≡ name) ⊎ (record_in after q ≡ record_in before q → ⊥))

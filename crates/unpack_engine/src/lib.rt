@@ -1,2 +1,6 @@
-//! unpack_engine
+//! The unit of an unpack: rows, notes, lists and files, in Policy's order (Policy 6.6).
 #![tactic(auto)]
+
+mod unit;
+
+pub use unit::{Unpacked, unpack};
