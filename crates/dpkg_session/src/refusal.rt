@@ -78,14 +78,14 @@ fn first_away<'a>(
     name: &Text,
     paths: &'a [ShipPath],
 ) -> Option<&'a ShipPath>
-    ensures { option_copied result.entry ≡ first_away diversions.now.entries name.now paths.now }
+    ensures { option_copied result ≡ first_away diversions.now.entries name.now paths.now }
 {
     paths.iter().find(|path| is_away(diversions, name, path))
 }
 
 // The one that is before the other in path order.
 fn first_of<'a>(one: Option<&'a ShipPath>, other: Option<&'a ShipPath>) -> Option<&'a ShipPath>
-    ensures { option_copied result.entry ≡ first_of (option_copied one.entry) (option_copied other.entry) }
+    ensures { option_copied result ≡ first_of (option_copied one.entry) (option_copied other.entry) }
 {
     let (Some(a), Some(b)) = (one, other) else {
         return one.or(other);
@@ -98,7 +98,7 @@ fn first_of<'a>(one: Option<&'a ShipPath>, other: Option<&'a ShipPath>) -> Optio
 
 // The first conffile or flagged path whose file lies elsewhere.
 fn conffile_away<'a>(diversions: &Diversions, incoming: &'a Package) -> Option<&'a ShipPath>
-    ensures { option_copied result.entry ≡ conffile_away diversions.now.entries incoming.now }
+    ensures { option_copied result ≡ conffile_away diversions.now.entries incoming.now }
 {
     let shipped = first_away(diversions, &incoming.name, incoming.conffiles.as_slice());
     let flagged = first_away(diversions, &incoming.name, incoming.flagged.as_slice());
