@@ -30,14 +30,18 @@ abbrev pub call_of : Option Call → Option Failure
 call_of None = None
 call_of (Some call) = Some (failure.OfCall call)
 
-abbrev pub forward_of : Option Row → Option Failure
+-- the step fault of the files, or else the call
+abbrev pub cause_of : Option StepFault → Option Call → Option Failure
+cause_of (Some fault) call = Some (failure.OfFiles fault)
+cause_of None call = call_of call
+
+abbrev pub forward_of : Option Row → Option Call
 forward_of None = None
-forward_of (Some row) = call_of row.forward
+forward_of (Some row) = row.forward
 
 -- for what it failed: the step fault of the files, or else the forward call of the row that failed
 abbrev pub failure_of : List Row → ℕ → Option StepFault → Option Failure
-failure_of rows index (Some fault) = Some (failure.OfFiles fault)
-failure_of rows index None = forward_of (row_at rows index)
+failure_of rows index fault = cause_of fault (forward_of (row_at rows index))
 
 abbrev pub IsCauseOf : List Row → Option Unwinding → Type 0
 IsCauseOf rows None = Unit {0}

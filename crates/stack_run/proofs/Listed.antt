@@ -1,0 +1,60 @@
+-- Lists of rows, and what a row has that fails.
+use Rattle.std.proofs.Common.{◌≡◌, ◌<◌, ◌+◌, ℕ, Bool, true, false, List, [], ◌∷◌, ◌++◌, Option, Some, None, IsSome, length, refl, sym, ap, subst, ◌∙◌, arith, length-append, get_or}
+use Rattle.std.proofs.lemmas.List.{get_or_append_left, get_or_at}
+use Rattle.host_core.specs.Paths.{Path}
+use Rattle.host_core.specs.World.{World}
+use Rattle.host_core.specs.Events.{Event, Ran}
+use Rattle.host_core.specs.Host.{State, Silent}
+use Rattle.host_core.specs.declared.call.Call.{Call}
+use Rattle.unwind_stack.specs.declared.rows.Row.{Row}
+use Rattle.unwind_stack.specs.declared.fall.StepFault.{StepFault}
+use Rattle.unwind_stack.specs.declared.fall.Fall.{Fall}
+use Rattle.unwind_stack.specs.Transcript.{Goes, Tries}
+use Rattle.cleanup_stack.specs.Place.{Fit}
+use Rattle.cleanup_stack.specs.Stops.{AtEachStop, stops_then}
+use Rattle.stack_run.specs.Ended.{row_at}
+
+pub nothing_done : (a : State) → Silent a a
+nothing_done a = record { honest = λ h. h; scripts = refl }
+
+module _ (fits : ℕ → Row → Type 0) (rows xs : List Row) where
+  -- where rows fit, so do the first of them
+  pub fit_front : (ys : List Row) → rows ≡ xs ++ ys → Fit fits rows → Fit fits xs
+  fit_front ys are fit i row within is =
+      fit i row (omega (arith, ap length are, length-append xs ys)) (is ∙ sym (get_or_append_left xs ys row i within) ∙ ap (λ (l : List Row). get_or l i row) (sym are))
+
+  -- and each in its place
+  pub fit_at : (row : Row) (ys : List Row) → rows ≡ xs ++ row ∷ ys → Fit fits rows → fits (length xs) row
+  fit_at row ys are fit =
+      fit (length xs) row (omega (arith, ap length are, length-append xs (row ∷ ys))) (sym (get_or_at xs row ys row (length xs) refl) ∙ ap (λ (l : List Row). get_or l (length xs) row) (sym are))
+
+pub row_at-here : (xs : List Row) (row : Row) (ys : List Row) → row_at (xs ++ row ∷ ys) (length xs) ≡ Some row
+row_at-here [] row ys = refl
+row_at-here (x ∷ xs) row ys = row_at-here xs row ys
+
+some_call : (forward : Option Call) (call : Call) → forward ≡ Some call → IsSome forward
+some_call None call is = cc
+some_call (Some other) call is = refl
+
+-- a row of calls fails only by its forward call
+tried : (row : Row) (ts : List Ran) (ok : Bool) → Tries row ts ok → ok ≡ false → IsSome row.forward
+tried row ts ok (Tries.absent none) fails = cc
+tried row ts ok (Tries.done t is succeeds) fails = cc
+tried row ts ok (Tries.failed t is fails-t none) fails = some_call row.forward t.call is
+tried row ts ok (Tries.fell_back t u same is fails-t falls ends) fails = some_call row.forward t.call is
+
+module _ (gives : List Ran → Option StepFault → Type 0) (past : List Ran) (row : Row) (fall : Fall) where
+  went : (ts : List Ran) (how : Option Fall) → Goes gives past row ts how → how ≡ Some fall → fall.fault ≡ None → IsSome row.forward
+  went ts how (Goes.wrote files is) same none = cc
+  went ts how (Goes.clashed fault other files is has) same none = cc
+  went ts how (Goes.succeeded own calls tries) same none = cc
+  went ts how (Goes.failed own other calls tries has) same none = tried row own false tries refl
+
+  -- where no step fault is told, a row that failed has a forward call
+  pub has_forward : (ts : List Ran) → Goes gives past row ts (Some fall) → fall.fault ≡ None → IsSome row.forward
+  has_forward ts goes = went ts (Some fall) goes refl
+
+module _ (Task : Type 0) (stops : Task → List Event → World → Type 0) (t u : Task) (same : u ≡ t) where
+  -- a part that has the same task
+  pub next_part : (a b c : State) → AtEachStop (stops t) a b → AtEachStop (stops u) b c → AtEachStop (stops t) a c
+  next_part a b c first second = stops_then (stops t) a b c first (subst (λ x. AtEachStop (stops x) b c) same second)
