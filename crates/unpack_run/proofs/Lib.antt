@@ -1,5 +1,9 @@
-pub mod Standing
-pub mod Rearranged
-pub mod FileWorlds
-pub mod FileRow
 pub mod Answering
+pub mod FileRow
+pub mod FileWorlds
+pub mod HookRows
+pub mod Hooks
+pub mod Notables
+pub mod Rearranged
+pub mod RowKinds
+pub mod Standing
