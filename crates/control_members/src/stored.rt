@@ -71,6 +71,7 @@ fn names_among(alloc: Global, owner: &Text, entries: &[Text]) -> Result<Texts, A
 pub fn stored_names<H: Host>(alloc: Global, host: &mut H, owner: &Text) -> Result<Texts, HostFault>
     requires named { is_package_name owner.now ≡ true }
     ensures stored { Tells result (λ names w. AreStoredNames w owner.now names) (H.state host.old) (H.state host.new) }
+    ensures members { IfOk result AreMemberNames }
     ensures reads { Reads (H.state host.old) (H.state host.new) }
     ensures silent { Silent (H.state host.old) (H.state host.new) }
     ensures counts { Counts (H.state host.old) (H.state host.new) result }

@@ -85,6 +85,12 @@ file_among P files paths q is has =
     let found = filtered (is_file_in P) files q (subst (λ (l : List Path). Contains l q) is has) in
     (found.file, found.there, found.at, file_of_test found.file.node (and_parts (is_file found.file.node) (P found.file.path) found.passes).0)
 
+-- and passes the test
+pub name_among : (P : Path → Bool) (files : List Shipped) (paths : List Path) (q : Path) → paths ≡ paths_of (filter (is_file_in P) files) → Contains paths q → P q ≡ true
+name_among P files paths q is has =
+    let found = filtered (is_file_in P) files q (subst (λ (l : List Path). Contains l q) is has) in
+    subst (λ (p : Path). P p ≡ true) found.at (and_parts (is_file found.file.node) (P found.file.path) found.passes).1
+
 -- lines
 
 pub named_line : (q : Path) (all : List Entry) → Contains all (entry.Plain q) → list_any (is_named Plain q) all ≡ true

@@ -7,6 +7,7 @@ use Rattle.host_core.specs.World.{World}
 use Rattle.package_tree.specs.ConffileFaults.{HasGoodLines, IsOfBoth}
 use Rattle.package_tree.specs.LineNames.{is_named}
 use Rattle.package_tree.specs.OtherFiles.{AreOthers, names_of}
+use Rattle.package_tree.specs.Package.{is_trimmed, AreTrimmed}
 use Rattle.package_tree.specs.ShipMap.{paths_of, is_file_in, AreFiles, IsTooLarge}
 use Rattle.package_tree.specs.Shipped.{AreInOrder, ArePathTexts, HasNoPath, IsShipLine}
 use Rattle.package_tree.specs.declared.conffile_lines.Entry.{Entry}
@@ -21,6 +22,11 @@ pub record AreLinesOf (all : List Entry) (lines : Lines) : Type 0 where
   pub order : AreInOrder lines.flagged.items
   pub only : (q : List ℕ) → Contains lines.flagged.items q → list_any (is_named Flagged q) all ≡ true
   pub whole : (q : List ℕ) → IsShipLine q → list_any (is_named Flagged q) all ≡ true → Contains lines.flagged.items q
+
+-- no path of a line ends in a blank
+pub record AreTrimmedLines (lines : Lines) : Type 0 where
+  pub plain : (q : List ℕ) → contains_text lines.plain q ≡ true → is_trimmed q ≡ true
+  pub flagged : AreTrimmed lines.flagged.items
 
 -- nothing is wrong with what the tree ships, and that and the other files were found
 pub record IsFound (w : World) (found : Found) : Type 0 where

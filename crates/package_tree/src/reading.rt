@@ -14,7 +14,7 @@ ghost use Rattle.package_tree.specs.Conffiles.{is_white, entries_at};
 ghost use Rattle.package_tree.specs.ConffileFaults.{HasGoodLines, IsOfBoth};
 ghost use Rattle.package_tree.specs.ControlFile.{IsControlText};
 ghost use Rattle.package_tree.specs.PathFaults.{AreGoodPaths, HasGoodPaths, IsBadPath};
-ghost use Rattle.package_tree.specs.Reading.{AreLinesOf, IsFound, IsWhole};
+ghost use Rattle.package_tree.specs.Reading.{AreLinesOf, AreTrimmedLines, IsFound, IsWhole};
 ghost use Rattle.package_tree.specs.ShipMap.{paths_of, AreFiles, IsTooLarge};
 ghost use Rattle.package_tree.specs.Shipped.{AreInOrder, ArePathTexts, AreShipped, HasNoPath, IsBadBeside, IsFirstPath};
 ghost use Rattle.package_tree.specs.Tree.{HasControl, HasGoodControl, IsTreeOf, IsReadingFault};
@@ -363,7 +363,8 @@ struct Lines {
 
 // The lines of `conffiles`, what the plain ones name, and the paths that are flagged.
 fn lines_at(alloc: Global, conffiles: &Option<Node>) -> Result<Lines, AllocError>
-    ensures { IfOk result (AreLinesOf (entries_at conffiles.now)) }
+    ensures lines { IfOk result (AreLinesOf (entries_at conffiles.now)) }
+    ensures trimmed { IfOk result AreTrimmedLines }
 {
     let entries = entries_at(alloc, conffiles)?;
     let plain = names_of(alloc, entries.as_slice(), LineKind::Plain)?;
@@ -492,7 +493,8 @@ fn assemble(
     lines: Lines,
     found: Found,
 ) -> Package
-    requires { IsWhole lines found }
+    requires whole { IsWhole lines found }
+    requires trimmed { AreTrimmedLines lines }
     ensures { (w : World) (text : List ℕ) → HasControl w text → IsControlText text control.paragraph control.name control.version → AreContents w contents → HasGoodPaths w → AreLinesOf (entries_at (w conffiles_path)) lines → IsFound w found → IsTreeOf w result }
 {
     let has_conffiles = lists_conffiles(&contents.conffiles);

@@ -3,18 +3,19 @@
 use Rattle.std.specs.Prelude.{◌≡◌, ◌⊎◌, ℕ, List, ◌++◌}
 use Rattle.host_core.specs.Paths.{Path}
 use Rattle.host_core.specs.World.{World, KeepsBut}
-use Rattle.host_core.specs.declared.node.Node.{Node}
 use Rattle.administration.specs.Places.{list_path}
 use Rattle.control_members.specs.Stored.{AreReplaced, AreReplacing, AreStored}
 use Rattle.control_members.specs.declared.member.Member.{Member}
 use Rattle.diversions.specs.declared.entry.Diversion.{Diversion}
+use Rattle.file_lists.specs.Taking.{without_all}
 use Rattle.file_lists.specs.Writing.{list_file, with_list}
 use Rattle.file_lists.specs.declared.paths.PackageList.{PackageList}
 use Rattle.file_removal.specs.declared.leaving.Leaving.{Leaving}
-use Rattle.status_db.specs.Held.{AreKept, CanOpenRecords, HasRecords, is_record_place}
+use Rattle.status_db.specs.Held.{CanOpenRecords, HasRecords, is_record_place}
 use Rattle.status_db.specs.declared.record.Record.{Record}
 use Rattle.unpack_moves.specs.Closing.{HasReleased, HasRenewed, MayRelease, MayRenew}
 use Rattle.unpack_commit.specs.Takeover.{put_records}
+use Rattle.unpack_commit.specs.declared.change.Change.{Change}
 
 -- what a commit does, beside the notes
 pub record Changes : Type 0 where
@@ -30,6 +31,25 @@ pub record Changes : Type 0 where
   -- names that only the installer writes
   pub names : List Path
 
+-- a change, and the new list
+abbrev pub changes_of : Change → List Path → Changes
+changes_of change listed = record {
+  name = change.name;
+  leaving = change.leaving.items;
+  listed = listed;
+  members = change.members;
+  places = change.places.items;
+  losers = change.losers;
+  names = change.names.items;
+}
+
+-- a table with the first of these records noted, none or all of them
+pub record HasSomeNoted (records before table : List Record) : Type 0 where
+  pub front : List Record
+  pub back : List Record
+  pub are : records ≡ front ++ back
+  pub table : table ≡ put_records front before
+
 -- at each moment of noting records one after another: the first of them are noted
 pub record AreNoting (records : List Record) (before : List Record) (old now : World) : Type 0 where
   pub front : List Record
@@ -44,7 +64,29 @@ pub record HaveNoted (after : List Record) (old new : World) : Type 0 where
   pub has : HasRecords new after
   pub rest : KeepsBut is_record_place old new
 
+-- the control files of a package took the place of those that were stored
+pub record HasStored (name : List ℕ) (members : List Member) (old new : World) : Type 0 where
+  pub stale : List Path
+  pub replaced : AreReplaced name members stale old new
+  pub whole : AreStored name members new
+
+-- at each moment: they take the place of some names' old ones
+pub record IsStoring (name : List ℕ) (members : List Member) (old now : World) : Type 0 where
+  pub stale : List Path
+  pub replacing : AreReplacing name members stale old now
+
 module _ (c : Changes) (entries : List Diversion) (lists : List PackageList) where
+  -- the lists with the new one, and then without the places
+  abbrev pub renewed_lists : List PackageList
+  renewed_lists = with_list c.name c.listed lists
+
+  abbrev pub committed_lists : List PackageList
+  committed_lists = without_all entries c.places c.losers renewed_lists
+
+  -- the lists as far as it went
+  abbrev pub AreListsAmid : List PackageList → Type 0
+  AreListsAmid now = (now ≡ lists) ⊎ ((now ≡ renewed_lists) ⊎ (now ≡ committed_lists))
+
   -- all of it, by the worlds between its parts
   pub record HasCommitted (after : List Record) (old new : World) : Type 0 where
     pub renewed : World
@@ -54,7 +96,7 @@ module _ (c : Changes) (entries : List Diversion) (lists : List PackageList) whe
     pub renewal : HasRenewed c.leaving (list_path c.name) (list_file c.listed) old renewed
     pub replaced : AreReplaced c.name c.members stale renewed stored
     pub whole : AreStored c.name c.members stored
-    pub release : HasReleased entries c.places c.losers (with_list c.name c.listed lists) c.names stored released
+    pub release : HasReleased entries c.places c.losers renewed_lists c.names stored released
     pub noted : HaveNoted after released new
 
   -- at each moment: the paths go and the list is written; or control files take the place of the old ones; or places leave other
@@ -65,7 +107,7 @@ module _ (c : Changes) (entries : List Diversion) (lists : List PackageList) whe
         → AreReplacing c.name c.members stale renewed now → HasRecords now before → CanOpenRecords now → MayCommit records before old now
     releasing : (renewed stored : World) (stale : List Path) → HasRenewed c.leaving (list_path c.name) (list_file c.listed) old renewed
         → AreReplaced c.name c.members stale renewed stored → AreStored c.name c.members stored
-        → MayRelease entries c.places c.losers (with_list c.name c.listed lists) c.names stored now → HasRecords now before → CanOpenRecords now → MayCommit records before old now
+        → MayRelease entries c.places c.losers renewed_lists c.names stored now → HasRecords now before → CanOpenRecords now → MayCommit records before old now
     noting : (renewed stored released : World) (stale : List Path) → HasRenewed c.leaving (list_path c.name) (list_file c.listed) old renewed
         → AreReplaced c.name c.members stale renewed stored → AreStored c.name c.members stored
-        → HasReleased entries c.places c.losers (with_list c.name c.listed lists) c.names stored released → AreNoting records before released now → MayCommit records before old now
+        → HasReleased entries c.places c.losers renewed_lists c.names stored released → AreNoting records before released now → MayCommit records before old now

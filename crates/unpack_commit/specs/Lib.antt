@@ -1,2 +1,3 @@
 pub mod Takeover
 pub mod Commit
+pub mod Areas

@@ -1,6 +1,6 @@
 -- What a package takes over from packages of which only conffiles are left (Policy 6.6, 7.6): the places of the files and links that
 -- it wrote leave their lists, and the conffiles at these places leave their records.
-use Rattle.std.specs.Prelude.{◌||◌, ◌&&◌, not, ℕ, Bool, true, false, List, [], ◌∷◌, Option, Some, None, filter, flat_map, map, cond}
+use Rattle.std.specs.Prelude.{◌||◌, ◌&&◌, not, ℕ, Bool, true, false, List, [], ◌∷◌, Option, Some, None, filter, map}
 use Rattle.std.specs.List.{list_any}
 use Rattle.std.specs.Str.{bytes_eq}
 use Rattle.host_core.specs.Paths.{Path}
@@ -13,7 +13,6 @@ use Rattle.diversions.specs.declared.entry.Diversion.{Diversion}
 use Rattle.file_lists.specs.Owners.{paths_of}
 use Rattle.file_lists.specs.declared.paths.PackageList.{PackageList}
 use Rattle.file_works.specs.declared.work.Work.{Work}
-use Rattle.status_db.specs.Conffiles.{has_entry}
 use Rattle.status_db.specs.Records.{put_record}
 use Rattle.status_db.specs.Standings.{with_conffiles}
 use Rattle.status_db.specs.declared.record.Record.{Record}

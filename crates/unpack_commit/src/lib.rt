@@ -1,2 +1,18 @@
-//! unpack_commit
+//! What an unpack does once all its rows have succeeded: the package's list, control files and record become the new ones,
+//! and places that it took over leave other packages (Policy 6.6).
 #![tactic(auto)]
+
+mod change;
+mod committing;
+mod laws;
+mod losing;
+mod moving;
+mod noting;
+mod storing;
+mod taken;
+mod takeover;
+
+pub use change::Change;
+pub use committing::commit;
+pub use laws::{a_losing_record_changes, what_a_commit_leaves};
+pub use takeover::{Takeover, takeover_of, yields_of};

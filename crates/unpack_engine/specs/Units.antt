@@ -17,12 +17,11 @@ use Rattle.cleanup_stack.specs.Telling.{Begun, HasRun}
 use Rattle.cleanup_stack.specs.Transcripts.{Ended, Committed, Unwound, MayRun}
 use Rattle.control_members.specs.LaidOut.{AreLaidOut, IsIncoming, IsLaying}
 use Rattle.control_members.specs.Names.{is_member_name}
+use Rattle.control_members.specs.declared.member.Member.{Member}
 use Rattle.control_members.specs.Stored.{AreStored, stored_member_path}
 use Rattle.diversions.specs.declared.entry.Diversion.{Diversion}
 use Rattle.file_lists.specs.Increasing.{AreIncreasing}
 use Rattle.file_lists.specs.Info.{AreLoose}
-use Rattle.file_lists.specs.Taking.{without_all}
-use Rattle.file_lists.specs.Writing.{with_list}
 use Rattle.file_lists.specs.declared.paths.PackageList.{PackageList}
 use Rattle.file_works.specs.declared.work.Work.{Work}
 use Rattle.package_tree.specs.declared.package.Package.{Package}
@@ -37,12 +36,11 @@ use Rattle.unpack_rows.specs.ForwardRows.{is_present}
 use Rattle.unpack_rows.specs.Kinds.{kinds_of}
 use Rattle.unpack_rows.specs.Notes.{noted, notes_at}
 use Rattle.unpack_rows.specs.Stages.{stage_of}
-use Rattle.unpack_rows.specs.declared.kinds.RowKind.{RowKind}
 use Rattle.unpack_rows.specs.declared.rows.Present.{Present}
 use Rattle.unpack_run.specs.Task.{Task, lists_at}
 use Rattle.unpack_run.specs.Trail.{HasCome}
 use Rattle.unpack_run.specs.At.{At, Holding, IsFileFault, IsWithin, Stops}
-use Rattle.unpack_commit.specs.Commit.{Changes, HasCommitted, MayCommit}
+use Rattle.unpack_commit.specs.Commit.{Changes, HasCommitted, MayCommit, committed_lists}
 use Rattle.unpack_commit.specs.Takeover.{losers, losing_records, put_records, taken_places, yields_of}
 use Rattle.unpack_plan.specs.Planned.{Job, Planned, IsPlanned}
 
@@ -90,6 +88,18 @@ abbrev pub MayClear : Option Record → List ℕ → World → World → Type 0
 MayClear None name old now = IsClearing name old now
 MayClear (Some r) name old now = now ≡ old
 
+-- what is left under the name is gone, and then these control files are laid out
+pub record HasBegun (found : Option Record) (name : List ℕ) (members : List Member) (old new : World) : Type 0 where
+  pub cleared : World
+  pub clears : HasCleared found name old cleared
+  pub lays : KeepsBut (is_within tmp_path) cleared new
+  pub laid : AreLaidOut members new
+
+-- at each moment
+pub data MayBegin (found : Option Record) (name : List ℕ) (old now : World) : Type 0 where
+  clearing : MayClear found name old now → MayBegin found name old now
+  laying : (cleared : World) → HasCleared found name old cleared → IsLaying cleared now → MayBegin found name old now
+
 -- the list of a package that has no record in the end goes too
 abbrev pub HasDropped : Option Record → List ℕ → World → World → Type 0
 HasDropped None name old new = IsDropped (list_path name) old new
@@ -99,62 +109,68 @@ abbrev pub MayDrop : Option Record → List ℕ → World → World → Type 0
 MayDrop None name old now = IsDropping (list_path name) old now
 MayDrop (Some r) name old now = now ≡ old
 
-module _ (g : Given) (places : List Path) (p : Planned) where
+-- what the unit finds and what doesn't change while it runs: the records, lists and diversions, and the places that scripts leave
+-- alone
+pub record Ground : Type 0 where
+  pub records : List Record
+  pub lists : List PackageList
+  pub entries : List Diversion
+  pub places : List Path
+
+abbrev pub ground : List Record → List PackageList → List Diversion → List Path → Ground
+ground records lists entries places = record { records = records; lists = lists; entries = entries; places = places }
+
+module _ (g : Ground) (p : Planned) where
   abbrev pub package_name : List ℕ
-  package_name = g.«package».name
+  package_name = p.incoming.name
 
-  -- the package's record as the unit finds it
-  abbrev pub found : Option Record
-  found = record_in g.records package_name
+  -- the packages with which no path clashes, and of these the others
+  abbrev pub yields : List (List ℕ)
+  yields = yields_of g.records
 
-  -- the other packages of which only conffiles are left
   abbrev pub other_yields : List (List ℕ)
-  other_yields = filter (λ name. not (bytes_eq name package_name)) (yields_of g.records)
+  other_yields = filter (λ name. not (bytes_eq name package_name)) yields
 
   -- what stays the same while the rows run, from the host where they begin
-  abbrev pub task_of : State → Task
-  task_of start = record {
-    start = start; records = g.records; lists = g.lists; entries = g.entries; places = places;
-    found = found; incoming = p.incoming; others = []; yields = yields_of g.records;
+  abbrev pub task_from : State → Task
+  task_from start = record {
+    start = start; records = g.records; lists = g.lists; entries = g.entries; places = g.places;
+    found = p.found; incoming = p.incoming; others = []; yields = yields;
     works = p.works; listed = p.listed; union = p.union;
   }
 
-  -- what is left under the package's name is gone, and then the tree's control files are laid out
-  pub record HasBegun (old new : World) : Type 0 where
-    pub cleared : World
-    pub clears : HasCleared found package_name old cleared
-    pub lays : KeepsBut (is_within tmp_path) cleared new
-    pub laid : AreLaidOut p.members new
+  -- the packages that lose places to these works, by the lists as the rows left them
+  abbrev pub unit_losers : List Work → List PackageList → List (List ℕ)
+  unit_losers works lists = losers g.entries (taken_places works) lists other_yields
 
-  -- what the commit does, beside the notes, once the files were written so
+  -- what the commit does, beside the notes
   abbrev pub changes : List Work → List PackageList → Changes
   changes works lists = record {
     name = package_name; leaving = p.leaving; listed = p.new_list; members = p.members;
-    places = taken_places works; losers = losers g.entries (taken_places works) lists other_yields;
-    names = p.names;
+    places = taken_places works; losers = unit_losers works lists; names = p.names;
   }
 
   -- what it notes: the records that lose conffiles, and the package's own last
-  abbrev pub commit_records : List Work → List Record → List Record
-  commit_records works table = losing_records g.entries (taken_places works) other_yields table ++ p.fresh ∷ []
+  abbrev pub commit_records : List Work → List PackageList → List Record → List Record
+  commit_records works lists table = losing_records g.entries (taken_places works) (unit_losers works lists) table ++ p.fresh ∷ []
 
-  -- the records in the end, by how the rows ended and the table that they left
-  abbrev pub end_table : Ended → List Work → List Record → List Record
-  end_table Committed works table = put_records (commit_records works table) table
-  end_table (Unwound fall failed) works table = table
+  -- the records in the end, by how the rows ended and what they left
+  abbrev pub end_table : Ended → List Work → List PackageList → List Record → List Record
+  end_table Committed works lists table = put_records (commit_records works lists table) table
+  end_table (Unwound fall failed) works lists table = table
 
-  -- the lists in the end, by those that the rows left
+  -- the lists in the end
   abbrev pub end_lists : Ended → List Work → List PackageList → List PackageList
-  end_lists Committed works lists = without_all g.entries (taken_places works) (changes works lists).losers (with_list package_name p.new_list lists)
+  end_lists Committed works lists = committed_lists (changes works lists) g.entries lists
   end_lists (Unwound fall failed) works lists = lists
 
   -- what follows the rows: the commit, or for a package that has no record now the end of its list
   abbrev pub HasFollowed : Ended → List Work → List PackageList → List Record → World → World → Type 0
-  HasFollowed Committed works lists table old new = HasCommitted (changes works lists) g.entries lists (end_table Committed works table) old new
+  HasFollowed Committed works lists table old new = HasCommitted (changes works lists) g.entries lists (end_table Committed works lists table) old new
   HasFollowed (Unwound fall failed) works lists table old new = HasDropped (record_in table package_name) package_name old new
 
   abbrev pub MayFollow : Ended → List Work → List PackageList → List Record → World → World → Type 0
-  MayFollow Committed works lists table old now = MayCommit (changes works lists) g.entries lists (commit_records works table) table old now
+  MayFollow Committed works lists table old now = MayCommit (changes works lists) g.entries lists (commit_records works lists table) table old now
   MayFollow (Unwound fall failed) works lists table old now = MayDrop (record_in table package_name) package_name old now
 
   -- and then `tmp.ci` goes
@@ -163,91 +179,98 @@ module _ (g : Given) (places : List Path) (p : Planned) where
     pub follows : HasFollowed ended works lists table old followed
     pub removed : IsRemoved tmp_path followed new
 
-  -- the kinds of its rows, and the records with the notes up to a place of them
-  abbrev pub row_kinds : List RowKind
-  row_kinds = kinds_of found []
+  -- at each moment
+  pub data MayLeave (ended : Ended) (works : List Work) (lists : List PackageList) (table : List Record) (old now : World) : Type 0 where
+    following : MayFollow ended works lists table old now → MayLeave ended works lists table old now
+    clearing_away : (followed : World) → HasFollowed ended works lists table old followed → IsLaying followed now → MayLeave ended works lists table old now
 
-  abbrev pub table_after : Place → List Record
-  table_after place = noted g.records (notes_at found p.incoming row_kinds place)
-
-  -- where the rows of a unit end
+  -- where its rows end
   abbrev pub last_place : Ended → Place
   last_place ended = end_of (length p.rows) ended
 
-  -- the unit began, its rows ran and ended so, and script calls changed so much
-  pub record HasRunRows (ended : Ended) (works : List Work) (so_far : List Event) (old last : World) : Type 0 where
-    pub begun : State
-    pub begins : HasBegun old begun.world
-    pub came : HasCome (task_of begun) (stage_of row_kinds (last_place ended)) works (changes_of so_far) last
+  -- the records at a place of the rows
+  abbrev pub table_after : Place → List Record
+  table_after place = noted g.records (notes_at p.found p.incoming (kinds_of p.found []) place)
 
-  -- How far a unit is: it begins, its rows run, it is committed or what it wrote is undone, and `tmp.ci` goes.
+  -- the lists where the rows end
+  abbrev pub lists_after : Ended → State → List PackageList
+  lists_after ended begun = lists_at (task_from begun) (stage_of (kinds_of p.found []) (last_place ended))
+
+  -- How far a unit is: it begins, its rows run, or they have run and what follows is under way.
   pub data IsStage (old : World) (so_far : List Event) (now : World) : Type 0 where
-    clearing : scripts_of so_far ≡ [] → MayClear found package_name old now → IsStage old so_far now
-    laying : scripts_of so_far ≡ [] → (cleared : World) → HasCleared found package_name old cleared → IsLaying cleared now → IsStage old so_far now
-    running : (begun : State) (before more : List Event) → so_far ≡ before ++ more → scripts_of before ≡ [] → HasBegun old begun.world
-        → Stops (task_of begun) (begun.events ++ more) now → IsStage old so_far now
-    following : (ended : Ended) (works : List Work) (last : World) (ran : HasRunRows ended works so_far old last)
-        → MayFollow ended works (lists_at (task_of ran.begun) (stage_of row_kinds (last_place ended))) (table_after (last_place ended)) last now → IsStage old so_far now
-    leaving : (ended : Ended) (works : List Work) (last followed : World) (ran : HasRunRows ended works so_far old last)
-        → HasFollowed ended works (lists_at (task_of ran.begun) (stage_of row_kinds (last_place ended))) (table_after (last_place ended)) last followed
-        → IsLaying followed now → IsStage old so_far now
+    beginning : scripts_of so_far ≡ [] → MayBegin p.found package_name old now → IsStage old so_far now
+    running : (begun : State) (before more : List Event) → so_far ≡ before ++ more → scripts_of before ≡ [] → HasBegun p.found package_name p.members old begun.world
+        → Stops (task_from begun) (begun.events ++ more) now → IsStage old so_far now
+    leaving : (ended : Ended) (works : List Work) (begun : State) (last : World) → HasBegun p.found package_name p.members old begun.world
+        → HasCome (task_from begun) (stage_of (kinds_of p.found []) (last_place ended)) works (changes_of so_far) last
+        → MayLeave ended works (lists_after ended begun) (table_after (last_place ended)) last now → IsStage old so_far now
 
   -- The records at a moment: those of before with the notes up to a place of the rows; where all rows succeeded, also with the
   -- first records of the commit.
   pub data IsTableAmid (table : List Record) : Type 0 where
-    noting : (place : Place) → IsWithin (length row_kinds) place → table ≡ table_after place → IsTableAmid table
-    committing : (works : List Work) (front back : List Record) → commit_records works (table_after (last_place Committed)) ≡ front ++ back
+    noting : (place : Place) → IsWithin (length (kinds_of p.found [])) place → table ≡ table_after place → IsTableAmid table
+    committing : (works : List Work) (lists : List PackageList) (front back : List Record) → commit_records works lists (table_after (last_place Committed)) ≡ front ++ back
         → table ≡ put_records front (table_after (last_place Committed)) → IsTableAmid table
 
--- The whole unit. It looks which scripts are stored, and plans; it begins, calls its rows' scripts and none else, and commits or
--- undoes. These records and lists are left.
-pub record HasUnpacked (g : Given) (places : List Path) (ended : Ended) (after : Recorded) (lists : List PackageList) (old new : State) (told now : List Called) : Type 0 where
-  pub stored : Present
-  pub plan : Planned
-  pub begun : State
-  pub mid : Holding
-  pub last : State
-  pub seen : IsTrue new.honest → IsSeen (record_in g.records g.«package».name) g.«package».name old.world stored
-  pub planned : IsPlanned (job_of g stored) plan
-  pub quiet : Silent old begun
-  pub until : IsLater old begun
-  pub begins : IsTrue new.honest → HasBegun g places plan old.world begun.world
-  pub run : HasRun (IsFileFault (task_of g places plan begun)) ended plan.rows begun last told now
-  pub between : IsLater begun last
-  pub rows_end : At (task_of g places plan begun) mid last (last_place g places plan ended)
-  pub since : Silent last new
-  pub later : IsLater last new
-  pub leaves : IsTrue new.honest → HasLeft g places plan ended mid.works mid.lists mid.database.records last.world new.world
-  pub records : after.records ≡ end_table g places plan ended mid.works mid.database.records
-  pub lists_are : lists ≡ end_lists g places plan ended mid.works mid.lists
+  -- The unit once it is planned: it begins, calls its rows' scripts and none else, and commits or undoes. These records and lists
+  -- are left.
+  pub record HasCarriedOut (ended : Ended) (after : Recorded) (lists : List PackageList) (old new : State) (told now : List Called) : Type 0 where
+    pub begun : State
+    pub last : State
+    pub mid : Holding
+    pub quiet : Silent old begun
+    pub until : IsLater old begun
+    pub begins : IsTrue new.honest → HasBegun p.found package_name p.members old.world begun.world
+    pub run : HasRun (IsFileFault (task_from begun)) ended p.rows begun last told now
+    pub between : IsLater begun last
+    pub rows_end : At (task_from begun) mid last (last_place ended)
+    pub since : Silent last new
+    pub later : IsLater last new
+    pub leaves : IsTrue new.honest → HasLeft ended mid.works mid.lists mid.database.records last.world new.world
+    pub records : after.records ≡ end_table ended mid.works mid.lists mid.database.records
+    pub lists_are : lists ≡ end_lists ended mid.works mid.lists
 
--- At each moment of it: it is at some stage, the next opening finds the records of before with the first of the unit's notes, and
--- nothing that it can't take away is in its way.
-pub record IsAmid (g : Given) (places : List Path) (old : World) (so_far : List Event) (now : World) : Type 0 where
+  -- At each moment of that: it is at some stage, the next opening finds the records of before with the first of the unit's notes,
+  -- and nothing that it can't take away is in its way.
+  pub record IsUnderWay (old : World) (so_far : List Event) (now : World) : Type 0 where
+    pub stage : IsStage old so_far now
+    pub table : List Record
+    pub is_table : IsTableAmid table
+    pub records : HasRecords now table
+    pub opens : CanOpenRecords now
+    pub incoming : IsIncoming now
+    pub loose : AreLoose now
+
+abbrev pub ground_of : Given → List Path → Ground
+ground_of g places = ground g.records g.lists g.entries places
+
+-- a plan for what is given, by the scripts that are stored in this world
+pub record IsPlanFor (g : Given) (w : World) (honest : Bool) (plan : Planned) : Type 0 where
   pub stored : Present
-  pub plan : Planned
-  pub seen : IsSeen (record_in g.records g.«package».name) g.«package».name old stored
+  pub seen : IsTrue honest → IsSeen (record_in g.records g.«package».name) g.«package».name w stored
   pub planned : IsPlanned (job_of g stored) plan
-  pub stage : IsStage g places plan old so_far now
-  pub table : List Record
-  pub is_table : IsTableAmid g places plan table
-  pub records : HasRecords now table
-  pub opens : CanOpenRecords now
-  pub incoming : IsIncoming now
-  pub loose : AreLoose now
+
+-- The whole unit: it looks which scripts are stored, and plans; and then it carries the plan out.
+pub record HasUnpacked (g : Given) (places : List Path) (ended : Ended) (after : Recorded) (lists : List PackageList) (old new : State) (told now : List Called) : Type 0 where
+  pub plan : Planned
+  pub plan_for : IsPlanFor g old.world new.honest plan
+  pub carried_out : HasCarriedOut (ground_of g places) plan ended after lists old new told now
+
+-- at each moment of it
+pub record IsAmid (g : Given) (places : List Path) (old : World) (so_far : List Event) (now : World) : Type 0 where
+  pub plan : Planned
+  pub plan_for : IsPlanFor g old true plan
+  pub under_way : IsUnderWay (ground_of g places) plan old so_far now
 
 -- The calls of a unit, whatever its answer: none; or the first of some that are legal for its rows, and they are told.
 pub data HasCalled (g : Given) (old new : State) (told now : List Called) : Type 0 where
   nothing : Silent old new → now ≡ told → HasCalled g old new told now
-  some : (stored : Present) (plan : Planned) → (IsTrue new.honest → IsSeen (record_in g.records g.«package».name) g.«package».name old.world stored)
-      → IsPlanned (job_of g stored) plan → Begun (MayRun plan.rows) old new told now → HasCalled g old new told now
+  some : (plan : Planned) → IsPlanFor g old.world new.honest plan → Begun (MayRun plan.rows) old new told now → HasCalled g old new told now
 
 -- the failure that is told is that of a row of the plan
 pub record HasFailedFor (g : Given) (old new : State) (u : Option Unwinding) : Type 0 where
-  pub stored : Present
   pub plan : Planned
-  pub seen : IsTrue new.honest → IsSeen (record_in g.records g.«package».name) g.«package».name old.world stored
-  pub planned : IsPlanned (job_of g stored) plan
+  pub plan_for : IsPlanFor g old.world new.honest plan
   pub cause : IsCauseOf plan.rows u
 
 -- the packages of a unit, in the order of names: the one that was named, and each whose record differs since

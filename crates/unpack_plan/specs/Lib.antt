@@ -1,1 +1,6 @@
 pub mod Planned
+pub mod Digests
+pub mod Records
+pub mod Lists
+pub mod Names
+pub mod Members

@@ -1,33 +1,35 @@
--- What an unpack is going to do, told before anything is done: a function of the tree and of what the administration says.
-use Rattle.std.specs.Prelude.{◌≡◌, ◌×◌, ◌⊎◌, ◌↔◌, ◌++◌, not, ℕ, Bool, List, [], ◌∷◌, Option, Some, None, Contains, map, filter}
-use Rattle.std.specs.List.{list_any}
-use Rattle.std.specs.Str.{bytes_eq}
+-- What an unpack is going to do, told before anything is done: by the tree and by what the administration says (Policy 6.6).
+use Rattle.std.specs.Prelude.{◌≡◌, ◌×◌, ℕ, true, List, [], Option, map}
 use Rattle.host_core.specs.Paths.{Path}
-use Rattle.host_core.specs.Suffixes.{suffix_text}
-use Rattle.host_core.specs.declared.suffix.Suffix.TheVariants.{New}
 use Rattle.host_core.specs.declared.node.Node.{Node}
+use Rattle.texts.specs.PackageNames.{is_package_name}
 use Rattle.unwind_stack.specs.declared.rows.Row.{Row}
 use Rattle.control_members.specs.declared.member.Member.{Member}
-use Rattle.diversions.specs.Places.{place}
 use Rattle.diversions.specs.declared.entry.Diversion.{Diversion}
+use Rattle.file_check.specs.Ready.{IsFitting}
 use Rattle.file_check.specs.Ships.{shipped_works}
 use Rattle.file_lists.specs.Owners.{AreListPaths, paths_of}
 use Rattle.file_lists.specs.declared.paths.PackageList.{PackageList}
 use Rattle.file_removal.specs.declared.leaving.Leaving.{Leaving}
+use Rattle.file_works.specs.Files.{Each}
+use Rattle.file_works.specs.Names.{IsNamed}
 use Rattle.file_works.specs.declared.work.Work.{Work}
-use Rattle.list_changes.specs.Leaving.{leaving_of}
-use Rattle.list_changes.specs.NewList.{IsNewList}
-use Rattle.package_tree.specs.declared.package.Package.{Package}
 use Rattle.package_tree.specs.ShipMap.{paths_of as shipped_paths}
+use Rattle.package_tree.specs.declared.package.Package.{Package}
 use Rattle.package_tree.specs.declared.shipped.Shipped.{Shipped}
-use Rattle.status_db.specs.Conffiles.{committed_entries}
 use Rattle.status_db.specs.Records.{record_in}
-use Rattle.status_db.specs.Standings.{IsUnpackedOf}
-use Rattle.status_db.specs.declared.entries.ConffileEntry.{ConffileEntry}
-use Rattle.status_db.specs.declared.entries.PendingDigest.{PendingDigest}
 use Rattle.status_db.specs.declared.record.Record.{Record}
+use Rattle.unpack_moves.specs.Closing.{SparesAdministration}
+use Rattle.unpack_moves.specs.Concluding.{AreElsewhere}
 use Rattle.unpack_rows.specs.ForwardRows.{rows_of}
+use Rattle.unpack_rows.specs.Kinds.{kinds_of, own_of}
+use Rattle.unpack_rows.specs.declared.kinds.RowKind.{RowKind}
 use Rattle.unpack_rows.specs.declared.rows.Present.{Present}
+use Rattle.unpack_plan.specs.Lists.{IsAfter, IsUnion, old_leaving}
+use Rattle.unpack_plan.specs.Members.{AreMembersOf, scripts_in}
+use Rattle.unpack_plan.specs.Names.{cleared_names}
+use Rattle.unpack_plan.specs.Records.{IsFresh, IsIncoming}
+use Rattle.unpack_plan.specs.declared.plan.Plan.{Plan}
 
 -- the tree, what the administration says, and which scripts of the old version are stored
 pub record Job : Type 0 where
@@ -38,10 +40,12 @@ pub record Job : Type 0 where
   pub stored : Present
 
 pub record Planned : Type 0 where
-  -- the record that is noted where the package has none, and that of the unpacked package
+  -- the record that the package has, the one that is noted where it has none, and that of the unpacked package
+  pub found : Option Record
   pub incoming : Record
   pub fresh : Record
   pub rows : List Row
+  pub kinds : List RowKind
   -- what is shipped, in path order
   pub works : List Work
   -- the list of before, that with both, and the new one
@@ -54,4 +58,67 @@ pub record Planned : Type 0 where
   -- the control files
   pub members : List Member
 
--- (the definitions of each field go here)
+-- a plan as such a record
+abbrev pub planned : Plan → Planned
+planned p = record {
+  found = p.found;
+  incoming = p.incoming;
+  fresh = p.fresh;
+  rows = p.rows.items;
+  kinds = p.kinds.items;
+  works = p.works.items;
+  listed = p.listed;
+  union = p.union;
+  new_list = p.new_list;
+  leaving = p.leaving.items;
+  names = p.names.items;
+  members = p.members;
+}
+
+-- each shipped path with what stands there
+abbrev pub pairs_of : List Shipped → List (Path × Node)
+pairs_of files = map (λ f. (f.path, f.node)) files
+
+abbrev pub name_of : Job → List ℕ
+name_of j = j.«package».name
+
+-- the records of the package (Policy 6.6)
+pub record ArePlannedRecords (j : Job) (p : Planned) : Type 0 where
+  pub found_is : p.found ≡ record_in j.records (name_of j)
+  pub incoming_is : IsIncoming j.«package» p.incoming
+  pub fresh_is : IsFresh j.«package» p.found p.fresh
+  pub named : is_package_name (name_of j) ≡ true
+  pub own : (own_of p.found p.incoming).name ≡ name_of j
+
+-- the rows of script calls and of the files (Policy 6.6); no other package has one
+pub record ArePlannedRows (j : Job) (p : Planned) : Type 0 where
+  pub rows_are : p.rows ≡ rows_of p.found p.incoming j.stored (scripts_in j.«package».scripts) []
+  pub kinds_are : p.kinds ≡ kinds_of p.found []
+
+-- what is shipped, each path at its place; a conffile beside it (Policy 10.7)
+pub record ArePlannedWorks (j : Job) (p : Planned) : Type 0 where
+  pub works_are : p.works ≡ shipped_works j.entries (name_of j) j.«package».conffiles (pairs_of j.«package».files)
+  pub named : Each IsNamed p.works
+  pub fitting : Each IsFitting p.works
+
+-- what the package lists before, meanwhile and then, and which of its old paths go (Policy 6.6)
+pub record ArePlannedLists (j : Job) (p : Planned) : Type 0 where
+  pub listed_is : p.listed ≡ paths_of j.lists (name_of j)
+  pub listed_paths : AreListPaths p.listed
+  pub union_is : IsUnion p.listed (shipped_paths j.«package».files) p.union
+  pub new_is : IsAfter j.«package».files p.fresh p.new_list
+  pub leaving_is : p.leaving ≡ old_leaving j.entries j.lists (name_of j) p.found p.new_list p.listed
+  pub spares : SparesAdministration p.leaving
+
+-- what is left at names that only the installer writes goes (Policy 6.6, 10.7)
+pub record ArePlannedNames (j : Job) (p : Planned) : Type 0 where
+  pub names_are : p.names ≡ cleared_names j.entries (name_of j) p.found j.«package».conffiles p.works
+  pub elsewhere : AreElsewhere p.names
+
+pub record IsPlanned (j : Job) (p : Planned) : Type 0 where
+  pub records_are : ArePlannedRecords j p
+  pub rows_are : ArePlannedRows j p
+  pub works_are : ArePlannedWorks j p
+  pub lists_are : ArePlannedLists j p
+  pub names_are : ArePlannedNames j p
+  pub members_are : AreMembersOf j.«package».scripts j.«package».others p.members

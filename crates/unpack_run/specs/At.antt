@@ -9,6 +9,7 @@ use Rattle.unwind_stack.specs.declared.fall.StepFault.{StepFault}
 use Rattle.cleanup_stack.specs.Place.{Place, Forward, Ready, Back}
 use Rattle.file_check.specs.Clashes.{owning}
 use Rattle.file_check.specs.Sound.{AllSound, IsFirstFault}
+use Rattle.file_lists.specs.Filed.{Filed}
 use Rattle.file_lists.specs.Writing.{IsListReady, list_file}
 use Rattle.file_lists.specs.declared.paths.PackageList.{PackageList}
 use Rattle.file_steps.specs.Unpacked.{IsRearranged}
@@ -32,6 +33,9 @@ pub record Holding : Type 0 where
   pub places : List Path
   pub works : List Work
 
+abbrev pub holding : Recorded → Filed → List Path → List Work → Holding
+holding database lists places works = record { database = database; lists = lists.lists; lists_closed = lists.closed; places = places; works = works }
+
 -- how far rows of this number can be
 abbrev pub IsWithin : ℕ → Place → Type 0
 IsWithin rows (Forward k) = k ≤ rows
@@ -42,11 +46,15 @@ IsWithin rows (Back k fall failed) = (k ≤ fall.row + 1) × (fall.row < rows)
 abbrev pub table_at : Task → Place → List Record
 table_at t place = noted t.records (notes_at t.found t.incoming (kinds t) place)
 
--- the works as the file row finds them; once it has written, in the order of their places
+-- the works as the file row finds them; where it turned back without writing nothing is said of them
+abbrev pub AreFound : Task → Place → List Work → Type 0
+AreFound t (Forward k) works = works ≡ t.works
+AreFound t (Ready k) works = works ≡ t.works
+AreFound t (Back k fall failed) works = Unit {0}
+
+-- once it has written they are in the order of their places
 abbrev pub AreWorksAt : Task → Place → Stage → List Work → Type 0
-AreWorksAt t (Forward k) Unwritten works = works ≡ t.works
-AreWorksAt t (Ready k) Unwritten works = works ≡ t.works
-AreWorksAt t (Back k fall failed) Unwritten works = Unit {0}
+AreWorksAt t place Unwritten works = AreFound t place works
 AreWorksAt t place Wrote works = AreOrdered t works
 AreWorksAt t place Restored works = AreOrdered t works
 

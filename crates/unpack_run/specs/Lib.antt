@@ -1,3 +1,7 @@
 pub mod Task
 pub mod Trail
 pub mod At
+pub mod Notable
+pub mod Follows
+pub mod Stays
+pub mod FileMoves

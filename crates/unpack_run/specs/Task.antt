@@ -1,9 +1,10 @@
 -- What stays the same while the rows of an unpack run (Policy 6.6).
-use Rattle.std.specs.Prelude.{◌≡◌, ℕ, true, List, Option, map, ◌++◌}
+use Rattle.std.specs.Prelude.{◌≡◌, ℕ, ◌<◌, true, List, Option, map, ◌++◌, get_or, length}
 use Rattle.host_core.specs.Paths.{Path}
 use Rattle.host_core.specs.Host.{State}
 use Rattle.texts.specs.PackageNames.{is_package_name}
 use Rattle.diversions.specs.declared.entry.Diversion.{Diversion}
+use Rattle.file_lists.specs.Filed.{Filed}
 use Rattle.file_lists.specs.Owners.{AreListPaths}
 use Rattle.file_lists.specs.Writing.{with_list}
 use Rattle.file_lists.specs.declared.paths.PackageList.{PackageList}
@@ -11,12 +12,16 @@ use Rattle.file_check.specs.Ready.{IsFitting}
 use Rattle.file_works.specs.Files.{Each}
 use Rattle.file_works.specs.Names.{IsNamed}
 use Rattle.file_works.specs.declared.work.Work.{Work}
+use Rattle.status_db.specs.Recorded.{Recorded}
 use Rattle.status_db.specs.Records.{AreStanding}
 use Rattle.status_db.specs.declared.record.Record.{Record}
 use Rattle.unpack_rows.specs.EndStates.{AreConcerned, own_name}
+use Rattle.unpack_rows.specs.ForwardRows.{records_of}
 use Rattle.unpack_rows.specs.Kinds.{kinds_of}
 use Rattle.unpack_rows.specs.Stages.{Stage, Unwritten, Wrote, Restored}
 use Rattle.unpack_rows.specs.declared.kinds.RowKind.{RowKind}
+use Rattle.unpack_rows.specs.declared.kinds.RowKind.TheVariants.{Files}
+use Rattle.unpack_run.specs.declared.plan.Rows.{Rows}
 
 pub record Task : Type 0 where
   -- the host where the rows begin
@@ -39,6 +44,23 @@ pub record Task : Type 0 where
   pub listed : List Path
   pub union : List Path
 
+-- the rows of this plan, begun in this state of the host with these values
+abbrev pub task_of : State → Recorded → Filed → List Diversion → List Path → List Work → Rows → Task
+task_of start database lists entries places works plan = record {
+  start = start;
+  records = database.records;
+  lists = lists.lists;
+  entries = entries;
+  places = places;
+  found = plan.found;
+  incoming = plan.incoming;
+  others = records_of plan.others.items;
+  yields = plan.yields;
+  works = works;
+  listed = plan.listed;
+  union = plan.union;
+}
+
 module _ (t : Task) where
   abbrev pub name : List ℕ
   name = own_name t.found t.incoming
@@ -48,7 +70,7 @@ module _ (t : Task) where
 
   -- the places of the shipped paths
   abbrev pub shipped_places : List Path
-  shipped_places = map (λ x. x.place) t.works
+  shipped_places = map (λ (x : Work). x.place) t.works
 
   -- what scripts leave alone once the list has the paths to come
   abbrev pub all_places : List Path
@@ -74,3 +96,7 @@ module _ (t : Task) where
     pub listed : AreListPaths t.listed
     pub works : Each IsNamed t.works
     pub fitting : Each IsFitting t.works
+
+-- the row of this index is that of the files
+abbrev pub IsFileRow : List RowKind → ℕ → Type 0
+IsFileRow kinds index = (index < length kinds) × ((k : RowKind) → k ≡ get_or kinds index k → k ≡ Files)

@@ -1,8 +1,8 @@
 -- How the world came about while rows run: script calls and notes, and the moves of the file row.
 use Rattle.std.specs.Prelude.{◌≡◌, false, List, ◌++◌}
 use Rattle.host_core.specs.Paths.{Path}
-use Rattle.host_core.specs.World.{World, Change, Avoids, changed, is_kept}
-use Rattle.administration.specs.Places.{list_path}
+use Rattle.host_core.specs.World.{World, Change, Avoids, IsDirectory, changed, is_kept}
+use Rattle.administration.specs.Places.{home_path, list_path}
 use Rattle.file_lists.specs.Writing.{list_file}
 use Rattle.file_works.specs.Files.{Each}
 use Rattle.file_works.specs.Free.{IsWrittenFrom}
@@ -27,6 +27,8 @@ pub record HasFiles (t : Task) (works : List Work) (change : Change) (now : Worl
   pub found : World
   pub written : World
   pub before : Follows t.places early t.start.world found
+  -- where the administration's directory was there, so that no work has made it
+  pub home : IsDirectory (found home_path)
   pub listed : HasListed (list_path (name t)) (list_file t.union) works found written
   pub from : IsWrittenFrom works listed.mid written
   pub since : Follows (all_places t) late written now

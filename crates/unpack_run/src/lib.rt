@@ -1,2 +1,11 @@
-//! unpack_run
+//! The rows of an unpack with all that is done beside their calls: the notes in the records, the
+//! package's list and its files. A row that fails is undone with those before it (Policy 6.6).
 #![tactic(auto)]
+
+mod around;
+mod file_moves;
+mod files;
+mod notes;
+mod plan;
+
+pub use plan::Rows;

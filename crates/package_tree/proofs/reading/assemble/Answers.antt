@@ -11,11 +11,11 @@ use Rattle.package_tree.specs.Shipped.{AreInOrder}
 use Rattle.package_tree.specs.declared.conffile_lines.Entry.TheVariants.{Plain, Flagged}
 use Rattle.package_tree.specs.declared.shipped.Shipped.{Shipped}
 use Rattle.package_tree.proofs.Drawn.{text_in}
-use Rattle.package_tree.proofs.Filtered.{filter_order, file_among, plain_named, flagged_named}
+use Rattle.package_tree.proofs.Filtered.{filter_order, file_among, name_among, plain_named, flagged_named}
 use Rattle.package_tree.proofs.reading.assemble.Goals as goal
 
 pub new-requires-3 : goal.new-requires-3
-new-requires-3 c = subst AreInOrder (sym c.requires.conffiles) (filter_order (is_file_in (contains_text c.args.lines.plain)) c.args.found.files.items c.requires.order)
+new-requires-3 c = subst AreInOrder (sym c.requires.whole.conffiles) (filter_order (is_file_in (contains_text c.args.lines.plain)) c.args.found.files.items c.requires.whole.order)
 
 fits_as : (files fs : List Shipped) (conffiles cs flagged gs : List Path) → fs ≡ files → cs ≡ conffiles → gs ≡ flagged → AreFitting files conffiles flagged → AreFitting fs cs gs
 fits_as files fs conffiles cs flagged gs f c g fits =
@@ -27,9 +27,11 @@ invariant_of-result c =
     let conffiles = c.args.found.conffiles.items in
     let flagged = c.args.lines.flagged.items in
     let fits : AreFitting files conffiles flagged = record {
-      shipped = λ q has. file_among (contains_text c.args.lines.plain) files conffiles q c.requires.conffiles has;
-      gone = λ q one other. c.requires.apart q (one, other);
-      few = c.requires.few;
+      shipped = λ q has. file_among (contains_text c.args.lines.plain) files conffiles q c.requires.whole.conffiles has;
+      gone = λ q one other. c.requires.whole.apart q (one, other);
+      few = c.requires.whole.few;
+      trimmed = λ q has. c.requires.trimmed.plain q (name_among (contains_text c.args.lines.plain) files conffiles q c.requires.whole.conffiles has);
+      trimmed_flagged = c.requires.trimmed.flagged;
     } in
     record {
       named = c.args.control.named;
@@ -41,7 +43,7 @@ invariant_of-result c =
 pub returns : goal.returns
 returns c = λ w text there control contents paths lines found.
     let all = entries_at (w conffiles_path) in
-    let plain = plain_named w (contains_text c.args.lines.plain) all c.args.found.files.items c.args.found.conffiles.items found.lines.named found.files c.requires.texts (text_in c.args.lines.plain) lines.plain c.requires.conffiles in
+    let plain = plain_named w (contains_text c.args.lines.plain) all c.args.found.files.items c.args.found.conffiles.items found.lines.named found.files c.requires.whole.texts (text_in c.args.lines.plain) lines.plain c.requires.whole.conffiles in
     let flagged = flagged_named w all c.args.lines.flagged.items found.lines.named lines.order lines.only lines.whole in
     record {
       text = text;

@@ -1,0 +1,87 @@
+// Names that only the installer writes, and at which nothing is left after an unpack.
+ghost use Rattle.std.specs.Prelude.{◌≡◌, ◌++◌, IfOk, OnOk};
+ghost use Rattle.std.specs.BTreeSet.{contains_text};
+ghost use Rattle.std.specs.Option.{option_copied};
+ghost use Rattle.std.specs.Prelude.{List};
+ghost use Rattle.file_check.specs.Ships.{is_conffile};
+ghost use Rattle.file_works.specs.Files.{Each};
+ghost use Rattle.file_works.specs.Names.{IsNamed};
+ghost use Rattle.host_core.specs.Paths.{Path};
+ghost use Rattle.unpack_moves.specs.Concluding.{AreElsewhere};
+ghost use Rattle.unpack_plan.specs.Names.{backups, cleared_names, left_names};
+
+use crate::conffile_paths::known_conffiles;
+use crate::texts_of::texts_of;
+use diversions::Diversions;
+use file_works::Work;
+use host_core::{RootPath, ShipPath, Suffix};
+use status_db::Record;
+use std::alloc::{AllocError, Global};
+use std::collections::BTreeSet;
+use texts::Text;
+
+// Where what stood at the places of works is kept meanwhile.
+fn backups(alloc: Global, works: &[Work]) -> Result<Vec<RootPath>, AllocError>
+    ensures { IfOk result (λ names. names.items ≡ backups works.now) }
+{
+    let mut names = Vec::new(alloc);
+    for work in works {
+        names.push(work.backup.copy()?)?;
+    }
+    Ok(names)
+}
+
+// Where a package's own conffile waited to be settled.
+fn waiting_name(
+    diversions: &Diversions,
+    name: &Text,
+    path: &ShipPath,
+) -> Result<RootPath, AllocError>
+    ensures name { IfOk result (λ q. q ≡ Rattle.unpack_plan.specs.Names.waiting_name diversions.now.entries name.now path.now) }
+    ensures elsewhere { IfOk result (λ q. AreElsewhere (q ∷ [])) }
+{
+    let place = diversions.ship_place(name, path);
+    place.law();
+    place.beside(Suffix::New)
+}
+
+// Adds that of each path which isn't in the set.
+fn add_left(
+    diversions: &Diversions,
+    name: &Text,
+    conffiles: &BTreeSet<String>,
+    paths: &[ShipPath],
+    names: &mut Vec<RootPath>,
+) -> Result<(), AllocError>
+    requires { AreElsewhere names.old.items }
+    ensures names { OnOk result ((of : List Path) → ((q : Path) → contains_text conffiles.now q ≡ is_conffile of q) → names.new.items ≡ names.old.items ++ left_names diversions.now.entries name.now of paths.now) }
+    ensures elsewhere { OnOk result (AreElsewhere names.new.items) }
+{
+    for path in paths {
+        if !conffiles.contains(path.as_str()) {
+            names.push(waiting_name(diversions, name, path)?)?;
+        }
+    }
+    Ok(())
+}
+
+/// The backup of each work, and the waiting names of conffiles that aren't shipped as conffiles any
+/// more.
+pub(crate) fn cleared_names(
+    alloc: Global,
+    diversions: &Diversions,
+    name: &Text,
+    found: Option<&Record>,
+    conffiles: &[ShipPath],
+    works: &[Work],
+) -> Result<Vec<RootPath>, AllocError>
+    requires { Each IsNamed works.now }
+    ensures names { IfOk result (λ names. names.items ≡ cleared_names diversions.now.entries name.now (option_copied found.entry) conffiles.now works.now) }
+    ensures elsewhere { IfOk result (λ names. AreElsewhere names.items) }
+{
+    let set = texts_of(alloc, conffiles)?;
+    let known = known_conffiles(alloc, found)?;
+    let mut names = backups(alloc, works)?;
+    add_left(diversions, name, &set, known.as_slice(), &mut names)?;
+    Ok(names)
+}

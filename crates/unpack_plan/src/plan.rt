@@ -1,0 +1,107 @@
+// What an unpack is going to do.
+ghost use Rattle.std.specs.Prelude.{◌≡◌, IfOk};
+ghost use Rattle.unpack_plan.specs.Planned.{planned, IsPlanned};
+
+use crate::lists::changes_of;
+use crate::members::own_members;
+use crate::names::cleared_names;
+use crate::records::{copied, fresh_record, incoming_record};
+use crate::rows::{own_kinds, own_rows};
+use crate::works::own_works;
+use control_members::Members;
+use diversions::Diversions;
+use file_lists::{FileLists, Paths};
+use file_removal::Leaving;
+use file_works::Work;
+use host_core::RootPath;
+use package_tree::Package;
+use status_db::{NotedDatabase, Record};
+use std::alloc::{AllocError, Global};
+use unpack_rows::{Present, RowKind};
+use unwind_stack::Row;
+
+/// What an unpack is going to do, beside which no other package has a row.
+#[derive(Drop)]
+pub struct Plan {
+    /// The record that the package has, if it has one.
+    pub found: Option<Record>,
+    /// That of the incoming package, which is noted where the package has none.
+    pub incoming: Record,
+    /// That of the unpacked package.
+    pub fresh: Record,
+    pub rows: Vec<Row>,
+    pub kinds: Vec<RowKind>,
+    /// What is shipped, in path order.
+    pub works: Vec<Work>,
+    /// The paths that the package lists before, while its files are written, and then.
+    pub listed: Paths,
+    pub union: Paths,
+    pub new_list: Paths,
+    /// The old paths, and which of them go.
+    pub leaving: Vec<Leaving>,
+    /// Names that only the installer writes, at which nothing is to be left.
+    pub names: Vec<RootPath>,
+    /// The control files of the tree.
+    pub members: Members,
+}
+
+/// What an unpack of a tree is going to do, by the records, the lists and the diversions; `stored`
+/// are the scripts of the old version. The tree is used up, and none of its files is copied. Where
+/// the package lists many paths, the lists' index is to be built before.
+pub fn plan_of(
+    alloc: Global,
+    incoming: Package,
+    database: &NotedDatabase,
+    lists: &FileLists,
+    diversions: &Diversions,
+    stored: Present,
+) -> Result<Plan, AllocError>
+    ensures { IfOk result (λ p. IsPlanned (record { «package» = incoming; records = database.now.records; lists = lists.now.lists; entries = diversions.now.entries; stored = stored }) (planned p)) }
+{
+    let found = database.get(&incoming.name);
+    let record = incoming_record(alloc, &incoming)?;
+    let fresh = fresh_record(alloc, &incoming, found)?;
+    let rows = own_rows(alloc, found, &record, stored, &incoming.scripts)?;
+    let kinds = own_kinds(alloc, found)?;
+    let files = incoming.files.as_slice();
+    let changes = changes_of(
+        alloc,
+        lists,
+        diversions,
+        &incoming.name,
+        files,
+        found,
+        &fresh,
+    )?;
+    let conffiles = incoming.conffiles;
+    let works = own_works(
+        alloc,
+        &incoming.name,
+        diversions,
+        incoming.files,
+        &conffiles,
+    )?;
+    let names = cleared_names(
+        alloc,
+        diversions,
+        &incoming.name,
+        found,
+        conffiles.as_slice(),
+        works.as_slice(),
+    )?;
+    let members = own_members(alloc, incoming.scripts, incoming.others)?;
+    Ok(Plan {
+        found: copied(found)?,
+        incoming: record,
+        fresh,
+        rows,
+        kinds,
+        works,
+        listed: changes.listed,
+        union: changes.union,
+        new_list: changes.new_list,
+        leaving: changes.leaving,
+        names,
+        members,
+    })
+}

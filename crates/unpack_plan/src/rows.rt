@@ -1,0 +1,44 @@
+// The rows of an unpack beside which no other package has one.
+ghost use Rattle.std.specs.Prelude.{◌≡◌, [], IfOk};
+ghost use Rattle.std.specs.Option.{option_copied};
+ghost use Rattle.unpack_plan.specs.Members.{scripts_in};
+ghost use Rattle.unpack_rows.specs.ForwardRows.{rows_of as forward_rows};
+ghost use Rattle.unpack_rows.specs.Kinds.{kinds_of as row_kinds};
+
+use administration::Scripts;
+use status_db::Record;
+use std::alloc::{AllocError, Global};
+use unpack_rows::{Present, RowKind, kinds_of, rows_of};
+use unwind_stack::Row;
+
+fn scripts_in(scripts: &Scripts) -> Present
+    ensures { result ≡ scripts_in scripts.now }
+{
+    Present {
+        preinst: scripts.preinst.is_some(),
+        postinst: scripts.postinst.is_some(),
+        prerm: scripts.prerm.is_some(),
+        postrm: scripts.postrm.is_some(),
+    }
+}
+
+/// The rows, for a tree with these scripts.
+pub(crate) fn own_rows(
+    alloc: Global,
+    found: Option<&Record>,
+    incoming: &Record,
+    stored: Present,
+    scripts: &Scripts,
+) -> Result<Vec<Row>, AllocError>
+    ensures { IfOk result (λ rows. rows.items ≡ forward_rows (option_copied found.entry) incoming.now stored (scripts_in scripts.now) []) }
+{
+    let others = Vec::new(alloc);
+    rows_of(alloc, found, incoming, stored, scripts_in(scripts), others)
+}
+
+/// Their kinds.
+pub(crate) fn own_kinds(alloc: Global, found: Option<&Record>) -> Result<Vec<RowKind>, AllocError>
+    ensures { IfOk result (λ kinds. kinds.items ≡ row_kinds (option_copied found.entry) []) }
+{
+    kinds_of(alloc, found, &[])
+}

@@ -1,0 +1,9 @@
+pub mod Answering
+pub mod FileRow
+pub mod FileWorlds
+pub mod HookRows
+pub mod Hooks
+pub mod Notables
+pub mod Rearranged
+pub mod RowKinds
+pub mod Standing

@@ -1,0 +1,37 @@
+// What is known before the rows of an unpack run.
+ghost use Rattle.std.specs.Prelude.{◌≡◌};
+ghost use Rattle.unpack_rows.specs.EndStates.{own_name};
+
+use file_lists::Paths;
+use status_db::Record;
+use texts::{Text, Texts};
+use unpack_rows::{OtherPackage, RowKind};
+
+/// The rows of an unpack: what is found, what comes, and which rows there are.
+#[derive(Drop)]
+pub struct Rows {
+    /// The package's record, if it has one.
+    pub found: Option<Record>,
+    /// The record that is noted where it has none.
+    pub incoming: Record,
+    pub kinds: Vec<RowKind>,
+    /// Other packages that have rows.
+    pub others: Vec<OtherPackage>,
+    /// The packages with which no path clashes.
+    pub yields: Texts,
+    /// The package's list, and that with the paths to come beside the old ones.
+    pub listed: Paths,
+    pub union: Paths,
+}
+
+impl Rows {
+    /// The name of the package.
+    pub fn name(&self) -> &Text
+        ensures { result.now ≡ own_name self.now.found self.now.incoming }
+    {
+        match &self.found {
+            None => &self.incoming.name,
+            Some(record) => &record.name,
+        }
+    }
+}
