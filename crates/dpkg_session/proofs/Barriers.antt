@@ -7,7 +7,7 @@ use Rattle.cleanup_stack.specs.Telling.{Begun}
 use Rattle.host_core.specs.Paths.{Path}
 use Rattle.host_core.specs.World.{World, Step, Barrier}
 use Rattle.host_core.specs.Events.{Event, Ran, Did, Failed, changes_of, scripts_of, follow, follow_all}
-use Rattle.host_core.specs.Host.{State, Does, Happens, Needs, Silent, Since, Stops}
+use Rattle.host_core.specs.Host.{State, Does, Falls, Happens, Needs, Silent, Since, Stops}
 use Rattle.host_core.specs.Loss.{IsAnswered, IsLater, IsOnDisk}
 use Rattle.host_core.specs.Moments.{ThroughEvent, scripts_of-append, since_failed, since_fails, since_goes, since_now, since_then, silent_then}
 use Rattle.host_core.specs.Scripts.{changes_of-append, no_change}
@@ -15,15 +15,16 @@ use Rattle.host_core.specs.declared.fault.HostFault.{HostFault}
 use Rattle.host_core.specs.declared.fault.HostFault.TheVariants.{Device, NoMemory}
 use Rattle.cleanup_stack.specs.Transcripts.{Ended}
 use Rattle.file_lists.specs.declared.paths.PackageList.{PackageList}
-use Rattle.file_works.specs.declared.work.Work.{Work}
 use Rattle.opening.specs.Leaving.{IsOpeningOrMerging}
 use Rattle.opening.specs.Parts.{HasMerged, IsDamaged, Merges, Opens, OpensAndMerges, parts}
 use Rattle.stack_run.specs.declared.unwinding.Unwinding.{Unwinding}
 use Rattle.status_db.specs.Noting.{IsMerging}
 use Rattle.status_db.specs.Recorded.{Recorded}
 use Rattle.unpack_engine.specs.Order.{IsInOrder}
-use Rattle.unpack_engine.specs.Units.{Given, HasCalled, HasFailedFor, HasLeft, HasRunRows, HasUnpacked, IsAmid, IsStage}
+use Rattle.unpack_engine.specs.Units.{Given, Ground, HasCalled, HasCarriedOut, HasFailedFor, HasLeft, HasUnpacked, IsAmid, IsPlanFor, IsStage, ground_of, last_place, task_from}
 use Rattle.unpack_plan.specs.Planned.{Planned}
+use Rattle.unpack_rows.specs.Kinds.{kinds_of}
+use Rattle.unpack_rows.specs.Stages.{stage_of}
 use Rattle.unpack_run.specs.At.{IsAmid as AreFilesAmid, Stops as RowsStop}
 use Rattle.unpack_run.specs.Task.{Task}
 use Rattle.unpack_run.specs.Trail.{HasCome}
@@ -95,46 +96,40 @@ rows_still t es quiet now none stops = record {
   files = subst (λ c. AreFilesAmid t _ c now) (sym (quiet_changes stops.since quiet none)) stops.files;
 }
 
-module _ (g : Given) (places : List Path) (p : Planned) where
-  ran_still : (ended : Ended) (works : List Work) (x quiet : List Event) (old last : World) → scripts_of quiet ≡ [] → HasRunRows g places p ended works x old last → HasRunRows g places p ended works (x ++ quiet) old last
-  ran_still ended works x quiet old last none ran = record { begun = ran.begun; begins = ran.begins; came = subst (λ c. HasCome _ _ works c last) (sym (quiet_changes x quiet none)) ran.came }
-
-  stage_still : (old : World) (x quiet : List Event) (now : World) → scripts_of quiet ≡ [] → IsStage g places p old x now → IsStage g places p old (x ++ quiet) now
-  stage_still old x quiet now none (IsStage.clearing silent may) = IsStage.clearing (quiet_scripts x quiet none silent) may
-  stage_still old x quiet now none (IsStage.laying silent cleared has lays) = IsStage.laying (quiet_scripts x quiet none silent) cleared has lays
-  stage_still old x quiet now none (IsStage.running begun before more is silent begins stops) =
-      IsStage.running begun before (more ++ quiet) (ap (λ (l : List Event). l ++ quiet) is ∙ append_assoc before more quiet) silent begins
-      (subst (λ l. RowsStop _ l now) (append_assoc begun.events more quiet) (rows_still _ (begun.events ++ more) quiet now none stops))
-  stage_still old x quiet now none (IsStage.following ended works last ran may) = IsStage.following ended works last (ran_still ended works x quiet old last none ran) may
-  stage_still old x quiet now none (IsStage.leaving ended works last followed ran has lays) = IsStage.leaving ended works last followed (ran_still ended works x quiet old last none ran) has lays
+stage_still : (g : Ground) (p : Planned) (old : World) (x quiet : List Event) (now : World) → scripts_of quiet ≡ [] → IsStage g p old x now → IsStage g p old (x ++ quiet) now
+stage_still g p old x quiet now none (IsStage.beginning silent may) = IsStage.beginning (quiet_scripts x quiet none silent) may
+stage_still g p old x quiet now none (IsStage.running begun before more is silent begins stops) =
+    IsStage.running begun before (more ++ quiet) (ap (λ (l : List Event). l ++ quiet) is ∙ append_assoc before more quiet) silent begins
+    (subst (λ l. RowsStop (task_from g p begun) l now) (append_assoc begun.events more quiet) (rows_still (task_from g p begun) (begun.events ++ more) quiet now none stops))
+stage_still g p old x quiet now none (IsStage.leaving ended works begun last begins came may) =
+    IsStage.leaving ended works begun last begins (subst (λ c. HasCome (task_from g p begun) (stage_of (kinds_of p.found []) (last_place g p ended)) works c last) (sym (quiet_changes x quiet none)) came) may
 
 pub amid_still : (g : Given) (places : List Path) (old : World) (x quiet : List Event) (now : World) → scripts_of quiet ≡ [] → IsAmid g places old x now → IsAmid g places old (x ++ quiet) now
 amid_still g places old x quiet now none amid = record {
-  stored = amid.stored;
   plan = amid.plan;
-  seen = amid.seen;
-  planned = amid.planned;
-  stage = stage_still g places amid.plan old x quiet now none amid.stage;
-  table = amid.table;
-  is_table = amid.is_table;
-  records = amid.records;
-  opens = amid.opens;
-  incoming = amid.incoming;
-  loose = amid.loose;
+  plan_for = amid.plan_for;
+  under_way = record {
+    stage = stage_still (ground_of g places) amid.plan old x quiet now none amid.under_way.stage;
+    table = amid.under_way.table;
+    is_table = amid.under_way.is_table;
+    records = amid.under_way.records;
+    opens = amid.under_way.opens;
+    incoming = amid.under_way.incoming;
+    loose = amid.under_way.loose;
+  };
 }
 
 -- the unit of a package, with a barrier behind it
 
-pub unpacked_to_disk : (g : Given) (places : List Path) (ended : Ended) (after : Recorded) (lists : List PackageList) (s m t : State) (told now : List Called) → HasUnpacked g places ended after lists s m told now
-    → Happens (Did Barrier ∷ []) m t → Silent m t → IsLater m t → HasUnpacked g places ended after lists s t told now
-unpacked_to_disk g places ended after lists s m t told now is goes silent later = record {
-  stored = is.stored;
-  plan = is.plan;
+plan_behind : (g : Given) (w : World) (m t : State) (plan : Planned) → Falls m t → IsPlanFor g w m.honest plan → IsPlanFor g w t.honest plan
+plan_behind g w m t plan falls is = record { stored = is.stored; seen = λ h. is.seen (falls h); planned = is.planned }
+
+carried_behind : (g : Ground) (p : Planned) (ended : Ended) (after : Recorded) (lists : List PackageList) (s m t : State) (told now : List Called) → HasCarriedOut g p ended after lists s m told now
+    → Happens (Did Barrier ∷ []) m t → Silent m t → IsLater m t → HasCarriedOut g p ended after lists s t told now
+carried_behind g p ended after lists s m t told now is goes silent later = record {
   begun = is.begun;
-  mid = is.mid;
   last = is.last;
-  seen = λ h. is.seen (goes.honest h);
-  planned = is.planned;
+  mid = is.mid;
   quiet = is.quiet;
   until = is.until;
   begins = λ h. is.begins (goes.honest h);
@@ -143,13 +138,21 @@ unpacked_to_disk g places ended after lists s m t told now is goes silent later 
   rows_end = is.rows_end;
   since = silent_then is.last m t is.since silent;
   later = since_then _ is.last m t is.later later;
-  leaves = λ h. subst (HasLeft g places is.plan ended is.mid.works is.mid.lists is.mid.database.records is.last.world) (sym goes.world) (is.leaves (goes.honest h));
+  leaves = λ h. subst (HasLeft g p ended is.mid.works is.mid.lists is.mid.database.records is.last.world) (sym goes.world) (is.leaves (goes.honest h));
   records = is.records;
   lists_are = is.lists_are;
 }
 
+pub unpacked_to_disk : (g : Given) (places : List Path) (ended : Ended) (after : Recorded) (lists : List PackageList) (s m t : State) (told now : List Called) → HasUnpacked g places ended after lists s m told now
+    → Happens (Did Barrier ∷ []) m t → Silent m t → IsLater m t → HasUnpacked g places ended after lists s t told now
+unpacked_to_disk g places ended after lists s m t told now is goes silent later = record {
+  plan = is.plan;
+  plan_for = plan_behind g s.world m t is.plan goes.honest is.plan_for;
+  carried_out = carried_behind (ground_of g places) is.plan ended after lists s m t told now is.carried_out goes silent later;
+}
+
 pub failed_behind : (g : Given) (s m t : State) (u : Option Unwinding) → HasFailedFor g s m u → Silent m t → HasFailedFor g s t u
-failed_behind g s m t u failed behind = record { stored = failed.stored; plan = failed.plan; seen = λ h. failed.seen (behind.honest h); planned = failed.planned; cause = failed.cause }
+failed_behind g s m t u failed behind = record { plan = failed.plan; plan_for = plan_behind g s.world m t failed.plan behind.honest failed.plan_for; cause = failed.cause }
 
 begun_behind : (P : List Ran → Type 0) (s m t : State) (told now : List Called) → Begun P s m told now → Silent m t → Begun P s t told now
 begun_behind P s m t told now begun behind = record {
@@ -165,7 +168,7 @@ begun_behind P s m t told now begun behind = record {
 
 pub called_behind : (g : Given) (s m t : State) (told now : List Called) → HasCalled g s m told now → Silent m t → HasCalled g s t told now
 called_behind g s m t told now (HasCalled.nothing silent same) behind = HasCalled.nothing (silent_then s m t silent behind) same
-called_behind g s m t told now (HasCalled.some stored plan seen planned begun) behind = HasCalled.some stored plan (λ h. seen (behind.honest h)) planned (begun_behind _ s m t told now begun behind)
+called_behind g s m t told now (HasCalled.some plan is begun) behind = HasCalled.some plan (plan_behind g s.world m t plan behind.honest is) (begun_behind _ s m t told now begun behind)
 
 pub order_behind : (d : Recorded) (lists : List PackageList) (m t : State) → Happens (Did Barrier ∷ []) m t → Needs m (IsInOrder d lists) → Needs t (IsInOrder d lists)
 order_behind d lists m t goes order = λ h. subst (IsInOrder d lists) (sym goes.world) (order (goes.honest h))

@@ -51,7 +51,7 @@ no_calls_tell u s t none = tells_silent s t u.calls.items none.silent none.told
 
 has_called_tells : (g : Given) (s t : State) (told now : List Called) → HasCalled g s t told now → TellsAll s t told now
 has_called_tells g s t told now (HasCalled.nothing silent same) = tells_none s t told now (silent_calls s t silent) same
-has_called_tells g s t told now (HasCalled.some stored plan seen planned begun) =
+has_called_tells g s t told now (HasCalled.some plan is begun) =
     let made = begun_calls _ s t told now begun in (made.0, made.2, made.3.1)
 
 by_rule_tells : (p : Package) (rule : Option Rule) (before : Held) (u : AUnit) (s t : State) → HasCalledByRule p rule before u s t → TellsAll s t [] u.calls.items

@@ -2,9 +2,6 @@ use Rattle.dpkg_session.proofs.Barriers.{amid_still, called_behind, failed_behin
 use Rattle.host_core.specs.Moments.{since_barrier}
 use Rattle.dpkg_session.proofs.units.unpack_to_disk.Goals as goal
 
-pub unpack-requires-clause-stub : goal.unpack-requires-clause-stub
-unpack-requires-clause-stub g c = ?
-
 pub returns-in-Ok-barrier-clause-unit : goal.returns-in-Ok-barrier-clause-unit
 returns-in-Ok-barrier-clause-unit g c =
     unpacked_to_disk _ _ _ _ _ _ _ _ _ _ c.in-Ok.ensures.unit c.in-Ok-barrier.ensures.does c.barrier.ensures.silent (since_barrier _ _ _ _ c.barrier.ensures.does (λ h. tt))
