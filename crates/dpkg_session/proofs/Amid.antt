@@ -1,6 +1,7 @@
 -- What holds at each moment of a run.
 use Rattle.std.proofs.Common.{◌≡◌, inl, inr, IsTrue, List, [], ◌∷◌, ◌++◌, Option, Some, None, Result, Ok, Err, refl, sym, ap, subst, ◌∙◌, append_assoc}
 use Rattle.std.proofs.lemmas.List.{append-nil, append_cancel_left}
+use Rattle.host_core.specs.Paths.{Path}
 use Rattle.host_core.specs.World.{World}
 use Rattle.host_core.specs.Events.{Event}
 use Rattle.host_core.specs.Host.{State, Since}
@@ -82,8 +83,10 @@ since_next cs done us c rest before mid s m t split run first second =
 
 -- a package that isn't refused
 
-pub since_under_way : (p : Package) (before : Held) (s t : State) → Since (IsAmid (given_by p before) (places_of before) s.world) s t → Since (IsAmidUnpack p before s.world) s t
-since_under_way p before s t since = since_weaker (IsAmid (given_by p before) (places_of before) s.world) (IsAmidUnpack p before s.world) s t (λ so_far w amid. inr amid) since
+pub since_under_way : (p : Package) (before : Held) (places : List Path) (s t : State) → places ≡ places_of before → Since (IsAmid (given_by p before) places s.world) s t → Since (IsAmidUnpack p before s.world) s t
+since_under_way p before places s t are since =
+    since_weaker (IsAmid (given_by p before) (places_of before) s.world) (IsAmidUnpack p before s.world) s t (λ so_far w amid. inr amid)
+    (subst (λ ps. Since (IsAmid (given_by p before) ps s.world) s t) are since)
 
 pub since_unpack_start : (p : Package) (before : Held) (s : State) → Since (IsAmidUnpack p before s.world) s s
 since_unpack_start p before s = since_start (IsAmidUnpack p before s.world) s (inl (refl, refl))

@@ -3,6 +3,7 @@ use Rattle.std.specs.Prelude.{MatchBool, IfSome, length, take, drop}
 use Rattle.std.proofs.Common.{◌≡◌, ◌⊎◌, inl, inr, ℕ, Bool, true, false, List, [], ◌∷◌, ◌++◌, Option, Some, None, Result, Ok, Err, IsTrue, refl, sym, ap, subst, ◌∙◌, ◌+◌}
 use Rattle.std.proofs.Math.Seq.{take-append_seam, drop-append_seam}
 use Rattle.std.proofs.lemmas.Bool.{true≢false}
+use Rattle.host_core.specs.Paths.{Path}
 use Rattle.host_core.specs.Host.{State, Counts, Needs, Since, faults}
 use Rattle.host_core.specs.declared.fault.HostFault.{HostFault}
 use Rattle.host_core.specs.declared.fault.HostFault.TheVariants as host
@@ -10,17 +11,21 @@ use Rattle.package_tree.specs.declared.package.Package.{Package}
 use Rattle.package_tree.specs.declared.fault.TreeFault.{TreeFault}
 use Rattle.stack_run.specs.declared.unwinding.Unwinding.{Unwinding}
 use Rattle.status_db.specs.declared.record.Record.{Record}
+use Rattle.stack_run.specs.Ended.{ended_as}
 use Rattle.unpack_engine.specs.Order.{IsInOrder}
+use Rattle.unpack_engine.specs.Units.{HasFailedFor, HasUnpacked, IsTouched}
+use Rattle.unwind_stack.specs.declared.rows.Called.{Called}
 use Rattle.dpkg_session.specs.declared.refusal.Rule.{Rule}
+use Rattle.dpkg_session.specs.declared.refusal.Rule.TheVariants.{Tree}
 use Rattle.dpkg_session.specs.declared.report.Breakage.{Breakage}
 use Rattle.dpkg_session.specs.declared.report.Breakage.TheVariants.{Device, NoMemory, Closed}
 use Rattle.dpkg_session.specs.declared.report.Candidate.{Candidate}
 use Rattle.dpkg_session.specs.declared.report.Reply.{Reply}
 use Rattle.dpkg_session.specs.declared.report.Reply.TheVariants.{Done, Refused, Failed, Broken}
 use Rattle.dpkg_session.specs.declared.report.Unit.{Unit as AUnit}
-use Rattle.dpkg_session.specs.Held.{Held}
+use Rattle.dpkg_session.specs.Held.{Held, places_of}
 use Rattle.dpkg_session.specs.Run.{HasRun, IsAmidNext, IsBrokenNext, IsRun, RunsUnit}
-use Rattle.dpkg_session.specs.Units.{AnswersUnpack, CountsReply, IsUnit, IsUnitOf, IsUnitByRule, IsRefused, IsRefusedUnit, IsBroken, IsBrokenBy, breakage_of, reply_to, rule_for}
+use Rattle.dpkg_session.specs.Units.{AnswersUnpack, CountsReply, IsUnit, IsUnpacked, IsUnitOf, IsUnitByRule, IsRefused, IsRefusedUnit, IsBroken, IsBrokenBy, breakage_of, given_by, reply_to, rule_for}
 
 pub run_more : (cs : List Candidate) (us : List AUnit) (c : Candidate) (u : AUnit) (before mid after : Held) (s m t : State) → IsRun cs us before mid s m → RunsUnit c mid after u m t → IsRun (cs ++ c ∷ []) (us ++ u ∷ []) before after s t
 run_more [] [] c u before mid after s m t so_far unit =
@@ -72,6 +77,23 @@ ready_of label (Ok p) before after u s t ready is = ready_by_rule p (rule_for p 
 pub ready_after : (c : Candidate) (before after : Held) (u : AUnit) (s t : State) → Ready before s → IsUnit c before after u s t → Ready after t
 ready_after c before after u s t ready is = ready_of c.label c.tree before after u s t ready is
 
+-- by what is refused, and what isn't
+
+refused_here : (rule : Rule) (name : List ℕ) (h : Held) (u : AUnit) (s : State) → IsRefusedUnit rule name u → IsRefused rule name h h u s s
+refused_here rule name h u s refused = record { refused = refused; held = refl; silent = record { honest = λ honest. honest; scripts = refl }; world = λ honest. refl }
+
+pub by_refused : (p : Package) (rule : Rule) (asked : Option Rule) (h : Held) (u : AUnit) (s : State) → asked ≡ Some rule → IsRefusedUnit rule p.name u → IsUnitByRule p asked h h u s s
+by_refused p rule asked h u s is refused = subst (λ o. IsUnitByRule p o h h u s s) (sym is) (refused_here rule p.name h u s refused)
+
+pub by_unpacked : (p : Package) (asked : Option Rule) (before after : Held) (u : AUnit) (s t : State) → asked ≡ None → IsBroken u.reply ⊎ IsUnpacked p before after u s t → IsBroken u.reply ⊎ IsUnitByRule p asked before after u s t
+by_unpacked p asked before after u s t is either = subst (λ o. IsBroken u.reply ⊎ IsUnitByRule p o before after u s t) (sym is) either
+
+pub of_read : (c : Candidate) (p : Package) (before after : Held) (u : AUnit) (s t : State) → c.tree ≡ Ok p → IsBroken u.reply ⊎ IsUnitByRule p (rule_for p before) before after u s t → IsBroken u.reply ⊎ IsUnit c before after u s t
+of_read c p before after u s t is either = subst (λ r. IsBroken u.reply ⊎ IsUnitOf c.label r before after u s t) (sym is) either
+
+pub of_unread : (c : Candidate) (fault : TreeFault) (h : Held) (u : AUnit) (s : State) → c.tree ≡ Err fault → IsRefusedUnit (Tree fault) c.label u → IsUnit c h h u s s
+of_unread c fault h u s is refused = subst (λ r. IsUnitOf c.label r h h u s s) (sym is) (refused_here (Tree fault) c.label h u s refused)
+
 -- a unit that wasn't broken off is as the tables say
 pub not_broken : {Q : Type 0} (reply : Reply) (b : Bool) → b ≡ false → MatchBool b (IsBroken reply) (IsBroken reply → ⊥) → IsBroken reply ⊎ Q → Q
 not_broken reply true e is either = absurd (true≢false e)
@@ -94,6 +116,24 @@ broken_by breakage reply is = subst IsBroken (sym is) tt
 pub broken_or : {Q R : Type 0} (breakage : Breakage) (reply : Reply) → (Q → R) → IsBrokenBy breakage reply ⊎ Q → IsBroken reply ⊎ R
 broken_or breakage reply so (inl broken) = inl (broken_by breakage reply broken)
 broken_or breakage reply so (inr holds) = inr (so holds)
+
+-- the unit of a package that was unpacked, as it tells it
+pub is_unpacked : (p : Package) (before after : Held) (u : AUnit) (unwinding : Option Unwinding) (names : List (List ℕ)) (places : List Path) (s t : State) (name : List ℕ) (told now : List Called) → name ≡ p.name → places ≡ places_of before → told ≡ [] → u.calls.items ≡ now
+    → HasUnpacked (given_by p before) places (ended_as unwinding) after.records after.lists s t told now → HasFailedFor (given_by p before) s t unwinding → Ready after t → after.entries ≡ before.entries
+    → IsTouched p.name before.records.records after.records.records names → IsBrokenBy NoMemory u.reply ⊎ AnswersUnpack name after.records.records unwinding names u → IsBroken u.reply ⊎ IsUnpacked p before after u s t
+is_unpacked p before after u unwinding names places s t name told now named are none same unpacked cause order entries changed either =
+    broken_or NoMemory u.reply (λ answers. record {
+      unwinding = unwinding;
+      names = names;
+      unpacked = subst (λ l. HasUnpacked (given_by p before) (places_of before) (ended_as unwinding) after.records after.lists s t [] l) (sym same)
+          (subst (λ l. HasUnpacked (given_by p before) (places_of before) (ended_as unwinding) after.records after.lists s t l now) none
+          (subst (λ ps. HasUnpacked (given_by p before) ps (ended_as unwinding) after.records after.lists s t told now) are unpacked));
+      cause = cause;
+      order = order;
+      entries = entries;
+      changed = changed;
+      answers = subst (λ n. AnswersUnpack n after.records.records unwinding names u) named answers;
+    }) either
 
 -- a unit that wasn't broken off isn't one that is closed
 pub by_no_memory : {Q : Type 0} (reply : Reply) → (Q → IsBrokenBy Closed reply → ⊥) → IsBrokenBy NoMemory reply ⊎ Q → IsBrokenBy Closed reply → ⊥

@@ -64,12 +64,15 @@ called_tells (Ok p) before u s t called = by_rule_tells p (rule_for p before) be
 
 -- by what is refused, and what isn't
 
+pub called_nothing : (g : Given) (s : State) (told : List Called) → told ≡ [] → HasCalled g s s [] told
+called_nothing g s told none = HasCalled.nothing (silent_here s) none
+
 pub no_calls : (u : AUnit) (s : State) → u.calls.items ≡ [] → HasNoCalls u s s
 no_calls u s none = record { silent = silent_here s; told = none }
 
 pub not_begun_by : (p : Package) (rule : Option Rule) (before : Held) (u : AUnit) (s : State) → u.calls.items ≡ [] → HasCalledByRule p rule before u s s
 not_begun_by p (Some rule) before u s none = no_calls u s none
-not_begun_by p None before u s none = HasCalled.nothing (silent_here s) none
+not_begun_by p None before u s none = called_nothing (given_by p before) s u.calls.items none
 
 pub called_by_rule : (p : Package) (rule : Option Rule) (before : Held) (u : AUnit) (s t : State) → rule ≡ None → HasCalled (given_by p before) s t [] u.calls.items → HasCalledByRule p rule before u s t
 called_by_rule p rule before u s t is called = subst (λ r. HasCalledByRule p r before u s t) (sym is) called

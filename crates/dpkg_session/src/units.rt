@@ -1,8 +1,9 @@
 // The units of a command, one after another.
-ghost use Rattle.std.specs.Prelude.{◌≡◌, ◌⊎◌, None, IfOk, [], IfErr, OnOk, OnErr, IfSome, IsNone, MatchBool, map};
+ghost use Rattle.std.specs.Prelude.{◌≡◌, ◌⊎◌, false, None, IfOk, [], IfErr, OnOk, OnErr, IfSome, IsNone, MatchBool, map};
 ghost use Rattle.host_core.specs.Host.{AtEachMomentOf, Counts, Needs, Since, faults};
 ghost use Rattle.host_core.specs.Loss.{IsAnswered, IsOnDisk};
 ghost use Rattle.file_lists.specs.Owners.{places_in};
+ghost use Rattle.status_db.specs.Records.{record_in};
 ghost use Rattle.stack_run.specs.Ended.{ended_as};
 ghost use Rattle.unwind_stack.specs.Transcript.{TellsAll};
 ghost use Rattle.unpack_engine.specs.Order.{IsInOrder};
@@ -10,7 +11,7 @@ ghost use Rattle.unpack_engine.specs.Units.{HasCalled, HasFailedFor, HasUnpacked
 ghost use Rattle.dpkg_session.specs.declared.refusal.Rule.TheVariants.{Tree};
 ghost use Rattle.dpkg_session.specs.declared.report.Breakage.TheVariants.{NoMemory, Closed};
 ghost use Rattle.dpkg_session.specs.Held.{held};
-ghost use Rattle.dpkg_session.specs.Run.{AddsUnit, IsAmidByRule, IsAmidRun, IsAmidUnitOf, IsRun, HasRun};
+ghost use Rattle.dpkg_session.specs.Run.{AddsUnit, IsAmidByRule, IsAmidRun, IsAmidUnitOf, IsAmidUnpack, IsRun, HasRun};
 ghost use Rattle.dpkg_session.specs.Units.{CountsLast, AnswersUnpack, CountsReply, IsBroken, IsBrokenBy, IsBrokenOff, HasCalledByRule, HasCalledOf, IsUnit, IsUnpacked, breakage_of, given_by, reply_to, rule_for, touched_at, IsRefusedUnit, IsUnitByRule, TellsCalls, calls_of};
 
 use crate::refusal::{Refusal, Rule, rule_of};
@@ -202,7 +203,7 @@ fn unpack_named<H: Host>(
     ensures on_disk { IsBroken result.reply ⊎ IsOnDisk (H.state host.new).events }
     ensures untouched { IsBroken result.reply → result.touched.items ≡ [] }
     ensures told { HasCalled (given_by incoming (held database.old lists.old diversions.now)) (H.state host.old) (H.state host.new) [] result.calls.items }
-    ensures any_moment { AtEachMomentOf (IsAmid (given_by incoming (held database.old lists.old diversions.now)) places.old) (H.state host.old) (H.state host.new) }
+    ensures any_moment { AtEachMomentOf (IsAmidUnpack incoming (held database.old lists.old diversions.now)) (H.state host.old) (H.state host.new) }
     ensures counts { CountsReply (H.state host.old) (H.state host.new) result.reply }
     ensures not_closed { IsBrokenBy Closed result.reply → ⊥ }
 {
@@ -238,7 +239,7 @@ fn unpack_unit<H: Host>(
     ensures on_disk { IsBroken result.reply ⊎ IsOnDisk (H.state host.new).events }
     ensures untouched { IsBroken result.reply → result.touched.items ≡ [] }
     ensures told { HasCalled (given_by incoming (held database.old lists.old diversions.now)) (H.state host.old) (H.state host.new) [] result.calls.items }
-    ensures any_moment { AtEachMomentOf (IsAmid (given_by incoming (held database.old lists.old diversions.now)) places.old) (H.state host.old) (H.state host.new) }
+    ensures any_moment { AtEachMomentOf (IsAmidUnpack incoming (held database.old lists.old diversions.now)) (H.state host.old) (H.state host.new) }
     ensures counts { CountsReply (H.state host.old) (H.state host.new) result.reply }
     ensures not_closed { IsBrokenBy Closed result.reply → ⊥ }
 {

@@ -1,14 +1,24 @@
-use Rattle.std.proofs.Common.{inl, inr, ap, sym, subst, ◌∙◌}
+use Rattle.std.proofs.Common.{ap, refl, ◌∙◌}
 use Rattle.unpack_engine.specs.declared.unit.Unpacked.{Unpacked}
 use Rattle.dpkg_session.specs.declared.report.Breakage.TheVariants.{NoMemory}
 use Rattle.dpkg_session.specs.declared.report.Reply.TheVariants.{Broken}
 use Rattle.dpkg_session.proofs.Amid.{since_under_way}
-use Rattle.dpkg_session.proofs.Runs.{answer_not_closed, broken_by, broken_or, counts_answered, counts_broken}
+use Rattle.dpkg_session.proofs.Runs.{answer_not_closed, broken_or, counts_answered, counts_broken, is_unpacked}
 use Rattle.dpkg_session.proofs.Told.{called_as}
 use Rattle.dpkg_session.proofs.units.unpack_named.Goals as goal
 
 pub returns-in-Ok-clause-unit : goal.returns-in-Ok-clause-unit
-returns-in-Ok-clause-unit g c = ?
+returns-in-Ok-clause-unit g c =
+    is_unpacked _ _ _ c.settled.result _ _ _ _ _ _ _ _ c.requires.name c.requires.kept c.new-calls.ensures.items c.settled.ensures.told c.in-Ok.ensures.unit c.in-Ok.ensures.cause c.in-Ok.ensures.order refl c.in-Ok.ensures.touched c.settled.ensures.answer
+
+pub returns-in-Ok-clause-kept : goal.returns-in-Ok-clause-kept
+returns-in-Ok-clause-kept g c = broken_or NoMemory c.settled.result.reply (λ are. are) c.settled.ensures.kept
+
+pub returns-in-Ok-clause-any_moment : goal.returns-in-Ok-clause-any_moment
+returns-in-Ok-clause-any_moment g c = since_under_way _ _ _ _ _ c.requires.kept c.unpack_to_disk.ensures.any_moment
+
+pub returns-in-Err-clause-any_moment : goal.returns-in-Err-clause-any_moment
+returns-in-Err-clause-any_moment g c = since_under_way _ _ _ _ _ c.requires.kept c.unpack_to_disk.ensures.any_moment
 
 pub returns-in-Ok-clause-told : goal.returns-in-Ok-clause-told
 returns-in-Ok-clause-told g c = called_as _ _ _ _ _ _ c.new-calls.ensures.items c.settled.ensures.told c.unpack_to_disk.ensures.told
