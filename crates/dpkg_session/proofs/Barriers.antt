@@ -13,7 +13,7 @@ use Rattle.host_core.specs.Moments.{ThroughEvent, scripts_of-append, since_faile
 use Rattle.host_core.specs.Scripts.{changes_of-append, no_change}
 use Rattle.host_core.specs.declared.fault.HostFault.{HostFault}
 use Rattle.host_core.specs.declared.fault.HostFault.TheVariants.{Device, NoMemory}
-use Rattle.cleanup_stack.specs.Transcripts.{Ended}
+use Rattle.cleanup_stack.specs.Transcripts.{Ended, MayRun}
 use Rattle.file_lists.specs.declared.paths.PackageList.{PackageList}
 use Rattle.opening.specs.Leaving.{IsOpeningOrMerging}
 use Rattle.opening.specs.Parts.{HasMerged, IsDamaged, Merges, Opens, OpensAndMerges, parts}
@@ -21,14 +21,15 @@ use Rattle.stack_run.specs.declared.unwinding.Unwinding.{Unwinding}
 use Rattle.status_db.specs.Noting.{IsMerging}
 use Rattle.status_db.specs.Recorded.{Recorded}
 use Rattle.unpack_engine.specs.Order.{IsInOrder}
-use Rattle.unpack_engine.specs.Units.{Given, Ground, HasCalled, HasCarriedOut, HasFailedFor, HasLeft, HasUnpacked, IsAmid, IsPlanFor, IsStage, ground_of, last_place, task_from}
+use Rattle.unpack_engine.specs.Units.{Begins, Given, Ground, HasCalled, HasCalledRows, HasCarriedOut, HasFailedFor, HasLeft, HasUnpacked, IsAmid, IsPlanFor, IsRunning, IsStage, MayBeginOne, changes, commit_records, ground_of, last_place, task_from}
 use Rattle.unpack_plan.specs.Planned.{Planned}
 use Rattle.unpack_rows.specs.Kinds.{kinds_of}
 use Rattle.unpack_rows.specs.Stages.{stage_of}
-use Rattle.unpack_run.specs.At.{IsAmid as AreFilesAmid, Stops as RowsStop}
+use Rattle.unpack_run.specs.At.{IsAmid as AreFilesAmid, Stops as RowsStop, table_at}
 use Rattle.unpack_run.specs.Task.{Task}
 use Rattle.unpack_run.specs.Trail.{HasCome}
 use Rattle.unwind_stack.specs.declared.rows.Called.{Called}
+use Rattle.unwind_stack.specs.declared.rows.Row.{Row}
 
 -- all is on the disk
 pub on_disk : (s t : State) → Happens (Did Barrier ∷ []) s t → IsOnDisk t.events
@@ -93,16 +94,19 @@ rows_still t es quiet now none stops = record {
   records = stops.records;
   opens = stops.opens;
   ready = stops.ready;
-  files = subst (λ c. AreFilesAmid t _ c now) (sym (quiet_changes stops.since quiet none)) stops.files;
+  files = subst (λ c. AreFilesAmid t (table_at t stops.place) c now) (sym (quiet_changes stops.since quiet none)) stops.files;
 }
 
+running_still : (begins may_begin : World → World → Type 0) (task : State → Task) (old : World) (x quiet : List Event) (now : World) → scripts_of quiet ≡ [] → IsRunning begins may_begin task old x now → IsRunning begins may_begin task old (x ++ quiet) now
+running_still begins may_begin task old x quiet now none (IsRunning.beginning silent may) = IsRunning.beginning (quiet_scripts x quiet none silent) may
+running_still begins may_begin task old x quiet now none (IsRunning.running begun before more is silent so stops) =
+    IsRunning.running begun before (more ++ quiet) (ap (λ (l : List Event). l ++ quiet) is ∙ append_assoc before more quiet) silent so
+    (subst (λ l. RowsStop (task begun) l now) (append_assoc begun.events more quiet) (rows_still (task begun) (begun.events ++ more) quiet now none stops))
+
 stage_still : (g : Ground) (p : Planned) (old : World) (x quiet : List Event) (now : World) → scripts_of quiet ≡ [] → IsStage g p old x now → IsStage g p old (x ++ quiet) now
-stage_still g p old x quiet now none (IsStage.beginning silent may) = IsStage.beginning (quiet_scripts x quiet none silent) may
-stage_still g p old x quiet now none (IsStage.running begun before more is silent begins stops) =
-    IsStage.running begun before (more ++ quiet) (ap (λ (l : List Event). l ++ quiet) is ∙ append_assoc before more quiet) silent begins
-    (subst (λ l. RowsStop (task_from g p begun) l now) (append_assoc begun.events more quiet) (rows_still (task_from g p begun) (begun.events ++ more) quiet now none stops))
-stage_still g p old x quiet now none (IsStage.leaving ended works begun last begins came may) =
-    IsStage.leaving ended works begun last begins (subst (λ c. HasCome (task_from g p begun) (stage_of (kinds_of p.found []) (last_place g p ended)) works c last) (sym (quiet_changes x quiet none)) came) may
+stage_still g p old x quiet now none (IsStage.running is loose) = IsStage.running (running_still (Begins g p) (MayBeginOne g p) (task_from g p) old x quiet now none is) loose
+stage_still g p old x quiet now none (IsStage.leaving ended works begun last begins are came may) =
+    IsStage.leaving ended works begun last begins are (subst (λ c. HasCome (task_from g p begun) (stage_of (kinds_of p.found []) (last_place g p ended)) works c last) (sym (quiet_changes x quiet none)) came) may
 
 pub amid_still : (g : Given) (places : List Path) (old : World) (x quiet : List Event) (now : World) → scripts_of quiet ≡ [] → IsAmid g places old x now → IsAmid g places old (x ++ quiet) now
 amid_still g places old x quiet now none amid = record {
@@ -115,7 +119,6 @@ amid_still g places old x quiet now none amid = record {
     records = amid.under_way.records;
     opens = amid.under_way.opens;
     incoming = amid.under_way.incoming;
-    loose = amid.under_way.loose;
   };
 }
 
@@ -126,22 +129,20 @@ plan_behind g w m t plan falls is = record { stored = is.stored; seen = λ h. is
 
 carried_behind : (g : Ground) (p : Planned) (ended : Ended) (after : Recorded) (lists : List PackageList) (s m t : State) (told now : List Called) → HasCarriedOut g p ended after lists s m told now
     → Happens (Did Barrier ∷ []) m t → Silent m t → IsLater m t → HasCarriedOut g p ended after lists s t told now
-carried_behind g p ended after lists s m t told now is goes silent later = record {
-  begun = is.begun;
-  last = is.last;
-  mid = is.mid;
-  quiet = is.quiet;
-  until = is.until;
-  begins = λ h. is.begins (goes.honest h);
-  run = is.run;
-  between = is.between;
-  rows_end = is.rows_end;
-  since = silent_then is.last m t is.since silent;
-  later = since_then _ is.last m t is.later later;
-  leaves = λ h. subst (HasLeft g p ended is.mid.works is.mid.lists is.mid.database.records is.last.world) (sym goes.world) (is.leaves (goes.honest h));
-  records = is.records;
-  lists_are = is.lists_are;
-}
+carried_behind g p ended after lists s m t told now is goes silent later =
+    let works = is.mid.works in
+    let listed = is.mid.lists in
+    let table = is.mid.database.records in
+    record {
+      mid = is.mid;
+      last = is.last;
+      ran = is.ran;
+      since = silent_then is.last m t is.since silent;
+      later = since_then _ is.last m t is.later later;
+      leaves = λ h. subst (HasLeft (changes g p works listed) (commit_records g p works listed table) g.entries listed table ended is.last.world) (sym goes.world) (is.leaves (goes.honest h));
+      records = is.records;
+      lists_are = is.lists_are;
+    }
 
 pub unpacked_to_disk : (g : Given) (places : List Path) (ended : Ended) (after : Recorded) (lists : List PackageList) (s m t : State) (told now : List Called) → HasUnpacked g places ended after lists s m told now
     → Happens (Did Barrier ∷ []) m t → Silent m t → IsLater m t → HasUnpacked g places ended after lists s t told now
@@ -166,9 +167,13 @@ begun_behind P s m t told now begun behind = record {
   tells = begun.tells;
 }
 
+rows_behind : (rows : List Row) (s m t : State) (told now : List Called) → HasCalledRows rows s m told now → Silent m t → HasCalledRows rows s t told now
+rows_behind rows s m t told now (HasCalledRows.nothing silent same) behind = HasCalledRows.nothing (silent_then s m t silent behind) same
+rows_behind rows s m t told now (HasCalledRows.some begun) behind = HasCalledRows.some (begun_behind (MayRun rows) s m t told now begun behind)
+
 pub called_behind : (g : Given) (s m t : State) (told now : List Called) → HasCalled g s m told now → Silent m t → HasCalled g s t told now
-called_behind g s m t told now (HasCalled.nothing silent same) behind = HasCalled.nothing (silent_then s m t silent behind) same
-called_behind g s m t told now (HasCalled.some plan is begun) behind = HasCalled.some plan (plan_behind g s.world m t plan behind.honest is) (begun_behind _ s m t told now begun behind)
+called_behind g s m t told now (HasCalled.unplanned silent same) behind = HasCalled.unplanned (silent_then s m t silent behind) same
+called_behind g s m t told now (HasCalled.planned plan is rows) behind = HasCalled.planned plan (plan_behind g s.world m t plan behind.honest is) (rows_behind plan.rows s m t told now rows behind)
 
 pub order_behind : (d : Recorded) (lists : List PackageList) (m t : State) → Happens (Did Barrier ∷ []) m t → Needs m (IsInOrder d lists) → Needs t (IsInOrder d lists)
 order_behind d lists m t goes order = λ h. subst (IsInOrder d lists) (sym goes.world) (order (goes.honest h))

@@ -6,7 +6,6 @@ use Rattle.control_members.specs.Stored.{stored_member_path}
 use Rattle.control_members.specs.declared.member.Member.{Member}
 use Rattle.file_lists.specs.declared.paths.PackageList.{PackageList}
 use Rattle.file_removal.specs.Clearing.{cleared}
-use Rattle.file_works.specs.declared.work.Work.{Work}
 use Rattle.host_core.specs.Paths.{Path, is_below_administration, is_own}
 use Rattle.host_core.specs.World.{World}
 use Rattle.host_core.specs.Host.{State}
@@ -16,11 +15,10 @@ use Rattle.status_db.specs.Records.{record_in}
 use Rattle.status_db.specs.declared.record.Record.{Record}
 use Rattle.unpack_commit.specs.Commit.{Changes, HasCommitted}
 use Rattle.unpack_engine.proofs.Frames.{IsBeside, come_same}
-use Rattle.unpack_engine.specs.Units.{Given, Ground, HasBegun, HasCleared, HasDropped, HasFollowed, HasUnpacked, ground_of, last_place, package_name, task_from}
+use Rattle.unpack_engine.specs.Units.{Given, HasBegun, HasCleared, HasDropped, HasFollowed, HasUnpacked, ground_of, last_place, package_name, task_from}
 use Rattle.unpack_moves.specs.Closing.{SparesAdministration}
 use Rattle.unpack_moves.specs.Concluding.{AreElsewhere}
 use Rattle.unpack_moves.proofs.Closings.{below_within, removed_stays}
-use Rattle.unpack_plan.specs.Planned.{Planned}
 use Rattle.unpack_run.specs.Task.{name}
 use Rattle.unwind_stack.specs.declared.rows.Called.{Called}
 use Rattle.diversions.specs.declared.entry.Diversion.{Diversion}
@@ -90,24 +88,28 @@ module _ (q : Path) (far : IsFar q) where
       ∙ is.renewal.replaced.rest q (no_list c.name).0 (no_list c.name).1
       ∙ removed_stays c.leaving old is.renewal.mid q spares is.renewal.removed far.below
 
-  followed_stays : (g : Ground) (p : Planned) (ended : Ended) (works : List Work) (lists : List PackageList) (table : List Record) (old new : World) → SparesAdministration p.leaving → AreElsewhere p.names → HasFollowed g p ended works lists table old new → new q ≡ old q
-  followed_stays g p Committed works lists table old new spares elsewhere is = committed_stays _ _ _ _ old new spares elsewhere is
-  followed_stays g p (Unwound fall failed) works lists table old new spares elsewhere is = by (record_in table (package_name g p)) is
+  followed_stays : (c : Changes) (records : List Record) (entries : List Diversion) (lists : List PackageList) (table : List Record) (ended : Ended) (old new : World) → SparesAdministration c.leaving → AreElsewhere c.names → HasFollowed c records entries lists table ended old new → new q ≡ old q
+  followed_stays c records entries lists table Committed old new spares elsewhere is = committed_stays c entries lists _ old new spares elsewhere is
+  followed_stays c records entries lists table (Unwound fall failed) old new spares elsewhere is = by (record_in table c.name) is
     where
-      by : (found : Option Record) → HasDropped found (package_name g p) old new → new q ≡ old q
-      by None dropped = dropped.rest q (no_list (package_name g p)).0
+      by : (found : Option Record) → HasDropped found c.name old new → new q ≡ old q
+      by None dropped = dropped.rest q (no_list c.name).0
       by (Some r) same = ap (λ (w : World). w q) same
 
   unpacked_stays : (g : Given) (places : List Path) (ended : Ended) (after : Recorded) (lists : List PackageList) (s t : State) (told now : List Called) → HasUnpacked g places ended after lists s t told now → IsTrue t.honest → t.world q ≡ s.world q
   unpacked_stays g places ended after lists s t told now is h =
       let out = is.carried_out in
+      let p = is.plan in
       let planned = is.plan_for.planned in
       let left = out.leaves h in
-      let task = task_from (ground_of g places) is.plan out.begun in
+      let ground = ground_of g places in
+      let begun = out.ran.begun in
+      let task = task_from ground p begun in
+      let honest = out.since.honest h in
       left.removed.rest q far.tmp
-      ∙ followed_stays (ground_of g places) is.plan ended out.mid.works out.mid.lists out.mid.database.records out.last.world left.followed planned.lists_are.spares planned.names_are.elsewhere left.follows
-      ∙ come_same task q (beside_list (name task)) planned.works_are.named (last_place (ground_of g places) is.plan ended) _ out.mid.works out.rows_end.works _ out.last.world (out.rows_end.world (out.since.honest h)).came
-      ∙ begun_stays is.plan.found (package_name (ground_of g places) is.plan) is.plan.members s.world out.begun.world (out.begins h)
+      ∙ followed_stays _ _ _ _ _ ended out.last.world left.followed planned.lists_are.spares planned.names_are.elsewhere left.has_followed
+      ∙ come_same task q (beside_list (name task)) planned.works_are.named (last_place ground p ended) _ out.mid.works out.ran.rows_end.works _ out.last.world (out.ran.rows_end.world honest).came
+      ∙ begun_stays p.found (package_name ground p) p.members s.world begun.world (out.ran.begins_so honest)
 
 stays_by_rule : (q : Path) → IsFar q → (p : Package) (rule : Option Rule) (before after : Held) (u : AUnit) (s t : State) → IsUnitByRule p rule before after u s t → IsTrue t.honest → t.world q ≡ s.world q
 stays_by_rule q far p (Some rule) before after u s t is h = ap (λ w. w q) (is.world h)

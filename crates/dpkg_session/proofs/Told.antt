@@ -7,7 +7,9 @@ use Rattle.host_core.specs.Host.{State, Silent, calls}
 use Rattle.host_core.specs.Scripts.{calls_of-scripts}
 use Rattle.package_tree.specs.declared.package.Package.{Package}
 use Rattle.package_tree.specs.declared.fault.TreeFault.{TreeFault}
-use Rattle.unpack_engine.specs.Units.{Given, HasCalled}
+use Rattle.unpack_engine.specs.Units.{Given, HasCalled, HasCalledRows}
+use Rattle.cleanup_stack.specs.Transcripts.{MayRun}
+use Rattle.unwind_stack.specs.declared.rows.Row.{Row}
 use Rattle.unwind_stack.specs.Transcript.{TellsAll}
 use Rattle.unwind_stack.proofs.Makes.{tells_none, tells_then}
 use Rattle.unwind_stack.specs.declared.rows.Called.{Called}
@@ -49,10 +51,13 @@ tells_silent s t told silent none = tells_none s t [] told (silent_calls s t sil
 no_calls_tell : (u : AUnit) (s t : State) → HasNoCalls u s t → TellsAll s t [] u.calls.items
 no_calls_tell u s t none = tells_silent s t u.calls.items none.silent none.told
 
+rows_tell : (rows : List Row) (s t : State) (told now : List Called) → HasCalledRows rows s t told now → TellsAll s t told now
+rows_tell rows s t told now (HasCalledRows.nothing silent same) = tells_none s t told now (silent_calls s t silent) same
+rows_tell rows s t told now (HasCalledRows.some begun) = let made = begun_calls (MayRun rows) s t told now begun in (made.0, made.2, made.3.1)
+
 has_called_tells : (g : Given) (s t : State) (told now : List Called) → HasCalled g s t told now → TellsAll s t told now
-has_called_tells g s t told now (HasCalled.nothing silent same) = tells_none s t told now (silent_calls s t silent) same
-has_called_tells g s t told now (HasCalled.some plan is begun) =
-    let made = begun_calls _ s t told now begun in (made.0, made.2, made.3.1)
+has_called_tells g s t told now (HasCalled.unplanned silent same) = tells_none s t told now (silent_calls s t silent) same
+has_called_tells g s t told now (HasCalled.planned plan is rows) = rows_tell plan.rows s t told now rows
 
 by_rule_tells : (p : Package) (rule : Option Rule) (before : Held) (u : AUnit) (s t : State) → HasCalledByRule p rule before u s t → TellsAll s t [] u.calls.items
 by_rule_tells p (Some rule) before u s t none = no_calls_tell u s t none
@@ -65,7 +70,7 @@ called_tells (Ok p) before u s t called = by_rule_tells p (rule_for p before) be
 -- by what is refused, and what isn't
 
 pub called_nothing : (g : Given) (s : State) (told : List Called) → told ≡ [] → HasCalled g s s [] told
-called_nothing g s told none = HasCalled.nothing (silent_here s) none
+called_nothing g s told none = HasCalled.unplanned (silent_here s) none
 
 pub no_calls : (u : AUnit) (s : State) → u.calls.items ≡ [] → HasNoCalls u s s
 no_calls u s none = record { silent = silent_here s; told = none }
