@@ -10,15 +10,17 @@ use Rattle.host_core.specs.Host.{State}
 use Rattle.administration.specs.Places.{home_path, info_path, updates_path, diversions_path, temporary}
 use Rattle.administration.specs.Files.{NoDirectory}
 use Rattle.administration.proofs.WholeFiles.{no_directory_at, no_directory_file, no_directory_none}
+use Rattle.diversions.specs.Diverted.{Diverted}
 use Rattle.diversions.specs.declared.entry.Diversion.{Diversion}
 use Rattle.diversions.specs.Lines.{HasEntries}
-use Rattle.opening.specs.Opened.{IsFound}
+use Rattle.file_lists.specs.Filed.{Filed}
+use Rattle.opening.specs.Opened.{IsFound, IsOpened}
 use Rattle.status_db.specs.Held.{IsKept}
 use Rattle.status_db.specs.Recorded.{Recorded}
 use Rattle.unpack_engine.specs.Order.{IsInOrder}
 use Rattle.dpkg_session.specs.declared.report.Candidate.{Candidate}
 use Rattle.dpkg_session.specs.declared.report.Unit.{Unit as AUnit}
-use Rattle.dpkg_session.specs.Held.{Held}
+use Rattle.dpkg_session.specs.Held.{Held, held}
 use Rattle.dpkg_session.specs.Run.{IsRun}
 use Rattle.dpkg_session.specs.Standing.{AreRecorded, IsStanding}
 use Rattle.dpkg_session.proofs.Beside.{diverted_run, diverted_spare_run, entries_run}
@@ -72,7 +74,7 @@ order_standing h w is = record {
   listed = is.6;
 }
 
-pub standing_found : (h : Held) (w : World) → IsFound h.records.records h.records.notes h.lists h.entries w → IsStanding h w
+standing_found : (h : Held) (w : World) → IsFound h.records.records h.records.notes h.lists h.entries w → IsStanding h w
 standing_found h w found = (
   recorded h.records w found.records,
   directory_is (w info_path) found.info,
@@ -83,6 +85,10 @@ standing_found h w found = (
   ∣ found.listed.lists ∣₁,
   ∣ found.diversions ∣₁,
 )
+
+-- right after the opening no note stands
+pub standing_opened : (d : Recorded) (f : Filed) (v : Diverted) (w : World) → d.notes ≡ 0 → IsOpened d.records f.lists v.entries w → IsStanding (held d f v) w
+standing_opened d f v w none opened = standing_found (held d f v) w (subst (λ n. IsFound d.records n f.lists v.entries w) (sym none) opened)
 
 pub standing_run : (cs : List Candidate) (us : List AUnit) (before after : Held) (s t : State) → IsRun cs us before after s t → IsTrue t.honest → IsInOrder after.records after.lists t.world → IsStanding before s.world → IsStanding after t.world
 standing_run cs us before after s t run h order standing = (

@@ -1,6 +1,5 @@
-use Rattle.std.proofs.Common.{◌≡◌, ◌+◌, List, [], ◌∷◌, ◌++◌, None, Some, length, refl, append_assoc, subst, sym, ap, ◌∙◌, length-append}
+use Rattle.std.proofs.Common.{◌≡◌, ◌+◌, List, [], ◌∷◌, ◌++◌, None, Some, length, refl, append_assoc, subst, sym, ap, ◌∙◌, length-append, rules}
 use Rattle.std.proofs.lemmas.List.{append-nil}
-use Rattle.host_core.specs.Host.{Since}
 use Rattle.unwind_stack.specs.Transcript.{TellsAll}
 use Rattle.unwind_stack.proofs.Makes.{tells_none, tells_then}
 use Rattle.dpkg_session.specs.declared.report.Candidate.{Candidate}
@@ -26,7 +25,7 @@ loop-candidate-preserved g c =
     let old = g.H.Host.state c.args.host.now in
     let now = g.H.Host.state c.loop-candidate.host in
     let new = g.H.Host.state c.run_one.new.host in
-    let split : c.args.candidates.items ≡ done ++ p ∷ rest = ? in
+    let split : c.args.candidates.items ≡ done ++ p ∷ rest = search rules in
     let more = run_more done c.loop-candidate.units.items p adds.unit before mid after old now new inv.so_far (record { is = adds.is; moments = c.run_one.ensures.any_moment; answered = c.in-Ok.ensures.answered }) in
     record {
       left = split ∙ sym (append_assoc done (p ∷ []) rest);
@@ -46,7 +45,7 @@ loop-candidate-init g c =
     let old = g.H.Host.state c.args.host.now in
     let before = held c.args.database.now c.args.lists.now c.args.diversions.now in
     record {
-      left = ?;
+      left = search rules;
       count = ap length c.new-units.ensures.items;
       so_far = subst (λ l. IsRun [] l before before old old) (sym c.new-units.ensures.items) (refl, refl);
       no_fault = refl;
@@ -61,7 +60,7 @@ loop-candidate-init g c =
 pub returns-in-Err-clause-any_moment : goal.returns-in-Err-clause-any_moment
 returns-in-Err-clause-any_moment g c =
     let inv = c.loop-candidate.invariant in
-    let split : c.args.candidates.items ≡ c.loop-candidate.yielded ++ c.in-Some.candidate ∷ c.next.new.self.rest.items = ? in
+    let split : c.args.candidates.items ≡ c.loop-candidate.yielded ++ c.in-Some.candidate ∷ c.next.new.self.rest.items = search rules in
     since_next c.args.candidates.items c.loop-candidate.yielded c.loop-candidate.units.items c.in-Some.candidate c.next.new.self.rest.items _ _ _ _ _ split inv.so_far inv.moments c.run_one.ensures.any_moment
 
 pub returns-in-Err-clause-part : goal.returns-in-Err-clause-part
@@ -76,17 +75,21 @@ returns-in-Err-clause-part g c =
     let now = g.H.Host.state c.loop-candidate.host in
     let new = g.H.Host.state c.run_one.new.host in
     let unit = c.in-Err.unit in
-    let split : c.args.candidates.items ≡ done ++ p ∷ rest = ? in
+    let split : c.args.candidates.items ≡ done ++ p ∷ rest = search rules in
     subst (λ us. HasRun c.args.candidates.items us (Some unit) before old new) (sym {A = List AUnit} c.in-Err.ensures.err)
     (has_run c.args.candidates.items done (p ∷ rest) c.loop-candidate.units.items (Some unit) before mid old now new split inv.count inv.so_far c.run_one.ensures.any_moment c.in-Err.ensures.broken_off)
 
 pub returns-clause-whole : goal.returns-clause-whole
-returns-clause-whole g c = ?
+returns-clause-whole g c =
+    let all : c.args.candidates.items ≡ c.loop-candidate.yielded = c.loop-candidate.invariant.left ∙ ap (λ (l : List Candidate). c.loop-candidate.yielded ++ l) c.in-None.ensures.steps.0 ∙ append-nil c.loop-candidate.yielded in
+    let before = held c.args.database.now c.args.lists.now c.args.diversions.now in
+    let mid = held c.loop-candidate.database c.loop-candidate.lists c.args.diversions.now in
+    λ none. subst (λ (l : List Candidate). IsRun l c.loop-candidate.units.items before mid (g.H.Host.state c.args.host.now) (g.H.Host.state c.loop-candidate.host)) (sym {A = List Candidate} all) c.loop-candidate.invariant.so_far
 
 pub returns-clause-part : goal.returns-clause-part
 returns-clause-part g c =
     let inv = c.loop-candidate.invariant in
-    has_run c.args.candidates.items c.loop-candidate.yielded c.loop-candidate.candidate-iterator.rest.items c.loop-candidate.units.items None _ _ _ _ _ inv.left inv.count inv.so_far (since_next_start _ _ _) tt
+    has_run c.args.candidates.items c.loop-candidate.yielded c.loop-candidate.candidate-iterator.rest.items c.loop-candidate.units.items None _ _ _ _ _ inv.left inv.count inv.so_far (since_next_start c.loop-candidate.candidate-iterator.rest.items (held c.loop-candidate.database c.loop-candidate.lists c.args.diversions.now) (g.H.Host.state c.loop-candidate.host)) tt
 
 pub returns-in-Err-clause-told : goal.returns-in-Err-clause-told
 returns-in-Err-clause-told g c =
@@ -94,7 +97,7 @@ returns-in-Err-clause-told g c =
     let new = g.H.Host.state c.run_one.new.host in
     let unit = c.in-Err.unit in
     subst (λ us. TellsAll old new [] (calls_of us ++ unit.calls.items)) (sym {A = List AUnit} c.in-Err.ensures.err)
-    (tells_last old (g.H.Host.state c.loop-candidate.host) new c.loop-candidate.units.items unit c.loop-candidate.invariant.told (called_tells c.in-Some.candidate.tree _ unit (g.H.Host.state c.loop-candidate.host) new c.in-Err.ensures.broken_off.called))
+    (tells_last old (g.H.Host.state c.loop-candidate.host) new c.loop-candidate.units.items unit c.loop-candidate.invariant.told (called_tells c.in-Some.candidate.tree (held c.loop-candidate.database c.loop-candidate.lists c.args.diversions.now) unit (g.H.Host.state c.loop-candidate.host) new c.in-Err.ensures.broken_off.called))
 
 pub returns-clause-told : goal.returns-clause-told
 returns-clause-told g c = tells_whole (g.H.Host.state c.args.host.now) (g.H.Host.state c.loop-candidate.host) c.loop-candidate.units.items c.loop-candidate.invariant.told

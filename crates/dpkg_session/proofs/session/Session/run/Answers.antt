@@ -5,8 +5,8 @@ use Rattle.dpkg_session.proofs.Outlasting.{run_answered, run_loses, run_stands}
 use Rattle.dpkg_session.proofs.Runs.{falls_run}
 use Rattle.dpkg_session.proofs.session.Session.run.Goals as goal
 
-pub run_units-requires-clause-order : goal.run_units-requires-clause-order
-run_units-requires-clause-order g c = λ h. order_standing _ _ (c.args.self.now.ready c.if-self.false h)
+pub run_units-report-requires-clause-order : goal.run_units-report-requires-clause-order
+run_units-report-requires-clause-order g c = λ h. order_standing _ _ (c.args.self.now.ready c.if-self.false h)
 
 pub invariant_of-self : goal.invariant_of-self
 invariant_of-self g c =
