@@ -8,7 +8,7 @@ use Rattle.dpkg_session.specs.Held.{held}
 use Rattle.dpkg_session.specs.Units.{calls_of}
 use Rattle.dpkg_session.specs.Run.{HasRun, IsRun}
 use Rattle.dpkg_session.proofs.Amid.{since_next, since_next_start, since_run_start}
-use Rattle.dpkg_session.proofs.Runs.{counts_from, has_run, ready_after, run_more}
+use Rattle.dpkg_session.proofs.Runs.{counts_from, has_run, none_left, ready_after, run_more}
 use Rattle.dpkg_session.proofs.Told.{called_tells, tells_last, tells_whole}
 use Rattle.dpkg_session.proofs.units.run_units.Goals as goal
 
@@ -81,7 +81,7 @@ returns-in-Err-clause-part g c =
 
 pub returns-clause-whole : goal.returns-clause-whole
 returns-clause-whole g c =
-    let all : c.args.candidates.items ≡ c.loop-candidate.yielded = c.loop-candidate.invariant.left ∙ ap (λ (l : List Candidate). c.loop-candidate.yielded ++ l) c.in-None.ensures.steps.0 ∙ append-nil c.loop-candidate.yielded in
+    let all : c.args.candidates.items ≡ c.loop-candidate.yielded = c.loop-candidate.invariant.left ∙ ap (λ (l : List Candidate). c.loop-candidate.yielded ++ l) (none_left c.loop-candidate.candidate-iterator.rest.items (sym c.loop-candidate.candidate-iterator.rest.ok.0 ∙ c.in-None.ensures.steps.0)) ∙ append-nil c.loop-candidate.yielded in
     let before = held c.args.database.now c.args.lists.now c.args.diversions.now in
     let mid = held c.loop-candidate.database c.loop-candidate.lists c.args.diversions.now in
     λ none. subst (λ (l : List Candidate). IsRun l c.loop-candidate.units.items before mid (g.H.Host.state c.args.host.now) (g.H.Host.state c.loop-candidate.host)) (sym {A = List Candidate} all) c.loop-candidate.invariant.so_far
