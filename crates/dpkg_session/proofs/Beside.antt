@@ -15,7 +15,7 @@ use Rattle.status_db.specs.Records.{record_in}
 use Rattle.status_db.specs.declared.record.Record.{Record}
 use Rattle.unpack_commit.specs.Commit.{Changes, HasCommitted}
 use Rattle.unpack_engine.proofs.Frames.{IsBeside, come_same}
-use Rattle.unpack_engine.specs.Units.{Given, HasBegun, HasCleared, HasDropped, HasFollowed, HasUnpacked, ground_of, last_place, package_name, task_from}
+use Rattle.unpack_engine.specs.Units.{Given, HasBegun, HasCleared, HasDropped, HasFollowed, HasUnpacked, changes, commit_records, ground_of, last_place, package_name, task_from}
 use Rattle.unpack_moves.specs.Closing.{SparesAdministration}
 use Rattle.unpack_moves.specs.Concluding.{AreElsewhere}
 use Rattle.unpack_moves.proofs.Closings.{below_within, removed_stays}
@@ -107,7 +107,7 @@ module _ (q : Path) (far : IsFar q) where
       let task = task_from ground p begun in
       let honest = out.since.honest h in
       left.removed.rest q far.tmp
-      ∙ followed_stays _ _ _ _ _ ended out.last.world left.followed planned.lists_are.spares planned.names_are.elsewhere left.has_followed
+      ∙ followed_stays (changes ground p out.mid.works out.mid.lists) (commit_records ground p out.mid.works out.mid.lists out.mid.database.records) g.entries out.mid.lists out.mid.database.records ended out.last.world left.followed planned.lists_are.spares planned.names_are.elsewhere left.has_followed
       ∙ come_same task q (beside_list (name task)) planned.works_are.named (last_place ground p ended) _ out.mid.works out.ran.rows_end.works _ out.last.world (out.ran.rows_end.world honest).came
       ∙ begun_stays p.found (package_name ground p) p.members s.world begun.world (out.ran.begins_so honest)
 

@@ -74,7 +74,7 @@ order_standing h w is = record {
   listed = is.6;
 }
 
-standing_found : (h : Held) (w : World) → IsFound h.records.records h.records.notes h.lists h.entries w → IsStanding h w
+pub standing_found : (h : Held) (w : World) → IsFound h.records.records h.records.notes h.lists h.entries w → IsStanding h w
 standing_found h w found = (
   recorded h.records w found.records,
   directory_is (w info_path) found.info,

@@ -32,9 +32,9 @@ HasDone (Diverted asked unit) before after s t =
     IsDiverted asked (seen_of before.records.records before.lists asked.owner asked.path) before.entries after.entries unit s t × KeepsRest before after
 HasDone (Undiverted asked unit) before after s t = IsUndiverted asked before.entries after.entries unit s t × KeepsRest before after
 
--- the administration stands for these records, lists and diversions
+-- the administration stands for these records, lists and diversions, and all parts of it can be read
 abbrev pub Stands : Held → World → Type 0
-Stands h w = ∥ IsFound h.records.records h.records.notes h.lists h.entries w ∥₁
+Stands h w = IsFound h.records.records h.records.notes h.lists h.entries w
 
 -- One command on an honest host whose administration stands for what is held: its units, and what they leave held, and the
 -- world that they leave.
