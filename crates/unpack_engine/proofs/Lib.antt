@@ -1,0 +1,4 @@
+pub mod Ready
+pub mod Clearing
+pub mod Frames
+pub mod Apart
