@@ -13,7 +13,7 @@ use Rattle.file_lists.specs.Writing.{IsListReady}
 use Rattle.unpack_engine.proofs.Frames.{IsBeside}
 
 -- the first byte of a name in the directory of the administration
-byte : Path → ℕ
+abbrev byte : Path → ℕ
 byte p = get_or p 14 0
 
 module _ (name : Path) where
@@ -23,14 +23,12 @@ module _ (name : Path) where
     | inr more ↦ subst (IsBeside (list_path name)) (sym more.1) (below more.0)
   ]
     where
-      unfolding byte
       here : IsBeside (list_path name) tmp_path
       here = record {
         own = refl; below = refl; unnoted = refl;
         unlisted = λ e. absurd (omega (arith, ap byte e));
         unspared = λ e. absurd (omega (arith, ap byte e));
       }
-      unfolding byte
       below : (rest : Path) → IsBeside (list_path name) (tmp_path ++ 47 ∷ rest)
       below rest = record {
         own = refl; below = refl; unnoted = refl;

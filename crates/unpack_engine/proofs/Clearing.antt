@@ -1,5 +1,5 @@
 -- What was left under a name goes.
-use Rattle.std.proofs.Common.{◌≡◌, ◌≢◌, ◌⊎◌, ◌&&◌, inl, inr, not, Bool, true, false, cond, List, [], ◌∷◌, Option, Some, None, refl, sym, ap, subst, ◌∙◌}
+use Rattle.std.proofs.Common.{◌≡◌, ◌≢◌, ◌⊎◌, ◌&&◌, inl, inr, not, Bool, true, false, cond, List, [], ◌∷◌, Option, Some, None, IsTrue, refl, sym, ap, subst, ◌∙◌}
 use Rattle.std.specs.Prelude.{IsSome, Contains}
 use Rattle.std.proofs.lemmas.Bool.{false≢true}
 use Rattle.host_core.specs.Paths.{Path}
@@ -11,6 +11,9 @@ use Rattle.control_members.specs.Names.{is_member_name}
 use Rattle.control_members.specs.Stored.{AreStoredNames, AreTaken, AreTaking, goes, is_among, stored_member_path}
 use Rattle.control_members.proofs.Apart.{no_list}
 use Rattle.control_members.proofs.Drawn.{contains_any}
+use Rattle.host_core.specs.Host.{State, AtEachMoment, Reads}
+use Rattle.host_core.specs.Moments.{since_reads}
+use Rattle.unpack_moves.proofs.Moments.{then_at_each}
 use Rattle.unpack_engine.specs.Units.{IsBesideOwn, IsCleared, IsClearing}
 
 by_gone : (b : Bool) (was now : Option Node) → now ≡ cond b None was → (now ≡ was) ⊎ (now ≡ None)
@@ -25,7 +28,7 @@ or_gone b was now (inr gone) = by_gone b was now gone
 none_left : (among : Bool) (was now : Option Node) → now ≡ cond (among && not (false && true)) None was → (IsSome was → among ≡ true) → now ≡ None
 none_left true was now e has = e
 none_left false None now e has = e
-none_left false (Some node) now e has = absurd (false≢true (has tt))
+none_left false (Some node) now e has = absurd (false≢true (has refl))
 
 module _ (name : Path) (old : World) where
   pub clearing_start : IsClearing name old old
@@ -57,3 +60,23 @@ module _ (name : Path) (old : World) where
         (λ some. contains_any names member ((stored.exact member).1 (is, some)));
     rest = λ q beside. dropped.rest q beside.list ∙ taken.rest q beside.members;
   }
+
+module _ (name : Path) (a b : State) (reads : Reads a b) where
+  moved : (now : World) → IsClearing name b.world now → IsClearing name a.world now
+  moved now is = subst (λ w. IsClearing name w now) reads.world is
+
+  pub since_looked : AtEachMoment (IsClearing name) a b
+  since_looked = since_reads (λ so_far. IsClearing name a.world) a b reads (λ fs all. clearing_start name a.world)
+
+  pub since_taking : (gone : Path → Bool) (c : State) → AtEachMoment (AreTaking name gone) b c → AtEachMoment (IsClearing name) a c
+  since_taking gone c taking =
+      then_at_each (IsClearing name) (AreTaking name gone) (IsClearing name) a b c (λ now is. is) (λ h now is. moved now (clearing_taking name b.world gone now is)) since_looked taking
+
+  pub since_dropping : (gone : Path → Bool) (c d : State) (path : Path) → AtEachMoment (AreTaking name gone) b c → (IsTrue c.honest → AreTaken name gone b.world c.world) → path ≡ list_path name → AtEachMoment (IsDropping path) c d → AtEachMoment (IsClearing name) a d
+  since_dropping gone c d path taking taken is dropping =
+      then_at_each (IsClearing name) (IsDropping path) (IsClearing name) a c d (λ now is. is)
+      (λ h now drop. moved now (clearing_dropping name b.world gone c.world now (taken (dropping.honest h)) (subst (λ p. IsDropping p c.world now) is drop))) (since_taking gone c taking) dropping
+
+  pub clears : (names : List Path) (c d : State) (path : Path) → AreStoredNames a.world name names → AreTaken name (goes names false) b.world c.world → path ≡ list_path name → IsDropped path c.world d.world → IsCleared name a.world d.world
+  clears names c d path stored taken is dropped =
+      cleared_dropped name a.world names c.world d.world stored (subst (λ w. AreTaken name (goes names false) w c.world) reads.world taken) (subst (λ p. IsDropped p c.world d.world) is dropped)

@@ -1,6 +1,7 @@
 -- While rows run the administration stays as it was, but for records and the package's list.
 use Rattle.std.proofs.Common.{◌≡◌, ◌≢◌, ◌||◌, inl, inr, Bool, true, false, List, ◌∷◌, ◌++◌, refl, sym, ap, subst, ◌∙◌}
-use Rattle.host_core.specs.Paths.{Path, is_below_administration, is_own}
+use Rattle.std.specs.List.{list_any}
+use Rattle.host_core.specs.Paths.{Path, is_below_administration, is_named_by, is_own}
 use Rattle.host_core.specs.World.{World, Change, is_kept}
 use Rattle.host_core.specs.Scripts.{changed_kept}
 use Rattle.administration.specs.Places.{list_path, temporary}
@@ -32,7 +33,7 @@ pub record IsBeside (list q : Path) : Type 0 where
 
 module _ (t : Task) (q : Path) (beside : IsBeside (list_path (name t)) q) (all_named : Each IsNamed t.works) where
   pub follows_same : (places : List Path) (c : Change) (v w : World) → Follows places c v w → w q ≡ v q
-  follows_same places c v w follows = follows.rest q beside.unnoted ∙ changed_kept (is_kept places) c v follows.avoids q (ap (λ b. b || _) beside.own)
+  follows_same places c v w follows = follows.rest q beside.unnoted ∙ changed_kept (is_kept places) c v follows.avoids q (ap (λ b. b || list_any (is_named_by q) places) beside.own)
 
   module _ (works : List Work) (moved : IsRearranged t.works works) where
     named : Each IsNamed works

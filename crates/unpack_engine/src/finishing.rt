@@ -63,11 +63,8 @@ fn finish_unwound<H: Host>(
     ensures silent { Silent (H.state host.old) (H.state host.new) }
     ensures counts { Counts (H.state host.old) (H.state host.new) result }
 {
-    let touched = touched_of(alloc, name, &[])?;
-    match end_unwound(alloc, host, database, name, members) {
-        Ok(()) => Ok(touched),
-        Err(fault) => Err(fault),
-    }
+    end_unwound(alloc, host, database, name, members)?;
+    Ok(touched_of(alloc, name, &[])?)
 }
 
 // Makes a commit that is ready.
@@ -108,15 +105,9 @@ fn finish_ready<H: Host>(
         records,
     } = committing;
     let noted = records.as_slice();
-    match touched_of(alloc, &change.name, noted) {
-        Ok(touched) => {
-            match end_committed(alloc, host, database, lists, diversions, &change, new_list, noted)
-            {
-                Ok(()) => Ok(touched),
-                Err(fault) => Err(fault),
-            }
-        }
-        Err(_) => Err(HostFault::NoMemory),
+    match end_committed(alloc, host, database, lists, diversions, &change, new_list, noted) {
+        Ok(()) => Ok(touched_of(alloc, &change.name, noted)?),
+        Err(fault) => Err(fault),
     }
 }
 
