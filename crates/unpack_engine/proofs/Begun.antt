@@ -7,7 +7,7 @@ use Rattle.administration.proofs.Within.{within_is}
 use Rattle.control_members.specs.Names.{is_member_name}
 use Rattle.control_members.specs.Stored.{stored_member_path}
 use Rattle.status_db.specs.declared.record.Record.{Record}
-use Rattle.unpack_engine.specs.Units.{HasCleared, HasDropped, IsBesideOwn}
+use Rattle.unpack_engine.specs.Units.{HasCleared, HasDropped, IsBesideOwn, MayDrop}
 
 -- the first byte of a name in the directory of the administration: `i` for what is in `info`
 abbrev pub byte : Path → ℕ
@@ -29,6 +29,10 @@ cleared_tmp found name v w cleared none = cleared_same found name v w tmp_path c
 pub dropped_same : (found : Option Record) (name : Path) (v w : World) (q : Path) → HasDropped found name v w → q ≢ list_path name → w q ≡ v q
 dropped_same None name v w q dropped other = dropped.rest q other
 dropped_same (Some r) name v w q same other = ap (λ (x : World). x q) same
+
+pub may_drop_same : (found : Option Record) (name : Path) (v w : World) (q : Path) → MayDrop found name v w → q ≢ list_path name → w q ≡ v q
+may_drop_same None name v w q dropping other = dropping.rest q other
+may_drop_same (Some r) name v w q same other = ap (λ (x : World). x q) same
 
 pub tmp_byte : (q : Path) → is_within tmp_path q ≡ true → byte q ≡ 116
 tmp_byte q within = elim (within_is tmp_path q within) [ | inl is ↦ ap byte is | inr more ↦ ap byte more.1 ]

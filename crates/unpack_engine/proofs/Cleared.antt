@@ -11,6 +11,8 @@ use Rattle.control_members.specs.LaidOut.{AreLaidOut, IsIncoming, IsLaying}
 use Rattle.control_members.specs.Names.{is_member_name}
 use Rattle.control_members.specs.Stored.{IsMembersReady, stored_member_path}
 use Rattle.control_members.proofs.LaidOut.{incoming_elsewhere}
+use Rattle.control_members.proofs.Apart.{info_other}
+use Rattle.unpack_commit.proofs.Ready.{info_is_no_list}
 use Rattle.control_members.specs.declared.member.Member.{Member}
 use Rattle.file_lists.specs.Info.{AreLoose}
 use Rattle.file_lists.specs.Writing.{IsListReady}
@@ -109,3 +111,10 @@ module _ (found : Option Record) (name : Path) (named : is_package_name name ≡
   pub beginning_incoming : (now : World) → MayBegin found name v now → IsIncoming v → IsIncoming now
   beginning_incoming now (MayBegin.clearing may) incoming = incoming_elsewhere v now (may_tmp found name named v now may) incoming
   beginning_incoming now (MayBegin.laying cleared clears laying) incoming = laying.incoming
+
+pub begun_info : (found : Option Record) (name : Path) (ms : List Member) (v w : World) → HasBegun found name ms v w → IsDirectory (v info_path) → IsDirectory (w info_path)
+begun_info found name ms v w begun is = subst IsDirectory (sym (begun.lays info_path refl ∙ by found begun.clears)) is
+  where
+    by : (f : Option Record) → HasCleared f name v begun.cleared → begun.cleared info_path ≡ v info_path
+    by None cleared = cleared.rest info_path (record { list = (info_is_no_list name).0; members = λ member m. info_other name member })
+    by (Some r) same = ap (λ (x : World). x info_path) same

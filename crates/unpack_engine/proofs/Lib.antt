@@ -11,3 +11,6 @@ pub mod Cleared
 pub mod Starts
 pub mod UnderWay
 pub mod Carrying
+pub mod Losing
+pub mod Leaving
+pub mod AfterRows

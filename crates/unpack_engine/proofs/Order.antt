@@ -17,7 +17,8 @@ use Rattle.status_db.specs.Recorded.{Recorded}
 use Rattle.status_db.specs.declared.record.Record.{Record}
 use Rattle.unpack_engine.specs.Order.{IsInOrder}
 use Rattle.unpack_engine.specs.Units.{HasBegun, HasCleared, IsBesideOwn, MayBegin, MayClear}
-use Rattle.unpack_engine.proofs.Ready.{kept_same, list_ready, members_ready}
+use Rattle.unpack_engine.proofs.Cleared.{begun_info, begun_kept, begun_loose}
+use Rattle.unpack_engine.proofs.Ready.{list_ready, members_ready}
 
 pub directory_there : (node : Option Node) → is_directory node ≡ true → IsDirectory node
 directory_there None e = absurd (false≢true e)
@@ -40,3 +41,11 @@ module _ (d : Recorded) (lists : List PackageList) (w : World) (order : IsInOrde
 
   pub own_members : (name : Path) → is_package_name name ≡ true → IsMembersReady name w
   own_members name named = members_ready w info_there order.loose name named
+
+  -- what a unit that has begun finds
+  module _ (found : Option Record) (name : Path) (named : is_package_name name ≡ true) (ms : List Member) (new : World) (begun : HasBegun found name ms w new) where
+    pub records_begun : IsKept d new
+    records_begun = begun_kept found name named w (own_list name named) (own_members name named) order.loose ms new begun d order.kept
+
+    pub list_begun : IsListReady name new
+    list_begun = list_ready new (begun_info found name ms w new begun info_there) (begun_loose found name named w (own_list name named) (own_members name named) order.loose ms new begun) name named

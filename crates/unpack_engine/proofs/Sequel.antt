@@ -1,6 +1,6 @@
 -- The beginning of a unit and its rows, one after the other.
 use Rattle.std.proofs.Common.{◌≡◌, ◌≢◌, inl, inr, IsTrue, true, List, [], ◌∷◌, ◌++◌, Option, Some, None, refl, sym, ap, subst, ◌∙◌, append_assoc}
-use Rattle.std.proofs.lemmas.List.{append-nil}
+use Rattle.std.specs.Prelude.{Result, Ok, Err, IfOk}
 use Rattle.host_core.specs.Paths.{Path}
 use Rattle.host_core.specs.World.{World}
 use Rattle.host_core.specs.Events.{Event, Ran, scripts_of, changes_of}
@@ -64,3 +64,12 @@ module _ (begins may_begin : World → World → Type 0) (task : State → Task)
       (since_weaker_if (λ so_far. Stops (task b) (b.events ++ so_far)) (λ so_far. IsRunning begins may_begin task a.world (since_beginning.added ++ so_far)) b c
       (λ h so_far w stops. IsRunning.running b since_beginning.added so_far refl
       (silent_added a b since_beginning.added silent since_beginning.events) (begun (second.honest h)) stops) second)
+
+-- of an answer two things hold
+pub if_ok_both : {T E : Type 0} (result : Result T E) (P Q R : T → Type 0) → ((x : T) → P x → Q x → R x) → IfOk result P → IfOk result Q → IfOk result R
+if_ok_both (Ok x) P Q R so p q = so x p q
+if_ok_both (Err e) P Q R so p q = tt
+
+pub if_ok_one : {T E : Type 0} (result : Result T E) (P R : T → Type 0) → ((x : T) → P x → R x) → IfOk result P → IfOk result R
+if_ok_one (Ok x) P R so p = so x p
+if_ok_one (Err e) P R so p = tt

@@ -39,8 +39,8 @@ pub returns-clause-kept : goal.returns-clause-kept
 returns-clause-kept g c = λ h.
     let mid = g.H.Host.state c.commit.new.host in
     let end = g.H.Host.state c.clear_away.new.host in
-    on_ok c.clear_away.result (IsRemoved tmp_path mid.world end.world) (IsKept c.commit.new.database.now end.world)
-    (λ removed. laying_kept mid.world end.world removed.rest c.commit.new.database.now (c.in_ok-commit.ensures.kept (c.clear_away.ensures.silent.honest h))) (c.clear_away.ensures.removed h)
+    on_ok c.clear_away.result (IsRemoved tmp_path mid.world end.world) (IsKept c.commit.new.database end.world)
+    (λ removed. laying_kept mid.world end.world removed.rest c.commit.new.database (c.in_ok-commit.ensures.kept (c.clear_away.ensures.silent.honest h))) (c.clear_away.ensures.removed h)
 
 pub returns-clause-any_moment : goal.returns-clause-any_moment
 returns-clause-any_moment g c =
@@ -52,5 +52,5 @@ returns-clause-any_moment g c =
     let mid = g.H.Host.state c.commit.new.host in
     then_at_each (MayCommit change entries lists records before) IsLaying (MayLeaveBy (HasCommitted change entries lists (put_records records before)) (MayCommit change entries lists records before)) _ _ _ (λ now is. MayLeaveBy.following is)
     (λ h now is. (let h1 = c.clear_away.ensures.silent.honest h in
-    MayLeaveBy.clearing_away mid.world (c.in_ok-commit.ensures.committed h1) (kept_opens c.commit.new.database.now mid.world (c.in_ok-commit.ensures.kept h1)) is))
+    MayLeaveBy.clearing_away mid.world (c.in_ok-commit.ensures.committed h1) (kept_opens c.commit.new.database mid.world (c.in_ok-commit.ensures.kept h1)) is))
     c.commit.ensures.any_moment c.clear_away.ensures.any_moment

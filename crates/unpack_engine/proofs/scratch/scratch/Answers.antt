@@ -12,6 +12,9 @@ use Rattle.unpack_engine.proofs.Cleared.{begun_loose}
 use Rattle.unpack_engine.proofs.Starts.{leave_start}
 use Rattle.unpack_engine.proofs.UnderWay.{run_under_way}
 use Rattle.unpack_engine.proofs.Carrying.{carried_out}
+use Rattle.unpack_engine.proofs.Losing.{loser_named}
+use Rattle.unpack_engine.proofs.Leaving.{committed_open}
+use Rattle.unpack_engine.proofs.AfterRows.{leaving_under_way}
 use Rattle.unpack_engine.proofs.scratch.scratch.Goals as goal
 
 pub returns : goal.returns
