@@ -25,13 +25,18 @@ module _ (name : Path) where
     where
       here : IsBeside (list_path name) tmp_path
       here = record {
-        own = refl; below = refl; unnoted = refl;
+        own = refl;
+        below = refl;
+        unnoted = refl;
         unlisted = λ e. absurd (omega (arith, ap byte e));
         unspared = λ e. absurd (omega (arith, ap byte e));
       }
+
       below : (rest : Path) → IsBeside (list_path name) (tmp_path ++ 47 ∷ rest)
       below rest = record {
-        own = refl; below = refl; unnoted = refl;
+        own = refl;
+        below = refl;
+        unnoted = refl;
         unlisted = λ e. absurd (omega (arith, ap byte e));
         unspared = λ e. absurd (omega (arith, ap byte e));
       }

@@ -35,4 +35,4 @@ may_drop_same None name v w q dropping other = dropping.rest q other
 may_drop_same (Some r) name v w q same other = ap (λ (x : World). x q) same
 
 pub tmp_byte : (q : Path) → is_within tmp_path q ≡ true → byte q ≡ 116
-tmp_byte q within = elim (within_is tmp_path q within) [ | inl is ↦ ap byte is | inr more ↦ ap byte more.1 ]
+tmp_byte q within = elim (within_is tmp_path q within) [ inl is ↦ ap byte is | inr more ↦ ap byte more.1 ]

@@ -34,9 +34,18 @@ module _ (database : Recorded) (lists : Filed) (entries : List Diversion) (place
     (alone : rows.others.items ≡ []) (yielding : rows.yields ≡ yields_of database.records) where
   abbrev with_others : List OtherPackage → List (List ℕ) → State → Task
   with_others others yields start = record {
-    start = start; records = database.records; lists = lists.lists; entries = entries; places = places;
-    found = rows.found; incoming = rows.incoming; others = records_of others; yields = yields;
-    works = works; listed = rows.listed; union = rows.union;
+    start = start;
+    records = database.records;
+    lists = lists.lists;
+    entries = entries;
+    places = places;
+    found = rows.found;
+    incoming = rows.incoming;
+    others = records_of others;
+    yields = yields;
+    works = works;
+    listed = rows.listed;
+    union = rows.union;
   }
 
   pub same_task : (λ (s : State). task_of s database lists entries places works rows) ≡ task_from (ground database.records lists.lists entries places) (planned_from rows works calls rest)

@@ -40,7 +40,7 @@ module _ (w : World) (info : IsDirectory (w info_path)) (loose : AreLoose w) whe
 pub opens_on : (v w : World) → SameOn is_record_place v w → w home_path ≡ v home_path → w updates_path ≡ v updates_path → CanOpenRecords v → CanOpenRecords w
 opens_on v w same home updates opens =
     let kept = kept_on v w opens.table limit same (subst IsDirectory (sym home) opens.unblocked.home) (subst IsDirectory (sym updates) opens.unblocked.updates)
-        (record { unblocked = opens.unblocked; holds = opens.records; free = λ n from below. absurd (omega (arith, from, below)) }) in
+    (record { unblocked = opens.unblocked; holds = opens.records; free = λ n from below. absurd (omega (arith, from, below)) }) in
     record { unblocked = kept.unblocked; table = opens.table; records = kept.holds }
 
 pub kept_opens : (d : Recorded) (w : World) → IsKept d w → CanOpenRecords w

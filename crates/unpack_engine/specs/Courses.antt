@@ -33,8 +33,12 @@ planned_from rows works calls rest = record {
 -- what the commit of these parts does
 abbrev pub changes_from : List ℕ → List (List ℕ) → List Diversion → List PackageList → List Work → Rest → Changes
 changes_from name yields entries lists works rest = record {
-  name = name; leaving = rest.leaving.items; listed = rest.new_list; members = rest.members;
-  places = taken_places works; losers = losers entries (taken_places works) lists (filter (λ q. not (bytes_eq q name)) yields);
+  name = name;
+  leaving = rest.leaving.items;
+  listed = rest.new_list;
+  members = rest.members;
+  places = taken_places works;
+  losers = losers entries (taken_places works) lists (filter (λ q. not (bytes_eq q name)) yields);
   names = rest.names.items;
 }
 

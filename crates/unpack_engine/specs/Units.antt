@@ -181,9 +181,18 @@ module _ (g : Ground) (p : Planned) where
   -- what stays the same while the rows run, from the host where they begin
   abbrev pub task_from : State → Task
   task_from start = record {
-    start = start; records = g.records; lists = g.lists; entries = g.entries; places = g.places;
-    found = p.found; incoming = p.incoming; others = []; yields = yields;
-    works = p.works; listed = p.listed; union = p.union;
+    start = start;
+    records = g.records;
+    lists = g.lists;
+    entries = g.entries;
+    places = g.places;
+    found = p.found;
+    incoming = p.incoming;
+    others = [];
+    yields = yields;
+    works = p.works;
+    listed = p.listed;
+    union = p.union;
   }
 
   -- the packages that lose places to these works, by the lists as the rows left them
@@ -193,8 +202,13 @@ module _ (g : Ground) (p : Planned) where
   -- what the commit does, beside the notes
   abbrev pub changes : List Work → List PackageList → Changes
   changes works lists = record {
-    name = package_name; leaving = p.leaving; listed = p.new_list; members = p.members;
-    places = taken_places works; losers = unit_losers works lists; names = p.names;
+    name = package_name;
+    leaving = p.leaving;
+    listed = p.new_list;
+    members = p.members;
+    places = taken_places works;
+    losers = unit_losers works lists;
+    names = p.names;
   }
 
   -- what it notes: the records that lose conffiles, and the package's own last

@@ -114,6 +114,8 @@ pub(crate) fn end_committed<H: Host>(
     ensures silent { Silent (H.state host.old) (H.state host.new) }
     ensures counts { Counts (H.state host.old) (H.state host.new) result }
 {
-    commit(alloc, host, database, lists, diversions, change, new_list, records)?;
+    commit(
+        alloc, host, database, lists, diversions, change, new_list, records,
+    )?;
     clear_away(alloc, host, &change.members)
 }

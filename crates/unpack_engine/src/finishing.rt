@@ -105,7 +105,9 @@ fn finish_ready<H: Host>(
         records,
     } = committing;
     let noted = records.as_slice();
-    match end_committed(alloc, host, database, lists, diversions, &change, new_list, noted) {
+    match end_committed(
+        alloc, host, database, lists, diversions, &change, new_list, noted,
+    ) {
         Ok(()) => Ok(touched_of(alloc, &change.name, noted)?),
         Err(fault) => Err(fault),
     }

@@ -7,7 +7,6 @@ mod course;
 mod finishing;
 mod looks;
 mod running;
-mod scratch;
 mod touched;
 mod unit;
 mod unwound;

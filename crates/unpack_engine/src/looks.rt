@@ -52,11 +52,7 @@ fn look_for_two<H: Host>(
 }
 
 #[tactic(auto, using(host_core::specs::Moments::reads_then))]
-fn look_for_scripts<H: Host>(
-    alloc: Global,
-    host: &mut H,
-    name: &Text,
-) -> Result<Present, HostFault>
+fn look_for_scripts<H: Host>(alloc: Global, host: &mut H, name: &Text) -> Result<Present, HostFault>
     requires named { is_package_name name.now ≡ true }
     ensures found { Tells result (λ stored w. (script : AScript) → is_present stored script ≡ is_some (w (stored_path name.now script))) (H.state host.old) (H.state host.new) }
     ensures reads { Reads (H.state host.old) (H.state host.new) }
