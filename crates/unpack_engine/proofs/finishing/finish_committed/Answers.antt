@@ -4,10 +4,13 @@ use Rattle.cleanup_stack.specs.Transcripts.{Committed}
 use Rattle.control_members.specs.LaidOut.{AreLaidOut}
 use Rattle.file_lists.specs.Owners.{AreListPaths}
 use Rattle.status_db.specs.Records.{AreStanding}
-use Rattle.unpack_commit.specs.Commit.{Changes}
+use Rattle.file_writing.proofs.WriteMoments.{on_ok}
+use Rattle.host_core.specs.Host.{AtEachMoment}
+use Rattle.unpack_commit.specs.Commit.{Changes, changes_of}
 use Rattle.unpack_moves.specs.Closing.{SparesAdministration}
 use Rattle.unpack_moves.specs.Concluding.{AreElsewhere}
 use Rattle.unpack_engine.specs.Courses.{changes_from, records_from}
+use Rattle.unpack_engine.specs.Units.{HasLeft, MayLeave}
 use Rattle.unpack_engine.proofs.Losing.{loser_named}
 use Rattle.unpack_engine.proofs.Ready.{list_ready, members_ready}
 use Rattle.unpack_engine.proofs.Starts.{leave_start}
@@ -50,3 +53,27 @@ finish_ready-requires-clause-laid g c = λ h. subst (λ ms. AreLaidOut ms (g.H.H
 
 pub returns-in-Err-clause-any_moment : goal.returns-in-Err-clause-any_moment
 returns-in-Err-clause-any_moment g c = leave_start _ c.args.diversions.now.entries c.args.lists.now.lists _ c.args.database.now (g.H.Host.state c.args.host.now) c.requires.kept
+
+pub returns-in-Ok-clause-left : goal.returns-in-Ok-clause-left
+returns-in-Ok-clause-left g c = λ h.
+    let entries = c.args.diversions.now.entries in
+    let lists = c.args.lists.now.lists in
+    let before = c.args.database.now.records in
+    let old = (g.H.Host.state c.args.host.now).world in
+    let new = (g.H.Host.state c.finish_ready.new.host).world in
+    let made = changes_of c.in-Ok.committing.change c.in-Ok.committing.new_list in
+    let noted = c.in-Ok.committing.records.items in
+    on_ok c.finish_ready.result (HasLeft made noted entries lists before Committed old new) _
+    (λ left. subst (λ x. HasLeft x (records_from c.args.name.now c.args.yields.now entries lists c.args.works.now c.args.rest before) entries lists before Committed old new) c.in-Ok.ensures.change
+    (subst (λ r. HasLeft made r entries lists before Committed old new) c.in-Ok.ensures.records left)) (c.finish_ready.ensures.left h)
+
+pub returns-in-Ok-clause-any_moment : goal.returns-in-Ok-clause-any_moment
+returns-in-Ok-clause-any_moment g c =
+    let entries = c.args.diversions.now.entries in
+    let lists = c.args.lists.now.lists in
+    let before = c.args.database.now.records in
+    let old = g.H.Host.state c.args.host.now in
+    let new = g.H.Host.state c.finish_ready.new.host in
+    let made = changes_of c.in-Ok.committing.change c.in-Ok.committing.new_list in
+    subst (λ x. AtEachMoment (MayLeave x (records_from c.args.name.now c.args.yields.now entries lists c.args.works.now c.args.rest before) entries lists before Committed) old new) c.in-Ok.ensures.change
+    (subst (λ r. AtEachMoment (MayLeave made r entries lists before Committed) old new) c.in-Ok.ensures.records c.finish_ready.ensures.any_moment)
