@@ -12,6 +12,7 @@ use Rattle.administration.specs.Directories.{IsRemoved}
 use Rattle.administration.specs.Files.{IsDropped, IsDropping}
 use Rattle.administration.specs.Places.{list_path, script_path, tmp_path, is_within}
 use Rattle.unwind_stack.specs.declared.rows.Called.{Called}
+use Rattle.unwind_stack.specs.declared.rows.Row.{Row}
 use Rattle.cleanup_stack.specs.Place.{Place, Forward}
 use Rattle.cleanup_stack.specs.Telling.{Begun, HasRun}
 use Rattle.cleanup_stack.specs.Transcripts.{Ended, Committed, Unwound, MayRun}
@@ -31,7 +32,7 @@ use Rattle.status_db.specs.Records.{record_in}
 use Rattle.status_db.specs.declared.record.Record.{Record}
 use Rattle.stack_run.specs.Ended.{IsCauseOf}
 use Rattle.stack_run.specs.declared.unwinding.Unwinding.{Unwinding}
-use Rattle.unpack_rows.specs.EndStates.{end_of}
+use Rattle.unpack_rows.specs.EndStates.{end_of, own_name}
 use Rattle.unpack_rows.specs.ForwardRows.{is_present}
 use Rattle.unpack_rows.specs.Kinds.{kinds_of}
 use Rattle.unpack_rows.specs.Notes.{noted, notes_at}
@@ -39,7 +40,7 @@ use Rattle.unpack_rows.specs.Stages.{stage_of}
 use Rattle.unpack_rows.specs.declared.rows.Present.{Present}
 use Rattle.unpack_run.specs.Task.{Task, lists_at}
 use Rattle.unpack_run.specs.Trail.{HasCome}
-use Rattle.unpack_run.specs.At.{At, Holding, IsFileFault, IsWithin, Stops}
+use Rattle.unpack_run.specs.At.{AreWorksAt, At, Holding, IsFileFault, IsWithin, Stops}
 use Rattle.unpack_commit.specs.Commit.{Changes, HasCommitted, MayCommit, committed_lists}
 use Rattle.unpack_commit.specs.Takeover.{losers, losing_records, put_records, taken_places, yields_of}
 use Rattle.unpack_plan.specs.Planned.{Job, Planned, IsPlanned}
@@ -76,7 +77,9 @@ pub record IsCleared (name : List ℕ) (old new : World) : Type 0 where
 
 -- at each moment: what stood there, or nothing
 pub record IsClearing (name : List ℕ) (old now : World) : Type 0 where
-  pub less : (q : Path) → (now q ≡ old q) ⊎ (now q ≡ None)
+  pub list : (now (list_path name) ≡ old (list_path name)) ⊎ (now (list_path name) ≡ None)
+  pub members : (member : Path) → is_member_name member ≡ true
+      → (now (stored_member_path name member) ≡ old (stored_member_path name member)) ⊎ (now (stored_member_path name member) ≡ None)
   pub rest : (q : Path) → IsBesideOwn name q → now q ≡ old q
 
 -- what a name without a record left behind goes; a package that has a record keeps its files
@@ -109,6 +112,50 @@ abbrev pub MayDrop : Option Record → List ℕ → World → World → Type 0
 MayDrop None name old now = IsDropping (list_path name) old now
 MayDrop (Some r) name old now = now ≡ old
 
+-- and then `tmp.ci` is gone
+pub record HasLeftBy (follows : World → World → Type 0) (old new : World) : Type 0 where
+  pub followed : World
+  pub has_followed : follows old followed
+  pub removed : IsRemoved tmp_path followed new
+
+-- at each moment
+pub data MayLeaveBy (follows may_follow : World → World → Type 0) (old now : World) : Type 0 where
+  following : may_follow old now → MayLeaveBy follows may_follow old now
+  clearing_away : (followed : World) → follows old followed → CanOpenRecords followed → IsLaying followed now → MayLeaveBy follows may_follow old now
+
+-- what follows the rows: this commit with these records; or for a package that has no record now the end of its list
+module _ (c : Changes) (records : List Record) (entries : List Diversion) (lists : List PackageList) (table : List Record) where
+  abbrev pub HasFollowed : Ended → World → World → Type 0
+  HasFollowed Committed old new = HasCommitted c entries lists (put_records records table) old new
+  HasFollowed (Unwound fall failed) old new = HasDropped (record_in table c.name) c.name old new
+
+  abbrev pub MayFollow : Ended → World → World → Type 0
+  MayFollow Committed old now = MayCommit c entries lists records table old now
+  MayFollow (Unwound fall failed) old now = MayDrop (record_in table c.name) c.name old now
+
+  -- and then `tmp.ci` goes
+  abbrev pub HasLeft : Ended → World → World → Type 0
+  HasLeft ended = HasLeftBy (HasFollowed ended)
+
+  abbrev pub MayLeave : Ended → World → World → Type 0
+  MayLeave ended = MayLeaveBy (HasFollowed ended) (MayFollow ended)
+
+-- Script calls: rows that begin in some state of the host, before which nothing is called and all is laid out.
+pub record HasRunRows (begins : World → World → Type 0) (task : State → Task) (rows : List Row) (ended : Ended) (mid : Holding) (old last : State) (told now : List Called) : Type 0 where
+  pub begun : State
+  pub quiet : Silent old begun
+  pub until : IsLater old begun
+  pub begins_so : IsTrue last.honest → begins old.world begun.world
+  pub run : HasRun (IsFileFault (task begun)) ended rows begun last told now
+  pub between : IsLater begun last
+  pub rows_end : At (task begun) mid last (end_of (length rows) ended)
+
+-- at each moment: it begins, or its rows run
+pub data IsRunning (begins may_begin : World → World → Type 0) (task : State → Task) (old : World) (so_far : List Event) (now : World) : Type 0 where
+  beginning : scripts_of so_far ≡ [] → may_begin old now → IsRunning begins may_begin task old so_far now
+  running : (begun : State) (before more : List Event) → so_far ≡ before ++ more → scripts_of before ≡ [] → begins old begun.world
+      → Stops (task begun) (begun.events ++ more) now → IsRunning begins may_begin task old so_far now
+
 -- what the unit finds and what doesn't change while it runs: the records, lists and diversions, and the places that scripts leave
 -- alone
 pub record Ground : Type 0 where
@@ -122,7 +169,7 @@ ground records lists entries places = record { records = records; lists = lists;
 
 module _ (g : Ground) (p : Planned) where
   abbrev pub package_name : List ℕ
-  package_name = p.incoming.name
+  package_name = own_name p.found p.incoming
 
   -- the packages with which no path clashes, and of these the others
   abbrev pub yields : List (List ℕ)
@@ -134,9 +181,18 @@ module _ (g : Ground) (p : Planned) where
   -- what stays the same while the rows run, from the host where they begin
   abbrev pub task_from : State → Task
   task_from start = record {
-    start = start; records = g.records; lists = g.lists; entries = g.entries; places = g.places;
-    found = p.found; incoming = p.incoming; others = []; yields = yields;
-    works = p.works; listed = p.listed; union = p.union;
+    start = start;
+    records = g.records;
+    lists = g.lists;
+    entries = g.entries;
+    places = g.places;
+    found = p.found;
+    incoming = p.incoming;
+    others = [];
+    yields = yields;
+    works = p.works;
+    listed = p.listed;
+    union = p.union;
   }
 
   -- the packages that lose places to these works, by the lists as the rows left them
@@ -146,8 +202,13 @@ module _ (g : Ground) (p : Planned) where
   -- what the commit does, beside the notes
   abbrev pub changes : List Work → List PackageList → Changes
   changes works lists = record {
-    name = package_name; leaving = p.leaving; listed = p.new_list; members = p.members;
-    places = taken_places works; losers = unit_losers works lists; names = p.names;
+    name = package_name;
+    leaving = p.leaving;
+    listed = p.new_list;
+    members = p.members;
+    places = taken_places works;
+    losers = unit_losers works lists;
+    names = p.names;
   }
 
   -- what it notes: the records that lose conffiles, and the package's own last
@@ -164,26 +225,6 @@ module _ (g : Ground) (p : Planned) where
   end_lists Committed works lists = committed_lists (changes works lists) g.entries lists
   end_lists (Unwound fall failed) works lists = lists
 
-  -- what follows the rows: the commit, or for a package that has no record now the end of its list
-  abbrev pub HasFollowed : Ended → List Work → List PackageList → List Record → World → World → Type 0
-  HasFollowed Committed works lists table old new = HasCommitted (changes works lists) g.entries lists (end_table Committed works lists table) old new
-  HasFollowed (Unwound fall failed) works lists table old new = HasDropped (record_in table package_name) package_name old new
-
-  abbrev pub MayFollow : Ended → List Work → List PackageList → List Record → World → World → Type 0
-  MayFollow Committed works lists table old now = MayCommit (changes works lists) g.entries lists (commit_records works lists table) table old now
-  MayFollow (Unwound fall failed) works lists table old now = MayDrop (record_in table package_name) package_name old now
-
-  -- and then `tmp.ci` goes
-  pub record HasLeft (ended : Ended) (works : List Work) (lists : List PackageList) (table : List Record) (old new : World) : Type 0 where
-    pub followed : World
-    pub follows : HasFollowed ended works lists table old followed
-    pub removed : IsRemoved tmp_path followed new
-
-  -- at each moment
-  pub data MayLeave (ended : Ended) (works : List Work) (lists : List PackageList) (table : List Record) (old now : World) : Type 0 where
-    following : MayFollow ended works lists table old now → MayLeave ended works lists table old now
-    clearing_away : (followed : World) → HasFollowed ended works lists table old followed → IsLaying followed now → MayLeave ended works lists table old now
-
   -- where its rows end
   abbrev pub last_place : Ended → Place
   last_place ended = end_of (length p.rows) ended
@@ -196,14 +237,21 @@ module _ (g : Ground) (p : Planned) where
   abbrev pub lists_after : Ended → State → List PackageList
   lists_after ended begun = lists_at (task_from begun) (stage_of (kinds_of p.found []) (last_place ended))
 
+  -- how it begins, and each moment of that
+  abbrev pub Begins : World → World → Type 0
+  Begins = HasBegun p.found package_name p.members
+
+  abbrev pub MayBeginOne : World → World → Type 0
+  MayBeginOne = MayBegin p.found package_name
+
   -- How far a unit is: it begins, its rows run, or they have run and what follows is under way.
   pub data IsStage (old : World) (so_far : List Event) (now : World) : Type 0 where
-    beginning : scripts_of so_far ≡ [] → MayBegin p.found package_name old now → IsStage old so_far now
-    running : (begun : State) (before more : List Event) → so_far ≡ before ++ more → scripts_of before ≡ [] → HasBegun p.found package_name p.members old begun.world
-        → Stops (task_from begun) (begun.events ++ more) now → IsStage old so_far now
-    leaving : (ended : Ended) (works : List Work) (begun : State) (last : World) → HasBegun p.found package_name p.members old begun.world
+    running : IsRunning Begins MayBeginOne task_from old so_far now → AreLoose now → IsStage old so_far now
+    leaving : (ended : Ended) (works : List Work) (begun : State) (last : World) → Begins old begun.world
+        → AreWorksAt (task_from begun) (last_place ended) (stage_of (kinds_of p.found []) (last_place ended)) works
         → HasCome (task_from begun) (stage_of (kinds_of p.found []) (last_place ended)) works (changes_of so_far) last
-        → MayLeave ended works (lists_after ended begun) (table_after (last_place ended)) last now → IsStage old so_far now
+        → MayLeave (changes works (lists_after ended begun)) (commit_records works (lists_after ended begun) (table_after (last_place ended))) g.entries (lists_after ended begun) (table_after (last_place ended)) ended last now
+        → IsStage old so_far now
 
   -- The records at a moment: those of before with the notes up to a place of the rows; where all rows succeeded, also with the
   -- first records of the commit.
@@ -215,18 +263,12 @@ module _ (g : Ground) (p : Planned) where
   -- The unit once it is planned: it begins, calls its rows' scripts and none else, and commits or undoes. These records and lists
   -- are left.
   pub record HasCarriedOut (ended : Ended) (after : Recorded) (lists : List PackageList) (old new : State) (told now : List Called) : Type 0 where
-    pub begun : State
-    pub last : State
     pub mid : Holding
-    pub quiet : Silent old begun
-    pub until : IsLater old begun
-    pub begins : IsTrue new.honest → HasBegun p.found package_name p.members old.world begun.world
-    pub run : HasRun (IsFileFault (task_from begun)) ended p.rows begun last told now
-    pub between : IsLater begun last
-    pub rows_end : At (task_from begun) mid last (last_place ended)
+    pub last : State
+    pub ran : HasRunRows Begins task_from p.rows ended mid old last told now
     pub since : Silent last new
     pub later : IsLater last new
-    pub leaves : IsTrue new.honest → HasLeft ended mid.works mid.lists mid.database.records last.world new.world
+    pub leaves : IsTrue new.honest → HasLeft (changes mid.works mid.lists) (commit_records mid.works mid.lists mid.database.records) g.entries mid.lists mid.database.records ended last.world new.world
     pub records : after.records ≡ end_table ended mid.works mid.lists mid.database.records
     pub lists_are : lists ≡ end_lists ended mid.works mid.lists
 
@@ -239,7 +281,6 @@ module _ (g : Ground) (p : Planned) where
     pub records : HasRecords now table
     pub opens : CanOpenRecords now
     pub incoming : IsIncoming now
-    pub loose : AreLoose now
 
 abbrev pub ground_of : Given → List Path → Ground
 ground_of g places = ground g.records g.lists g.entries places
@@ -262,10 +303,15 @@ pub record IsAmid (g : Given) (places : List Path) (old : World) (so_far : List 
   pub plan_for : IsPlanFor g old true plan
   pub under_way : IsUnderWay (ground_of g places) plan old so_far now
 
--- The calls of a unit, whatever its answer: none; or the first of some that are legal for its rows, and they are told.
+-- The calls of these rows, whatever the answer: none; or the first of some that are legal for them, and they are told.
+pub data HasCalledRows (rows : List Row) (old new : State) (told now : List Called) : Type 0 where
+  nothing : Silent old new → now ≡ told → HasCalledRows rows old new told now
+  some : Begun (MayRun rows) old new told now → HasCalledRows rows old new told now
+
+-- The calls of a unit, whatever its answer: none, as long as nothing is planned, or those of the plan's rows.
 pub data HasCalled (g : Given) (old new : State) (told now : List Called) : Type 0 where
-  nothing : Silent old new → now ≡ told → HasCalled g old new told now
-  some : (plan : Planned) → IsPlanFor g old.world new.honest plan → Begun (MayRun plan.rows) old new told now → HasCalled g old new told now
+  unplanned : Silent old new → now ≡ told → HasCalled g old new told now
+  planned : (plan : Planned) → IsPlanFor g old.world new.honest plan → HasCalledRows plan.rows old new told now → HasCalled g old new told now
 
 -- the failure that is told is that of a row of the plan
 pub record HasFailedFor (g : Given) (old new : State) (u : Option Unwinding) : Type 0 where

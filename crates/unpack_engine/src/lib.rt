@@ -2,7 +2,14 @@
 #![tactic(auto)]
 
 mod beginning;
+mod committed;
+mod course;
+mod finishing;
 mod looks;
+mod running;
+mod touched;
 mod unit;
+mod unwound;
 
-pub use unit::{Unpacked, unpack};
+pub use finishing::Unpacked;
+pub use unit::unpack;

@@ -32,23 +32,35 @@ fn is_stored<H: Host>(
     Ok(host.kind(&path)?.is_some())
 }
 
-// Looks for each of the four.
 #[tactic(auto, using(host_core::specs::Moments::reads_then))]
-fn look_for_scripts<H: Host>(
+fn look_for_two<H: Host>(
     alloc: Global,
     host: &mut H,
     name: &Text,
-) -> Result<Present, HostFault>
+    first: Script,
+    second: Script,
+) -> Result<(bool, bool), HostFault>
+    requires named { is_package_name name.now ≡ true }
+    ensures found { Tells result (λ both w. (both.0 ≡ is_some (w (stored_path name.now first))) × (both.1 ≡ is_some (w (stored_path name.now second)))) (H.state host.old) (H.state host.new) }
+    ensures reads { Reads (H.state host.old) (H.state host.new) }
+    ensures silent { Silent (H.state host.old) (H.state host.new) }
+    ensures counts { Counts (H.state host.old) (H.state host.new) result }
+{
+    let one = is_stored(alloc, host, name, first)?;
+    let other = is_stored(alloc, host, name, second)?;
+    Ok((one, other))
+}
+
+#[tactic(auto, using(host_core::specs::Moments::reads_then))]
+fn look_for_scripts<H: Host>(alloc: Global, host: &mut H, name: &Text) -> Result<Present, HostFault>
     requires named { is_package_name name.now ≡ true }
     ensures found { Tells result (λ stored w. (script : AScript) → is_present stored script ≡ is_some (w (stored_path name.now script))) (H.state host.old) (H.state host.new) }
     ensures reads { Reads (H.state host.old) (H.state host.new) }
     ensures silent { Silent (H.state host.old) (H.state host.new) }
     ensures counts { Counts (H.state host.old) (H.state host.new) result }
 {
-    let preinst = is_stored(alloc, host, name, Script::Preinst)?;
-    let postinst = is_stored(alloc, host, name, Script::Postinst)?;
-    let prerm = is_stored(alloc, host, name, Script::Prerm)?;
-    let postrm = is_stored(alloc, host, name, Script::Postrm)?;
+    let (preinst, postinst) = look_for_two(alloc, host, name, Script::Preinst, Script::Postinst)?;
+    let (prerm, postrm) = look_for_two(alloc, host, name, Script::Prerm, Script::Postrm)?;
     Ok(Present {
         preinst,
         postinst,
