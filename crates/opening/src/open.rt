@@ -135,6 +135,7 @@ fn open_info<H: Host>(
     requires table { Needs (H.state host.old) (λ w. IsTable w database.now.records) }
     ensures opens { IsTrue (H.state host.new).honest → Opens (Way info_path ∷ Info ∷ []) (fault_in result) (H.state host.old).world (H.state host.new).world }
     ensures listed { Gives result (λ f old new. IsListed new (names_of database.now.records) f.lists) (H.state host.old) (H.state host.new) }
+    ensures listing { IfOk result (λ f. f.closed ≡ false) }
     ensures any_moment { AtEachMoment IsOpening (H.state host.old) (H.state host.new) }
     ensures silent { Silent (H.state host.old) (H.state host.new) }
     ensures counts { CountsAdministration (H.state host.old) (H.state host.new) result }
@@ -267,6 +268,7 @@ fn open_rest<H: Host>(
     requires table { Needs (H.state host.old) (λ w. IsTable w database.now.records) }
     ensures opens { IsTrue (H.state host.new).honest → Opens (Spare (temporary status_path) ∷ Way updates_path ∷ Way info_path ∷ Info ∷ ItsDiversions ∷ Spare (temporary diversions_path) ∷ Leftovers ∷ []) (fault_in result) (H.state host.old).world (H.state host.new).world }
     ensures listed { Gives result (λ read old new. IsListed new (names_of database.now.records) read.0.lists) (H.state host.old) (H.state host.new) }
+    ensures listing { IfOk result (λ read. read.0.closed ≡ false) }
     ensures diverted { Gives result (λ read old new. HasDiversions new read.1.entries) (H.state host.old) (H.state host.new) }
     ensures writable { IfOk result (λ read. read.1.closed ≡ false) }
     ensures any_moment { AtEachMoment IsOpening (H.state host.old) (H.state host.new) }
@@ -289,6 +291,7 @@ fn open_with<H: Host>(
     ensures opens { IsTrue (H.state host.new).honest → Opens (Spare (temporary status_path) ∷ Way updates_path ∷ Way info_path ∷ Info ∷ ItsDiversions ∷ Spare (temporary diversions_path) ∷ Leftovers ∷ []) (fault_in result) (H.state host.old).world (H.state host.new).world }
     ensures database { IfOk result (λ opened. opened.database ≡ database) }
     ensures listed { Gives result (λ opened old new. IsListed new (names_of opened.database.records) opened.lists.lists) (H.state host.old) (H.state host.new) }
+    ensures listing { IfOk result (λ opened. opened.lists.closed ≡ false) }
     ensures diverted { Gives result (λ opened old new. HasDiversions new opened.diversions.entries) (H.state host.old) (H.state host.new) }
     ensures writable { IfOk result (λ opened. opened.diversions.closed ≡ false) }
     ensures any_moment { AtEachMoment IsOpening (H.state host.old) (H.state host.new) }
@@ -312,6 +315,7 @@ fn open_with<H: Host>(
 // Reads the administration below `/var/lib/dpkg`, with its notes.
 fn read_administration<H: Host>(alloc: Global, host: &mut H) -> Result<Opened, AdministrationFault>
     ensures opens { IsTrue (H.state host.new).honest → Opens parts (fault_in result) (H.state host.old).world (H.state host.new).world }
+    ensures listing { IfOk result (λ opened. opened.lists.closed ≡ false) }
     ensures found { Gives result (λ opened old new. IsFound opened.database.records opened.database.notes opened.lists.lists opened.diversions.entries new) (H.state host.old) (H.state host.new) }
     ensures open { IfOk result (λ opened. opened.database.closed ≡ false) }
     ensures writable { IfOk result (λ opened. opened.diversions.closed ≡ false) }
@@ -376,6 +380,7 @@ fn settle_notes<H: Host>(
     ensures opened { Gives result (λ kept old new. IsOpened kept.database.records kept.lists.lists kept.diversions.entries new) (H.state host.old) (H.state host.new) }
     ensures number { IfOk result (λ kept. kept.database.notes ≡ 0) }
     ensures open { IfOk result (λ kept. kept.database.closed ≡ false) }
+    ensures listing { IfOk result (λ kept. kept.lists ≡ opened.lists) }
     ensures writable { IfOk result (λ kept. kept.diversions ≡ opened.diversions) }
     ensures sound { IsDamaged (fault_in result) → ⊥ }
     ensures any_moment { AtEachMoment (IsMerging opened.database.records) (H.state host.old) (H.state host.new) }
@@ -412,6 +417,7 @@ pub fn open_administration<H: Host>(
     ensures opened { Gives result (λ opened old new. IsOpened opened.database.records opened.lists.lists opened.diversions.entries new) (H.state host.old) (H.state host.new) }
     ensures number { IfOk result (λ opened. opened.database.notes ≡ 0) }
     ensures open { IfOk result (λ opened. opened.database.closed ≡ false) }
+    ensures listing { IfOk result (λ opened. opened.lists.closed ≡ false) }
     ensures writable { IfOk result (λ opened. opened.diversions.closed ≡ false) }
     ensures any_moment { AtEachMoment IsOpeningOrMerging (H.state host.old) (H.state host.new) }
     ensures silent { Silent (H.state host.old) (H.state host.new) }
