@@ -1,29 +1,35 @@
 -- A barrier behind what was done.
-use Rattle.std.proofs.Common.{◌≡◌, inl, inr, IsTrue, List, [], ◌∷◌, ◌++◌, Some, None, Result, Ok, Err, refl, sym, ap, subst, ◌∙◌}
-use Rattle.std.proofs.lemmas.Bool.{true≢false}
+use Rattle.std.proofs.Common.{◌≡◌, inl, inr, IsTrue, List, [], ◌∷◌, ◌++◌, Option, Some, None, Result, Ok, Err, refl, sym, ap, subst, ◌∙◌, append_assoc}
 use Rattle.std.proofs.lemmas.List.{append-nil}
-use Rattle.host_core.specs.Paths.{Path}
-use Rattle.host_core.specs.World.{World, Step, Barrier, Avoids, changed, is_kept}
-use Rattle.host_core.specs.Events.{Event, Did, Failed, changes_of, follow, follow_all}
-use Rattle.host_core.specs.Host.{State, Does, Happens, Silent, Since, Stops}
-use Rattle.host_core.specs.Loss.{IsAnswered, IsLater, IsOnDisk}
-use Rattle.host_core.specs.Moments.{ThroughEvent, since_failed, since_fails, since_goes, since_now, since_then, silent_then}
-use Rattle.host_core.specs.Scripts.{changes_of-append}
-use Rattle.host_core.specs.declared.fault.HostFault.{HostFault}
-use Rattle.host_core.specs.declared.fault.HostFault.TheVariants.{Device, NoMemory}
 use Rattle.administration.specs.Fault.{fault_of}
 use Rattle.administration.specs.declared.fault.AdministrationFault.{AdministrationFault}
-use Rattle.opening.specs.Leaving.{HasMadeWays, IsOpening}
-use Rattle.opening.specs.Parts.{Opens, parts}
-use Rattle.package_tree.specs.declared.package.Package.{Package}
-use Rattle.status_db.specs.declared.record.Record.{Record}
-use Rattle.unpack_engine.proofs.Whole.{silent_calls}
-use Rattle.unpack_engine.specs.ForwardRows.{gives, rows_of}
-use Rattle.unpack_engine.specs.Units.{CameTo, HasCalled, HasUnpacked}
-use Rattle.unpack_engine.specs.Unpack.{IsAmid, IsLeft}
-use Rattle.unpack_engine.specs.declared.rows.Turn.{Turn}
-use Rattle.unwind_stack.specs.Transcript.{Legal}
+use Rattle.cleanup_stack.specs.Telling.{Begun}
+use Rattle.host_core.specs.Paths.{Path}
+use Rattle.host_core.specs.World.{World, Step, Barrier}
+use Rattle.host_core.specs.Events.{Event, Ran, Did, Failed, changes_of, scripts_of, follow, follow_all}
+use Rattle.host_core.specs.Host.{State, Does, Falls, Happens, Needs, Silent, Since, Stops}
+use Rattle.host_core.specs.Loss.{IsAnswered, IsLater, IsOnDisk}
+use Rattle.host_core.specs.Moments.{ThroughEvent, scripts_of-append, since_failed, since_fails, since_goes, since_now, since_then, silent_then}
+use Rattle.host_core.specs.Scripts.{changes_of-append, no_change}
+use Rattle.host_core.specs.declared.fault.HostFault.{HostFault}
+use Rattle.host_core.specs.declared.fault.HostFault.TheVariants.{Device, NoMemory}
+use Rattle.cleanup_stack.specs.Transcripts.{Ended, MayRun}
+use Rattle.file_lists.specs.declared.paths.PackageList.{PackageList}
+use Rattle.opening.specs.Leaving.{IsOpeningOrMerging}
+use Rattle.opening.specs.Parts.{HasMerged, IsDamaged, Merges, Opens, OpensAndMerges, parts}
+use Rattle.stack_run.specs.declared.unwinding.Unwinding.{Unwinding}
+use Rattle.status_db.specs.Noting.{IsMerging}
+use Rattle.status_db.specs.Recorded.{Recorded}
+use Rattle.unpack_engine.specs.Order.{IsInOrder}
+use Rattle.unpack_engine.specs.Units.{Begins, Given, Ground, HasCalled, HasCalledRows, HasCarriedOut, HasFailedFor, HasLeft, HasUnpacked, IsAmid, IsPlanFor, IsRunning, IsStage, MayBeginOne, changes, commit_records, ground_of, last_place, task_from}
+use Rattle.unpack_plan.specs.Planned.{Planned}
+use Rattle.unpack_rows.specs.Kinds.{kinds_of}
+use Rattle.unpack_rows.specs.Stages.{stage_of}
+use Rattle.unpack_run.specs.At.{IsAmid as AreFilesAmid, Stops as RowsStop, table_at}
+use Rattle.unpack_run.specs.Task.{Task}
+use Rattle.unpack_run.specs.Trail.{HasCome}
 use Rattle.unwind_stack.specs.declared.rows.Called.{Called}
+use Rattle.unwind_stack.specs.declared.rows.Row.{Row}
 
 -- all is on the disk
 pub on_disk : (s t : State) → Happens (Did Barrier ∷ []) s t → IsOnDisk t.events
@@ -43,19 +49,17 @@ barrier_world (Err Device) s t (Stops.some u is goes) h = elim (is h) [
 ]
 barrier_world (Err NoMemory) s t does h = does.world
 
--- what holds at each moment, and asks of what was done for the scripts' changes alone, goes on to hold
-pub since_to_disk : (P : List Event → World → Type 0) (result : Result Unit HostFault) (a b c : State) → ((x y : List Event) (w : World) → changes_of x ≡ changes_of y → P x w → P y w)
+-- what holds at each moment, and asks no more of what was done than which scripts were called and what they changed, goes on
+-- to hold
+pub since_to_disk : (P : List Event → World → Type 0) (result : Result Unit HostFault) (a b c : State) → ((x quiet : List Event) (w : World) → scripts_of quiet ≡ [] → P x w → P (x ++ quiet) w)
     → Since P a b → Does Barrier b c result → Since P a c
 since_to_disk P result a b c still first does = since_then P a b c first (more result does)
   where
     Q : List Event → World → Type 0
     Q so_far w = P (first.added ++ so_far) w
 
-    quiet : (x : List Event) → changes_of x ≡ [] → changes_of first.added ≡ changes_of (first.added ++ x)
-    quiet x none = sym (changes_of-append first.added x ∙ ap (λ l. changes_of first.added ++ l) none ∙ append-nil (changes_of first.added))
-
-    here : IsTrue b.honest → (x : List Event) → changes_of x ≡ [] → Q x b.world
-    here h x none = still first.added (first.added ++ x) b.world (quiet x none) (since_now P a b first h)
+    here : IsTrue b.honest → (x : List Event) → scripts_of x ≡ [] → Q x b.world
+    here h x none = still first.added x b.world none (since_now P a b first h)
 
     through : IsTrue b.honest → ThroughEvent Q b.world (Did Barrier)
     through h = record { before = here h [] refl; inside = λ d cut. absurd cut.1; behind = here h (Did Barrier ∷ []) refl }
@@ -73,64 +77,128 @@ since_to_disk P result a b c still first does = since_then P a b c first (more r
         (λ h. elim (is h) [ inl same ↦ after u (goes.honest h) same | inr part ↦ absurd part ])
     more (Err NoMemory) does = record { added = []; events = does.events ∙ sym (append-nil b.events); honest = does.honest; world = does.world; each = λ h. here (does.honest h) [] refl }
 
--- the unit of a package
+-- events that call no script add nothing to what is said of a unit at a moment
 
-pub amid_still : (p : Package) (places : List Path) (before : List Record) (old : World) (x y : List Event) (now : World) → changes_of x ≡ changes_of y → IsAmid p places before old x now → IsAmid p places before old y now
-amid_still p places before old x y now same amid = record {
-  stage = amid.stage;
-  is_stage = amid.is_stage;
-  records = amid.records;
-  status_spare = amid.status_spare;
-  spares = amid.spares;
-  incoming = amid.incoming;
-  avoids = subst (Avoids (is_kept places)) same amid.avoids;
-  rest = λ q out. amid.rest q out ∙ ap (λ c. changed c old q) same;
+quiet_changes : (x quiet : List Event) → scripts_of quiet ≡ [] → changes_of (x ++ quiet) ≡ changes_of x
+quiet_changes x quiet none = changes_of-append x quiet ∙ ap (λ l. changes_of x ++ l) (no_change quiet none) ∙ append-nil (changes_of x)
+
+quiet_scripts : (x quiet : List Event) → scripts_of quiet ≡ [] → scripts_of x ≡ [] → scripts_of (x ++ quiet) ≡ []
+quiet_scripts x quiet none silent = scripts_of-append x quiet ∙ ap (λ (l : List Event). l ++ scripts_of quiet) silent ∙ none
+
+rows_still : (t : Task) (es quiet : List Event) (now : World) → scripts_of quiet ≡ [] → RowsStop t es now → RowsStop t (es ++ quiet) now
+rows_still t es quiet now none stops = record {
+  since = stops.since ++ quiet;
+  events = ap (λ (l : List Event). l ++ quiet) stops.events ∙ append_assoc t.start.events stops.since quiet;
+  place = stops.place;
+  within = stops.within;
+  records = stops.records;
+  opens = stops.opens;
+  ready = stops.ready;
+  files = subst (λ c. AreFilesAmid t (table_at t stops.place) c now) (sym (quiet_changes stops.since quiet none)) stops.files;
 }
 
-pub unpacked_to_disk : (p : Package) (places : List Path) (turn : Turn) (before after : List Record) (s m t : State) (told now : List Called) → HasUnpacked p places turn before after s m told now → Happens (Did Barrier ∷ []) m t → Silent m t → IsLater m t → HasUnpacked p places turn before after s t told now
-unpacked_to_disk p places turn before after s m t told now is goes silent later = record {
-  ended = is.ended;
-  ts = is.ts;
-  is_end = is.is_end;
-  calls = silent_calls m t silent ∙ is.calls;
-  tells = is.tells;
-  unit = record {
-    legal = is.unit.legal;
-    last = is.unit.last;
-    made = is.unit.made;
-    since = silent_then is.unit.last m t is.unit.since silent;
-    later = since_then _ is.unit.last m t is.unit.later later;
-    records = is.unit.records;
-    leaves = λ h. subst (IsLeft p places after is.ended is.ts s.world) (sym goes.world) (is.unit.leaves (goes.honest h));
+running_still : (begins may_begin : World → World → Type 0) (task : State → Task) (old : World) (x quiet : List Event) (now : World) → scripts_of quiet ≡ [] → IsRunning begins may_begin task old x now → IsRunning begins may_begin task old (x ++ quiet) now
+running_still begins may_begin task old x quiet now none (IsRunning.beginning silent may) = IsRunning.beginning (quiet_scripts x quiet none silent) may
+running_still begins may_begin task old x quiet now none (IsRunning.running begun before more is silent so stops) =
+    IsRunning.running begun before (more ++ quiet) (ap (λ (l : List Event). l ++ quiet) is ∙ append_assoc before more quiet) silent so
+    (subst (λ l. RowsStop (task begun) l now) (append_assoc begun.events more quiet) (rows_still (task begun) (begun.events ++ more) quiet now none stops))
+
+stage_still : (g : Ground) (p : Planned) (old : World) (x quiet : List Event) (now : World) → scripts_of quiet ≡ [] → IsStage g p old x now → IsStage g p old (x ++ quiet) now
+stage_still g p old x quiet now none (IsStage.running is loose) = IsStage.running (running_still (Begins g p) (MayBeginOne g p) (task_from g p) old x quiet now none is) loose
+stage_still g p old x quiet now none (IsStage.leaving ended works begun last begins are came may) =
+    IsStage.leaving ended works begun last begins are (subst (λ c. HasCome (task_from g p begun) (stage_of (kinds_of p.found []) (last_place g p ended)) works c last) (sym (quiet_changes x quiet none)) came) may
+
+pub amid_still : (g : Given) (places : List Path) (old : World) (x quiet : List Event) (now : World) → scripts_of quiet ≡ [] → IsAmid g places old x now → IsAmid g places old (x ++ quiet) now
+amid_still g places old x quiet now none amid = record {
+  plan = amid.plan;
+  plan_for = amid.plan_for;
+  under_way = record {
+    stage = stage_still (ground_of g places) amid.plan old x quiet now none amid.under_way.stage;
+    table = amid.under_way.table;
+    is_table = amid.under_way.is_table;
+    records = amid.under_way.records;
+    opens = amid.under_way.opens;
+    incoming = amid.under_way.incoming;
   };
 }
 
-pub called_unpacked : (p : Package) (places : List Path) (turn : Turn) (before after : List Record) (s m t : State) (told now : List Called) → HasUnpacked p places turn before after s m told now → Silent m t → IsLater m t → HasCalled p places before s t told now
-called_unpacked p places turn before after s m t told now is silent later = record {
-  ended = is.ended;
-  ts = is.ts;
-  more = [];
-  legal = subst (Legal gives [] is.ended (rows_of p)) (sym (append-nil is.ts)) is.unit.legal;
-  calls = silent_calls m t silent ∙ is.calls;
-  tells = is.tells;
-  came = CameTo.whole is.unit.last is.unit.made refl (silent_then is.unit.last m t is.unit.since silent) (since_then _ is.unit.last m t is.unit.later later);
+-- the unit of a package, with a barrier behind it
+
+plan_behind : (g : Given) (w : World) (m t : State) (plan : Planned) → Falls m t → IsPlanFor g w m.honest plan → IsPlanFor g w t.honest plan
+plan_behind g w m t plan falls is = record { stored = is.stored; seen = λ h. is.seen (falls h); planned = is.planned }
+
+carried_behind : (g : Ground) (p : Planned) (ended : Ended) (after : Recorded) (lists : List PackageList) (s m t : State) (told now : List Called) → HasCarriedOut g p ended after lists s m told now
+    → Happens (Did Barrier ∷ []) m t → Silent m t → IsLater m t → HasCarriedOut g p ended after lists s t told now
+carried_behind g p ended after lists s m t told now is goes silent later =
+    let works = is.mid.works in
+    let listed = is.mid.lists in
+    let table = is.mid.database.records in
+    record {
+      mid = is.mid;
+      last = is.last;
+      ran = is.ran;
+      since = silent_then is.last m t is.since silent;
+      later = since_then _ is.last m t is.later later;
+      leaves = λ h. subst (HasLeft (changes g p works listed) (commit_records g p works listed table) g.entries listed table ended is.last.world) (sym goes.world) (is.leaves (goes.honest h));
+      records = is.records;
+      lists_are = is.lists_are;
+    }
+
+pub unpacked_to_disk : (g : Given) (places : List Path) (ended : Ended) (after : Recorded) (lists : List PackageList) (s m t : State) (told now : List Called) → HasUnpacked g places ended after lists s m told now
+    → Happens (Did Barrier ∷ []) m t → Silent m t → IsLater m t → HasUnpacked g places ended after lists s t told now
+unpacked_to_disk g places ended after lists s m t told now is goes silent later = record {
+  plan = is.plan;
+  plan_for = plan_behind g s.world m t is.plan goes.honest is.plan_for;
+  carried_out = carried_behind (ground_of g places) is.plan ended after lists s m t told now is.carried_out goes silent later;
 }
+
+pub failed_behind : (g : Given) (s m t : State) (u : Option Unwinding) → HasFailedFor g s m u → Silent m t → HasFailedFor g s t u
+failed_behind g s m t u failed behind = record { plan = failed.plan; plan_for = plan_behind g s.world m t failed.plan behind.honest failed.plan_for; cause = failed.cause }
+
+begun_behind : (P : List Ran → Type 0) (s m t : State) (told now : List Called) → Begun P s m told now → Silent m t → Begun P s t told now
+begun_behind P s m t told now begun behind = record {
+  ts = begun.ts;
+  more = begun.more;
+  first_of = begun.first_of;
+  honest = λ h. begun.honest (behind.honest h);
+  cut = begun.cut;
+  scripts = behind.scripts ∙ begun.scripts;
+  cut_short = begun.cut_short;
+  tells = begun.tells;
+}
+
+rows_behind : (rows : List Row) (s m t : State) (told now : List Called) → HasCalledRows rows s m told now → Silent m t → HasCalledRows rows s t told now
+rows_behind rows s m t told now (HasCalledRows.nothing silent same) behind = HasCalledRows.nothing (silent_then s m t silent behind) same
+rows_behind rows s m t told now (HasCalledRows.some begun) behind = HasCalledRows.some (begun_behind (MayRun rows) s m t told now begun behind)
+
+pub called_behind : (g : Given) (s m t : State) (told now : List Called) → HasCalled g s m told now → Silent m t → HasCalled g s t told now
+called_behind g s m t told now (HasCalled.unplanned silent same) behind = HasCalled.unplanned (silent_then s m t silent behind) same
+called_behind g s m t told now (HasCalled.planned plan is rows) behind = HasCalled.planned plan (plan_behind g s.world m t plan behind.honest is) (rows_behind plan.rows s m t told now rows behind)
+
+pub order_behind : (d : Recorded) (lists : List PackageList) (m t : State) → Happens (Did Barrier ∷ []) m t → Needs m (IsInOrder d lists) → Needs t (IsInOrder d lists)
+order_behind d lists m t goes order = λ h. subst (IsInOrder d lists) (sym goes.world) (order (goes.honest h))
 
 -- an opening
 
-pub opening_to_disk : (result : Result Unit HostFault) (a b c : State) → Since (λ so_far. IsOpening a.world) a b → Does Barrier b c result → Since (λ so_far. IsOpening a.world) a c
-opening_to_disk result a b c first does = since_to_disk (λ so_far. IsOpening a.world) result a b c (λ x y w same is. is) first does
+pub opening_to_disk : (result : Result Unit HostFault) (a b c : State) → Since (λ so_far. IsOpeningOrMerging a.world) a b → Does Barrier b c result → Since (λ so_far. IsOpeningOrMerging a.world) a c
+opening_to_disk result a b c first does = since_to_disk (λ so_far. IsOpeningOrMerging a.world) result a b c (λ x quiet w none is. is) first does
 
 -- where the barrier failed it is refused for that, and all else stands
-pub opens_stopped : (fault : HostFault) (given : AdministrationFault) (old now later : World) → given ≡ fault_of fault → later ≡ now → Opens parts None old now → Opens parts (Some given) old later
-opens_stopped fault given old now later is same opens = subst (λ f. Opens parts (Some f) old later) (sym is) (by fault)
+pub opens_stopped : (fault : HostFault) (given : AdministrationFault) (old now later : World) → given ≡ fault_of fault → later ≡ now → OpensAndMerges None old now → OpensAndMerges (Some given) old later
+opens_stopped fault given old now later is same opens = by opens.found opens.opens opens.merges
   where
-    opening : IsOpening old later
-    opening = subst (IsOpening old) (sym same) opens.changes
+    sound : (f : HostFault) → IsDamaged (Some (fault_of f)) → ⊥
+    sound Device damaged = damaged
+    sound NoMemory damaged = damaged
 
-    made : HasMadeWays old later
-    made = subst (HasMadeWays old) (sym same) (opens.made (λ e. cc e))
+    merged : HasMerged None opens.read now → HasMerged (Some given) opens.read later
+    merged has = record {
+      sound = λ damaged. sound fault (subst (λ f. IsDamaged (Some f)) is damaged);
+      table = has.table;
+      records = has.records;
+      merging = subst (IsMerging has.table opens.read) (sym same) has.merging;
+    }
 
-    by : (f : HostFault) → Opens parts (Some (fault_of f)) old later
-    by Device = record { changes = opening; finds = tt; made = λ no. absurd (no refl); left = λ spares. elim spares [ inl e ↦ absurd (true≢false e) | inr e ↦ absurd e ] }
-    by NoMemory = record { changes = opening; finds = tt; made = λ no. made; left = λ spares. elim spares [ inl e ↦ absurd (true≢false e) | inr e ↦ absurd e ] }
+    by : (found : Option AdministrationFault) → Opens parts found old opens.read → Merges found None opens.read now → OpensAndMerges (Some given) old later
+    by None goes merges = record { read = opens.read; found = None; opens = goes; merges = merged merges }
+    by (Some f) goes merges = absurd (let e : None ≡ Some f = merges.0 in cc)

@@ -1,113 +1,117 @@
 -- What commands leave is what a further command can open.
 use Rattle.std.specs.Prelude.{IsSome}
-use Rattle.std.proofs.Common.{List, [], ◌∷◌, ◌++◌, IsTrue, refl, sym, subst, ◌∙◌}
-use Rattle.host_core.specs.Paths.{Path, is_own}
-use Rattle.host_core.specs.World.{World, SameOn, IsDirectory}
+use Rattle.std.proofs.Common.{◌≡◌, ℕ, List, [], ◌∷◌, ◌++◌, IsTrue, refl, sym, ap, subst, ◌∙◌}
+use Rattle.std.proofs.Math.Logic.{∥∥₁_map}
+use Rattle.host_core.specs.Paths.{is_own}
+use Rattle.host_core.specs.World.{World, SameOn, IsDirectory, is_directory}
 use Rattle.host_core.specs.Host.{State}
 use Rattle.administration.specs.Places.{home_path, info_path, status_path, tmp_path, list_path, updates_path, diversions_path, temporary}
 use Rattle.administration.proofs.WholeFiles.{no_directory_at}
 use Rattle.diversions.specs.declared.entry.Diversion.{Diversion}
 use Rattle.diversions.specs.Lines.{HasEntries}
-use Rattle.file_lists.specs.Owners.{places_in}
+use Rattle.file_lists.specs.Info.{entry_path, IsSound}
 use Rattle.file_lists.specs.declared.paths.PackageList.{PackageList}
 use Rattle.opening.proofs.KeptLists.{has_lists_kept}
-use Rattle.opening.specs.Opened.{IsOpened}
+use Rattle.opening.specs.Opened.{IsFound}
 use Rattle.opening.specs.Parts.{names_of}
-use Rattle.file_lists.specs.Info.{entry_path, IsSound}
+use Rattle.status_db.proofs.NotedWorlds.{records_same}
+use Rattle.status_db.specs.Held.{AreKept}
+use Rattle.status_db.specs.Notes.{note_path}
+use Rattle.status_db.specs.Recorded.{Recorded}
 use Rattle.status_db.specs.declared.record.Record.{Record}
-use Rattle.status_db.specs.Status.{IsFileOrNothing, StandsFor}
-use Rattle.status_db.proofs.StatusNode.{file_no_directory, stands_file}
 use Rattle.dpkg_session.specs.declared.report.Candidate.{Candidate}
 use Rattle.dpkg_session.specs.declared.report.Unit.{Unit as AUnit}
-use Rattle.dpkg_session.specs.History.{Diverted, HasDone, Held, IsCommand, IsHistory, Ran, Stands, Undiverted, Unpacked}
-use Rattle.dpkg_session.proofs.Retabled.{opened_diverted, opened_undiverted}
+use Rattle.dpkg_session.specs.Held.{Held}
+use Rattle.dpkg_session.specs.History.{Diverted, HasDone, IsCommand, IsHistory, KeepsRest, Ran, Stands, Undiverted, Unpacked}
 use Rattle.dpkg_session.specs.Run.{IsRun}
-use Rattle.dpkg_session.proofs.Listed.{listed_run}
-use Rattle.dpkg_session.proofs.Readable.{IsReadableBeside, diverted_run, diverted_spare_run, readable_run}
+use Rattle.dpkg_session.specs.Standing.{IsStanding}
+use Rattle.dpkg_session.proofs.Retabled.{standing_diverted, standing_undiverted}
 use Rattle.dpkg_session.proofs.Runs.{Ready, ready_after}
+use Rattle.dpkg_session.proofs.Standings.{order_standing, standing_found, standing_run}
 
 -- the administration is read from its own paths alone
-opened_outside : (table : List Record) (lists : List PackageList) (entries : List Diversion) (old new : World) → SameOn is_own old new → IsOpened table lists entries old → IsOpened table lists entries new
-opened_outside table lists entries old new same opened = record {
-  home = subst IsDirectory (sym (same home_path refl)) opened.home;
-  info = subst IsDirectory (sym (same info_path refl)) opened.info;
-  updates = subst IsDirectory (sym (same updates_path refl)) opened.updates;
-  empty = λ name plain. same (updates_path ++ 47 ∷ name) refl ∙ opened.empty name plain;
-  text = λ bad. opened.text (bad.0, bad.1, bad.2, subst IsSome (same (info_path ++ 47 ∷ bad.0) refl) bad.3);
-  status = subst IsFileOrNothing (sym (same status_path refl)) opened.status;
-  diversions = subst (λ n. HasEntries n entries) (sym (same diversions_path refl)) opened.diversions;
-  status_spare = no_directory_at _ _ (same (temporary status_path) refl) opened.status_spare;
-  diversions_spare = no_directory_at _ _ (same (temporary diversions_path) refl) opened.diversions_spare;
-  tmp = same tmp_path refl ∙ opened.tmp;
-  records = subst (λ n. StandsFor n table) (sym (same status_path refl)) opened.records;
-  standing = opened.standing;
+
+kept_outside : (table : List Record) (notes : ℕ) (old new : World) → SameOn is_own old new → AreKept table notes old → AreKept table notes new
+kept_outside table notes old new same is = record {
+  unblocked = record {
+    home = subst IsDirectory (sym (same home_path refl)) is.unblocked.home;
+    updates = subst IsDirectory (sym (same updates_path refl)) is.unblocked.updates;
+    text = λ bad. is.unblocked.text (bad.0, bad.1, bad.2, subst IsSome (same (updates_path ++ 47 ∷ bad.0) refl) bad.3);
+    status_spare = no_directory_at (new (temporary status_path)) (old (temporary status_path)) (same (temporary status_path) refl) is.unblocked.status_spare;
+    spares = λ n lt. no_directory_at (new (temporary (note_path n))) (old (temporary (note_path n))) (same (temporary (note_path n)) refl) (is.unblocked.spares n lt);
+  };
+  holds = records_same old new table (same status_path refl) (λ n lt. same (note_path n) refl) is.holds;
+  free = λ n le lt. same (note_path n) refl ∙ is.free n le lt;
+}
+
+found_outside : (table : List Record) (notes : ℕ) (lists : List PackageList) (entries : List Diversion) (old new : World) → SameOn is_own old new → IsFound table notes lists entries old → IsFound table notes lists entries new
+found_outside table notes lists entries old new same found = record {
+  home = subst IsDirectory (sym (same home_path refl)) found.home;
+  info = subst IsDirectory (sym (same info_path refl)) found.info;
+  updates = subst IsDirectory (sym (same updates_path refl)) found.updates;
+  text = λ bad. found.text (bad.0, bad.1, bad.2, subst IsSome (same (info_path ++ 47 ∷ bad.0) refl) bad.3);
+  diversions = subst (λ n. HasEntries n entries) (sym (same diversions_path refl)) found.diversions;
+  diversions_spare = no_directory_at _ _ (same (temporary diversions_path) refl) found.diversions_spare;
+  tmp = same tmp_path refl ∙ found.tmp;
+  records = kept_outside table notes old new same found.records;
+  standing = found.standing;
   listed = record {
-    sound = λ entry plain. subst (IsSound (names_of table) entry) (sym (same (entry_path entry) refl)) (opened.listed.sound entry plain);
-    lists = has_lists_kept old new (names_of table) lists (λ name known. same (list_path name) refl) opened.listed.lists;
+    sound = λ entry plain. subst (IsSound (names_of table) entry) (sym (same (entry_path entry) refl)) (found.listed.sound entry plain);
+    lists = has_lists_kept old new (names_of table) lists (λ name known. same (list_path name) refl) found.listed.lists;
   };
 }
 
-ready_run : (cs : List Candidate) (us : List AUnit) (places : List Path) (before after : List Record) (s t : State) → IsRun cs us places before after s t → Ready before s → Ready after t
-ready_run [] [] places before after s t run ready = subst (λ x. Ready x t) (sym run.1) (subst (Ready before) (sym run.0) ready)
-ready_run [] (u ∷ us) places before after s t run ready = absurd run
-ready_run (c ∷ cs) [] places before after s t run ready = absurd run
-ready_run (c ∷ cs) (u ∷ us) places before after s t run ready = ready_run cs us places run.1 after run.0 t run.3 (ready_after c places before run.1 u s run.0 ready run.2.is)
+pub stands_outside : (h : Held) (old new : World) → SameOn is_own old new → Stands h old → Stands h new
+stands_outside h old new same found = found_outside h.records.records h.records.notes h.lists h.entries old new same found
 
-readable_opened : (table : List Record) (lists : List PackageList) (entries : List Diversion) (w : World) → IsOpened table lists entries w → IsReadableBeside w table
-readable_opened table lists entries w opened = record {
-  updates = opened.updates;
-  empty = opened.empty;
-  text = opened.text;
-  sound = opened.listed.sound;
-  standing = opened.standing;
-}
-
-ready_opened : (table : List Record) (lists : List PackageList) (entries : List Diversion) (s : State) → IsOpened table lists entries s.world → Ready table s
-ready_opened table lists entries s opened = record {
-  order = λ h. record { home = opened.home; info = opened.info; entries = λ name plain. (opened.listed.sound name plain).loose; status = file_no_directory (s.world status_path) opened.status; status_spare = opened.status_spare; tmp = opened.tmp };
-  records = λ h. opened.records;
-}
-
-opened_run : (cs : List Candidate) (us : List AUnit) (places : List Path) (lists : List PackageList) (entries : List Diversion) (before after : List Record) (s t : State) → IsRun cs us places before after s t → IsTrue t.honest → IsOpened before lists entries s.world → IsOpened after lists entries t.world
-opened_run cs us places lists entries before after s t run h opened =
-    let ready = ready_run cs us places before after s t run (ready_opened before lists entries s opened) in
-    let beside = readable_run places cs us before after s t run h (readable_opened before lists entries s.world opened) in
-    record {
-      home = (ready.order h).home;
-      info = (ready.order h).info;
-      updates = beside.updates;
-      empty = beside.empty;
-      text = beside.text;
-      status = stands_file (t.world status_path) after (ready.records h);
-      status_spare = (ready.order h).status_spare;
-      diversions = subst (λ n. HasEntries n entries) (sym (diverted_run places cs us before after s t run h)) opened.diversions;
-      diversions_spare = no_directory_at (t.world (temporary diversions_path)) (s.world (temporary diversions_path)) (diverted_spare_run places cs us before after s t run h) opened.diversions_spare;
-      tmp = (ready.order h).tmp;
-      records = ready.records h;
-      standing = beside.standing;
-      listed = record { sound = beside.sound; lists = listed_run places lists cs us before after s t run h opened.listed.lists };
-    }
-
-pub stands_outside : (held : Held) (lists : List PackageList) (old new : World) → SameOn is_own old new → Stands held lists old → Stands held lists new
-stands_outside held lists old new same stands = opened_outside held.records lists held.entries old new same stands
+-- what a session knows of it, too
+standing_outside : (h : Held) (old new : World) → SameOn is_own old new → IsStanding h old → IsStanding h new
+standing_outside h old new same standing = (
+  (
+    ap is_directory (same home_path refl) ∙ standing.0.0,
+    ap is_directory (same updates_path refl) ∙ standing.0.1,
+    (λ bad. standing.0.2 (bad.0, bad.1, bad.2, subst IsSome (same (updates_path ++ 47 ∷ bad.0) refl) bad.3)),
+    no_directory_at (new (temporary status_path)) (old (temporary status_path)) (same (temporary status_path) refl) standing.0.3,
+    (λ n lt. no_directory_at (new (temporary (note_path n))) (old (temporary (note_path n))) (same (temporary (note_path n)) refl) (standing.0.4 n lt)),
+    records_same old new h.records.records (same status_path refl) (λ n lt. same (note_path n) refl) standing.0.5,
+    (λ n le lt. same (note_path n) refl ∙ standing.0.6 n le lt),
+  ),
+  ap is_directory (same info_path refl) ∙ standing.1,
+  (λ entry plain there. standing.2 entry plain (subst IsDirectory (same (entry_path entry) refl) there)),
+  no_directory_at (new diversions_path) (old diversions_path) (same diversions_path refl) standing.3,
+  no_directory_at (new (temporary diversions_path)) (old (temporary diversions_path)) (same (temporary diversions_path) refl) standing.4,
+  same tmp_path refl ∙ standing.5,
+  ∥∥₁_map standing.6 (λ has. has_lists_kept old new (names_of h.records.records) h.lists (λ name known. same (list_path name) refl) has),
+  ∥∥₁_map standing.7 (λ has. subst (λ n. HasEntries n h.entries) (sym (same diversions_path refl)) has),
+)
 
 -- one command
 
-done_stands : (ran : Ran) (found lists : List PackageList) (before after : Held) (s t : State) → HasDone ran found before after s t → IsTrue t.honest → Stands before lists s.world → Stands after lists t.world
-done_stands (Unpacked candidates units) found lists before after s t done h stands =
-    subst (λ (entries : List Diversion). IsOpened after.records lists entries t.world) (sym done.1) (opened_run candidates units (places_in before.entries found) lists before.entries before.records after.records s t done.0 h stands)
-done_stands (Diverted asked unit) found lists before after s t done h stands =
-    subst (λ (table : List Record). IsOpened table lists after.entries t.world) (sym done.1) (opened_diverted before.records lists asked _ before.entries after.entries unit s t done.0 h stands)
-done_stands (Undiverted asked unit) found lists before after s t done h stands =
-    subst (λ (table : List Record). IsOpened table lists after.entries t.world) (sym done.1) (opened_undiverted before.records lists asked before.entries after.entries unit s t done.0 h stands)
+ready_run : (cs : List Candidate) (us : List AUnit) (before after : Held) (s t : State) → IsRun cs us before after s t → Ready before s → Ready after t
+ready_run [] [] before after s t run ready = subst (λ (x : Held). Ready x t) (sym run.1) (subst (Ready before) (sym run.0) ready)
+ready_run [] (u ∷ us) before after s t run ready = absurd run
+ready_run (c ∷ cs) [] before after s t run ready = absurd run
+ready_run (c ∷ cs) (u ∷ us) before after s t run ready = ready_run cs us run.1 after run.0 t run.3 (ready_after c before run.1 u s run.0 ready run.2.is)
 
-stands_command : (ran : Ran) (before after : Held) (lists : List PackageList) (old new : World) → IsCommand ran before after old new → Stands before lists old → Stands after lists new
-stands_command ran before after lists old new command stands =
-    subst (Stands after lists) command.to
-    (done_stands ran command.lists lists before after command.start command.end command.done command.honest (subst (Stands before lists) (sym command.from) stands))
+kept_rest : (before after : Held) (w : World) → KeepsRest before after → IsStanding (record { records = before.records; lists = before.lists; entries = after.entries }) w → IsStanding after w
+kept_rest before after w keeps standing =
+    subst (λ (d : Recorded). IsStanding (record { records = d; lists = after.lists; entries = after.entries }) w) (sym keeps.records)
+    (subst (λ (l : List PackageList). IsStanding (record { records = before.records; lists = l; entries = after.entries }) w) (sym keeps.lists) standing)
 
-pub stands_history : (commands : List Ran) (before after : Held) (lists : List PackageList) (old new : World) → IsHistory commands before after old new → Stands before lists old → Stands after lists new
-stands_history [] before after lists old new history stands = subst (λ (x : Held). Stands x lists new) (sym history.0) (stands_outside before lists old new history.1 stands)
-stands_history (ran ∷ rest) before after lists old new history stands =
-    stands_history rest history.1 after lists history.2 new history.5
-    (stands_command ran before history.1 lists history.0 history.2 history.4 (stands_outside before lists old history.0 history.3 stands))
+done_stands : (ran : Ran) (before after : Held) (s t : State) → HasDone ran before after s t → IsTrue t.honest → IsStanding before s.world → IsStanding after t.world
+done_stands (Unpacked candidates units) before after s t done h standing =
+    standing_run candidates units before after s t done h (ready_run candidates units before after s t done (λ honest. order_standing before s.world standing) h) standing
+done_stands (Diverted asked unit) before after s t done h standing =
+    kept_rest before after t.world done.1 (standing_diverted before.records before.lists asked _ before.entries after.entries unit s t done.0 h standing)
+done_stands (Undiverted asked unit) before after s t done h standing =
+    kept_rest before after t.world done.1 (standing_undiverted before.records before.lists asked before.entries after.entries unit s t done.0 h standing)
+
+stands_command : (ran : Ran) (before after : Held) (old new : World) → IsCommand ran before after old new → IsStanding after new
+stands_command ran before after old new command =
+    subst (IsStanding after) command.to
+    (done_stands ran before after command.start command.end command.done command.honest (subst (IsStanding before) (sym command.from) (standing_found before old command.opened)))
+
+pub stands_history : (commands : List Ran) (before after : Held) (old new : World) → IsHistory commands before after old new → IsStanding before old → IsStanding after new
+stands_history [] before after old new history standing = subst (λ (x : Held). IsStanding x new) (sym history.0) (standing_outside before old new history.1 standing)
+stands_history (ran ∷ rest) before after old new history standing =
+    stands_history rest history.1 after history.3 new history.6 (stands_command ran history.0 history.1 history.2 history.3 history.5)

@@ -1,6 +1,5 @@
 -- A loss of power leaves what a stop leaves.
 use Rattle.std.proofs.Common.{◌≡◌, inl, inr, IsTrue, List, [], ◌∷◌, ◌++◌, append_assoc, sym, ap, subst, ◌∙◌}
-use Rattle.host_core.specs.Paths.{Path}
 use Rattle.host_core.specs.World.{World, Barrier}
 use Rattle.host_core.specs.Events.{Event, Did, changes_of}
 use Rattle.host_core.specs.Host.{State, Since}
@@ -8,7 +7,7 @@ use Rattle.host_core.specs.Loss.{IsAnswered, IsOnDisk, unwritten}
 use Rattle.host_core.specs.Losses.{avoid_session, loses_in_part, since_loss_one}
 use Rattle.host_core.specs.Moments.{faults_then, reads_then, since_weaker}
 use Rattle.host_core.specs.Unsynced.{IsSettled}
-use Rattle.status_db.specs.declared.record.Record.{Record}
+use Rattle.dpkg_session.specs.Held.{Held}
 use Rattle.dpkg_session.specs.declared.report.Candidate.{Candidate}
 use Rattle.dpkg_session.specs.declared.report.Unit.{Unit as AUnit}
 use Rattle.dpkg_session.specs.PowerLoss.{LosesLikeAStop, StandsOnceAnswered}
@@ -19,10 +18,10 @@ pub loses_like : (P : List Event → World → Type 0) (old new : State) → (Is
 loses_like P old new settled since = λ kept begun session left h is loses.
     since_loss_one (unwritten kept (changes_of session)) P begun old new left h (settled h) (avoid_session kept begun new session is) since loses
 
-pub run_loses : (given asked : List Candidate) (places : List Path) (before : List Record) (old new : State) → given ≡ asked → (IsTrue new.honest → IsSettled new.events) → Since (IsAmidRun given places before old) old new
-    → LosesLikeAStop (IsAmidRun asked places before old) old new
-run_loses given asked places before old new same settled since =
-    loses_like (IsAmidRun asked places before old) old new settled (subst (λ l. Since (IsAmidRun l places before old) old new) same since)
+pub run_loses : (given asked : List Candidate) (before : Held) (old new : State) → given ≡ asked → (IsTrue new.honest → IsSettled new.events) → Since (IsAmidRun given before old) old new
+    → LosesLikeAStop (IsAmidRun asked before old) old new
+run_loses given asked before old new same settled since =
+    loses_like (IsAmidRun asked before old) old new settled (subst (λ l. Since (IsAmidRun l before old) old new) same since)
 
 -- all is on the disk behind what was answered, where it was before
 answered_disk : (s t : State) → IsAnswered s t → IsOnDisk s.events → IsOnDisk t.events
@@ -35,15 +34,15 @@ answered_then s m t first (inl now) = inl now
 answered_then s m t (inl disk) (inr reads) = inl (answered_disk m t (inr reads) disk)
 answered_then s m t (inr before) (inr reads) = inr (reads_then s m t before reads)
 
-pub run_answered : (cs : List Candidate) (us : List AUnit) (places : List Path) (before after : List Record) (s t : State) → IsRun cs us places before after s t → IsAnswered s t
-run_answered [] [] places before after s t run = subst (λ (x : State). IsAnswered s x) (sym run.0) (answered_here s)
-run_answered [] (u ∷ us) places before after s t run = absurd run
-run_answered (c ∷ cs) [] places before after s t run = absurd run
-run_answered (c ∷ cs) (u ∷ us) places before after s t run = answered_then s run.0 t run.2.answered (run_answered cs us places run.1 after run.0 t run.3)
+pub run_answered : (cs : List Candidate) (us : List AUnit) (before after : Held) (s t : State) → IsRun cs us before after s t → IsAnswered s t
+run_answered [] [] before after s t run = subst (λ (x : State). IsAnswered s x) (sym run.0) (answered_here s)
+run_answered [] (u ∷ us) before after s t run = absurd run
+run_answered (c ∷ cs) [] before after s t run = absurd run
+run_answered (c ∷ cs) (u ∷ us) before after s t run = answered_then s run.0 t run.2.answered (run_answered cs us run.1 after run.0 t run.3)
 
 pub answered_stands : (P : List Event → World → Type 0) (s t : State) → Since P s t → IsAnswered s t → StandsOnceAnswered s t
 answered_stands P s t since answered = λ begun new left later loses.
     loses_in_part begun s t new left (since_weaker P (λ so_far w. Unit {0}) s t (λ so_far w is. tt) since) later answered loses
 
-pub run_stands : (P : List Event → World → Type 0) (cs : List Candidate) (us : List AUnit) (places : List Path) (before after : List Record) (s t : State) → Since P s t → IsRun cs us places before after s t → StandsOnceAnswered s t
-run_stands P cs us places before after s t since run = answered_stands P s t since (run_answered cs us places before after s t run)
+pub run_stands : (P : List Event → World → Type 0) (cs : List Candidate) (us : List AUnit) (before after : Held) (s t : State) → Since P s t → IsRun cs us before after s t → StandsOnceAnswered s t
+run_stands P cs us before after s t since run = answered_stands P s t since (run_answered cs us before after s t run)

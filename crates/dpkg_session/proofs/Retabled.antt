@@ -1,5 +1,5 @@
 -- What the administration holds after its diversions have changed.
-use Rattle.std.proofs.Common.{◌≡◌, ◌≢◌, ◌&&◌, Bool, true, false, not, List, [], ◌∷◌, ◌++◌, IsTrue, codes, arith, get_or, refl, sym, ap, subst, ◌∙◌}
+use Rattle.std.proofs.Common.{◌≡◌, ◌≢◌, ◌<◌, ◌&&◌, ℕ, Bool, true, false, not, List, [], ◌∷◌, ◌++◌, IsTrue, codes, arith, get_or, refl, sym, ap, subst, ◌∙◌}
 use Rattle.std.specs.Prelude.{IsSome, MatchBool, cond}
 use Rattle.std.proofs.Math.Logic.{∥∥₁_map}
 use Rattle.std.proofs.lemmas.Bool.{and_right}
@@ -8,6 +8,8 @@ use Rattle.host_core.proofs.Nodes.{directory_is}
 use Rattle.host_core.specs.Paths.{Path, is_path_text, has_room, has_reserved_suffix, is_below_administration, is_ship_text}
 use Rattle.host_core.specs.World.{World, IsDirectory, is_directory}
 use Rattle.host_core.specs.Host.{State}
+use Rattle.administration.specs.Directories.{HasBadName}
+use Rattle.administration.specs.Files.{NoDirectory}
 use Rattle.administration.specs.Places.{home_path, info_path, status_path, updates_path, tmp_path, temporary}
 use Rattle.administration.proofs.WholeFiles.{no_directory_at}
 use Rattle.diversions.specs.Changes.{HasAdded, HasRemoved, IsRecorded, moved_if}
@@ -20,18 +22,25 @@ use Rattle.diversions.specs.declared.refusal.Answer.{Answer}
 use Rattle.diversions.specs.declared.refusal.Answer.TheVariants as answered
 use Rattle.diversions.specs.declared.refusal.Seen.{Seen}
 use Rattle.diversions.proofs.Moving.{moved_away, own_other}
-use Rattle.file_lists.specs.Info.{IsSound}
 use Rattle.file_lists.specs.declared.paths.PackageList.{PackageList}
 use Rattle.opening.proofs.KeptLists.{has_lists_kept}
-use Rattle.opening.specs.Opened.{IsOpened}
+use Rattle.file_lists.specs.Lists.{HasLists}
 use Rattle.opening.specs.Parts.{names_of}
+use Rattle.status_db.proofs.NotedWorlds.{records_same}
+use Rattle.status_db.specs.Held.{HasRecords, IsFree}
+use Rattle.status_db.specs.Notes.{digits, limit, note_path}
+use Rattle.status_db.specs.Recorded.{Recorded}
 use Rattle.status_db.specs.declared.record.Record.{Record}
-use Rattle.status_db.specs.Status.{IsFileOrNothing, StandsFor}
 use Rattle.dpkg_session.specs.declared.asked.Diverting.{Diverting}
 use Rattle.dpkg_session.specs.declared.asked.Undiverting.{Undiverting}
 use Rattle.dpkg_session.specs.declared.report.Unit.{Unit as AUnit}
 use Rattle.dpkg_session.specs.Diversions.{IsDiverted, IsUndiverted, LeavesAnswer, asked_entry, by_answer}
+use Rattle.dpkg_session.specs.Held.{Held}
 use Rattle.dpkg_session.specs.Standing.{IsStanding}
+
+-- with these diversions
+abbrev with_entries : Recorded → List PackageList → List Diversion → Held
+with_entries d lists entries = record { records = d; lists = lists; entries = entries }
 
 -- no shipped path is below the administration's directory
 
@@ -51,7 +60,7 @@ record IsRetabled (entries : List Diversion) (old new : World) : Type 0 where
   pub ship_to : is_ship_text to ≡ true
   pub recorded : IsRecorded entries (moved_if moves from to old) new
 
-module _ (table : List Record) (lists : List PackageList) (before after : List Diversion) (old new : World) (is : IsRetabled after old new) where
+module _ (d : Recorded) (lists : List PackageList) (before after : List Diversion) (old new : World) (is : IsRetabled after old new) where
   same : (q : Path) → is_below_administration q ≡ true → get_or q 14 0 ≢ 100 → new q ≡ old q
   same q below no_d =
       is.recorded.rest q (λ e. no_d (ap (λ (l : Path). get_or l 14 0) e)) (λ e. no_d (ap (λ (l : Path). get_or l 14 0) e))
@@ -69,40 +78,40 @@ module _ (table : List Record) (lists : List PackageList) (before after : List D
   same_tmp : new tmp_path ≡ old tmp_path
   same_tmp = same tmp_path refl (λ e. absurd (omega (arith, e)))
 
-  standing_retabled : IsStanding table lists before old → IsStanding table lists after new
+  no_updates_name : (HasBadName old updates_path → ⊥) → HasBadName new updates_path → ⊥
+  no_updates_name text bad = text (bad.0, bad.1, bad.2, subst IsSome (same_updates (47 ∷ bad.0)) bad.3)
+
+  no_spare : ((n : ℕ) → n < limit → NoDirectory (old (temporary (note_path n)))) → (n : ℕ) → n < limit → NoDirectory (new (temporary (note_path n)))
+  no_spare spares n lt = no_directory_at (new (temporary (note_path n))) (old (temporary (note_path n))) (same_updates (47 ∷ digits n ++ codes ".dpkg-inst")) (spares n lt)
+
+  still_free : (notes : ℕ) → IsFree notes old → IsFree notes new
+  still_free notes free n le lt = same_updates (47 ∷ digits n) ∙ free n le lt
+
+  still_records : (records : List Record) → HasRecords old records → HasRecords new records
+  still_records records has = records_same old new records (same_status []) (λ n lt. same_updates (47 ∷ digits n)) has
+
+  still_lists : (names : List (List ℕ)) → HasLists old names lists → HasLists new names lists
+  still_lists names has = has_lists_kept old new names lists (λ name known. same_info (47 ∷ name ++ codes ".list")) has
+
+  standing_retabled : IsStanding (with_entries d lists before) old → IsStanding (with_entries d lists after) new
   standing_retabled standing = (
-    directory_is (new home_path) is.recorded.ready.home,
+    (
+      directory_is (new home_path) is.recorded.ready.home,
+      ap is_directory (same_updates []) ∙ standing.0.1,
+      no_updates_name standing.0.2,
+      no_directory_at (new (temporary status_path)) (old (temporary status_path)) (same_status (codes ".dpkg-inst")) standing.0.3,
+      no_spare standing.0.4,
+      still_records d.records standing.0.5,
+      still_free d.notes standing.0.6,
+    ),
     ap is_directory (same_info []) ∙ standing.1,
     (λ name plain there. standing.2 name plain (subst IsDirectory (same_info (47 ∷ name)) there)),
-    no_directory_at (new status_path) (old status_path) (same_status []) standing.3,
-    no_directory_at (new (temporary status_path)) (old (temporary status_path)) (same_status (codes ".dpkg-inst")) standing.4,
     is.recorded.ready.target,
     is.recorded.ready.spare,
-    same_tmp ∙ standing.7,
-    subst (λ n. StandsFor n table) (sym (same_status [])) standing.8,
-    ∥∥₁_map standing.9 (λ has. has_lists_kept old new (names_of table) lists (λ name known. same_info (47 ∷ name ++ codes ".list")) has),
+    same_tmp ∙ standing.5,
+    ∥∥₁_map standing.6 (λ has. still_lists (names_of d.records) has),
     ∣ is.recorded.table ∣₁,
   )
-
-  opened_retabled : IsOpened table lists before old → IsOpened table lists after new
-  opened_retabled opened = record {
-    home = is.recorded.ready.home;
-    info = subst IsDirectory (sym (same_info [])) opened.info;
-    updates = subst IsDirectory (sym (same_updates [])) opened.updates;
-    empty = λ name plain. same_updates (47 ∷ name) ∙ opened.empty name plain;
-    text = λ bad. opened.text (bad.0, bad.1, bad.2, subst IsSome (same_info (47 ∷ bad.0)) bad.3);
-    status = subst IsFileOrNothing (sym (same_status [])) opened.status;
-    status_spare = no_directory_at (new (temporary status_path)) (old (temporary status_path)) (same_status (codes ".dpkg-inst")) opened.status_spare;
-    diversions = is.recorded.table;
-    diversions_spare = is.recorded.ready.spare;
-    tmp = same_tmp ∙ opened.tmp;
-    records = subst (λ n. StandsFor n table) (sym (same_status [])) opened.records;
-    standing = opened.standing;
-    listed = record {
-      sound = λ entry plain. subst (IsSound (names_of table) entry) (sym (same_info (47 ∷ entry))) (opened.listed.sound entry plain);
-      lists = has_lists_kept old new (names_of table) lists (λ name known. same_info (47 ∷ name ++ codes ".list")) opened.listed.lists;
-    };
-  }
 
 -- what holds of a table and a world goes on to hold where the table is recorded
 
@@ -128,15 +137,9 @@ module _ (X : List Diversion → World → Type 0) (keep : (before after : List 
       answered_kept is.answer before (without asked.path before) after (HasRemoved before asked.path asked.rename) s.world t.world is.table (is.left h)
       (λ left. keep before (without asked.path before) s.world t.world (record { moves = moves_node asked.rename false (sight_of s.world target asked.path); from = target; to = asked.path; ship_from = is.shipped.target; ship_to = is.shipped.path; recorded = left }))
 
-module _ (table : List Record) (lists : List PackageList) where
-  pub standing_diverted : (asked : Diverting) (seen : Seen) (before after : List Diversion) (u : AUnit) (s t : State) → IsDiverted asked seen before after u s t → IsTrue t.honest → IsStanding table lists before s.world → IsStanding table lists after t.world
-  standing_diverted = diverted_kept (IsStanding table lists) (λ before after old new is. standing_retabled table lists before after old new is)
+module _ (d : Recorded) (lists : List PackageList) where
+  pub standing_diverted : (asked : Diverting) (seen : Seen) (before after : List Diversion) (u : AUnit) (s t : State) → IsDiverted asked seen before after u s t → IsTrue t.honest → IsStanding (with_entries d lists before) s.world → IsStanding (with_entries d lists after) t.world
+  standing_diverted = diverted_kept (λ entries. IsStanding (with_entries d lists entries)) (λ before after old new is. standing_retabled d lists before after old new is)
 
-  pub standing_undiverted : (asked : Undiverting) (before after : List Diversion) (u : AUnit) (s t : State) → IsUndiverted asked before after u s t → IsTrue t.honest → IsStanding table lists before s.world → IsStanding table lists after t.world
-  standing_undiverted = undiverted_kept (IsStanding table lists) (λ before after old new is. standing_retabled table lists before after old new is)
-
-  pub opened_diverted : (asked : Diverting) (seen : Seen) (before after : List Diversion) (u : AUnit) (s t : State) → IsDiverted asked seen before after u s t → IsTrue t.honest → IsOpened table lists before s.world → IsOpened table lists after t.world
-  opened_diverted = diverted_kept (IsOpened table lists) (λ before after old new is. opened_retabled table lists before after old new is)
-
-  pub opened_undiverted : (asked : Undiverting) (before after : List Diversion) (u : AUnit) (s t : State) → IsUndiverted asked before after u s t → IsTrue t.honest → IsOpened table lists before s.world → IsOpened table lists after t.world
-  opened_undiverted = undiverted_kept (IsOpened table lists) (λ before after old new is. opened_retabled table lists before after old new is)
+  pub standing_undiverted : (asked : Undiverting) (before after : List Diversion) (u : AUnit) (s t : State) → IsUndiverted asked before after u s t → IsTrue t.honest → IsStanding (with_entries d lists before) s.world → IsStanding (with_entries d lists after) t.world
+  standing_undiverted = undiverted_kept (λ entries. IsStanding (with_entries d lists entries)) (λ before after old new is. standing_retabled d lists before after old new is)

@@ -1,70 +1,102 @@
 -- How a run goes on with one unit more.
-use Rattle.std.specs.Prelude.{MatchBool}
+use Rattle.std.specs.Prelude.{MatchBool, IfSome, length, take, drop}
+use Rattle.std.proofs.Common.{◌≡◌, ◌⊎◌, inl, inr, ℕ, Bool, true, false, List, [], ◌∷◌, ◌++◌, Option, Some, None, Result, Ok, Err, IsTrue, refl, sym, ap, subst, ◌∙◌, ◌+◌, arith}
+use Rattle.std.proofs.Math.Seq.{take-append_seam, drop-append_seam}
 use Rattle.std.proofs.lemmas.Bool.{true≢false}
-use Rattle.dpkg_session.specs.declared.report.Reply.{Reply}
-use Rattle.dpkg_session.specs.declared.report.Breakage.{Breakage}
-use Rattle.std.proofs.Common.{◌≡◌, ◌⊎◌, inl, inr, ℕ, Bool, true, false, List, [], ◌∷◌, ◌++◌, Option, Some, None, Result, Ok, Err, IsTrue, refl, sym, ap, subst, ◌∙◌, ◌+◌}
 use Rattle.host_core.specs.Paths.{Path}
-use Rattle.host_core.specs.Host.{State, Counts, faults}
+use Rattle.host_core.specs.Host.{State, Counts, Needs, Since, faults}
 use Rattle.host_core.specs.declared.fault.HostFault.{HostFault}
 use Rattle.host_core.specs.declared.fault.HostFault.TheVariants as host
 use Rattle.package_tree.specs.declared.package.Package.{Package}
 use Rattle.package_tree.specs.declared.fault.TreeFault.{TreeFault}
+use Rattle.stack_run.specs.declared.unwinding.Unwinding.{Unwinding}
 use Rattle.status_db.specs.declared.record.Record.{Record}
-use Rattle.status_db.specs.Status.{HasRecords}
-use Rattle.unpack_engine.specs.Unpack.{IsInOrder}
-use Rattle.dpkg_session.specs.declared.refusal.Rule.{Rule}
-use Rattle.dpkg_session.specs.declared.refusal.Word.{Word}
-use Rattle.dpkg_session.specs.declared.report.Candidate.{Candidate}
-use Rattle.dpkg_session.specs.declared.report.Unit.{Unit as AUnit}
-use Rattle.dpkg_session.specs.Refusals.{word_of}
-use Rattle.dpkg_session.specs.declared.report.Reply.TheVariants.{Done, Refused, Failed, Broken}
-use Rattle.dpkg_session.specs.declared.report.Breakage.TheVariants.{Device, NoMemory, Closed}
-use Rattle.dpkg_session.specs.Units.{CountsReply, AnswersTurn, IsUnit, IsUnitOf, IsUnitByWord, IsRefused, IsRefusedUnit, IsBroken, IsBrokenBy, breakage_of, reply_to}
-use Rattle.unpack_engine.specs.declared.rows.Turn.{Turn}
-use Rattle.unpack_engine.specs.declared.rows.Turn.TheVariants.{Committed, Undone, UndoFailed}
+use Rattle.stack_run.specs.Ended.{ended_as}
+use Rattle.unpack_engine.specs.Order.{IsInOrder}
+use Rattle.unpack_engine.specs.Units.{HasFailedFor, HasUnpacked, IsTouched}
 use Rattle.unwind_stack.specs.declared.rows.Called.{Called}
-use Rattle.dpkg_session.specs.Run.{IsRun, RunsUnit}
+use Rattle.dpkg_session.specs.declared.refusal.Rule.{Rule}
+use Rattle.dpkg_session.specs.declared.refusal.Rule.TheVariants.{Tree}
+use Rattle.dpkg_session.specs.declared.report.Breakage.{Breakage}
+use Rattle.dpkg_session.specs.declared.report.Breakage.TheVariants.{Device, NoMemory, Closed}
+use Rattle.dpkg_session.specs.declared.report.Candidate.{Candidate}
+use Rattle.dpkg_session.specs.declared.report.Reply.{Reply}
+use Rattle.dpkg_session.specs.declared.report.Reply.TheVariants.{Done, Refused, Failed, Broken}
+use Rattle.dpkg_session.specs.declared.report.Unit.{Unit as AUnit}
+use Rattle.dpkg_session.specs.Held.{Held, places_of}
+use Rattle.dpkg_session.specs.Run.{HasRun, IsAmidNext, IsBrokenNext, IsRun, RunsUnit}
+use Rattle.dpkg_session.specs.Units.{AnswersUnpack, CountsReply, IsUnit, IsUnpacked, IsUnitOf, IsUnitByRule, IsRefused, IsRefusedUnit, IsBroken, IsBrokenBy, breakage_of, given_by, reply_to, rule_for}
 
-pub run_more : (cs : List Candidate) (us : List AUnit) (c : Candidate) (u : AUnit) (places : List Path) (before mid after : List Record) (s m t : State) → IsRun cs us places before mid s m → RunsUnit c places mid after u m t → IsRun (cs ++ c ∷ []) (us ++ u ∷ []) places before after s t
-run_more [] [] c u places before mid after s m t so_far unit =
-    (t, after, subst (λ x. RunsUnit c places x after u s t) so_far.1 (subst (λ x. RunsUnit c places mid after u x t) so_far.0 unit), (refl, refl))
-run_more [] (v ∷ us) c u places before mid after s m t so_far unit = absurd so_far
-run_more (q ∷ cs) [] c u places before mid after s m t so_far unit = absurd so_far
-run_more (q ∷ cs) (v ∷ us) c u places before mid after s m t so_far unit =
-    (so_far.0, so_far.1, so_far.2, run_more cs us c u places so_far.1 mid after so_far.0 m t so_far.3 unit)
+pub run_more : (cs : List Candidate) (us : List AUnit) (c : Candidate) (u : AUnit) (before mid after : Held) (s m t : State) → IsRun cs us before mid s m → RunsUnit c mid after u m t → IsRun (cs ++ c ∷ []) (us ++ u ∷ []) before after s t
+run_more [] [] c u before mid after s m t so_far unit =
+    (t, after, subst (λ x. RunsUnit c x after u s t) so_far.1 (subst (λ x. RunsUnit c mid after u x t) so_far.0 unit), (refl, refl))
+run_more [] (v ∷ us) c u before mid after s m t so_far unit = absurd so_far
+run_more (q ∷ cs) [] c u before mid after s m t so_far unit = absurd so_far
+run_more (q ∷ cs) (v ∷ us) c u before mid after s m t so_far unit = (so_far.0, so_far.1, so_far.2, run_more cs us c u so_far.1 mid after so_far.0 m t so_far.3 unit)
+
+pub none_left : (cs : List Candidate) → length cs ≡ 0 → cs ≡ []
+none_left [] none = refl
+none_left (c ∷ cs) none = absurd (omega (arith, none))
+
+-- the run of the first candidates, and what holds of the rest
+pub has_run : (cs done rest : List Candidate) (us : List AUnit) (last : Option AUnit) (before mid : Held) (s m t : State) → cs ≡ done ++ rest → length us ≡ length done → IsRun done us before mid s m
+    → Since (IsAmidNext rest mid m.world) m t → IfSome last (IsBrokenNext rest mid m t) → HasRun cs us last before s t
+has_run cs done rest us last before mid s m t split count run since broken = record {
+  after = mid;
+  end = m;
+  run = subst (λ l. IsRun l us before mid s m) (sym fronts) run;
+  since = subst (λ l. Since (IsAmidNext l mid m.world) m t) (sym rests) since;
+  broken = subst (λ l. IfSome last (IsBrokenNext l mid m t)) (sym rests) broken;
+}
+  where
+    fronts : take (length us) cs ≡ done
+    fronts = ap (λ n. take n cs) count ∙ ap (take (length done)) split ∙ take-append_seam done rest
+
+    rests : drop (length us) cs ≡ rest
+    rests = ap (λ n. drop n cs) count ∙ ap (drop (length done)) split ∙ drop-append_seam done rest
 
 -- no lie is forgotten over a run
-pub falls_run : (cs : List Candidate) (us : List AUnit) (places : List Path) (before after : List Record) (s t : State) → IsRun cs us places before after s t → IsTrue t.honest → IsTrue s.honest
-falls_run [] [] places before after s t run h = subst (λ (x : State). IsTrue x.honest) run.0 h
-falls_run [] (u ∷ us) places before after s t run h = absurd run
-falls_run (c ∷ cs) [] places before after s t run h = absurd run
-falls_run (c ∷ cs) (u ∷ us) places before after s t run h = run.2.moments.honest (falls_run cs us places run.1 after run.0 t run.3 h)
+pub falls_run : (cs : List Candidate) (us : List AUnit) (before after : Held) (s t : State) → IsRun cs us before after s t → IsTrue t.honest → IsTrue s.honest
+falls_run [] [] before after s t run h = subst (λ (x : State). IsTrue x.honest) run.0 h
+falls_run [] (u ∷ us) before after s t run h = absurd run
+falls_run (c ∷ cs) [] before after s t run h = absurd run
+falls_run (c ∷ cs) (u ∷ us) before after s t run h = run.2.moments.honest (falls_run cs us run.1 after run.0 t run.3 h)
 
 -- what the next unit needs
-pub record Ready (table : List Record) (s : State) : Type 0 where
-  pub order : IsTrue s.honest → IsInOrder s.world
-  pub records : IsTrue s.honest → HasRecords s.world table
+abbrev pub Ready : Held → State → Type 0
+Ready h s = Needs s (IsInOrder h.records h.lists)
 
-ready_refused : (rule : Rule) (name : List ℕ) (before after : List Record) (u : AUnit) (s t : State) → Ready before s → IsRefused rule name before after u s t → Ready after t
-ready_refused rule name before after u s t ready is = record {
-  order = λ h. subst IsInOrder (sym is.state.world) (ready.order (is.state.honest h));
-  records = λ h. subst (λ x. HasRecords t.world x) (sym is.table) (subst (λ w. HasRecords w before) (sym is.state.world) (ready.records (is.state.honest h)));
-}
+ready_refused : (rule : Rule) (name : List ℕ) (before after : Held) (u : AUnit) (s t : State) → Ready before s → IsRefused rule name before after u s t → Ready after t
+ready_refused rule name before after u s t ready is = λ honest.
+    subst (λ (h : Held). IsInOrder h.records h.lists t.world) (sym is.held) (subst (IsInOrder before.records before.lists) (sym (is.world honest)) (ready (is.silent.honest honest)))
 
-ready_by_word : (p : Package) (word : Option Word) (places : List Path) (before after : List Record) (u : AUnit) (s t : State) → Ready before s → IsUnitByWord p word places before after u s t → Ready after t
-ready_by_word p (Some word) places before after u s t ready is = ready_refused _ p.name before after u s t ready is
-ready_by_word p None places before after u s t ready is = record {
-  order = λ h. (is.unpacked.unit.leaves h).order;
-  records = λ h. (is.unpacked.unit.leaves h).records;
-}
+ready_by_rule : (p : Package) (rule : Option Rule) (before after : Held) (u : AUnit) (s t : State) → Ready before s → IsUnitByRule p rule before after u s t → Ready after t
+ready_by_rule p (Some rule) before after u s t ready is = ready_refused rule p.name before after u s t ready is
+ready_by_rule p None before after u s t ready is = is.order
 
-ready_of : (label : List ℕ) (tree : Result Package TreeFault) (places : List Path) (before after : List Record) (u : AUnit) (s t : State) → Ready before s → IsUnitOf label tree places before after u s t → Ready after t
-ready_of label (Err fault) places before after u s t ready is = ready_refused _ label before after u s t ready is
-ready_of label (Ok p) places before after u s t ready is = ready_by_word p (word_of p before) places before after u s t ready is
+ready_of : (label : List ℕ) (tree : Result Package TreeFault) (before after : Held) (u : AUnit) (s t : State) → Ready before s → IsUnitOf label tree before after u s t → Ready after t
+ready_of label (Err fault) before after u s t ready is = ready_refused _ label before after u s t ready is
+ready_of label (Ok p) before after u s t ready is = ready_by_rule p (rule_for p before) before after u s t ready is
 
-pub ready_after : (c : Candidate) (places : List Path) (before after : List Record) (u : AUnit) (s t : State) → Ready before s → IsUnit c places before after u s t → Ready after t
-ready_after c places before after u s t ready is = ready_of c.label c.tree places before after u s t ready is
+pub ready_after : (c : Candidate) (before after : Held) (u : AUnit) (s t : State) → Ready before s → IsUnit c before after u s t → Ready after t
+ready_after c before after u s t ready is = ready_of c.label c.tree before after u s t ready is
+
+-- by what is refused, and what isn't
+
+refused_here : (rule : Rule) (name : List ℕ) (h : Held) (u : AUnit) (s : State) → IsRefusedUnit rule name u → IsRefused rule name h h u s s
+refused_here rule name h u s refused = record { refused = refused; held = refl; silent = record { honest = λ honest. honest; scripts = refl }; world = λ honest. refl }
+
+pub by_refused : (p : Package) (rule : Rule) (asked : Option Rule) (h : Held) (u : AUnit) (s : State) → asked ≡ Some rule → IsRefusedUnit rule p.name u → IsUnitByRule p asked h h u s s
+by_refused p rule asked h u s is refused = subst (λ o. IsUnitByRule p o h h u s s) (sym is) (refused_here rule p.name h u s refused)
+
+pub by_unpacked : (p : Package) (asked : Option Rule) (before after : Held) (u : AUnit) (s t : State) → asked ≡ None → IsBroken u.reply ⊎ IsUnpacked p before after u s t → IsBroken u.reply ⊎ IsUnitByRule p asked before after u s t
+by_unpacked p asked before after u s t is either = subst (λ o. IsBroken u.reply ⊎ IsUnitByRule p o before after u s t) (sym is) either
+
+pub of_read : (c : Candidate) (p : Package) (before after : Held) (u : AUnit) (s t : State) → c.tree ≡ Ok p → IsBroken u.reply ⊎ IsUnitByRule p (rule_for p before) before after u s t → IsBroken u.reply ⊎ IsUnit c before after u s t
+of_read c p before after u s t is either = subst (λ r. IsBroken u.reply ⊎ IsUnitOf c.label r before after u s t) (sym is) either
+
+pub of_unread : (c : Candidate) (fault : TreeFault) (h : Held) (u : AUnit) (s : State) → c.tree ≡ Err fault → IsRefusedUnit (Tree fault) c.label u → IsUnit c h h u s s
+of_unread c fault h u s is refused = subst (λ r. IsUnitOf c.label r h h u s s) (sym is) (refused_here (Tree fault) c.label h u s refused)
 
 -- a unit that wasn't broken off is as the tables say
 pub not_broken : {Q : Type 0} (reply : Reply) (b : Bool) → b ≡ false → MatchBool b (IsBroken reply) (IsBroken reply → ⊥) → IsBroken reply ⊎ Q → Q
@@ -85,16 +117,49 @@ is_broken_off reply false e is = absurd (true≢false (sym e))
 pub broken_by : (breakage : Breakage) (reply : Reply) → IsBrokenBy breakage reply → IsBroken reply
 broken_by breakage reply is = subst IsBroken (sym is) tt
 
+pub broken_or : {Q R : Type 0} (breakage : Breakage) (reply : Reply) → (Q → R) → IsBrokenBy breakage reply ⊎ Q → IsBroken reply ⊎ R
+broken_or breakage reply so (inl broken) = inl (broken_by breakage reply broken)
+broken_or breakage reply so (inr holds) = inr (so holds)
+
+-- the unit of a package that was unpacked, as it tells it
+pub is_unpacked : (p : Package) (before after : Held) (u : AUnit) (unwinding : Option Unwinding) (names : List (List ℕ)) (places : List Path) (s t : State) (name : List ℕ) (told now : List Called) → name ≡ p.name → places ≡ places_of before → told ≡ [] → u.calls.items ≡ now
+    → HasUnpacked (given_by p before) places (ended_as unwinding) after.records after.lists s t told now → HasFailedFor (given_by p before) s t unwinding → Ready after t → after.entries ≡ before.entries
+    → IsTouched p.name before.records.records after.records.records names → IsBrokenBy NoMemory u.reply ⊎ AnswersUnpack name after.records.records unwinding names u → IsBroken u.reply ⊎ IsUnpacked p before after u s t
+is_unpacked p before after u unwinding names places s t name told now named are none same unpacked cause order entries changed either =
+    broken_or NoMemory u.reply (λ answers. record {
+      unwinding = unwinding;
+      names = names;
+      unpacked = subst (λ l. HasUnpacked (given_by p before) (places_of before) (ended_as unwinding) after.records after.lists s t [] l) (sym same)
+          (subst (λ l. HasUnpacked (given_by p before) (places_of before) (ended_as unwinding) after.records after.lists s t l now) none
+          (subst (λ ps. HasUnpacked (given_by p before) ps (ended_as unwinding) after.records after.lists s t told now) are unpacked));
+      cause = cause;
+      order = order;
+      entries = entries;
+      changed = changed;
+      answers = subst (λ n. AnswersUnpack n after.records.records unwinding names u) named answers;
+    }) either
+
+-- a unit that wasn't broken off isn't one that is closed
+pub by_no_memory : {Q : Type 0} (reply : Reply) → (Q → IsBrokenBy Closed reply → ⊥) → IsBrokenBy NoMemory reply ⊎ Q → IsBrokenBy Closed reply → ⊥
+by_no_memory reply so (inl broken) closed = (let e : Broken NoMemory ≡ Broken Closed = sym broken ∙ closed in cc)
+by_no_memory reply so (inr holds) closed = so holds closed
+
+reply_not_closed : (name : List ℕ) (unwinding : Option Unwinding) → IsBrokenBy Closed (reply_to name unwinding) → ⊥
+reply_not_closed name None closed = cc
+reply_not_closed name (Some u) closed = cc
+
+pub answer_not_closed : (name : List ℕ) (records : List Record) (unwinding : Option Unwinding) (names : List (List ℕ)) (u : AUnit) → IsBrokenBy NoMemory u.reply ⊎ AnswersUnpack name records unwinding names u → IsBrokenBy Closed u.reply → ⊥
+answer_not_closed name records unwinding names u either = by_no_memory u.reply (λ answers closed. reply_not_closed name unwinding (sym answers.replied ∙ closed)) either
+
 -- the faults of a unit
 
-counts_turn : (p : Package) (turn : Turn) (a b : State) → faults b ≡ faults a → CountsReply a b (reply_to p turn)
-counts_turn p Committed a b same = same
-counts_turn p Undone a b same = same
-counts_turn p UndoFailed a b same = same
+counts_reply : (name : List ℕ) (unwinding : Option Unwinding) (a b : State) → faults b ≡ faults a → CountsReply a b (reply_to name unwinding)
+counts_reply name None a b same = same
+counts_reply name (Some u) a b same = same
 
-pub counts_answered : (p : Package) (after : List Record) (turn : Turn) (calls : List Called) (u : AUnit) (a b : State) → faults b ≡ faults a → IsBrokenBy NoMemory u.reply ⊎ AnswersTurn p after turn calls u → CountsReply a b u.reply
-counts_answered p after turn calls u a b same (inl broken) = subst (CountsReply a b) (sym broken) same
-counts_answered p after turn calls u a b same (inr answered) = subst (CountsReply a b) (sym answered.replied) (counts_turn p turn a b same)
+pub counts_answered : (name : List ℕ) (records : List Record) (unwinding : Option Unwinding) (names : List (List ℕ)) (u : AUnit) (a b : State) → faults b ≡ faults a → IsBrokenBy NoMemory u.reply ⊎ AnswersUnpack name records unwinding names u → CountsReply a b u.reply
+counts_answered name records unwinding names u a b same (inl broken) = subst (CountsReply a b) (sym broken) same
+counts_answered name records unwinding names u a b same (inr answers) = subst (CountsReply a b) (sym answers.replied) (counts_reply name unwinding a b same)
 
 counts_fault : (T : Type 0) (fault : HostFault) (a b : State) → Counts {T = T} a b (Err fault) → CountsReply a b (Broken (breakage_of fault))
 counts_fault T host.Device a b counts = counts
@@ -103,9 +168,8 @@ counts_fault T host.NoMemory a b counts = counts
 pub counts_broken : (T : Type 0) (fault : HostFault) (reply : Reply) (a b : State) → IsBrokenBy (breakage_of fault) reply → Counts {T = T} a b (Err fault) → CountsReply a b reply
 counts_broken T fault reply a b broken counts = subst (CountsReply a b) (sym broken) (counts_fault T fault a b counts)
 
-pub counts_refused : (rule : Rule) (name : List ℕ) (u : AUnit) (a : State) → IsBrokenBy NoMemory u.reply ⊎ IsRefusedUnit rule name u → CountsReply a a u.reply
-counts_refused rule name u a (inl broken) = subst (CountsReply a a) (sym broken) refl
-counts_refused rule name u a (inr refused) = subst (CountsReply a a) (sym refused.reply) refl
+pub counts_refused : (rule : Rule) (name : List ℕ) (u : AUnit) (a : State) → IsRefusedUnit rule name u → CountsReply a a u.reply
+counts_refused rule name u a refused = subst (CountsReply a a) (sym refused.reply) refl
 
 pub counts_no_memory : (reply : Reply) (a : State) → IsBrokenBy NoMemory reply → CountsReply a a reply
 counts_no_memory reply a broken = subst (CountsReply a a) (sym broken) refl

@@ -1,24 +1,30 @@
 -- The calls that units tell are those of the host's own list.
 use Rattle.std.proofs.Common.{◌≡◌, List, [], ◌∷◌, ◌++◌, Option, Some, None, Result, Ok, Err, append_assoc, ap, refl, subst, sym, ◌∙◌}
 use Rattle.std.proofs.lemmas.List.{append-nil}
-use Rattle.host_core.specs.Host.{State, Silent}
-use Rattle.unwind_stack.specs.Transcript.{TellsAll}
-use Rattle.unwind_stack.proofs.Makes.{tells_none, tells_then}
-use Rattle.dpkg_session.specs.declared.report.Unit.{Unit as AUnit}
-use Rattle.host_core.specs.Paths.{Path}
+use Rattle.cleanup_stack.proofs.Tellings.{begun_calls}
+use Rattle.host_core.specs.Events.{calls_of as calls_in}
+use Rattle.host_core.specs.Host.{State, Silent, calls}
+use Rattle.host_core.specs.Scripts.{calls_of-scripts}
 use Rattle.package_tree.specs.declared.package.Package.{Package}
 use Rattle.package_tree.specs.declared.fault.TreeFault.{TreeFault}
-use Rattle.status_db.specs.declared.record.Record.{Record}
-use Rattle.unpack_engine.specs.Units.{HasCalled}
-use Rattle.unpack_engine.proofs.Whole.{called_none, silent_calls}
+use Rattle.unpack_engine.specs.Units.{Given, HasCalled, HasCalledRows}
+use Rattle.cleanup_stack.specs.Transcripts.{MayRun}
+use Rattle.unwind_stack.specs.declared.rows.Row.{Row}
+use Rattle.unwind_stack.specs.Transcript.{TellsAll}
+use Rattle.unwind_stack.proofs.Makes.{tells_none, tells_then}
 use Rattle.unwind_stack.specs.declared.rows.Called.{Called}
-use Rattle.dpkg_session.specs.declared.refusal.Word.{Word}
-use Rattle.dpkg_session.specs.Refusals.{word_of}
-use Rattle.dpkg_session.specs.Units.{HasNoCalls, HasCalledByWord, HasCalledOf, calls_of}
+use Rattle.dpkg_session.specs.Held.{Held}
+use Rattle.dpkg_session.specs.declared.refusal.Rule.{Rule}
+use Rattle.dpkg_session.specs.declared.report.Unit.{Unit as AUnit}
+use Rattle.dpkg_session.specs.Units.{HasNoCalls, HasCalledByRule, HasCalledOf, calls_of, given_by, rule_for}
 
 -- nothing was done
-silent_here : (s : State) → Silent s s
+pub silent_here : (s : State) → Silent s s
 silent_here s = record { honest = λ h. h; scripts = refl }
+
+-- no call has ended
+silent_calls : (s t : State) → Silent s t → calls t ≡ calls s
+silent_calls s t silent = sym (calls_of-scripts t.events) ∙ ap calls_in silent.scripts ∙ calls_of-scripts s.events
 
 calls_more : (us : List AUnit) (u : AUnit) → calls_of (us ++ u ∷ []) ≡ calls_of us ++ u.calls.items
 calls_more [] u = append-nil u.calls.items
@@ -43,40 +49,47 @@ tells_silent s t told silent none = tells_none s t [] told (silent_calls s t sil
 -- what a unit tells is in step with the host's own list, whatever its answer
 
 no_calls_tell : (u : AUnit) (s t : State) → HasNoCalls u s t → TellsAll s t [] u.calls.items
-no_calls_tell u s t none = tells_none s t [] u.calls.items (silent_calls s t none.silent) none.told
+no_calls_tell u s t none = tells_silent s t u.calls.items none.silent none.told
 
-by_word_tells : (p : Package) (word : Option Word) (places : List Path) (before : List Record) (u : AUnit) (s t : State) → HasCalledByWord p word places before u s t → TellsAll s t [] u.calls.items
-by_word_tells p (Some word) places before u s t none = no_calls_tell u s t none
-by_word_tells p None places before u s t called = (called.ts, called.calls, called.tells)
+rows_tell : (rows : List Row) (s t : State) (told now : List Called) → HasCalledRows rows s t told now → TellsAll s t told now
+rows_tell rows s t told now (HasCalledRows.nothing silent same) = tells_none s t told now (silent_calls s t silent) same
+rows_tell rows s t told now (HasCalledRows.some begun) = let made = begun_calls (MayRun rows) s t told now begun in (made.0, made.2, made.3.1)
 
-pub called_tells : (tree : Result Package TreeFault) (places : List Path) (before : List Record) (u : AUnit) (s t : State) → HasCalledOf tree places before u s t → TellsAll s t [] u.calls.items
-called_tells (Err fault) places before u s t none = no_calls_tell u s t none
-called_tells (Ok p) places before u s t called = by_word_tells p (word_of p before) places before u s t called
+has_called_tells : (g : Given) (s t : State) (told now : List Called) → HasCalled g s t told now → TellsAll s t told now
+has_called_tells g s t told now (HasCalled.unplanned silent same) = tells_none s t told now (silent_calls s t silent) same
+has_called_tells g s t told now (HasCalled.planned plan is rows) = rows_tell plan.rows s t told now rows
+
+by_rule_tells : (p : Package) (rule : Option Rule) (before : Held) (u : AUnit) (s t : State) → HasCalledByRule p rule before u s t → TellsAll s t [] u.calls.items
+by_rule_tells p (Some rule) before u s t none = no_calls_tell u s t none
+by_rule_tells p None before u s t called = has_called_tells (given_by p before) s t [] u.calls.items called
+
+pub called_tells : (tree : Result Package TreeFault) (before : Held) (u : AUnit) (s t : State) → HasCalledOf tree before u s t → TellsAll s t [] u.calls.items
+called_tells (Err fault) before u s t none = no_calls_tell u s t none
+called_tells (Ok p) before u s t called = by_rule_tells p (rule_for p before) before u s t called
 
 -- by what is refused, and what isn't
 
-pub called_refused : (p : Package) (word : Word) (asked : Option Word) (places : List Path) (before : List Record) (u : AUnit) (s : State) → asked ≡ Some word → u.calls.items ≡ [] → HasCalledByWord p asked places before u s s
-called_refused p word asked places before u s is none = subst (λ w. HasCalledByWord p w places before u s s) (sym is) (record { silent = silent_here s; told = none })
+pub called_nothing : (g : Given) (s : State) (told : List Called) → told ≡ [] → HasCalled g s s [] told
+called_nothing g s told none = HasCalled.unplanned (silent_here s) none
 
-pub called_carried_out : (p : Package) (asked : Option Word) (places : List Path) (before : List Record) (u : AUnit) (s t : State) → asked ≡ None → HasCalled p places before s t [] u.calls.items → HasCalledByWord p asked places before u s t
-called_carried_out p asked places before u s t is called = subst (λ w. HasCalledByWord p w places before u s t) (sym is) called
+pub no_calls : (u : AUnit) (s : State) → u.calls.items ≡ [] → HasNoCalls u s s
+no_calls u s none = record { silent = silent_here s; told = none }
 
-pub called_read : (p : Package) (tree : Result Package TreeFault) (places : List Path) (before : List Record) (u : AUnit) (s t : State) → tree ≡ Ok p → HasCalledByWord p (word_of p before) places before u s t → HasCalledOf tree places before u s t
-called_read p tree places before u s t is called = subst (λ r. HasCalledOf r places before u s t) (sym is) called
+pub not_begun_by : (p : Package) (rule : Option Rule) (before : Held) (u : AUnit) (s : State) → u.calls.items ≡ [] → HasCalledByRule p rule before u s s
+not_begun_by p (Some rule) before u s none = no_calls u s none
+not_begun_by p None before u s none = called_nothing (given_by p before) s u.calls.items none
 
-pub called_unread : (fault : TreeFault) (tree : Result Package TreeFault) (places : List Path) (before : List Record) (u : AUnit) (s : State) → tree ≡ Err fault → u.calls.items ≡ [] → HasCalledOf tree places before u s s
-called_unread fault tree places before u s is none = subst (λ r. HasCalledOf r places before u s s) (sym is) (record { silent = silent_here s; told = none })
+pub called_by_rule : (p : Package) (rule : Option Rule) (before : Held) (u : AUnit) (s t : State) → rule ≡ None → HasCalled (given_by p before) s t [] u.calls.items → HasCalledByRule p rule before u s t
+called_by_rule p rule before u s t is called = subst (λ r. HasCalledByRule p r before u s t) (sym is) called
+
+pub called_read : (p : Package) (tree : Result Package TreeFault) (before : Held) (u : AUnit) (s t : State) → tree ≡ Ok p → HasCalledByRule p (rule_for p before) before u s t → HasCalledOf tree before u s t
+called_read p tree before u s t is called = subst (λ r. HasCalledOf r before u s t) (sym is) called
 
 -- from the list that a unit began with, and as it tells it
-pub called_as : (p : Package) (places : List Path) (before : List Record) (s t : State) (old now told : List Called) → old ≡ [] → told ≡ now → HasCalled p places before s t old now → HasCalled p places before s t [] told
-called_as p places before s t old now told empty is called = subst (λ l. HasCalled p places before s t l told) empty (subst (HasCalled p places before s t old) (sym is) called)
+pub called_as : (g : Given) (s t : State) (old now told : List Called) → old ≡ [] → told ≡ now → HasCalled g s t old now → HasCalled g s t [] told
+called_as g s t old now told empty is called = subst (λ l. HasCalled g s t l told) empty (subst (HasCalled g s t old) (sym is) called)
 
 -- a unit that wasn't begun
-
-not_begun_by : (p : Package) (word : Option Word) (places : List Path) (before : List Record) (u : AUnit) (s : State) → u.calls.items ≡ [] → HasCalledByWord p word places before u s s
-not_begun_by p (Some word) places before u s none = record { silent = silent_here s; told = none }
-not_begun_by p None places before u s none = called_none p places before s s [] u.calls.items (silent_here s) none
-
-pub not_begun : (tree : Result Package TreeFault) (places : List Path) (before : List Record) (u : AUnit) (s : State) → u.calls.items ≡ [] → HasCalledOf tree places before u s s
-not_begun (Err fault) places before u s none = record { silent = silent_here s; told = none }
-not_begun (Ok p) places before u s none = not_begun_by p (word_of p before) places before u s none
+pub not_begun : (tree : Result Package TreeFault) (before : Held) (u : AUnit) (s : State) → u.calls.items ≡ [] → HasCalledOf tree before u s s
+not_begun (Err fault) before u s none = no_calls u s none
+not_begun (Ok p) before u s none = not_begun_by p (rule_for p before) before u s none

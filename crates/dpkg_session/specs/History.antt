@@ -1,18 +1,16 @@
 -- Commands given one after another.
-use Rattle.std.specs.Prelude.{◌≡◌, IsTrue, List, [], ◌∷◌}
+use Rattle.std.specs.Prelude.{◌≡◌, IsTrue, List, [], ◌∷◌, None, false}
 use Rattle.host_core.specs.Paths.{is_own}
 use Rattle.host_core.specs.World.{World, SameOn}
 use Rattle.host_core.specs.Host.{State}
-use Rattle.diversions.specs.declared.entry.Diversion.{Diversion}
-use Rattle.file_lists.specs.Owners.{places_in}
-use Rattle.file_lists.specs.declared.paths.PackageList.{PackageList}
-use Rattle.opening.specs.Opened.{IsOpened}
-use Rattle.status_db.specs.declared.record.Record.{Record}
+use Rattle.opening.specs.Opened.{IsFound}
+use Rattle.opening.specs.Parts.{OpensAndMerges}
 use Rattle.dpkg_session.specs.declared.asked.Diverting.{Diverting}
 use Rattle.dpkg_session.specs.declared.asked.Undiverting.{Undiverting}
 use Rattle.dpkg_session.specs.declared.report.Candidate.{Candidate}
 use Rattle.dpkg_session.specs.declared.report.Unit.{Unit as AUnit}
 use Rattle.dpkg_session.specs.Diversions.{IsDiverted, IsUndiverted, seen_of}
+use Rattle.dpkg_session.specs.Held.{Held}
 use Rattle.dpkg_session.specs.Run.{IsRun}
 
 -- a command with the units that were reported
@@ -22,36 +20,45 @@ pub data Ran : Type 0 where
   Diverted : (asked : Diverting) (unit : AUnit) → Ran
   Undiverted : (asked : Undiverting) (unit : AUnit) → Ran
 
--- what of an administration the commands change: its records and its diversions
-pub record Held : Type 0 where
-  pub records : List Record
-  pub entries : List Diversion
+-- only the diversions may be others
+pub record KeepsRest (before after : Held) : Type 0 where
+  pub records : after.records ≡ before.records
+  pub lists : after.lists ≡ before.lists
 
--- the units of a command, where these are the lists of the packages
-abbrev pub HasDone : Ran → List PackageList → Held → Held → State → State → Type 0
-HasDone (Unpacked candidates units) lists before after s t = IsRun candidates units (places_in before.entries lists) before.records after.records s t × (after.entries ≡ before.entries)
-HasDone (Diverted asked unit) lists before after s t = IsDiverted asked (seen_of before.records lists asked.owner asked.path) before.entries after.entries unit s t × (after.records ≡ before.records)
-HasDone (Undiverted asked unit) lists before after s t = IsUndiverted asked before.entries after.entries unit s t × (after.records ≡ before.records)
+-- the units of a command
+abbrev pub HasDone : Ran → Held → Held → State → State → Type 0
+HasDone (Unpacked candidates units) before after s t = IsRun candidates units before after s t
+HasDone (Diverted asked unit) before after s t =
+    IsDiverted asked (seen_of before.records.records before.lists asked.owner asked.path) before.entries after.entries unit s t × KeepsRest before after
+HasDone (Undiverted asked unit) before after s t = IsUndiverted asked before.entries after.entries unit s t × KeepsRest before after
 
--- One command on an honest host whose administration stands for these records and diversions: its units, and the records,
--- diversions and world that they leave. The lists are those that were found.
+-- the administration stands for these records, lists and diversions, and all parts of it can be read
+abbrev pub Stands : Held → World → Type 0
+Stands h w = IsFound h.records.records h.records.notes h.lists h.entries w
+
+-- One command on an honest host whose administration stands for what is held: its units, and what they leave held, and the
+-- world that they leave.
 pub record IsCommand (ran : Ran) (before after : Held) (old new : World) : Type 0 where
   pub start : State
   pub end : State
-  pub lists : List PackageList
   pub honest : IsTrue end.honest
   pub from : start.world ≡ old
   pub to : end.world ≡ new
-  pub opened : IsOpened before.records lists before.entries old
-  pub done : HasDone ran lists before after start end
+  pub opened : Stands before old
+  pub done : HasDone ran before after start end
 
--- each command finds the records and diversions that the one before it left; between two of them any path but the program's
--- own may have changed
+-- what another session holds of the same administration once all notes are merged
+abbrev pub merged : Held → Held
+merged h = record { records = record { records = h.records.records; notes = 0; closed = false }; lists = h.lists; entries = h.entries }
+
+-- Between two commands any path but the program's own may have changed; and then another session may have been opened, which
+-- merges the notes.
+pub data IsBetween (left found : Held) (old new : World) : Type 0 where
+  same : found ≡ left → SameOn is_own old new → IsBetween left found old new
+  reopened : (mid : World) → found ≡ merged left → SameOn is_own old mid → OpensAndMerges None mid new → IsBetween left found old new
+
+-- each command finds what the one before it left
 abbrev pub IsHistory : List Ran → Held → Held → World → World → Type 0
 IsHistory [] before after old new = (after ≡ before) × SameOn is_own old new
 IsHistory (ran ∷ rest) before after old new =
-    (found : World) × (mid : Held) × (left : World) × SameOn is_own old found × IsCommand ran before mid found left × IsHistory rest mid after left new
-
--- the administration stands for these records, lists and diversions
-abbrev pub Stands : Held → List PackageList → World → Type 0
-Stands held lists w = IsOpened held.records lists held.entries w
+    (found mid : Held) × (begun left : World) × IsBetween before found old begun × IsCommand ran found mid begun left × IsHistory rest mid after left new

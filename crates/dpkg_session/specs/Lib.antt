@@ -1,3 +1,4 @@
+pub mod Held
 pub mod Standing
 pub mod Refusals
 pub mod Units

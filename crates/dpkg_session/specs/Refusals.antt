@@ -1,12 +1,17 @@
 -- The refusals of an unpack, in the order in which they are looked for.
-use Rattle.std.specs.Prelude.{◌||◌, ◌==◌, not, ℕ, Bool, List, [], ◌∷◌, Option, Some, None, is_some, cond, length}
-use Rattle.std.specs.List.{list_any}
+use Rattle.std.specs.Prelude.{◌||◌, not, ℕ, Bool, List, [], ◌∷◌, Option, Some, None, cond}
+use Rattle.std.specs.List.{find, list_any}
+use Rattle.std.specs.Cmp.Lexicographic.{slice_cmp}
+use Rattle.std.specs.Ordering.{nat_cmp, is_lt}
+use Rattle.std.specs.Str.{bytes_eq}
+use Rattle.host_core.specs.Paths.{Path}
 use Rattle.control_fields.specs.Names.{stands}
+use Rattle.diversions.specs.Places.{place}
+use Rattle.diversions.specs.declared.entry.Diversion.{Diversion}
 use Rattle.package_tree.specs.declared.package.Package.{Package}
 use Rattle.status_db.specs.declared.record.Record.{Record}
-use Rattle.status_db.specs.Records.{record_in}
-use Rattle.dpkg_session.specs.declared.refusal.Word.{Word}
-use Rattle.dpkg_session.specs.declared.refusal.Word.TheVariants.{Files, Record as ItsRecord, Conffiles, Relation}
+use Rattle.dpkg_session.specs.declared.refusal.Rule.{Rule}
+use Rattle.dpkg_session.specs.declared.refusal.Rule.TheVariants.{NotYet, ConffileDiverted}
 use Rattle.relation_fields.specs.RelationFields.{relation_name}
 use Rattle.relation_fields.specs.declared.relation_field.RelationField.{RelationField}
 use Rattle.relation_fields.specs.declared.relation_field.RelationField.TheVariants.{Depends, PreDepends, Breaks, Conflicts, Provides, Replaces}
@@ -15,40 +20,42 @@ use Rattle.relation_fields.specs.declared.relation_field.RelationField.TheVarian
 abbrev pub any_has : List Record → List ℕ → Bool
 any_has records name = list_any (λ r. stands name r.fields) records
 
--- some record has conffiles, or digests that aren't settled yet
-abbrev pub any_conffiles : List Record → Bool
-any_conffiles records = list_any (λ r. not (length r.conffiles == 0) || not (length r.pending == 0)) records
-
 -- the tree or a record has a relation field
 abbrev pub has_relation : Package → List Record → RelationField → Bool
 has_relation p records field = stands (relation_name field) p.control || any_has records (relation_name field)
 
--- the first that holds
-abbrev pub first_holding : {T : Type 0} → List (T × Bool) → Option T
-first_holding [] = None
-first_holding (c ∷ cs) = cond c.1 (Some c.0) (first_holding cs)
+-- relations aren't carried out yet: the first field of these, in this order
+abbrev pub relation_of : Package → List Record → Option RelationField
+relation_of p records = find (has_relation p records) (Depends ∷ PreDepends ∷ Breaks ∷ Conflicts ∷ Provides ∷ Replaces ∷ [])
 
--- what isn't carried out yet, each with its condition: relations
-abbrev pub relation_conditions : Package → List Record → List (Word × Bool)
-relation_conditions p records =
-    (Relation Depends, has_relation p records Depends)
-    ∷ (Relation PreDepends, has_relation p records PreDepends)
-    ∷ (Relation Breaks, has_relation p records Breaks)
-    ∷ (Relation Conflicts, has_relation p records Conflicts)
-    ∷ (Relation Provides, has_relation p records Provides)
-    ∷ (Relation Replaces, has_relation p records Replaces)
-    ∷ []
+-- the file of a path lies at another path for the package
+abbrev pub is_away : List Diversion → List ℕ → Path → Bool
+is_away entries name path = not (bytes_eq (place entries name path) path)
 
--- before them: files, a package that has a record, conffiles
-abbrev pub conditions : Package → List Record → List (Word × Bool)
-conditions p records =
-    (Files, p.ships)
-    ∷ (ItsRecord, is_some (record_in records p.name))
-    ∷ (Conffiles, p.has_conffiles || any_conffiles records)
-    ∷ relation_conditions p records
+-- the first of these paths of which that holds
+abbrev pub first_away : List Diversion → List ℕ → List Path → Option Path
+first_away entries name paths = find (is_away entries name) paths
 
-abbrev pub relation_word : Package → List Record → Option Word
-relation_word p records = first_holding (relation_conditions p records)
+-- the one that is before the other in path order
+abbrev pub first_of : Option Path → Option Path → Option Path
+first_of None b = b
+first_of (Some a) None = Some a
+first_of (Some a) (Some b) = Some (cond (is_lt (slice_cmp nat_cmp b a)) b a)
 
-abbrev pub word_of : Package → List Record → Option Word
-word_of p records = first_holding (conditions p records)
+-- among the conffiles of a package, the flagged ones too, each of them in path order
+abbrev pub conffile_away : List Diversion → Package → Option Path
+conffile_away entries p = first_of (first_away entries p.name p.conffiles) (first_away entries p.name p.flagged)
+
+-- a conffile is diverted
+abbrev pub diverted_rule : Option Path → Option Rule
+diverted_rule None = None
+diverted_rule (Some path) = Some (ConffileDiverted path)
+
+-- a relation field stands in the way, or else that
+abbrev pub rule_by : Option RelationField → Option Rule → Option Rule
+rule_by None rule = rule
+rule_by (Some field) rule = Some (NotYet field)
+
+-- the first rule that refuses a package, if one does
+abbrev pub rule_of : Package → List Record → List Diversion → Option Rule
+rule_of p records entries = rule_by (relation_of p records) (diverted_rule (conffile_away entries p))

@@ -1,74 +1,89 @@
--- Units and runs of them.
-use Rattle.std.specs.Prelude.{◌≡◌, ℕ, List, [], ◌∷◌, ◌++◌, Option, Some, None, IsSomeAnd, Result, Ok, Err, codes}
-use Rattle.host_core.specs.Paths.{Path}
-use Rattle.host_core.specs.Host.{State, Same, Silent, HasFailed, faults}
-use Rattle.host_core.specs.declared.call.Script.TheVariants.{Preinst}
-use Rattle.package_tree.specs.declared.package.Package.{Package}
-use Rattle.package_tree.specs.declared.fault.TreeFault.{TreeFault}
-use Rattle.status_db.specs.declared.record.Record.{Record}
-use Rattle.status_db.specs.Records.{record_in}
-use Rattle.unpack_engine.specs.declared.rows.Turn.{Turn}
-use Rattle.unpack_engine.specs.declared.rows.Turn.TheVariants.{Committed, Undone, UndoFailed}
-use Rattle.unpack_engine.specs.ForwardRows.{call_of}
-use Rattle.unpack_engine.specs.Units.{HasCalled, HasUnpacked}
-use Rattle.dpkg_session.specs.declared.refusal.Rule.{Rule}
-use Rattle.dpkg_session.specs.declared.refusal.Rule.TheVariants.{Tree, NotYet}
-use Rattle.dpkg_session.specs.declared.refusal.Word.{Word}
-use Rattle.dpkg_session.specs.declared.report.Candidate.{Candidate}
-use Rattle.dpkg_session.specs.declared.report.Touched.{Touched}
-use Rattle.dpkg_session.specs.declared.report.Reply.{Reply}
-use Rattle.dpkg_session.specs.declared.report.Reply.TheVariants.{Done, Refused, Failed, Broken}
-use Rattle.dpkg_session.specs.declared.report.Unit.{Unit as AUnit}
+-- Units of a command: what each did, and what it answers.
+use Rattle.std.specs.Prelude.{◌≡◌, ℕ, IsTrue, List, [], ◌∷◌, ◌++◌, Option, Some, None, IsSomeAnd, Result, Ok, Err, map}
+use Rattle.host_core.specs.Host.{State, Needs, Silent, HasFailed, faults}
 use Rattle.host_core.specs.declared.fault.HostFault.{HostFault}
 use Rattle.host_core.specs.declared.fault.HostFault.TheVariants as host
+use Rattle.package_tree.specs.declared.package.Package.{Package}
+use Rattle.package_tree.specs.declared.fault.TreeFault.{TreeFault}
+use Rattle.stack_run.specs.Ended.{ended_as}
+use Rattle.stack_run.specs.declared.unwinding.Unwinding.{Unwinding}
+use Rattle.status_db.specs.declared.record.Record.{Record}
+use Rattle.status_db.specs.Records.{record_in}
+use Rattle.unpack_engine.specs.Order.{IsInOrder}
+use Rattle.unpack_engine.specs.Units.{Given, HasCalled, HasFailedFor, HasUnpacked, IsTouched, given}
 use Rattle.unwind_stack.specs.Transcript.{TellsAll}
 use Rattle.unwind_stack.specs.declared.rows.Called.{Called}
+use Rattle.dpkg_session.specs.Held.{Held, places_of}
+use Rattle.dpkg_session.specs.Refusals.{rule_of}
+use Rattle.dpkg_session.specs.declared.refusal.Rule.{Rule}
+use Rattle.dpkg_session.specs.declared.refusal.Rule.TheVariants.{Tree}
 use Rattle.dpkg_session.specs.declared.report.Breakage.{Breakage}
 use Rattle.dpkg_session.specs.declared.report.Breakage.TheVariants.{Device, NoMemory, Closed}
+use Rattle.dpkg_session.specs.declared.report.Candidate.{Candidate}
+use Rattle.dpkg_session.specs.declared.report.Reply.{Reply}
+use Rattle.dpkg_session.specs.declared.report.Reply.TheVariants.{Done, Refused, Failed, Broken}
 use Rattle.dpkg_session.specs.declared.report.Report.{Report}
-use Rattle.dpkg_session.specs.Refusals.{word_of}
+use Rattle.dpkg_session.specs.declared.report.Touched.{Touched}
+use Rattle.dpkg_session.specs.declared.report.Unit.{Unit as AUnit}
 
--- the named package, with its record at the end
-abbrev pub touched_of : Package → List Record → List Touched
-touched_of p after = record { «package» = p.name; entry = record_in after p.name } ∷ []
+-- a package to be unpacked, and what is held
+abbrev pub given_by : Package → Held → Given
+given_by p h = given p h.records.records h.lists h.entries
 
--- the reply to a unit whose rows ended so: where the preinst failed, with its call
-abbrev pub reply_to : Package → Turn → Reply
-reply_to p Committed = Done
-reply_to p Undone = Failed (record { «package» = p.name; call = call_of p Preinst (codes "install") })
-reply_to p UndoFailed = Failed (record { «package» = p.name; call = call_of p Preinst (codes "install") })
+-- a package with its record at the end
+abbrev pub touched_at : List Record → List ℕ → Touched
+touched_at records name = record { «package» = name; entry = record_in records name }
 
--- the unit was carried out
-pub record IsUnpacked (p : Package) (places : List Path) (before after : List Record) (u : AUnit) (s t : State) : Type 0 where
-  pub turn : Turn
-  pub unpacked : HasUnpacked p places turn before after s t [] u.calls.items
-  pub replied : u.reply ≡ reply_to p turn
-  pub touched : u.touched.items ≡ touched_of p after
+-- the reply to a unit whose rows were unwound for a cause, or succeeded
+abbrev pub reply_to : List ℕ → Option Unwinding → Reply
+reply_to name None = Done
+reply_to name (Some u) = Failed (record { «package» = name; cause = u.failure })
 
--- a refused unit: no call was made, and no package touched
+-- how a unit answers whose rows were unwound so, or succeeded, of packages of these names
+pub record AnswersUnpack (name : List ℕ) (records : List Record) (unwinding : Option Unwinding) (names : List (List ℕ)) (u : AUnit) : Type 0 where
+  pub replied : u.reply ≡ reply_to name unwinding
+  pub touched : u.touched.items ≡ map (touched_at records) names
+
+-- The unit was carried out, and the administration is in order: told are its packages, and for what the rows were unwound.
+pub record IsUnpacked (p : Package) (before after : Held) (u : AUnit) (s t : State) : Type 0 where
+  pub unwinding : Option Unwinding
+  pub names : List (List ℕ)
+  pub unpacked : HasUnpacked (given_by p before) (places_of before) (ended_as unwinding) after.records after.lists s t [] u.calls.items
+  pub cause : HasFailedFor (given_by p before) s t unwinding
+  pub order : Needs t (IsInOrder after.records after.lists)
+  pub entries : after.entries ≡ before.entries
+  pub changed : IsTouched p.name before.records.records after.records.records names
+  pub answers : AnswersUnpack p.name after.records.records unwinding names u
+
+-- a refused unit: no call is told, and no package
 pub record IsRefusedUnit (rule : Rule) (name : List ℕ) (u : AUnit) : Type 0 where
   pub calls : u.calls.items ≡ []
   pub touched : u.touched.items ≡ []
   pub reply : u.reply ≡ Refused (record { rule = rule; «package» = name })
 
--- and nothing has changed
-pub record IsRefused (rule : Rule) (name : List ℕ) (before after : List Record) (u : AUnit) (s t : State) : Type 0 where
+-- no script was called, and nothing has changed
+pub record IsRefused (rule : Rule) (name : List ℕ) (before after : Held) (u : AUnit) (s t : State) : Type 0 where
   pub refused : IsRefusedUnit rule name u
-  pub table : after ≡ before
-  pub state : Same s t
+  pub held : after ≡ before
+  pub silent : Silent s t
+  pub world : IsTrue t.honest → t.world ≡ s.world
 
--- a package is refused by the first condition that holds, else unpacked
-abbrev pub IsUnitByWord : Package → Option Word → List Path → List Record → List Record → AUnit → State → State → Type 0
-IsUnitByWord p (Some word) places before after u s t = IsRefused (NotYet word) p.name before after u s t
-IsUnitByWord p None places before after u s t = IsUnpacked p places before after u s t
+-- a package is refused by the first rule that holds, else unpacked
+abbrev pub IsUnitByRule : Package → Option Rule → Held → Held → AUnit → State → State → Type 0
+IsUnitByRule p (Some rule) before after u s t = IsRefused rule p.name before after u s t
+IsUnitByRule p None before after u s t = IsUnpacked p before after u s t
+
+-- what refuses a package, if anything
+abbrev pub rule_for : Package → Held → Option Rule
+rule_for p h = rule_of p h.records.records h.entries
 
 -- a tree that can't be read is refused first
-abbrev pub IsUnitOf : List ℕ → Result Package TreeFault → List Path → List Record → List Record → AUnit → State → State → Type 0
-IsUnitOf label (Err fault) places before after u s t = IsRefused (Tree fault) label before after u s t
-IsUnitOf label (Ok p) places before after u s t = IsUnitByWord p (word_of p before) places before after u s t
+abbrev pub IsUnitOf : List ℕ → Result Package TreeFault → Held → Held → AUnit → State → State → Type 0
+IsUnitOf label (Err fault) before after u s t = IsRefused (Tree fault) label before after u s t
+IsUnitOf label (Ok p) before after u s t = IsUnitByRule p (rule_for p before) before after u s t
 
-abbrev pub IsUnit : Candidate → List Path → List Record → List Record → AUnit → State → State → Type 0
-IsUnit c places before after u s t = IsUnitOf c.label c.tree places before after u s t
+abbrev pub IsUnit : Candidate → Held → Held → AUnit → State → State → Type 0
+IsUnit c before after u s t = IsUnitOf c.label c.tree before after u s t
 
 -- the answer of a unit that was broken off
 abbrev pub IsBroken : Reply → Type 0
@@ -98,32 +113,26 @@ abbrev pub CountsLast : State → State → Option AUnit → Type 0
 CountsLast old new None = faults new ≡ faults old
 CountsLast old new (Some unit) = CountsReply old new unit.reply
 
--- no call was made
+-- no call was made, and none is told
 pub record HasNoCalls (u : AUnit) (s t : State) : Type 0 where
   pub silent : Silent s t
   pub told : u.calls.items ≡ []
 
 -- the calls of a unit, whatever its answer: none where the package is refused, else the first of those of its unpack
-abbrev pub HasCalledByWord : Package → Option Word → List Path → List Record → AUnit → State → State → Type 0
-HasCalledByWord p (Some word) places before u s t = HasNoCalls u s t
-HasCalledByWord p None places before u s t = HasCalled p places before s t [] u.calls.items
+abbrev pub HasCalledByRule : Package → Option Rule → Held → AUnit → State → State → Type 0
+HasCalledByRule p (Some rule) before u s t = HasNoCalls u s t
+HasCalledByRule p None before u s t = HasCalled (given_by p before) s t [] u.calls.items
 
 -- none for a tree that can't be read
-abbrev pub HasCalledOf : Result Package TreeFault → List Path → List Record → AUnit → State → State → Type 0
-HasCalledOf (Err fault) places before u s t = HasNoCalls u s t
-HasCalledOf (Ok p) places before u s t = HasCalledByWord p (word_of p before) places before u s t
+abbrev pub HasCalledOf : Result Package TreeFault → Held → AUnit → State → State → Type 0
+HasCalledOf (Err fault) before u s t = HasNoCalls u s t
+HasCalledOf (Ok p) before u s t = HasCalledByRule p (rule_for p before) before u s t
 
 -- the unit of a candidate that was broken off: it tells no package, and made the first of its calls alone
-pub record IsBrokenOff (c : Candidate) (places : List Path) (before : List Record) (u : AUnit) (s t : State) : Type 0 where
+pub record IsBrokenOff (c : Candidate) (before : Held) (u : AUnit) (s t : State) : Type 0 where
   pub broken : IsBroken u.reply
   pub untouched : u.touched.items ≡ []
-  pub called : HasCalledOf c.tree places before u s t
-
--- the unit tells these calls, and the answer to this turn
-pub record AnswersTurn (p : Package) (after : List Record) (turn : Turn) (calls : List Called) (u : AUnit) : Type 0 where
-  pub told : u.calls.items ≡ calls
-  pub replied : u.reply ≡ reply_to p turn
-  pub touched : u.touched.items ≡ touched_of p after
+  pub called : HasCalledOf c.tree before u s t
 
 -- the answer of a session that is closed: one unit that was broken off, and nothing else
 pub record IsClosedReport (report : Report) : Type 0 where

@@ -22,7 +22,7 @@ use crate::units::broken;
 use diversions::{Answer, DiversionFault, Diversions, Owner, Seen};
 use file_lists::FileLists;
 use host_core::{Host, Places, RootPath, ShipPath};
-use status_db::Database;
+use status_db::NotedDatabase;
 use std::alloc::Global;
 
 fn has_path(paths: &[RootPath], path: &ShipPath) -> bool
@@ -42,8 +42,8 @@ fn is_listed(lists: &FileLists, owner: &Owner, path: &ShipPath) -> bool
 }
 
 // What the administration says of a path that is to be diverted.
-fn seen_of(database: &Database, lists: &FileLists, owner: &Owner, path: &ShipPath) -> Seen
-    ensures { result ≡ seen_of database.now lists.now.lists owner.now path.now }
+fn seen_of(database: &NotedDatabase, lists: &FileLists, owner: &Owner, path: &ShipPath) -> Seen
+    ensures { result ≡ seen_of database.now.records lists.now.lists owner.now path.now }
 {
     Seen {
         conffile: database.has_conffile(path),
@@ -118,7 +118,7 @@ fn add_unit<H: Host>(
 fn divert_on<H: Host>(
     alloc: Global,
     host: &mut H,
-    database: &Database,
+    database: &NotedDatabase,
     lists: &FileLists,
     diversions: &mut Diversions,
     places: &mut Places,
@@ -127,12 +127,12 @@ fn divert_on<H: Host>(
     requires ready { Needs (H.state host.old) IsTableReady }
     requires writable { diversions.old.closed ≡ false }
     requires kept { places.old ≡ places_in diversions.old.entries lists.now.lists }
-    ensures whole { IsNone result.last → IsOneUnit (λ u. IsDiverted asked.now (seen_of database.now lists.now.lists asked.now.owner asked.now.path) diversions.old.entries diversions.new.entries u (H.state host.old) (H.state host.new)) result.units.items }
+    ensures whole { IsNone result.last → IsOneUnit (λ u. IsDiverted asked.now (seen_of database.now.records lists.now.lists asked.now.owner asked.now.path) diversions.old.entries diversions.new.entries u (H.state host.old) (H.state host.new)) result.units.items }
     ensures broken { HasBroken result }
     ensures calls { calls_told result ≡ [] }
     ensures writable { IsNone result.last → diversions.new.closed ≡ false }
     ensures kept { IsNone result.last → places.new ≡ places_in diversions.new.entries lists.now.lists }
-    ensures any_moment { AtEachMoment (IsAdding diversions.old.entries (asked_entry asked.now) asked.now.rename (seen_of database.now lists.now.lists asked.now.owner asked.now.path)) (H.state host.old) (H.state host.new) }
+    ensures any_moment { AtEachMoment (IsAdding diversions.old.entries (asked_entry asked.now) asked.now.rename (seen_of database.now.records lists.now.lists asked.now.owner asked.now.path)) (H.state host.old) (H.state host.new) }
     ensures silent { Silent (H.state host.old) (H.state host.new) }
     ensures counts { CountsLast (H.state host.old) (H.state host.new) result.last }
     ensures not_closed { IfSome result.last (λ unit. IsBrokenBy Closed unit.reply → ⊥) }
@@ -149,11 +149,11 @@ fn divert_on<H: Host>(
 impl<H: Host> Session<H> {
     /// Adds a diversion: one unit. One that is broken off closes the session.
     pub fn divert(&mut self, asked: &Diverting) -> Report
-        ensures whole { self.old.closed ≡ false → IsNone result.last → IsOneUnit (λ u. IsDiverted asked.now (seen_of self.old.database self.old.lists.lists asked.now.owner asked.now.path) self.old.diversions.entries self.new.diversions.entries u (H.state self.old.host) (H.state self.new.host)) result.units.items }
+        ensures whole { self.old.closed ≡ false → IsNone result.last → IsOneUnit (λ u. IsDiverted asked.now (seen_of self.old.database.records self.old.lists.lists asked.now.owner asked.now.path) self.old.diversions.entries self.new.diversions.entries u (H.state self.old.host) (H.state self.new.host)) result.units.items }
         ensures broken { HasBroken result }
         ensures told { TellsCalls (H.state self.old.host) (H.state self.new.host) result }
-        ensures any_moment { self.old.closed ≡ false → AtEachMoment (IsAdding self.old.diversions.entries (asked_entry asked.now) asked.now.rename (seen_of self.old.database self.old.lists.lists asked.now.owner asked.now.path)) (H.state self.old.host) (H.state self.new.host) }
-        ensures loss { self.old.closed ≡ false → LosesLikeAStop (λ so_far. IsAdding self.old.diversions.entries (asked_entry asked.now) asked.now.rename (seen_of self.old.database self.old.lists.lists asked.now.owner asked.now.path) (H.state self.old.host).world) (H.state self.old.host) (H.state self.new.host) }
+        ensures any_moment { self.old.closed ≡ false → AtEachMoment (IsAdding self.old.diversions.entries (asked_entry asked.now) asked.now.rename (seen_of self.old.database.records self.old.lists.lists asked.now.owner asked.now.path)) (H.state self.old.host) (H.state self.new.host) }
+        ensures loss { self.old.closed ≡ false → LosesLikeAStop (λ so_far. IsAdding self.old.diversions.entries (asked_entry asked.now) asked.now.rename (seen_of self.old.database.records self.old.lists.lists asked.now.owner asked.now.path) (H.state self.old.host).world) (H.state self.old.host) (H.state self.new.host) }
         ensures stands { self.old.closed ≡ false → IsNone result.last → StandsOnceAnswered (H.state self.old.host) (H.state self.new.host) }
         ensures answered { self.old.closed ≡ false → IsNone result.last → IsAnswered (H.state self.old.host) (H.state self.new.host) }
         ensures closes { self.new.closed ≡ is_some result.last }

@@ -15,6 +15,6 @@ mod units;
 pub use asked::{Diverting, Undiverting};
 pub use laws::history_stands;
 pub use questions::QueryFault;
-pub use refusal::{Refusal, Rule, Word};
+pub use refusal::{Refusal, Rule};
 pub use report::{Breakage, Candidate, Failure, Reply, Report, Touched, Unit};
 pub use session::{Command, Session};

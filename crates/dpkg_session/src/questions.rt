@@ -32,7 +32,7 @@ impl<H: Host> Session<H> {
 
     /// The packages with their versions and states.
     pub fn list(&self) -> Result<Bytes, QueryFault>
-        ensures { IsAnswer self.now.closed (list_text self.now.database) result }
+        ensures { IsAnswer self.now.closed (list_text self.now.database.records) result }
     {
         if self.is_closed() {
             return Err(QueryFault::Closed);
@@ -45,7 +45,7 @@ impl<H: Host> Session<H> {
 
     /// The packages with which something has to be done.
     pub fn audit(&self) -> Result<Bytes, QueryFault>
-        ensures { IsAnswer self.now.closed (audit_text self.now.database) result }
+        ensures { IsAnswer self.now.closed (audit_text self.now.database.records) result }
     {
         if self.is_closed() {
             return Err(QueryFault::Closed);
@@ -62,7 +62,7 @@ impl<H: Host> Session<H> {
         name: &Text,
         text: Result<Option<Bytes>, AllocError>,
     ) -> Result<Bytes, QueryFault>
-        ensures { (asked : Option (List ℕ)) → is_some asked ≡ is_some (record_in self.now.database name.now) → IfOk text (λ t. t ≡ asked) → IsAnswerAbout false asked result }
+        ensures { (asked : Option (List ℕ)) → is_some asked ≡ is_some (record_in self.now.database.records name.now) → IfOk text (λ t. t ≡ asked) → IsAnswerAbout false asked result }
     {
         if self.database.get(name).is_none() {
             return Err(QueryFault::Unknown);
@@ -75,7 +75,7 @@ impl<H: Host> Session<H> {
 
     /// The record of a package as the status file has it.
     pub fn status(&self, name: &Text) -> Result<Bytes, QueryFault>
-        ensures { IsAnswerAbout self.now.closed (status_text self.now.database name.now) result }
+        ensures { IsAnswerAbout self.now.closed (status_text self.now.database.records name.now) result }
     {
         if self.is_closed() {
             return Err(QueryFault::Closed);
@@ -85,7 +85,7 @@ impl<H: Host> Session<H> {
 
     /// The list of a package.
     pub fn files(&self, name: &Text) -> Result<Bytes, QueryFault>
-        ensures { IsAnswerAbout self.now.closed (files_text self.now.database self.now.lists.lists name.now) result }
+        ensures { IsAnswerAbout self.now.closed (files_text self.now.database.records self.now.lists.lists name.now) result }
     {
         if self.is_closed() {
             return Err(QueryFault::Closed);

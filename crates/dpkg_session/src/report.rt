@@ -1,7 +1,7 @@
 // What a command reports.
 use crate::refusal::Refusal;
-use host_core::Call;
 use package_tree::{Package, TreeFault};
+use stack_run::Failure as Cause;
 use status_db::Record;
 use texts::Text;
 use unwind_stack::Called;
@@ -20,11 +20,12 @@ pub struct Touched {
     pub entry: Option<Record>,
 }
 
-/// The call for which a unit failed.
+/// For what the unit of a package failed: the forward call of the row that failed, or the step fault
+/// of its files.
 #[derive(Drop)]
 pub struct Failure {
     pub package: Text,
-    pub call: Call,
+    pub cause: Cause,
 }
 
 /// Why a unit was broken off: a device fault, want of memory, or a session that is closed since

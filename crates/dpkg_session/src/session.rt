@@ -4,9 +4,10 @@ ghost use Rattle.host_core.specs.Host.{AtEachMoment, Falls, Gives, Needs, Silent
 ghost use Rattle.host_core.specs.Loss.{IsAnswered, IsOnDisk};
 ghost use Rattle.administration.specs.Fault.{CountsAdministration};
 ghost use Rattle.file_lists.specs.Owners.{places_in};
-ghost use Rattle.opening.specs.Leaving.{IsOpening};
+ghost use Rattle.opening.specs.Leaving.{IsOpeningOrMerging};
 ghost use Rattle.opening.specs.Opened.{IsOpened};
-ghost use Rattle.opening.specs.Parts.{Opens, fault_in, parts};
+ghost use Rattle.opening.specs.Parts.{OpensAndMerges, fault_in};
+ghost use Rattle.dpkg_session.specs.Held.{held};
 ghost use Rattle.dpkg_session.specs.declared.report.Breakage.TheVariants.{Closed};
 ghost use Rattle.dpkg_session.specs.PowerLoss.{LosesLikeAStop, StandsOnceAnswered};
 ghost use Rattle.dpkg_session.specs.Run.{IsAmidRun, IsRun, HasRun};
@@ -18,9 +19,9 @@ use crate::units::{broken, run_units};
 use administration::AdministrationFault;
 use diversions::Diversions;
 use file_lists::FileLists;
-use host_core::{Host, Keep, Places};
+use host_core::{Host, Places};
 use opening::{Opened, open_administration};
-use status_db::Database;
+use status_db::NotedDatabase;
 use std::alloc::Global;
 
 /// A command: the trees to be unpacked, in this order.
@@ -32,37 +33,43 @@ pub enum Command {
 impl Command {
     ghost use Rattle.dpkg_session.specs.Commands.{candidates_of};
 
-    fn candidates(&self) -> &[Candidate]
-        ensures { result.now ≡ candidates_of self.now }
+    fn candidates(self) -> Vec<Candidate>
+        ensures { result.items ≡ candidates_of self }
     {
         match self {
-            Command::Unpack(candidates) => candidates.as_slice(),
+            Command::Unpack(candidates) => candidates,
         }
     }
 }
 
 /// A root whose administration is open. After a unit that was broken off it is closed. A running
-/// script leaves alone the places of all listed paths, which are computed anew as diversions change.
+/// script leaves alone the places of all listed paths, which are computed anew as lists or
+/// diversions change.
 pub struct Session<H: Host> {
     pub(crate) alloc: Global,
     pub(crate) host: H,
-    pub(crate) database: Database,
+    pub(crate) database: NotedDatabase,
     pub(crate) lists: FileLists,
     pub(crate) diversions: Diversions,
     pub(crate) places: Places,
     pub(crate) closed: bool,
-    pub ghost ready: { closed ≡ false → Needs (H.state host) (IsStanding database lists.lists diversions.entries) },
+    pub ghost ready: { closed ≡ false → Needs (H.state host) (IsStanding (held database lists diversions)) },
     pub ghost kept: { closed ≡ false → places ≡ places_in diversions.entries lists.lists },
     pub ghost writable: { closed ≡ false → diversions.closed ≡ false },
+    pub ghost noting: { closed ≡ false → database.closed ≡ false },
+    pub ghost listing: { closed ≡ false → lists.closed ≡ false },
 }
 
 // Opens the administration, and brings all that was done to the disk.
 fn open_to_disk<H: Host>(alloc: Global, host: &mut H) -> Result<Opened, AdministrationFault>
-    ensures opens { IsTrue (H.state host.new).honest → Opens parts (fault_in result) (H.state host.old).world (H.state host.new).world }
-    ensures opened { Gives result (λ opened old new. IsOpened opened.database opened.lists.lists opened.diversions.entries new) (H.state host.old) (H.state host.new) }
+    ensures opens { IsTrue (H.state host.new).honest → OpensAndMerges (fault_in result) (H.state host.old).world (H.state host.new).world }
+    ensures opened { Gives result (λ opened old new. IsOpened opened.database.records opened.lists.lists opened.diversions.entries new) (H.state host.old) (H.state host.new) }
+    ensures number { IfOk result (λ opened. opened.database.notes ≡ 0) }
+    ensures noting { IfOk result (λ opened. opened.database.closed ≡ false) }
+    ensures listing { IfOk result (λ opened. opened.lists.closed ≡ false) }
     ensures writable { IfOk result (λ opened. opened.diversions.closed ≡ false) }
     ensures on_disk { OnOk result (IsOnDisk (H.state host.new).events) }
-    ensures any_moment { AtEachMoment IsOpening (H.state host.old) (H.state host.new) }
+    ensures any_moment { AtEachMoment IsOpeningOrMerging (H.state host.old) (H.state host.new) }
     ensures silent { Silent (H.state host.old) (H.state host.new) }
     ensures counts { CountsAdministration (H.state host.old) (H.state host.new) result }
 {
@@ -91,13 +98,14 @@ impl<H: Host> Session<H> {
     /// Opens the administration of a host. A refusal hands the host back; it and what was changed
     /// then are told by `refused`.
     pub fn open(alloc: Global, mut host: H) -> Result<Session<H>, (H, AdministrationFault)>
-        ensures opened { IfOk result (λ s. Needs (H.state s.host) (IsOpened s.database s.lists.lists s.diversions.entries)) }
+        ensures opened { IfOk result (λ s. Needs (H.state s.host) (IsOpened s.database.records s.lists.lists s.diversions.entries)) }
+        ensures number { IfOk result (λ s. s.database.notes ≡ 0) }
         ensures opens { IfOk result (λ s. OpensAll None (H.state host) (H.state s.host)) }
         ensures refused { IfErr result (λ e. OpensAll (Some e.1) (H.state host) (H.state e.0)) }
-        ensures any_moment { IfOk result (λ s. AtEachMoment IsOpening (H.state host) (H.state s.host)) }
-        ensures any_moment_refused { IfErr result (λ e. AtEachMoment IsOpening (H.state host) (H.state e.0)) }
-        ensures loss { IfOk result (λ s. LosesLikeAStop (λ so_far. IsOpening (H.state host).world) (H.state host) (H.state s.host)) }
-        ensures loss_refused { IfErr result (λ e. LosesLikeAStop (λ so_far. IsOpening (H.state host).world) (H.state host) (H.state e.0)) }
+        ensures any_moment { IfOk result (λ s. AtEachMoment IsOpeningOrMerging (H.state host) (H.state s.host)) }
+        ensures any_moment_refused { IfErr result (λ e. AtEachMoment IsOpeningOrMerging (H.state host) (H.state e.0)) }
+        ensures loss { IfOk result (λ s. LosesLikeAStop (λ so_far. IsOpeningOrMerging (H.state host).world) (H.state host) (H.state s.host)) }
+        ensures loss_refused { IfErr result (λ e. LosesLikeAStop (λ so_far. IsOpeningOrMerging (H.state host).world) (H.state host) (H.state e.0)) }
         ensures silent { IfOk result (λ s. Silent (H.state host) (H.state s.host)) }
         ensures silent_refused { IfErr result (λ e. Silent (H.state host) (H.state e.0)) }
         ensures no_fault { IfOk result (λ s. faults (H.state s.host) ≡ faults (H.state host)) }
@@ -129,20 +137,19 @@ impl<H: Host> Session<H> {
     }
 
     /// Runs a command: its units in order, up to one that is broken off, which closes the session.
-    pub fn run(&mut self, command: &Command) -> Report
-        ensures whole { self.old.closed ≡ false → IsNone result.last → IsRun (candidates_of command.now) result.units.items self.old.places self.old.database self.new.database (H.state self.old.host) (H.state self.new.host) }
-        ensures part { self.old.closed ≡ false → HasRun (candidates_of command.now) result.units.items result.last self.old.places self.old.database (H.state self.old.host) (H.state self.new.host) }
+    pub fn run(&mut self, command: Command) -> Report
+        ensures whole { self.old.closed ≡ false → IsNone result.last → IsRun (candidates_of command) result.units.items (held self.old.database self.old.lists self.old.diversions) (held self.new.database self.new.lists self.new.diversions) (H.state self.old.host) (H.state self.new.host) }
+        ensures part { self.old.closed ≡ false → HasRun (candidates_of command) result.units.items result.last (held self.old.database self.old.lists self.old.diversions) (H.state self.old.host) (H.state self.new.host) }
         ensures told { TellsCalls (H.state self.old.host) (H.state self.new.host) result }
-        ensures any_moment { self.old.closed ≡ false → Since (IsAmidRun (candidates_of command.now) self.old.places self.old.database (H.state self.old.host)) (H.state self.old.host) (H.state self.new.host) }
-        ensures loss { self.old.closed ≡ false → LosesLikeAStop (IsAmidRun (candidates_of command.now) self.old.places self.old.database (H.state self.old.host)) (H.state self.old.host) (H.state self.new.host) }
+        ensures any_moment { self.old.closed ≡ false → Since (IsAmidRun (candidates_of command) (held self.old.database self.old.lists self.old.diversions) (H.state self.old.host)) (H.state self.old.host) (H.state self.new.host) }
+        ensures loss { self.old.closed ≡ false → LosesLikeAStop (IsAmidRun (candidates_of command) (held self.old.database self.old.lists self.old.diversions) (H.state self.old.host)) (H.state self.old.host) (H.state self.new.host) }
         ensures stands { self.old.closed ≡ false → IsNone result.last → StandsOnceAnswered (H.state self.old.host) (H.state self.new.host) }
         ensures closes { self.new.closed ≡ is_some result.last }
         ensures refused { self.old.closed ≡ true → IsClosedReport result }
         ensures same { self.old.closed ≡ true → H.state self.new.host ≡ H.state self.old.host }
+        ensures same_held { self.old.closed ≡ true → held self.new.database self.new.lists self.new.diversions ≡ held self.old.database self.old.lists self.old.diversions }
         ensures answered { self.old.closed ≡ false → IsNone result.last → IsAnswered (H.state self.old.host) (H.state self.new.host) }
-        ensures lists { self.new.lists ≡ self.old.lists }
         ensures diversions { self.new.diversions ≡ self.old.diversions }
-        ensures places { self.new.places ≡ self.old.places }
         ensures honest { Falls (H.state self.old.host) (H.state self.new.host) }
         ensures counts { self.old.closed ≡ false → CountsLast (H.state self.old.host) (H.state self.new.host) result.last }
         ensures not_closed { self.old.closed ≡ false → IfSome result.last (λ unit. IsBrokenBy Closed unit.reply → ⊥) }
@@ -150,14 +157,13 @@ impl<H: Host> Session<H> {
         if self.closed {
             return closed_report(self.alloc);
         }
-        let keep = Keep {
-            places: &self.places,
-        };
         let report = run_units(
             self.alloc,
             &mut self.host,
             &mut self.database,
-            &keep,
+            &mut self.lists,
+            &mut self.places,
+            &self.diversions,
             command.candidates(),
         );
         self.closed = report.last.is_some();

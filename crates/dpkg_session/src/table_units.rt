@@ -47,7 +47,7 @@ fn refused(alloc: Global, path: &ShipPath, refusal: diversions::Refusal) -> Unit
 }
 
 // Computes the places anew.
-fn refresh(
+pub(crate) fn refresh(
     alloc: Global,
     lists: &FileLists,
     diversions: &Diversions,

@@ -1,71 +1,81 @@
 // The units of a command, one after another.
-ghost use Rattle.std.specs.Prelude.{◌≡◌, ◌⊎◌, None, IfOk, [], codes, IfErr, OnOk, OnErr, IfSome, IsNone, MatchBool};
-ghost use Rattle.host_core.specs.declared.call.Script.TheVariants.{Preinst};
-ghost use Rattle.status_db.specs.Records.{record_in};
-ghost use Rattle.unpack_engine.specs.ForwardRows.{call_of};
+ghost use Rattle.std.specs.Prelude.{◌≡◌, ◌⊎◌, false, None, IfOk, [], IfErr, OnOk, OnErr, IfSome, IsNone, MatchBool, map};
 ghost use Rattle.host_core.specs.Host.{AtEachMomentOf, Counts, Needs, Since, faults};
 ghost use Rattle.host_core.specs.Loss.{IsAnswered, IsOnDisk};
+ghost use Rattle.file_lists.specs.Owners.{places_in};
+ghost use Rattle.status_db.specs.Records.{record_in};
+ghost use Rattle.stack_run.specs.Ended.{ended_as};
 ghost use Rattle.unwind_stack.specs.Transcript.{TellsAll};
-ghost use Rattle.status_db.specs.Status.{HasRecords};
-ghost use Rattle.unpack_engine.specs.Unpack.{IsAmid, IsInOrder};
-ghost use Rattle.unpack_engine.specs.Units.{HasCalled, HasUnpacked};
-ghost use Rattle.dpkg_session.specs.declared.report.Breakage.TheVariants.{Device, NoMemory, Closed};
-ghost use Rattle.dpkg_session.specs.Units.{CountsLast, CountsReply, AnswersTurn, IsBroken, IsBrokenBy, IsBrokenOff, HasCalledByWord, HasCalledOf, IsUnit, IsUnpacked, breakage_of, reply_to, touched_of, IsRefusedUnit, IsUnitByWord, TellsCalls, calls_of};
+ghost use Rattle.unpack_engine.specs.Order.{IsInOrder};
+ghost use Rattle.unpack_engine.specs.Units.{HasCalled, HasFailedFor, HasUnpacked, IsAmid, IsTouched};
 ghost use Rattle.dpkg_session.specs.declared.refusal.Rule.TheVariants.{Tree};
-ghost use Rattle.dpkg_session.specs.Refusals.{word_of};
-ghost use Rattle.dpkg_session.specs.Run.{AddsUnit, IsAmidByWord, IsAmidRun, IsAmidUnitOf, IsRun, HasRun};
+ghost use Rattle.dpkg_session.specs.declared.report.Breakage.TheVariants.{NoMemory, Closed};
+ghost use Rattle.dpkg_session.specs.Held.{held};
+ghost use Rattle.dpkg_session.specs.Run.{AddsUnit, IsAmidByRule, IsAmidRun, IsAmidUnitOf, IsAmidUnpack, IsRun, HasRun};
+ghost use Rattle.dpkg_session.specs.Units.{CountsLast, AnswersUnpack, CountsReply, IsBroken, IsBrokenBy, IsBrokenOff, HasCalledByRule, HasCalledOf, IsUnit, IsUnpacked, breakage_of, given_by, reply_to, rule_for, touched_at, IsRefusedUnit, IsUnitByRule, TellsCalls, calls_of};
 
-use crate::refusal::{Refusal, Rule, word_of};
+use crate::refusal::{Refusal, Rule, rule_of};
 use crate::report::{Breakage, Candidate, Failure, Reply, Report, Touched, Unit};
-use host_core::{Host, HostFault, Keep};
-use package_tree::{Package, TreeFault};
-use status_db::{Database, Record};
+use crate::table_units::refresh;
+use diversions::Diversions;
+use file_lists::FileLists;
+use host_core::{Host, HostFault, Places};
+use package_tree::Package;
+use stack_run::Unwinding;
+use status_db::{NotedDatabase, Record};
 use std::alloc::{AllocError, Global};
-use texts::Text;
-use unpack_engine::{Turn, preinst_call, unpack_package};
+use texts::{Text, Texts};
+use unpack_engine::{Unpacked, unpack};
 use unwind_stack::Called;
 
-fn record_of(incoming: &Package, database: &Database) -> Result<Option<Record>, AllocError>
-    ensures { IfOk result (λ entry. entry ≡ record_in database.now incoming.now.name) }
+fn record_of(database: &NotedDatabase, name: &Text) -> Result<Option<Record>, AllocError>
+    ensures { IfOk result (λ entry. entry ≡ record_in database.now.records name.now) }
 {
-    match database.get(&incoming.name) {
+    match database.get(name) {
         Some(entry) => Ok(Some(entry.copy()?)),
         None => Ok(None),
     }
 }
 
+// A package with its record.
+fn touched_at(database: &NotedDatabase, name: &Text) -> Result<Touched, AllocError>
+    ensures { IfOk result (λ touched. touched ≡ touched_at database.now.records name.now) }
+{
+    Ok(Touched {
+        package: name.copy()?,
+        entry: record_of(database, name)?,
+    })
+}
+
 fn touched_of(
     alloc: Global,
-    incoming: &Package,
-    database: &Database,
+    database: &NotedDatabase,
+    names: &[Text],
 ) -> Result<Vec<Touched>, AllocError>
-    ensures { IfOk result (λ touched. touched.items ≡ touched_of incoming.now database.now) }
+    ensures { IfOk result (λ touched. touched.items ≡ map (touched_at database.now.records) names.now) }
 {
-    let package = incoming.name.copy()?;
-    let entry = record_of(incoming, database)?;
     let mut touched = Vec::new(alloc);
-    touched.push(Touched { package, entry })?;
+    for name in names {
+        touched.push(touched_at(database, name)?)?;
+    }
     Ok(touched)
 }
 
-fn reply_to(alloc: Global, incoming: &Package, turn: Turn) -> Result<Reply, AllocError>
-    ensures { IfOk result (λ reply. reply ≡ reply_to incoming.now turn) }
+// The reply to a unit of a package, by how its rows were unwound.
+fn reply_to(package: Text, unwinding: Option<Unwinding>) -> Reply
+    ensures { result ≡ reply_to «package» unwinding }
 {
-    match turn {
-        Turn::Committed => Ok(Reply::Done),
-        Turn::Undone => Ok(Reply::Failed(failure_of(alloc, incoming)?)),
-        Turn::UndoFailed => Ok(Reply::Failed(failure_of(alloc, incoming)?)),
+    match unwinding {
+        None => Reply::Done,
+        Some(unwinding) => {
+            let Unwinding {
+                fall: _,
+                failed: _,
+                failure: cause,
+            } = unwinding;
+            Reply::Failed(Failure { package, cause })
+        }
     }
-}
-
-fn failure_of(alloc: Global, incoming: &Package) -> Result<Failure, AllocError>
-    ensures package { IfOk result (λ failure. failure.«package» ≡ incoming.now.name) }
-    ensures call { IfOk result (λ failure. failure.call ≡ call_of incoming.now Preinst (codes "install")) }
-{
-    Ok(Failure {
-        package: incoming.name.copy()?,
-        call: preinst_call(alloc, incoming)?,
-    })
 }
 
 pub(crate) fn broken(alloc: Global, calls: Vec<Called>, breakage: Breakage) -> Unit
@@ -80,36 +90,24 @@ pub(crate) fn broken(alloc: Global, calls: Vec<Called>, breakage: Breakage) -> U
     }
 }
 
-fn answer_of(
-    alloc: Global,
-    incoming: &Package,
-    database: &Database,
-    turn: Turn,
-) -> Result<(Vec<Touched>, Reply), AllocError>
-    ensures touched { IfOk result (λ answer. answer.0.items ≡ touched_of incoming.now database.now) }
-    ensures reply { IfOk result (λ answer. answer.1 ≡ reply_to incoming.now turn) }
-{
-    let touched = touched_of(alloc, incoming, database)?;
-    Ok((touched, reply_to(alloc, incoming, turn)?))
-}
-
-// The unit whose rows took this turn.
+// The unit of a package that was unpacked, or whose rows were unwound.
 fn answered(
     alloc: Global,
-    incoming: &Package,
-    database: &Database,
-    turn: Turn,
+    database: &NotedDatabase,
+    package: Text,
+    unpacked: Unpacked,
     calls: Vec<Called>,
 ) -> Unit
-    ensures answer { IsBrokenBy NoMemory result.reply ⊎ AnswersTurn incoming.now database.now turn calls.items result }
+    ensures answer { IsBrokenBy NoMemory result.reply ⊎ AnswersUnpack «package» database.now.records unpacked.unwinding unpacked.touched result }
     ensures told { result.calls.items ≡ calls.items }
     ensures untouched { IsBroken result.reply → result.touched.items ≡ [] }
 {
-    match answer_of(alloc, incoming, database, turn) {
-        Ok((touched, reply)) => Unit {
+    let Unpacked { unwinding, touched } = unpacked;
+    match touched_of(alloc, database, touched.as_slice()) {
+        Ok(touched) => Unit {
             calls,
             touched,
-            reply,
+            reply: reply_to(package, unwinding),
         },
         Err(_) => broken(alloc, calls, Breakage::NoMemory),
     }
@@ -128,75 +126,143 @@ fn breakage_of(fault: HostFault) -> Breakage
 fn unpack_to_disk<H: Host>(
     alloc: Global,
     host: &mut H,
-    database: &mut Database,
-    keep: &Keep<'_>,
-    incoming: &Package,
+    database: &mut NotedDatabase,
+    lists: &mut FileLists,
+    places: &mut Places,
+    diversions: &Diversions,
+    incoming: Package,
     told: &mut Vec<Called>,
-) -> Result<Turn, HostFault>
-    requires carried_out { word_of incoming.now database.old ≡ None }
-    requires order { Needs (H.state host.old) IsInOrder }
-    requires records { Needs (H.state host.old) (λ w. HasRecords w database.old) }
-    ensures unit { IfOk result (λ turn. HasUnpacked incoming.now keep.now turn database.old database.new (H.state host.old) (H.state host.new) told.old.items told.new.items) }
+) -> Result<Unpacked, HostFault>
+    requires order { Needs (H.state host.old) (IsInOrder database.old lists.old.lists) }
+    requires noting { database.old.closed ≡ false }
+    requires listing { lists.old.closed ≡ false }
+    ensures unit { IfOk result (λ u. HasUnpacked (given_by incoming (held database.old lists.old diversions.now)) places.old (ended_as u.unwinding) database.new lists.new.lists (H.state host.old) (H.state host.new) told.old.items told.new.items) }
+    ensures cause { IfOk result (λ u. HasFailedFor (given_by incoming (held database.old lists.old diversions.now)) (H.state host.old) (H.state host.new) u.unwinding) }
+    ensures touched { IfOk result (λ u. IsTouched incoming.name database.old.records database.new.records u.touched) }
+    ensures order { IfOk result (λ u. Needs (H.state host.new) (IsInOrder database.new lists.new.lists)) }
+    ensures noting { OnOk result (database.new.closed ≡ false) }
+    ensures listing { OnOk result (lists.new.closed ≡ false) }
     ensures on_disk { OnOk result (IsOnDisk (H.state host.new).events) }
-    ensures told { HasCalled incoming.now keep.now database.old (H.state host.old) (H.state host.new) told.old.items told.new.items }
-    ensures any_moment { AtEachMomentOf (IsAmid incoming.now keep.now database.old) (H.state host.old) (H.state host.new) }
+    ensures told { HasCalled (given_by incoming (held database.old lists.old diversions.now)) (H.state host.old) (H.state host.new) told.old.items told.new.items }
+    ensures any_moment { AtEachMomentOf (IsAmid (given_by incoming (held database.old lists.old diversions.now)) places.old) (H.state host.old) (H.state host.new) }
     ensures counts { Counts (H.state host.old) (H.state host.new) result }
 {
-    let turn = unpack_package(alloc, host, database, keep, incoming, told)?;
-    host.barrier()?;
-    Ok(turn)
+    match unpack(
+        alloc, host, database, lists, places, diversions, incoming, told,
+    ) {
+        Ok(unpacked) => match host.barrier() {
+            Ok(()) => Ok(unpacked),
+            Err(fault) => Err(fault),
+        },
+        Err(fault) => Err(fault),
+    }
+}
+
+// The unit of what was unpacked, once the kept places are those of the lists that it left.
+fn settled(
+    alloc: Global,
+    database: &NotedDatabase,
+    lists: &FileLists,
+    places: &mut Places,
+    diversions: &Diversions,
+    package: Text,
+    unpacked: Unpacked,
+    calls: Vec<Called>,
+) -> Unit
+    ensures answer { IsBrokenBy NoMemory result.reply ⊎ AnswersUnpack «package» database.now.records unpacked.unwinding unpacked.touched result }
+    ensures kept { IsBrokenBy NoMemory result.reply ⊎ (places.new ≡ places_in diversions.now.entries lists.now.lists) }
+    ensures told { result.calls.items ≡ calls.items }
+    ensures untouched { IsBroken result.reply → result.touched.items ≡ [] }
+{
+    match refresh(alloc, lists, diversions, places) {
+        Ok(()) => answered(alloc, database, package, unpacked, calls),
+        Err(_) => broken(alloc, calls, Breakage::NoMemory),
+    }
+}
+
+// The unit of a package of this name that isn't refused.
+fn unpack_named<H: Host>(
+    alloc: Global,
+    host: &mut H,
+    database: &mut NotedDatabase,
+    lists: &mut FileLists,
+    places: &mut Places,
+    diversions: &Diversions,
+    package: Text,
+    incoming: Package,
+) -> Unit
+    requires name { «package» ≡ incoming.name }
+    requires order { Needs (H.state host.old) (IsInOrder database.old lists.old.lists) }
+    requires noting { database.old.closed ≡ false }
+    requires listing { lists.old.closed ≡ false }
+    requires kept { places.old ≡ places_in diversions.now.entries lists.old.lists }
+    ensures unit { IsBroken result.reply ⊎ IsUnpacked incoming (held database.old lists.old diversions.now) (held database.new lists.new diversions.now) result (H.state host.old) (H.state host.new) }
+    ensures noting { IsBroken result.reply ⊎ (database.new.closed ≡ false) }
+    ensures listing { IsBroken result.reply ⊎ (lists.new.closed ≡ false) }
+    ensures kept { IsBroken result.reply ⊎ (places.new ≡ places_in diversions.now.entries lists.new.lists) }
+    ensures on_disk { IsBroken result.reply ⊎ IsOnDisk (H.state host.new).events }
+    ensures untouched { IsBroken result.reply → result.touched.items ≡ [] }
+    ensures told { HasCalled (given_by incoming (held database.old lists.old diversions.now)) (H.state host.old) (H.state host.new) [] result.calls.items }
+    ensures any_moment { AtEachMomentOf (IsAmidUnpack incoming (held database.old lists.old diversions.now)) (H.state host.old) (H.state host.new) }
+    ensures counts { CountsReply (H.state host.old) (H.state host.new) result.reply }
+    ensures not_closed { IsBrokenBy Closed result.reply → ⊥ }
+{
+    let mut calls = Vec::new(alloc);
+    match unpack_to_disk(
+        alloc, host, database, lists, places, diversions, incoming, &mut calls,
+    ) {
+        Ok(unpacked) => settled(
+            alloc, database, lists, places, diversions, package, unpacked, calls,
+        ),
+        Err(fault) => broken(alloc, calls, breakage_of(fault)),
+    }
 }
 
 // The unit of a package that isn't refused.
 fn unpack_unit<H: Host>(
     alloc: Global,
     host: &mut H,
-    database: &mut Database,
-    keep: &Keep<'_>,
-    incoming: &Package,
+    database: &mut NotedDatabase,
+    lists: &mut FileLists,
+    places: &mut Places,
+    diversions: &Diversions,
+    incoming: Package,
 ) -> Unit
-    requires carried_out { word_of incoming.now database.old ≡ None }
-    requires order { Needs (H.state host.old) IsInOrder }
-    requires records { Needs (H.state host.old) (λ w. HasRecords w database.old) }
-    ensures unit { IsBroken result.reply ⊎ IsUnpacked incoming.now keep.now database.old database.new result (H.state host.old) (H.state host.new) }
+    requires order { Needs (H.state host.old) (IsInOrder database.old lists.old.lists) }
+    requires noting { database.old.closed ≡ false }
+    requires listing { lists.old.closed ≡ false }
+    requires kept { places.old ≡ places_in diversions.now.entries lists.old.lists }
+    ensures unit { IsBroken result.reply ⊎ IsUnpacked incoming (held database.old lists.old diversions.now) (held database.new lists.new diversions.now) result (H.state host.old) (H.state host.new) }
+    ensures noting { IsBroken result.reply ⊎ (database.new.closed ≡ false) }
+    ensures listing { IsBroken result.reply ⊎ (lists.new.closed ≡ false) }
+    ensures kept { IsBroken result.reply ⊎ (places.new ≡ places_in diversions.now.entries lists.new.lists) }
     ensures on_disk { IsBroken result.reply ⊎ IsOnDisk (H.state host.new).events }
     ensures untouched { IsBroken result.reply → result.touched.items ≡ [] }
-    ensures told { HasCalled incoming.now keep.now database.old (H.state host.old) (H.state host.new) [] result.calls.items }
-    ensures any_moment { AtEachMomentOf (IsAmid incoming.now keep.now database.old) (H.state host.old) (H.state host.new) }
+    ensures told { HasCalled (given_by incoming (held database.old lists.old diversions.now)) (H.state host.old) (H.state host.new) [] result.calls.items }
+    ensures any_moment { AtEachMomentOf (IsAmidUnpack incoming (held database.old lists.old diversions.now)) (H.state host.old) (H.state host.new) }
     ensures counts { CountsReply (H.state host.old) (H.state host.new) result.reply }
     ensures not_closed { IsBrokenBy Closed result.reply → ⊥ }
 {
-    let mut calls = Vec::new(alloc);
-    match unpack_to_disk(alloc, host, database, keep, incoming, &mut calls) {
-        Ok(turn) => answered(alloc, incoming, database, turn, calls),
-        Err(fault) => broken(alloc, calls, breakage_of(fault)),
+    match incoming.name.copy() {
+        Ok(package) => {
+            return unpack_named(
+                alloc, host, database, lists, places, diversions, package, incoming,
+            );
+        }
+        Err(_) => {
+            return broken(alloc, Vec::new(alloc), Breakage::NoMemory);
+        }
     }
 }
 
-// The unit that is refused by a rule, or broken off for want of memory.
-fn refused(alloc: Global, rule: Rule, name: &Text) -> Unit
-    ensures unit { IsBrokenBy NoMemory result.reply ⊎ IsRefusedUnit rule name.now result }
-    ensures told { result.calls.items ≡ [] }
-    ensures untouched { IsBroken result.reply → result.touched.items ≡ [] }
+// The unit that is refused by a rule.
+fn refused(alloc: Global, rule: Rule, package: Text) -> Unit
+    ensures { IsRefusedUnit rule «package» result }
 {
-    match name.copy() {
-        Ok(package) => Unit {
-            calls: Vec::new(alloc),
-            touched: Vec::new(alloc),
-            reply: Reply::Refused(Refusal { rule, package }),
-        },
-        Err(_) => broken(alloc, Vec::new(alloc), Breakage::NoMemory),
-    }
-}
-
-fn refused_tree(alloc: Global, fault: &TreeFault, label: &Text) -> Unit
-    ensures unit { IsBrokenBy NoMemory result.reply ⊎ IsRefusedUnit (Tree fault.now) label.now result }
-    ensures told { result.calls.items ≡ [] }
-    ensures untouched { IsBroken result.reply → result.touched.items ≡ [] }
-{
-    match fault.copy() {
-        Ok(copy) => refused(alloc, Rule::Tree(copy), label),
-        Err(_) => broken(alloc, Vec::new(alloc), Breakage::NoMemory),
+    Unit {
+        calls: Vec::new(alloc),
+        touched: Vec::new(alloc),
+        reply: Reply::Refused(Refusal { rule, package }),
     }
 }
 
@@ -204,26 +270,36 @@ fn refused_tree(alloc: Global, fault: &TreeFault, label: &Text) -> Unit
 fn unit_of_package<H: Host>(
     alloc: Global,
     host: &mut H,
-    database: &mut Database,
-    keep: &Keep<'_>,
-    incoming: &Package,
+    database: &mut NotedDatabase,
+    lists: &mut FileLists,
+    places: &mut Places,
+    diversions: &Diversions,
+    incoming: Package,
 ) -> Unit
-    requires order { Needs (H.state host.old) IsInOrder }
-    requires records { Needs (H.state host.old) (λ w. HasRecords w database.old) }
-    ensures unit { IsBroken result.reply ⊎ IsUnitByWord incoming.now (word_of incoming.now database.old) keep.now database.old database.new result (H.state host.old) (H.state host.new) }
+    requires order { Needs (H.state host.old) (IsInOrder database.old lists.old.lists) }
+    requires noting { database.old.closed ≡ false }
+    requires listing { lists.old.closed ≡ false }
+    requires kept { places.old ≡ places_in diversions.now.entries lists.old.lists }
+    ensures unit { IsBroken result.reply ⊎ IsUnitByRule incoming (rule_for incoming (held database.old lists.old diversions.now)) (held database.old lists.old diversions.now) (held database.new lists.new diversions.now) result (H.state host.old) (H.state host.new) }
+    ensures noting { IsBroken result.reply ⊎ (database.new.closed ≡ false) }
+    ensures listing { IsBroken result.reply ⊎ (lists.new.closed ≡ false) }
+    ensures kept { IsBroken result.reply ⊎ (places.new ≡ places_in diversions.now.entries lists.new.lists) }
     ensures answered { IsBroken result.reply ⊎ IsAnswered (H.state host.old) (H.state host.new) }
     ensures untouched { IsBroken result.reply → result.touched.items ≡ [] }
-    ensures told { HasCalledByWord incoming.now (word_of incoming.now database.old) keep.now database.old result (H.state host.old) (H.state host.new) }
-    ensures any_moment { AtEachMomentOf (IsAmidByWord incoming.now (word_of incoming.now database.old) keep.now database.old) (H.state host.old) (H.state host.new) }
+    ensures told { HasCalledByRule incoming (rule_for incoming (held database.old lists.old diversions.now)) (held database.old lists.old diversions.now) result (H.state host.old) (H.state host.new) }
+    ensures any_moment { AtEachMomentOf (IsAmidByRule incoming (rule_for incoming (held database.old lists.old diversions.now)) (held database.old lists.old diversions.now)) (H.state host.old) (H.state host.new) }
     ensures counts { CountsReply (H.state host.old) (H.state host.new) result.reply }
     ensures not_closed { IsBrokenBy Closed result.reply → ⊥ }
 {
-    match word_of(incoming, database) {
-        Some(word) => {
-            return refused(alloc, Rule::NotYet(word), &incoming.name);
+    match rule_of(&incoming, database, diversions) {
+        Ok(Some(rule)) => {
+            return refused(alloc, rule, incoming.name);
         }
-        None => {
-            return unpack_unit(alloc, host, database, keep, incoming);
+        Ok(None) => {
+            return unpack_unit(alloc, host, database, lists, places, diversions, incoming);
+        }
+        Err(_) => {
+            return broken(alloc, Vec::new(alloc), Breakage::NoMemory);
         }
     }
 }
@@ -232,26 +308,34 @@ fn unit_of_package<H: Host>(
 fn unit_of<H: Host>(
     alloc: Global,
     host: &mut H,
-    database: &mut Database,
-    keep: &Keep<'_>,
-    candidate: &Candidate,
+    database: &mut NotedDatabase,
+    lists: &mut FileLists,
+    places: &mut Places,
+    diversions: &Diversions,
+    candidate: Candidate,
 ) -> Unit
-    requires order { Needs (H.state host.old) IsInOrder }
-    requires records { Needs (H.state host.old) (λ w. HasRecords w database.old) }
-    ensures unit { IsBroken result.reply ⊎ IsUnit candidate.now keep.now database.old database.new result (H.state host.old) (H.state host.new) }
+    requires order { Needs (H.state host.old) (IsInOrder database.old lists.old.lists) }
+    requires noting { database.old.closed ≡ false }
+    requires listing { lists.old.closed ≡ false }
+    requires kept { places.old ≡ places_in diversions.now.entries lists.old.lists }
+    ensures unit { IsBroken result.reply ⊎ IsUnit candidate (held database.old lists.old diversions.now) (held database.new lists.new diversions.now) result (H.state host.old) (H.state host.new) }
+    ensures noting { IsBroken result.reply ⊎ (database.new.closed ≡ false) }
+    ensures listing { IsBroken result.reply ⊎ (lists.new.closed ≡ false) }
+    ensures kept { IsBroken result.reply ⊎ (places.new ≡ places_in diversions.now.entries lists.new.lists) }
     ensures answered { IsBroken result.reply ⊎ IsAnswered (H.state host.old) (H.state host.new) }
     ensures untouched { IsBroken result.reply → result.touched.items ≡ [] }
-    ensures told { HasCalledOf candidate.now.tree keep.now database.old result (H.state host.old) (H.state host.new) }
-    ensures any_moment { AtEachMomentOf (IsAmidUnitOf candidate.now.tree keep.now database.old) (H.state host.old) (H.state host.new) }
+    ensures told { HasCalledOf candidate.tree (held database.old lists.old diversions.now) result (H.state host.old) (H.state host.new) }
+    ensures any_moment { AtEachMomentOf (IsAmidUnitOf candidate.tree (held database.old lists.old diversions.now)) (H.state host.old) (H.state host.new) }
     ensures counts { CountsReply (H.state host.old) (H.state host.new) result.reply }
     ensures not_closed { IsBrokenBy Closed result.reply → ⊥ }
 {
-    match &candidate.tree {
+    let Candidate { label, tree } = candidate;
+    match tree {
         Ok(incoming) => {
-            return unit_of_package(alloc, host, database, keep, incoming);
+            return unit_of_package(alloc, host, database, lists, places, diversions, incoming);
         }
         Err(fault) => {
-            return refused_tree(alloc, fault, &candidate.label);
+            return refused(alloc, Rule::Tree(fault), label);
         }
     }
 }
@@ -271,19 +355,26 @@ pub(crate) fn is_broken(unit: &Unit) -> bool
 fn run_one<H: Host>(
     alloc: Global,
     host: &mut H,
-    database: &mut Database,
-    keep: &Keep<'_>,
-    candidate: &Candidate,
+    database: &mut NotedDatabase,
+    lists: &mut FileLists,
+    places: &mut Places,
+    diversions: &Diversions,
+    candidate: Candidate,
     units: &mut Vec<Unit>,
 ) -> Result<(), Unit>
-    requires order { Needs (H.state host.old) IsInOrder }
-    requires records { Needs (H.state host.old) (λ w. HasRecords w database.old) }
-    ensures ok { OnOk result (AddsUnit candidate.now keep.now database.old database.new (H.state host.old) (H.state host.new) units.old.items units.new.items) }
+    requires order { Needs (H.state host.old) (IsInOrder database.old lists.old.lists) }
+    requires noting { database.old.closed ≡ false }
+    requires listing { lists.old.closed ≡ false }
+    requires kept { places.old ≡ places_in diversions.now.entries lists.old.lists }
+    ensures ok { OnOk result (AddsUnit candidate (held database.old lists.old diversions.now) (held database.new lists.new diversions.now) (H.state host.old) (H.state host.new) units.old.items units.new.items) }
+    ensures noting { OnOk result (database.new.closed ≡ false) }
+    ensures listing { OnOk result (lists.new.closed ≡ false) }
+    ensures kept { OnOk result (places.new ≡ places_in diversions.now.entries lists.new.lists) }
     ensures answered { OnOk result (IsAnswered (H.state host.old) (H.state host.new)) }
     ensures err { OnErr result (units.new.items ≡ units.old.items) }
-    ensures broken_off { IfErr result (λ unit. IsBrokenOff candidate.now keep.now database.old unit (H.state host.old) (H.state host.new)) }
+    ensures broken_off { IfErr result (λ unit. IsBrokenOff candidate (held database.old lists.old diversions.now) unit (H.state host.old) (H.state host.new)) }
     ensures told { OnOk result (TellsAll (H.state host.old) (H.state host.new) (calls_of units.old.items) (calls_of units.new.items)) }
-    ensures any_moment { AtEachMomentOf (IsAmidUnitOf candidate.now.tree keep.now database.old) (H.state host.old) (H.state host.new) }
+    ensures any_moment { AtEachMomentOf (IsAmidUnitOf candidate.tree (held database.old lists.old diversions.now)) (H.state host.old) (H.state host.new) }
     ensures no_fault { OnOk result (faults (H.state host.new) ≡ faults (H.state host.old)) }
     ensures counts { IfErr result (λ unit. CountsReply (H.state host.old) (H.state host.new) unit.reply) }
     ensures not_closed { IfErr result (λ unit. IsBrokenBy Closed unit.reply → ⊥) }
@@ -291,7 +382,7 @@ fn run_one<H: Host>(
     if units.reserve(1).is_err() {
         return Err(broken(alloc, Vec::new(alloc), Breakage::NoMemory));
     }
-    let unit = unit_of(alloc, host, database, keep, candidate);
+    let unit = unit_of(alloc, host, database, lists, places, diversions, candidate);
     if is_broken(&unit) {
         return Err(unit);
     }
@@ -303,24 +394,32 @@ fn run_one<H: Host>(
 pub(crate) fn run_units<H: Host>(
     alloc: Global,
     host: &mut H,
-    database: &mut Database,
-    keep: &Keep<'_>,
-    candidates: &[Candidate],
+    database: &mut NotedDatabase,
+    lists: &mut FileLists,
+    places: &mut Places,
+    diversions: &Diversions,
+    candidates: Vec<Candidate>,
 ) -> Report
-    requires order { Needs (H.state host.old) IsInOrder }
-    requires records { Needs (H.state host.old) (λ w. HasRecords w database.old) }
-    ensures whole { IsNone result.last → IsRun candidates.now result.units.items keep.now database.old database.new (H.state host.old) (H.state host.new) }
-    ensures part { HasRun candidates.now result.units.items result.last keep.now database.old (H.state host.old) (H.state host.new) }
+    requires order { Needs (H.state host.old) (IsInOrder database.old lists.old.lists) }
+    requires noting { database.old.closed ≡ false }
+    requires listing { lists.old.closed ≡ false }
+    requires kept { places.old ≡ places_in diversions.now.entries lists.old.lists }
+    ensures whole { IsNone result.last → IsRun candidates.items result.units.items (held database.old lists.old diversions.now) (held database.new lists.new diversions.now) (H.state host.old) (H.state host.new) }
+    ensures part { HasRun candidates.items result.units.items result.last (held database.old lists.old diversions.now) (H.state host.old) (H.state host.new) }
     ensures told { TellsCalls (H.state host.old) (H.state host.new) result }
-    ensures any_moment { Since (IsAmidRun candidates.now keep.now database.old (H.state host.old)) (H.state host.old) (H.state host.new) }
+    ensures any_moment { Since (IsAmidRun candidates.items (held database.old lists.old diversions.now) (H.state host.old)) (H.state host.old) (H.state host.new) }
     ensures counts { CountsLast (H.state host.old) (H.state host.new) result.last }
     ensures not_closed { IfSome result.last (λ unit. IsBrokenBy Closed unit.reply → ⊥) }
-    ensures order { IsNone result.last → Needs (H.state host.new) IsInOrder }
-    ensures records { IsNone result.last → Needs (H.state host.new) (λ w. HasRecords w database.new) }
+    ensures order { IsNone result.last → Needs (H.state host.new) (IsInOrder database.new lists.new.lists) }
+    ensures noting { IsNone result.last → database.new.closed ≡ false }
+    ensures listing { IsNone result.last → lists.new.closed ≡ false }
+    ensures kept { IsNone result.last → places.new ≡ places_in diversions.now.entries lists.new.lists }
 {
     let mut units = Vec::new(alloc);
     for candidate in candidates {
-        match run_one(alloc, host, database, keep, candidate, &mut units) {
+        match run_one(
+            alloc, host, database, lists, places, diversions, candidate, &mut units,
+        ) {
             Ok(()) => {}
             Err(unit) => {
                 return Report {

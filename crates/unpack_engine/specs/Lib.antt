@@ -1,2 +1,4 @@
 pub mod Order
 pub mod Units
+pub mod Courses
+pub mod Touched

@@ -1,55 +1,325 @@
 -- The unit of an unpack: what it does, from the world that it finds to the one that it leaves, and what holds at each moment of it
 -- (Policy 6.6).
-use Rattle.std.specs.Prelude.{◌≡◌, ◌⊎◌, ◌↔◌, ℕ, Bool, true, false, IsTrue, List, [], ◌∷◌, ◌++◌, Option, Some, None, Contains, length}
+use Rattle.std.specs.Prelude.{◌≡◌, ◌≢◌, ◌⊎◌, ◌↔◌, ℕ, Bool, true, false, IsTrue, List, [], ◌∷◌, ◌++◌, Option, Some, None, Contains, is_some, length, filter, not}
+use Rattle.std.specs.Str.{bytes_eq}
 use Rattle.host_core.specs.Paths.{Path}
-use Rattle.host_core.specs.World.{World, Change, KeepsBut}
-use Rattle.host_core.specs.Events.{Ran, Event, changes_of, scripts_of}
-use Rattle.host_core.specs.Host.{State, Silent, calls, finished}
+use Rattle.host_core.specs.World.{World, KeepsBut}
+use Rattle.host_core.specs.Events.{Event, changes_of, scripts_of}
+use Rattle.host_core.specs.Host.{State, Silent}
 use Rattle.host_core.specs.Loss.{IsLater}
+use Rattle.host_core.specs.declared.call.Script.{Script}
 use Rattle.administration.specs.Directories.{IsRemoved}
-use Rattle.administration.specs.Places.{list_path, tmp_path, is_within}
-use Rattle.unwind_stack.specs.Transcript.{Tells}
+use Rattle.administration.specs.Files.{IsDropped, IsDropping}
+use Rattle.administration.specs.Places.{list_path, script_path, tmp_path, is_within}
 use Rattle.unwind_stack.specs.declared.rows.Called.{Called}
-use Rattle.cleanup_stack.specs.Transcripts.{Ended, Committed, Unwound, IfHonest, Legal}
-use Rattle.control_members.specs.LaidOut.{AreLaidOut, IsLaying}
-use Rattle.control_members.specs.Stored.{AreTaken}
+use Rattle.unwind_stack.specs.declared.rows.Row.{Row}
+use Rattle.cleanup_stack.specs.Place.{Place, Forward}
+use Rattle.cleanup_stack.specs.Telling.{Begun, HasRun}
+use Rattle.cleanup_stack.specs.Transcripts.{Ended, Committed, Unwound, MayRun}
+use Rattle.control_members.specs.LaidOut.{AreLaidOut, IsIncoming, IsLaying}
+use Rattle.control_members.specs.Names.{is_member_name}
+use Rattle.control_members.specs.declared.member.Member.{Member}
+use Rattle.control_members.specs.Stored.{AreStored, stored_member_path}
+use Rattle.diversions.specs.declared.entry.Diversion.{Diversion}
+use Rattle.file_lists.specs.Increasing.{AreIncreasing}
+use Rattle.file_lists.specs.Info.{AreLoose}
 use Rattle.file_lists.specs.declared.paths.PackageList.{PackageList}
 use Rattle.file_works.specs.declared.work.Work.{Work}
+use Rattle.package_tree.specs.declared.package.Package.{Package}
+use Rattle.status_db.specs.Held.{CanOpenRecords, HasRecords}
 use Rattle.status_db.specs.Recorded.{Recorded}
-use Rattle.status_db.specs.Records.{record_in, put_record}
+use Rattle.status_db.specs.Records.{record_in}
 use Rattle.status_db.specs.declared.record.Record.{Record}
-use Rattle.unpack_rows.specs.EndStates.{end_of, end_record}
+use Rattle.stack_run.specs.Ended.{IsCauseOf}
+use Rattle.stack_run.specs.declared.unwinding.Unwinding.{Unwinding}
+use Rattle.unpack_rows.specs.EndStates.{end_of, own_name}
+use Rattle.unpack_rows.specs.ForwardRows.{is_present}
+use Rattle.unpack_rows.specs.Kinds.{kinds_of}
+use Rattle.unpack_rows.specs.Notes.{noted, notes_at}
 use Rattle.unpack_rows.specs.Stages.{stage_of}
-use Rattle.unpack_run.specs.Task.{Task, kinds, lists_at, name}
-use Rattle.unpack_run.specs.Trail.{AreOrdered, HasCome}
-use Rattle.unpack_run.specs.At.{IsFileFault, Stops, table_at}
-use Rattle.unpack_commit.specs.Commit.{Changes, HasCommitted, MayCommit}
+use Rattle.unpack_rows.specs.declared.rows.Present.{Present}
+use Rattle.unpack_run.specs.Task.{Task, lists_at}
+use Rattle.unpack_run.specs.Trail.{HasCome}
+use Rattle.unpack_run.specs.At.{AreWorksAt, At, Holding, IsFileFault, IsWithin, Stops}
+use Rattle.unpack_commit.specs.Commit.{Changes, HasCommitted, MayCommit, committed_lists}
 use Rattle.unpack_commit.specs.Takeover.{losers, losing_records, put_records, taken_places, yields_of}
 use Rattle.unpack_plan.specs.Planned.{Job, Planned, IsPlanned}
 
--- the package's record as the unit finds it
-abbrev pub found : Job → Option Record
-found j = record_in j.records j.«package».name
+-- the tree, and what the administration says of records, lists and diversions when the unit begins
+pub record Given : Type 0 where
+  pub «package» : Package
+  pub records : List Record
+  pub lists : List PackageList
+  pub entries : List Diversion
 
--- what stays the same while the rows run
-abbrev pub task_of : Job → Planned → State → List Path → Task
-task_of j p start places = record {
-  start = start; records = j.records; lists = j.lists; entries = j.entries; places = places;
-  found = found j; incoming = p.incoming; others = []; yields = yields_of j.records;
-  works = p.works; listed = p.listed; union = p.union;
-}
+abbrev pub given : Package → List Record → List PackageList → List Diversion → Given
+given «package» records lists entries = record { «package» = «package»; records = records; lists = lists; entries = entries }
 
--- (HasBegun, the beginning: of a package without a record what is left under its name in `info/` goes: its list and control files;
---  then the tree's control files are laid out in `tmp.ci`.
---  HasLeft by how the rows ended: Committed: HasCommitted from the world where the files stand (HasFiles) and then tmp.ci is gone;
---  Unwound: HasCome of the stage of Back 0, then, where the package has no record at the end, its list goes, then tmp.ci is gone.)
+-- with the scripts of the old version that are stored
+abbrev pub job_of : Given → Present → Job
+job_of g stored = record { «package» = g.«package»; records = g.records; lists = g.lists; entries = g.entries; stored = stored }
 
--- the packages of a unit: the one that was named, and each whose record differs, in the order of names
--- IsTouched name before after touched
+-- which scripts are stored with a package, by its record: without one none is looked for
+abbrev pub IsSeen : Option Record → List ℕ → World → Present → Type 0
+IsSeen None name w stored = (script : Script) → is_present stored script ≡ false
+IsSeen (Some r) name w stored = (script : Script) → is_present stored script ≡ is_some (w (script_path name script))
 
--- IsEnd: the record of each name at the end: end_record of unpack_rows where unwound; where committed, the fresh record and those of
--- packages that lost conffiles, all other names as before
+-- a path that is neither the list of a package nor one of its stored control files
+pub record IsBesideOwn (name : List ℕ) (q : Path) : Type 0 where
+  pub list : q ≢ list_path name
+  pub members : (member : Path) → is_member_name member ≡ true → q ≢ stored_member_path name member
 
--- pub record HasUnpacked (j : Job) (places : List Path) (ended : Ended) (after : Recorded) (lists : List PackageList) (old new : State) (told now : List Called)
--- pub data IsAmid (j : Job) (places : List Path) (old : World) (so_far : List Event) (now : World)
--- pub record HasCalled (j : Job) (places : List Path) (old new : State) (told now : List Called)
+-- nothing is left in `info` under this name, and all else is as before
+pub record IsCleared (name : List ℕ) (old new : World) : Type 0 where
+  pub list : new (list_path name) ≡ None
+  pub members : AreStored name [] new
+  pub rest : (q : Path) → IsBesideOwn name q → new q ≡ old q
+
+-- at each moment: what stood there, or nothing
+pub record IsClearing (name : List ℕ) (old now : World) : Type 0 where
+  pub list : (now (list_path name) ≡ old (list_path name)) ⊎ (now (list_path name) ≡ None)
+  pub members : (member : Path) → is_member_name member ≡ true
+      → (now (stored_member_path name member) ≡ old (stored_member_path name member)) ⊎ (now (stored_member_path name member) ≡ None)
+  pub rest : (q : Path) → IsBesideOwn name q → now q ≡ old q
+
+-- what a name without a record left behind goes; a package that has a record keeps its files
+abbrev pub HasCleared : Option Record → List ℕ → World → World → Type 0
+HasCleared None name old new = IsCleared name old new
+HasCleared (Some r) name old new = new ≡ old
+
+abbrev pub MayClear : Option Record → List ℕ → World → World → Type 0
+MayClear None name old now = IsClearing name old now
+MayClear (Some r) name old now = now ≡ old
+
+-- what is left under the name is gone, and then these control files are laid out
+pub record HasBegun (found : Option Record) (name : List ℕ) (members : List Member) (old new : World) : Type 0 where
+  pub cleared : World
+  pub clears : HasCleared found name old cleared
+  pub lays : KeepsBut (is_within tmp_path) cleared new
+  pub laid : AreLaidOut members new
+
+-- at each moment
+pub data MayBegin (found : Option Record) (name : List ℕ) (old now : World) : Type 0 where
+  clearing : MayClear found name old now → MayBegin found name old now
+  laying : (cleared : World) → HasCleared found name old cleared → IsLaying cleared now → MayBegin found name old now
+
+-- the list of a package that has no record in the end goes too
+abbrev pub HasDropped : Option Record → List ℕ → World → World → Type 0
+HasDropped None name old new = IsDropped (list_path name) old new
+HasDropped (Some r) name old new = new ≡ old
+
+abbrev pub MayDrop : Option Record → List ℕ → World → World → Type 0
+MayDrop None name old now = IsDropping (list_path name) old now
+MayDrop (Some r) name old now = now ≡ old
+
+-- and then `tmp.ci` is gone
+pub record HasLeftBy (follows : World → World → Type 0) (old new : World) : Type 0 where
+  pub followed : World
+  pub has_followed : follows old followed
+  pub removed : IsRemoved tmp_path followed new
+
+-- at each moment
+pub data MayLeaveBy (follows may_follow : World → World → Type 0) (old now : World) : Type 0 where
+  following : may_follow old now → MayLeaveBy follows may_follow old now
+  clearing_away : (followed : World) → follows old followed → CanOpenRecords followed → IsLaying followed now → MayLeaveBy follows may_follow old now
+
+-- what follows the rows: this commit with these records; or for a package that has no record now the end of its list
+module _ (c : Changes) (records : List Record) (entries : List Diversion) (lists : List PackageList) (table : List Record) where
+  abbrev pub HasFollowed : Ended → World → World → Type 0
+  HasFollowed Committed old new = HasCommitted c entries lists (put_records records table) old new
+  HasFollowed (Unwound fall failed) old new = HasDropped (record_in table c.name) c.name old new
+
+  abbrev pub MayFollow : Ended → World → World → Type 0
+  MayFollow Committed old now = MayCommit c entries lists records table old now
+  MayFollow (Unwound fall failed) old now = MayDrop (record_in table c.name) c.name old now
+
+  -- and then `tmp.ci` goes
+  abbrev pub HasLeft : Ended → World → World → Type 0
+  HasLeft ended = HasLeftBy (HasFollowed ended)
+
+  abbrev pub MayLeave : Ended → World → World → Type 0
+  MayLeave ended = MayLeaveBy (HasFollowed ended) (MayFollow ended)
+
+-- Script calls: rows that begin in some state of the host, before which nothing is called and all is laid out.
+pub record HasRunRows (begins : World → World → Type 0) (task : State → Task) (rows : List Row) (ended : Ended) (mid : Holding) (old last : State) (told now : List Called) : Type 0 where
+  pub begun : State
+  pub quiet : Silent old begun
+  pub until : IsLater old begun
+  pub begins_so : IsTrue last.honest → begins old.world begun.world
+  pub run : HasRun (IsFileFault (task begun)) ended rows begun last told now
+  pub between : IsLater begun last
+  pub rows_end : At (task begun) mid last (end_of (length rows) ended)
+
+-- at each moment: it begins, or its rows run
+pub data IsRunning (begins may_begin : World → World → Type 0) (task : State → Task) (old : World) (so_far : List Event) (now : World) : Type 0 where
+  beginning : scripts_of so_far ≡ [] → may_begin old now → IsRunning begins may_begin task old so_far now
+  running : (begun : State) (before more : List Event) → so_far ≡ before ++ more → scripts_of before ≡ [] → begins old begun.world
+      → Stops (task begun) (begun.events ++ more) now → IsRunning begins may_begin task old so_far now
+
+-- what the unit finds and what doesn't change while it runs: the records, lists and diversions, and the places that scripts leave
+-- alone
+pub record Ground : Type 0 where
+  pub records : List Record
+  pub lists : List PackageList
+  pub entries : List Diversion
+  pub places : List Path
+
+abbrev pub ground : List Record → List PackageList → List Diversion → List Path → Ground
+ground records lists entries places = record { records = records; lists = lists; entries = entries; places = places }
+
+module _ (g : Ground) (p : Planned) where
+  abbrev pub package_name : List ℕ
+  package_name = own_name p.found p.incoming
+
+  -- the packages with which no path clashes, and of these the others
+  abbrev pub yields : List (List ℕ)
+  yields = yields_of g.records
+
+  abbrev pub other_yields : List (List ℕ)
+  other_yields = filter (λ name. not (bytes_eq name package_name)) yields
+
+  -- what stays the same while the rows run, from the host where they begin
+  abbrev pub task_from : State → Task
+  task_from start = record {
+    start = start;
+    records = g.records;
+    lists = g.lists;
+    entries = g.entries;
+    places = g.places;
+    found = p.found;
+    incoming = p.incoming;
+    others = [];
+    yields = yields;
+    works = p.works;
+    listed = p.listed;
+    union = p.union;
+  }
+
+  -- the packages that lose places to these works, by the lists as the rows left them
+  abbrev pub unit_losers : List Work → List PackageList → List (List ℕ)
+  unit_losers works lists = losers g.entries (taken_places works) lists other_yields
+
+  -- what the commit does, beside the notes
+  abbrev pub changes : List Work → List PackageList → Changes
+  changes works lists = record {
+    name = package_name;
+    leaving = p.leaving;
+    listed = p.new_list;
+    members = p.members;
+    places = taken_places works;
+    losers = unit_losers works lists;
+    names = p.names;
+  }
+
+  -- what it notes: the records that lose conffiles, and the package's own last
+  abbrev pub commit_records : List Work → List PackageList → List Record → List Record
+  commit_records works lists table = losing_records g.entries (taken_places works) (unit_losers works lists) table ++ p.fresh ∷ []
+
+  -- the records in the end, by how the rows ended and what they left
+  abbrev pub end_table : Ended → List Work → List PackageList → List Record → List Record
+  end_table Committed works lists table = put_records (commit_records works lists table) table
+  end_table (Unwound fall failed) works lists table = table
+
+  -- the lists in the end
+  abbrev pub end_lists : Ended → List Work → List PackageList → List PackageList
+  end_lists Committed works lists = committed_lists (changes works lists) g.entries lists
+  end_lists (Unwound fall failed) works lists = lists
+
+  -- where its rows end
+  abbrev pub last_place : Ended → Place
+  last_place ended = end_of (length p.rows) ended
+
+  -- the records at a place of the rows
+  abbrev pub table_after : Place → List Record
+  table_after place = noted g.records (notes_at p.found p.incoming (kinds_of p.found []) place)
+
+  -- the lists where the rows end
+  abbrev pub lists_after : Ended → State → List PackageList
+  lists_after ended begun = lists_at (task_from begun) (stage_of (kinds_of p.found []) (last_place ended))
+
+  -- how it begins, and each moment of that
+  abbrev pub Begins : World → World → Type 0
+  Begins = HasBegun p.found package_name p.members
+
+  abbrev pub MayBeginOne : World → World → Type 0
+  MayBeginOne = MayBegin p.found package_name
+
+  -- How far a unit is: it begins, its rows run, or they have run and what follows is under way.
+  pub data IsStage (old : World) (so_far : List Event) (now : World) : Type 0 where
+    running : IsRunning Begins MayBeginOne task_from old so_far now → AreLoose now → IsStage old so_far now
+    leaving : (ended : Ended) (works : List Work) (begun : State) (last : World) → Begins old begun.world
+        → AreWorksAt (task_from begun) (last_place ended) (stage_of (kinds_of p.found []) (last_place ended)) works
+        → HasCome (task_from begun) (stage_of (kinds_of p.found []) (last_place ended)) works (changes_of so_far) last
+        → MayLeave (changes works (lists_after ended begun)) (commit_records works (lists_after ended begun) (table_after (last_place ended))) g.entries (lists_after ended begun) (table_after (last_place ended)) ended last now
+        → IsStage old so_far now
+
+  -- The records at a moment: those of before with the notes up to a place of the rows; where all rows succeeded, also with the
+  -- first records of the commit.
+  pub data IsTableAmid (table : List Record) : Type 0 where
+    noting : (place : Place) → IsWithin (length (kinds_of p.found [])) place → table ≡ table_after place → IsTableAmid table
+    committing : (works : List Work) (lists : List PackageList) (front back : List Record) → commit_records works lists (table_after (last_place Committed)) ≡ front ++ back
+        → table ≡ put_records front (table_after (last_place Committed)) → IsTableAmid table
+
+  -- The unit once it is planned: it begins, calls its rows' scripts and none else, and commits or undoes. These records and lists
+  -- are left.
+  pub record HasCarriedOut (ended : Ended) (after : Recorded) (lists : List PackageList) (old new : State) (told now : List Called) : Type 0 where
+    pub mid : Holding
+    pub last : State
+    pub ran : HasRunRows Begins task_from p.rows ended mid old last told now
+    pub since : Silent last new
+    pub later : IsLater last new
+    pub leaves : IsTrue new.honest → HasLeft (changes mid.works mid.lists) (commit_records mid.works mid.lists mid.database.records) g.entries mid.lists mid.database.records ended last.world new.world
+    pub records : after.records ≡ end_table ended mid.works mid.lists mid.database.records
+    pub lists_are : lists ≡ end_lists ended mid.works mid.lists
+
+  -- At each moment of that: it is at some stage, the next opening finds the records of before with the first of the unit's notes,
+  -- and nothing that it can't take away is in its way.
+  pub record IsUnderWay (old : World) (so_far : List Event) (now : World) : Type 0 where
+    pub stage : IsStage old so_far now
+    pub table : List Record
+    pub is_table : IsTableAmid table
+    pub records : HasRecords now table
+    pub opens : CanOpenRecords now
+    pub incoming : IsIncoming now
+
+abbrev pub ground_of : Given → List Path → Ground
+ground_of g places = ground g.records g.lists g.entries places
+
+-- a plan for what is given, by the scripts that are stored in this world
+pub record IsPlanFor (g : Given) (w : World) (honest : Bool) (plan : Planned) : Type 0 where
+  pub stored : Present
+  pub seen : IsTrue honest → IsSeen (record_in g.records g.«package».name) g.«package».name w stored
+  pub planned : IsPlanned (job_of g stored) plan
+
+-- The whole unit: it looks which scripts are stored, and plans; and then it carries the plan out.
+pub record HasUnpacked (g : Given) (places : List Path) (ended : Ended) (after : Recorded) (lists : List PackageList) (old new : State) (told now : List Called) : Type 0 where
+  pub plan : Planned
+  pub plan_for : IsPlanFor g old.world new.honest plan
+  pub carried_out : HasCarriedOut (ground_of g places) plan ended after lists old new told now
+
+-- at each moment of it
+pub record IsAmid (g : Given) (places : List Path) (old : World) (so_far : List Event) (now : World) : Type 0 where
+  pub plan : Planned
+  pub plan_for : IsPlanFor g old true plan
+  pub under_way : IsUnderWay (ground_of g places) plan old so_far now
+
+-- The calls of these rows, whatever the answer: none; or the first of some that are legal for them, and they are told.
+pub data HasCalledRows (rows : List Row) (old new : State) (told now : List Called) : Type 0 where
+  nothing : Silent old new → now ≡ told → HasCalledRows rows old new told now
+  some : Begun (MayRun rows) old new told now → HasCalledRows rows old new told now
+
+-- The calls of a unit, whatever its answer: none, as long as nothing is planned, or those of the plan's rows.
+pub data HasCalled (g : Given) (old new : State) (told now : List Called) : Type 0 where
+  unplanned : Silent old new → now ≡ told → HasCalled g old new told now
+  planned : (plan : Planned) → IsPlanFor g old.world new.honest plan → HasCalledRows plan.rows old new told now → HasCalled g old new told now
+
+-- the failure that is told is that of a row of the plan
+pub record HasFailedFor (g : Given) (old new : State) (u : Option Unwinding) : Type 0 where
+  pub plan : Planned
+  pub plan_for : IsPlanFor g old.world new.honest plan
+  pub cause : IsCauseOf plan.rows u
+
+-- the packages of a unit, in the order of names: the one that was named, and each whose record differs since
+pub record IsTouched (name : List ℕ) (before after : List Record) (touched : List (List ℕ)) : Type 0 where
+  pub order : AreIncreasing touched
+  pub exact : (q : List ℕ) → Contains touched q ↔ ((q ≡ name) ⊎ (record_in after q ≡ record_in before q → ⊥))

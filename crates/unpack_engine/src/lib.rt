@@ -1,2 +1,15 @@
-//! unpack_engine
+//! The unit of an unpack: rows, notes, lists and files, in Policy's order (Policy 6.6).
 #![tactic(auto)]
+
+mod beginning;
+mod committed;
+mod course;
+mod finishing;
+mod looks;
+mod running;
+mod touched;
+mod unit;
+mod unwound;
+
+pub use finishing::Unpacked;
+pub use unit::unpack;

@@ -1,4 +1,5 @@
 use Rattle.std.proofs.Common.{◌≡◌, [], ◌∷◌, ◌++◌, ◌∙◌, rules}
+use Rattle.dpkg_session.specs.Held.{held}
 use Rattle.dpkg_session.proofs.Amid.{since_unit_start}
 use Rattle.dpkg_session.proofs.Runs.{broken_by, counts_no_memory, counts_whole, is_broken_off, is_whole, not_broken}
 use Rattle.dpkg_session.proofs.Told.{called_tells, not_begun, tells_unit}
@@ -10,20 +11,30 @@ returns-clause-ok g c =
     let grown : c.push.new.self.items ≡ c.args.units.now.items ++ unit ∷ [] = search rules in
     record { unit = unit; grown = grown; is = not_broken unit.reply c.is_broken.result c.if-is_broken.false c.is_broken.ensures c.unit_of-unit.ensures.unit }
 
+pub returns-clause-noting : goal.returns-clause-noting
+returns-clause-noting g c = not_broken c.unit_of-unit.result.reply c.is_broken.result c.if-is_broken.false c.is_broken.ensures c.unit_of-unit.ensures.noting
+
+pub returns-clause-listing : goal.returns-clause-listing
+returns-clause-listing g c = not_broken c.unit_of-unit.result.reply c.is_broken.result c.if-is_broken.false c.is_broken.ensures c.unit_of-unit.ensures.listing
+
+pub returns-clause-kept : goal.returns-clause-kept
+returns-clause-kept g c = not_broken c.unit_of-unit.result.reply c.is_broken.result c.if-is_broken.false c.is_broken.ensures c.unit_of-unit.ensures.kept
+
 pub returns-clause-told : goal.returns-clause-told
 returns-clause-told g c =
     let unit = c.unit_of-unit.result in
     let grown : c.push.new.self.items ≡ c.args.units.now.items ++ unit ∷ [] = search rules in
-    tells_unit (g.H.Host.state c.args.host.now) (g.H.Host.state c.unit_of-unit.new.host) c.args.units.now.items c.push.new.self.items unit grown (called_tells c.args.candidate.now.tree c.args.keep.now c.args.database.now unit (g.H.Host.state c.args.host.now) (g.H.Host.state c.unit_of-unit.new.host) c.unit_of-unit.ensures.told)
+    tells_unit (g.H.Host.state c.args.host.now) (g.H.Host.state c.unit_of-unit.new.host) c.args.units.now.items c.push.new.self.items unit grown
+    (called_tells c.args.candidate.tree (held c.args.database.now c.args.lists.now c.args.diversions.now) unit (g.H.Host.state c.args.host.now) (g.H.Host.state c.unit_of-unit.new.host) c.unit_of-unit.ensures.told)
 
 pub returns-then-is_err-clause-any_moment : goal.returns-then-is_err-clause-any_moment
-returns-then-is_err-clause-any_moment g c = since_unit_start _ _ _ _ (λ h. record { order = c.requires.order h; tree = g.H.Host.tree c.args.host.now h; records = c.requires.records h })
+returns-then-is_err-clause-any_moment g c = since_unit_start c.args.candidate.tree (held c.args.database.now c.args.lists.now c.args.diversions.now) (g.H.Host.state c.args.host.now)
 
 pub returns-then-is_err-clause-broken_off : goal.returns-then-is_err-clause-broken_off
 returns-then-is_err-clause-broken_off g c = record {
   broken = broken_by _ c.broken.result.reply c.broken.ensures.reply;
   untouched = c.broken.ensures.touched;
-  called = not_begun c.args.candidate.now.tree c.args.keep.now c.args.database.now c.broken.result (g.H.Host.state c.args.host.now) (c.broken.ensures.told ∙ c.new.ensures.items);
+  called = not_begun c.args.candidate.tree (held c.args.database.now c.args.lists.now c.args.diversions.now) c.broken.result (g.H.Host.state c.args.host.now) (c.broken.ensures.told ∙ c.new.ensures.items);
 }
 
 pub returns-then-is_broken-clause-broken_off : goal.returns-then-is_broken-clause-broken_off

@@ -1,6 +1,8 @@
-use Rattle.std.proofs.Common.{◌≡◌, [], length, take}
+use Rattle.std.proofs.Common.{◌≡◌, ◌++◌, [], false, length}
 use Rattle.host_core.specs.Host.{Since, faults}
+use Rattle.file_lists.specs.Owners.{places_in}
 use Rattle.unwind_stack.specs.Transcript.{TellsAll}
+use Rattle.dpkg_session.specs.Held.{held}
 use Rattle.dpkg_session.specs.Units.{calls_of}
 use Rattle.dpkg_session.specs.Run.{IsAmidRun, IsRun}
 use Rattle.dpkg_session.proofs.Runs.{Ready}
@@ -10,11 +12,17 @@ abbrev pub invariant-loop-candidate : goal.invariant-loop-candidate
 invariant-loop-candidate g l =
     let old = g.H.Host.state l.fn.host in
     let now = g.H.Host.state l.host in
+    let before = held l.fn.database l.fn.lists l.diversions in
+    let mid = held l.database l.lists l.diversions in
     record {
-      count : length l.units.items ≡ l.candidate-index;
-      so_far : IsRun (take l.candidate-index l.candidates) l.units.items l.keep l.fn.database l.database old now;
+      left : l.fn.candidates.items ≡ l.yielded ++ l.candidate-iterator.rest.items;
+      count : length l.units.items ≡ length l.yielded;
+      so_far : IsRun l.yielded l.units.items before mid old now;
       no_fault : faults now ≡ faults old;
       told : TellsAll old now [] (calls_of l.units.items);
-      ready : Ready l.database now;
-      moments : Since (IsAmidRun l.candidates l.keep l.fn.database old) old now;
+      ready : Ready mid now;
+      noting : l.database.closed ≡ false;
+      listing : l.lists.closed ≡ false;
+      kept : l.places ≡ places_in l.diversions.entries l.lists.lists;
+      moments : Since (IsAmidRun l.fn.candidates.items before old) old now;
     }

@@ -1,35 +1,28 @@
-use Rattle.dpkg_session.proofs.Barriers.{amid_still, called_unpacked, on_disk, since_to_disk, unpacked_to_disk}
-use Rattle.dpkg_session.proofs.Listed.{carried_new, carried_bare, carried_conffiles}
+use Rattle.dpkg_session.proofs.Barriers.{amid_still, called_behind, failed_behind, on_disk, order_behind, since_to_disk, unpacked_to_disk}
 use Rattle.host_core.specs.Moments.{since_barrier}
 use Rattle.dpkg_session.proofs.units.unpack_to_disk.Goals as goal
 
-pub unpack_package-requires-clause-new : goal.unpack_package-requires-clause-new
-unpack_package-requires-clause-new g c = carried_new c.args.incoming.now c.args.database.now c.requires.carried_out
+pub returns-in-Ok-barrier-clause-unit : goal.returns-in-Ok-barrier-clause-unit
+returns-in-Ok-barrier-clause-unit g c =
+    unpacked_to_disk _ _ _ _ _ _ _ _ _ _ c.in-Ok.ensures.unit c.in-Ok-barrier.ensures.does c.barrier.ensures.silent (since_barrier _ _ _ _ c.barrier.ensures.does (λ h. tt))
 
-pub unpack_package-requires-clause-bare : goal.unpack_package-requires-clause-bare
-unpack_package-requires-clause-bare g c = carried_bare c.args.incoming.now c.args.database.now c.requires.carried_out
+pub returns-in-Ok-barrier-clause-cause : goal.returns-in-Ok-barrier-clause-cause
+returns-in-Ok-barrier-clause-cause g c = failed_behind _ _ _ _ _ c.in-Ok.ensures.cause c.barrier.ensures.silent
 
-pub unpack_package-requires-clause-no_conffiles : goal.unpack_package-requires-clause-no_conffiles
-unpack_package-requires-clause-no_conffiles g c = carried_conffiles c.args.incoming.now c.args.database.now c.requires.carried_out
+pub returns-in-Ok-barrier-clause-order : goal.returns-in-Ok-barrier-clause-order
+returns-in-Ok-barrier-clause-order g c = order_behind _ _ _ _ c.in-Ok-barrier.ensures.does c.in-Ok.ensures.order
 
-pub returns-clause-unit : goal.returns-clause-unit
-returns-clause-unit g c = unpacked_to_disk _ _ _ _ _ _ _ _ _ _ c.in_ok-turn.ensures.unit c.in_ok-barrier.ensures.does c.barrier.ensures.silent (since_barrier _ _ _ _ c.barrier.ensures.does (λ h. tt))
+pub returns-in-Ok-barrier-clause-on_disk : goal.returns-in-Ok-barrier-clause-on_disk
+returns-in-Ok-barrier-clause-on_disk g c = on_disk _ _ c.in-Ok-barrier.ensures.does
 
-pub returns-clause-on_disk : goal.returns-clause-on_disk
-returns-clause-on_disk g c = on_disk _ _ c.in_ok-barrier.ensures.does
+pub returns-in-Ok-barrier-clause-told : goal.returns-in-Ok-barrier-clause-told
+returns-in-Ok-barrier-clause-told g c = called_behind _ _ _ _ _ _ c.unpack.ensures.told c.barrier.ensures.silent
 
-pub returns-in_err-barrier-clause-told : goal.returns-in_err-barrier-clause-told
-returns-in_err-barrier-clause-told g c =
-    called_unpacked _ _ _ _ _ _ _ _ _ _ c.in_ok-turn.ensures.unit c.barrier.ensures.silent (since_barrier _ _ _ _ c.barrier.ensures.does (λ h. tt))
+pub returns-in-Err-barrier-clause-told : goal.returns-in-Err-barrier-clause-told
+returns-in-Err-barrier-clause-told g c = called_behind _ _ _ _ _ _ c.unpack.ensures.told c.barrier.ensures.silent
 
-pub returns-clause-told : goal.returns-clause-told
-returns-clause-told g c =
-    called_unpacked _ _ _ _ _ _ _ _ _ _ c.in_ok-turn.ensures.unit c.barrier.ensures.silent (since_barrier _ _ _ _ c.barrier.ensures.does (λ h. tt))
+pub returns-in-Ok-barrier-clause-any_moment : goal.returns-in-Ok-barrier-clause-any_moment
+returns-in-Ok-barrier-clause-any_moment g c = since_to_disk _ _ _ _ _ (λ x quiet w none amid. amid_still _ _ _ x quiet w none amid) c.unpack.ensures.any_moment c.barrier.ensures.does
 
-pub returns-in_err-barrier-clause-any_moment : goal.returns-in_err-barrier-clause-any_moment
-returns-in_err-barrier-clause-any_moment g c =
-    since_to_disk _ _ _ _ _ (λ x y w same. amid_still c.args.incoming.now c.args.keep.now c.args.database.now _ x y w same) c.unpack_package.ensures.any_moment c.barrier.ensures.does
-
-pub returns-clause-any_moment : goal.returns-clause-any_moment
-returns-clause-any_moment g c =
-    since_to_disk _ _ _ _ _ (λ x y w same. amid_still c.args.incoming.now c.args.keep.now c.args.database.now _ x y w same) c.unpack_package.ensures.any_moment c.barrier.ensures.does
+pub returns-in-Err-barrier-clause-any_moment : goal.returns-in-Err-barrier-clause-any_moment
+returns-in-Err-barrier-clause-any_moment g c = since_to_disk _ _ _ _ _ (λ x quiet w none amid. amid_still _ _ _ x quiet w none amid) c.unpack.ensures.any_moment c.barrier.ensures.does

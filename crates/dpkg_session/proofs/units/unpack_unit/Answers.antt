@@ -1,22 +1,15 @@
-use Rattle.std.proofs.Common.{ap, ◌∙◌}
-use Rattle.unpack_engine.specs.declared.rows.Turn.{Turn}
-use Rattle.dpkg_session.specs.declared.report.Reply.TheVariants.{Broken}
-use Rattle.dpkg_session.proofs.Runs.{counts_answered, counts_broken}
-use Rattle.dpkg_session.proofs.Told.{called_as}
+use Rattle.std.proofs.Common.{◌∙◌}
+use Rattle.dpkg_session.specs.Held.{held}
+use Rattle.dpkg_session.proofs.Amid.{since_unpack_start}
+use Rattle.dpkg_session.proofs.Runs.{counts_no_memory}
+use Rattle.dpkg_session.proofs.Told.{called_nothing}
 use Rattle.dpkg_session.proofs.units.unpack_unit.Goals as goal
 
-pub returns-in-Ok-clause-told : goal.returns-in-Ok-clause-told
-returns-in-Ok-clause-told g c =
-    called_as c.args.incoming.now c.args.keep.now c.args.database.now (g.H.Host.state c.args.host.now) (g.H.Host.state c.unpack_to_disk.new.host) _ _ _ c.new-calls.ensures.items c.answered.ensures.told c.unpack_to_disk.ensures.told
+pub returns-in-Err-clause-any_moment : goal.returns-in-Err-clause-any_moment
+returns-in-Err-clause-any_moment g c = since_unpack_start c.args.incoming (held c.args.database.now c.args.lists.now c.args.diversions.now) (g.H.Host.state c.args.host.now)
 
 pub returns-in-Err-clause-told : goal.returns-in-Err-clause-told
-returns-in-Err-clause-told g c =
-    called_as c.args.incoming.now c.args.keep.now c.args.database.now (g.H.Host.state c.args.host.now) (g.H.Host.state c.unpack_to_disk.new.host) _ _ _ c.new-calls.ensures.items c.broken.ensures.told c.unpack_to_disk.ensures.told
-
-pub returns-in-Ok-clause-counts : goal.returns-in-Ok-clause-counts
-returns-in-Ok-clause-counts g c =
-    counts_answered c.args.incoming.now _ _ _ c.answered.result (g.H.Host.state c.args.host.now) (g.H.Host.state c.unpack_to_disk.new.host) c.in-Ok.ensures.counts c.answered.ensures.answer
+returns-in-Err-clause-told g c = called_nothing _ _ _ (c.broken.ensures.told ∙ c.new.ensures.items)
 
 pub returns-in-Err-clause-counts : goal.returns-in-Err-clause-counts
-returns-in-Err-clause-counts g c =
-    counts_broken Turn c.in-Err.fault c.broken.result.reply (g.H.Host.state c.args.host.now) (g.H.Host.state c.unpack_to_disk.new.host) (c.broken.ensures.reply ∙ ap Broken c.breakage_of.ensures) c.in-Err.ensures.counts
+returns-in-Err-clause-counts g c = counts_no_memory c.broken.result.reply (g.H.Host.state c.args.host.now) c.broken.ensures.reply

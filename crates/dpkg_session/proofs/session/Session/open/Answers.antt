@@ -3,7 +3,13 @@ use Rattle.dpkg_session.proofs.Outlasting.{loses_like}
 use Rattle.dpkg_session.proofs.session.Session.open.Goals as goal
 
 pub invariant_of-result : goal.invariant_of-result
-invariant_of-result g c = record { ready = λ open_still h. standing_opened _ _ _ _ (c.in-Ok.ensures.opened h); kept = λ open_still. c.in-Ok-places.ensures; writable = λ open_still. c.in-Ok.ensures.writable }
+invariant_of-result g c = record {
+  ready = λ open_still h. standing_opened c.in-Ok.field-0.database c.in-Ok.field-0.lists c.in-Ok.field-0.diversions _ c.in-Ok.ensures.number (c.in-Ok.ensures.opened h);
+  kept = λ open_still. c.in-Ok-places.ensures;
+  writable = λ open_still. c.in-Ok.ensures.writable;
+  noting = λ open_still. c.in-Ok.ensures.noting;
+  listing = λ open_still. c.in-Ok.ensures.listing;
+}
 
 pub returns-in-Ok-places-clause-loss : goal.returns-in-Ok-places-clause-loss
 returns-in-Ok-places-clause-loss g c = loses_like _ _ _ (g.H.Host.settled c.open_to_disk.new.host) c.open_to_disk.ensures.any_moment

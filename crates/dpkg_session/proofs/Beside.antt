@@ -1,0 +1,133 @@
+-- What units leave as it is: the diversions, and the file that holds them.
+use Rattle.std.proofs.Common.{◌≡◌, ◌≢◌, ℕ, true, false, cond, List, [], ◌∷◌, ◌++◌, Option, Some, None, Result, Ok, Err, IsTrue, codes, get_or, arith, refl, sym, ap, subst, ◌∙◌}
+use Rattle.administration.specs.Places.{diversions_path, info_path, list_name, list_path, tmp_path, temporary, is_within}
+use Rattle.cleanup_stack.specs.Transcripts.{Ended, Committed, Unwound}
+use Rattle.control_members.specs.Stored.{stored_member_path}
+use Rattle.control_members.specs.declared.member.Member.{Member}
+use Rattle.file_lists.specs.declared.paths.PackageList.{PackageList}
+use Rattle.file_removal.specs.Clearing.{cleared}
+use Rattle.host_core.specs.Paths.{Path, is_below_administration, is_own}
+use Rattle.host_core.specs.World.{World}
+use Rattle.host_core.specs.Host.{State}
+use Rattle.status_db.specs.Held.{is_record_place}
+use Rattle.status_db.specs.Recorded.{Recorded}
+use Rattle.status_db.specs.Records.{record_in}
+use Rattle.status_db.specs.declared.record.Record.{Record}
+use Rattle.unpack_commit.specs.Commit.{Changes, HasCommitted}
+use Rattle.unpack_engine.proofs.Frames.{IsBeside, come_same}
+use Rattle.unpack_engine.specs.Units.{Given, HasBegun, HasCleared, HasDropped, HasFollowed, HasUnpacked, changes, commit_records, ground_of, last_place, package_name, task_from}
+use Rattle.unpack_moves.specs.Closing.{SparesAdministration}
+use Rattle.unpack_moves.specs.Concluding.{AreElsewhere}
+use Rattle.unpack_moves.proofs.Closings.{below_within, removed_stays}
+use Rattle.unpack_run.specs.Task.{name}
+use Rattle.unwind_stack.specs.declared.rows.Called.{Called}
+use Rattle.diversions.specs.declared.entry.Diversion.{Diversion}
+use Rattle.package_tree.specs.declared.package.Package.{Package}
+use Rattle.package_tree.specs.declared.fault.TreeFault.{TreeFault}
+use Rattle.dpkg_session.specs.declared.refusal.Rule.{Rule}
+use Rattle.dpkg_session.specs.declared.report.Candidate.{Candidate}
+use Rattle.dpkg_session.specs.declared.report.Unit.{Unit as AUnit}
+use Rattle.dpkg_session.specs.Held.{Held}
+use Rattle.dpkg_session.specs.Run.{IsRun}
+use Rattle.dpkg_session.specs.Units.{IsUnitByRule, IsUnitOf, rule_for}
+use Rattle.dpkg_session.proofs.Runs.{falls_run}
+
+-- the diversions of a run
+
+entries_by_rule : (p : Package) (rule : Option Rule) (before after : Held) (u : AUnit) (s t : State) → IsUnitByRule p rule before after u s t → after.entries ≡ before.entries
+entries_by_rule p (Some rule) before after u s t is = ap (λ (h : Held). h.entries) is.held
+entries_by_rule p None before after u s t is = is.entries
+
+entries_unit : (label : List ℕ) (tree : Result Package TreeFault) (before after : Held) (u : AUnit) (s t : State) → IsUnitOf label tree before after u s t → after.entries ≡ before.entries
+entries_unit label (Err fault) before after u s t is = ap (λ (h : Held). h.entries) is.held
+entries_unit label (Ok p) before after u s t is = entries_by_rule p (rule_for p before) before after u s t is
+
+pub entries_run : (cs : List Candidate) (us : List AUnit) (before after : Held) (s t : State) → IsRun cs us before after s t → after.entries ≡ before.entries
+entries_run [] [] before after s t run = ap (λ (h : Held). h.entries) run.1
+entries_run [] (u ∷ us) before after s t run = absurd run
+entries_run (c ∷ cs) [] before after s t run = absurd run
+entries_run (c ∷ cs) (u ∷ us) before after s t run = entries_run cs us run.1 after run.0 t run.3 ∙ entries_unit c.label c.tree before run.1 u s run.0 run.2.is
+
+-- a path of the program's own that is neither in `info` nor in `tmp.ci`, and at which no record is written
+record IsFar (q : Path) : Type 0 where
+  own : is_own q ≡ true
+  below : is_below_administration q ≡ true
+  unnoted : is_record_place q ≡ false
+  tmp : is_within tmp_path q ≡ false
+  info : (rest : Path) → q ≢ info_path ++ 47 ∷ rest
+
+diversions_far : IsFar diversions_path
+diversions_far = record { own = refl; below = refl; unnoted = refl; tmp = refl; info = λ rest e. absurd (omega (arith, ap (λ (l : Path). get_or l 14 0) e)) }
+
+diversions_spare_far : IsFar (temporary diversions_path)
+diversions_spare_far = record { own = refl; below = refl; unnoted = refl; tmp = refl; info = λ rest e. absurd (omega (arith, ap (λ (l : Path). get_or l 14 0) e)) }
+
+module _ (q : Path) (far : IsFar q) where
+  no_list : (name : List ℕ) → (q ≢ list_path name) × (q ≢ temporary (list_path name))
+  no_list name = (far.info (list_name name), far.info (list_name name ++ codes ".dpkg-inst"))
+
+  no_member : (owner name : Path) → (q ≢ stored_member_path owner name) × (q ≢ temporary (stored_member_path owner name))
+  no_member owner name = (far.info (owner ++ 46 ∷ name), far.info ((owner ++ 46 ∷ name) ++ codes ".dpkg-inst"))
+
+  beside_list : (name : List ℕ) → IsBeside (list_path name) q
+  beside_list name = record { own = far.own; below = far.below; unnoted = far.unnoted; unlisted = (no_list name).0; unspared = (no_list name).1 }
+
+  begun_stays : (found : Option Record) (name : List ℕ) (members : List Member) (old new : World) → HasBegun found name members old new → new q ≡ old q
+  begun_stays found name members old new begun = begun.lays q far.tmp ∙ by found begun.clears
+    where
+      by : (found : Option Record) → HasCleared found name old begun.cleared → begun.cleared q ≡ old q
+      by None is = is.rest q (record { list = (no_list name).0; members = λ member named. (no_member name member).0 })
+      by (Some r) is = ap (λ (w : World). w q) is
+
+  committed_stays : (c : Changes) (entries : List Diversion) (lists : List PackageList) (after : List Record) (old new : World) → SparesAdministration c.leaving → AreElsewhere c.names → HasCommitted c entries lists after old new → new q ≡ old q
+  committed_stays c entries lists after old new spares elsewhere is =
+      is.noted.rest q far.unnoted
+      ∙ is.release.cleared.each q ∙ ap (λ b. cond b (cleared (is.release.mid q)) (is.release.mid q)) (elsewhere q (below_within q far.below))
+      ∙ is.release.taken.rest q (λ name has. no_list name)
+      ∙ is.replaced.rest q (λ name named. no_member c.name name)
+      ∙ is.renewal.replaced.rest q (no_list c.name).0 (no_list c.name).1
+      ∙ removed_stays c.leaving old is.renewal.mid q spares is.renewal.removed far.below
+
+  followed_stays : (c : Changes) (records : List Record) (entries : List Diversion) (lists : List PackageList) (table : List Record) (ended : Ended) (old new : World) → SparesAdministration c.leaving → AreElsewhere c.names → HasFollowed c records entries lists table ended old new → new q ≡ old q
+  followed_stays c records entries lists table Committed old new spares elsewhere is = committed_stays c entries lists _ old new spares elsewhere is
+  followed_stays c records entries lists table (Unwound fall failed) old new spares elsewhere is = by (record_in table c.name) is
+    where
+      by : (found : Option Record) → HasDropped found c.name old new → new q ≡ old q
+      by None dropped = dropped.rest q (no_list c.name).0
+      by (Some r) same = ap (λ (w : World). w q) same
+
+  unpacked_stays : (g : Given) (places : List Path) (ended : Ended) (after : Recorded) (lists : List PackageList) (s t : State) (told now : List Called) → HasUnpacked g places ended after lists s t told now → IsTrue t.honest → t.world q ≡ s.world q
+  unpacked_stays g places ended after lists s t told now is h =
+      let out = is.carried_out in
+      let p = is.plan in
+      let planned = is.plan_for.planned in
+      let left = out.leaves h in
+      let ground = ground_of g places in
+      let begun = out.ran.begun in
+      let task = task_from ground p begun in
+      let honest = out.since.honest h in
+      left.removed.rest q far.tmp
+      ∙ followed_stays (changes ground p out.mid.works out.mid.lists) (commit_records ground p out.mid.works out.mid.lists out.mid.database.records) g.entries out.mid.lists out.mid.database.records ended out.last.world left.followed planned.lists_are.spares planned.names_are.elsewhere left.has_followed
+      ∙ come_same task q (beside_list (name task)) planned.works_are.named (last_place ground p ended) _ out.mid.works out.ran.rows_end.works _ out.last.world (out.ran.rows_end.world honest).came
+      ∙ begun_stays p.found (package_name ground p) p.members s.world begun.world (out.ran.begins_so honest)
+
+stays_by_rule : (q : Path) → IsFar q → (p : Package) (rule : Option Rule) (before after : Held) (u : AUnit) (s t : State) → IsUnitByRule p rule before after u s t → IsTrue t.honest → t.world q ≡ s.world q
+stays_by_rule q far p (Some rule) before after u s t is h = ap (λ w. w q) (is.world h)
+stays_by_rule q far p None before after u s t is h = unpacked_stays q far _ _ _ _ _ s t _ _ is.unpacked h
+
+stays_unit : (q : Path) → IsFar q → (label : List ℕ) (tree : Result Package TreeFault) (before after : Held) (u : AUnit) (s t : State) → IsUnitOf label tree before after u s t → IsTrue t.honest → t.world q ≡ s.world q
+stays_unit q far label (Err fault) before after u s t is h = ap (λ w. w q) (is.world h)
+stays_unit q far label (Ok p) before after u s t is h = stays_by_rule q far p (rule_for p before) before after u s t is h
+
+stays_run : (q : Path) → IsFar q → (cs : List Candidate) (us : List AUnit) (before after : Held) (s t : State) → IsRun cs us before after s t → IsTrue t.honest → t.world q ≡ s.world q
+stays_run q far [] [] before after s t run h = ap (λ (x : State). x.world q) run.0
+stays_run q far [] (u ∷ us) before after s t run h = absurd run
+stays_run q far (c ∷ cs) [] before after s t run h = absurd run
+stays_run q far (c ∷ cs) (u ∷ us) before after s t run h =
+    stays_run q far cs us run.1 after run.0 t run.3 h ∙ stays_unit q far c.label c.tree before run.1 u s run.0 run.2.is (falls_run cs us run.1 after run.0 t run.3 h)
+
+pub diverted_run : (cs : List Candidate) (us : List AUnit) (before after : Held) (s t : State) → IsRun cs us before after s t → IsTrue t.honest → t.world diversions_path ≡ s.world diversions_path
+diverted_run cs us before after s t run h = stays_run diversions_path diversions_far cs us before after s t run h
+
+pub diverted_spare_run : (cs : List Candidate) (us : List AUnit) (before after : Held) (s t : State) → IsRun cs us before after s t → IsTrue t.honest → t.world (temporary diversions_path) ≡ s.world (temporary diversions_path)
+diverted_spare_run cs us before after s t run h = stays_run (temporary diversions_path) diversions_spare_far cs us before after s t run h

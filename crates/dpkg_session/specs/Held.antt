@@ -1,0 +1,23 @@
+-- What a session holds of an administration.
+use Rattle.std.specs.Prelude.{List}
+use Rattle.host_core.specs.Paths.{Path}
+use Rattle.diversions.specs.Diverted.{Diverted}
+use Rattle.diversions.specs.declared.entry.Diversion.{Diversion}
+use Rattle.file_lists.specs.Filed.{Filed}
+use Rattle.file_lists.specs.Owners.{places_in}
+use Rattle.file_lists.specs.declared.paths.PackageList.{PackageList}
+use Rattle.status_db.specs.Recorded.{Recorded}
+
+-- its records, the lists of their packages, and its diversions
+pub record Held : Type 0 where
+  pub records : Recorded
+  pub lists : List PackageList
+  pub entries : List Diversion
+
+-- what the values of a session hold
+abbrev pub held : Recorded → Filed → Diverted → Held
+held database lists diversions = record { records = database; lists = lists.lists; entries = diversions.entries }
+
+-- the places of all listed paths, which running scripts leave alone
+abbrev pub places_of : Held → List Path
+places_of h = places_in h.entries h.lists

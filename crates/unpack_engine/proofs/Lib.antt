@@ -1,0 +1,16 @@
+pub mod Ready
+pub mod Clearing
+pub mod Frames
+pub mod Apart
+pub mod Begun
+pub mod Dropping
+pub mod Names
+pub mod Sequel
+pub mod Order
+pub mod Cleared
+pub mod Starts
+pub mod UnderWay
+pub mod Carrying
+pub mod Losing
+pub mod Leaving
+pub mod AfterRows

@@ -1,0 +1,75 @@
+-- The beginning of a unit and its rows, one after the other.
+use Rattle.std.proofs.Common.{◌≡◌, ◌≢◌, inl, inr, IsTrue, true, List, [], ◌∷◌, ◌++◌, Option, Some, None, refl, sym, ap, subst, ◌∙◌, append_assoc}
+use Rattle.std.specs.Prelude.{Result, Ok, Err, IfOk}
+use Rattle.host_core.specs.Paths.{Path}
+use Rattle.host_core.specs.World.{World}
+use Rattle.host_core.specs.Events.{Event, Ran, scripts_of, changes_of}
+use Rattle.host_core.specs.Host.{State, Silent, Since, AtEachMoment, AtEachMomentOf, finished}
+use Rattle.host_core.specs.Loss.{IsLater}
+use Rattle.host_core.specs.Moments.{since_now, since_then, since_weaker, since_weaker_if, silent_then}
+use Rattle.host_core.specs.Scripts.{silent_added, since_silent}
+use Rattle.cleanup_stack.specs.Stops.{AtEachStop}
+use Rattle.cleanup_stack.specs.Telling.{Begun}
+use Rattle.unwind_stack.specs.declared.rows.Called.{Called}
+use Rattle.unwind_stack.specs.declared.rows.Row.{Row}
+use Rattle.unpack_run.specs.Task.{Task}
+use Rattle.unpack_run.specs.At.{Stops}
+use Rattle.unpack_engine.specs.Units.{HasCalledRows, IsRunning}
+
+-- a later moment of the same host
+pub later : (P : List Event → World → Type 0) (a b : State) → Since P a b → IsLater a b
+later P a b since = since_weaker P (λ so_far w. Unit {0}) a b (λ so_far w is. tt) since
+
+-- before the calls nothing is called, and after them nothing more
+pub begun_behind : (P : List Ran → Type 0) (a b c : State) (told now : List Called) → Silent a b → Begun P b c told now → Begun P a c told now
+begun_behind P a b c told now silent begun = record {
+  ts = begun.ts;
+  more = begun.more;
+  first_of = begun.first_of;
+  honest = λ h. silent.honest (begun.honest h);
+  cut = begun.cut;
+  scripts = begun.scripts ∙ ap (λ (l : List Event). l ++ (finished begun.ts ++ begun.cut)) silent.scripts;
+  cut_short = begun.cut_short;
+  tells = begun.tells;
+}
+
+pub begun_then : (P : List Ran → Type 0) (a b c : State) (told now : List Called) → Begun P a b told now → Silent b c → Begun P a c told now
+begun_then P a b c told now begun silent = record {
+  ts = begun.ts;
+  more = begun.more;
+  first_of = begun.first_of;
+  honest = λ h. begun.honest (silent.honest h);
+  cut = begun.cut;
+  scripts = silent.scripts ∙ begun.scripts;
+  cut_short = begun.cut_short;
+  tells = begun.tells;
+}
+
+pub called_then : (rows : List Row) (a b c : State) (told now : List Called) → HasCalledRows rows a b told now → Silent b c → HasCalledRows rows a c told now
+called_then rows a b c told now (HasCalledRows.nothing quiet same) silent = HasCalledRows.nothing (silent_then a b c quiet silent) same
+called_then rows a b c told now (HasCalledRows.some begun) silent = HasCalledRows.some (begun_then _ a b c told now begun silent)
+
+pub called_behind : (rows : List Row) (a b c : State) (told now : List Called) → Silent a b → HasCalledRows rows b c told now → HasCalledRows rows a c told now
+called_behind rows a b c told now silent (HasCalledRows.nothing quiet same) = HasCalledRows.nothing (silent_then a b c silent quiet) same
+called_behind rows a b c told now silent (HasCalledRows.some begun) = HasCalledRows.some (begun_behind _ a b c told now silent begun)
+
+module _ (begins may_begin : World → World → Type 0) (task : State → Task) (a b : State) (silent : Silent a b) (first : AtEachMoment may_begin a b) where
+  pub since_beginning : AtEachMomentOf (IsRunning begins may_begin task) a b
+  since_beginning = since_weaker (λ so_far w. may_begin a.world w × (scripts_of so_far ≡ [])) (IsRunning begins may_begin task a.world) a b
+      (λ so_far w is. IsRunning.beginning is.1 is.0) (since_silent (λ so_far. may_begin a.world) a b silent first)
+
+  pub since_running : (c : State) → (IsTrue b.honest → begins a.world b.world) → AtEachStop (Stops (task b)) b c → AtEachMomentOf (IsRunning begins may_begin task) a c
+  since_running c begun second =
+      since_then (IsRunning begins may_begin task a.world) a b c since_beginning
+      (since_weaker_if (λ so_far. Stops (task b) (b.events ++ so_far)) (λ so_far. IsRunning begins may_begin task a.world (since_beginning.added ++ so_far)) b c
+      (λ h so_far w stops. IsRunning.running b since_beginning.added so_far refl
+      (silent_added a b since_beginning.added silent since_beginning.events) (begun (second.honest h)) stops) second)
+
+-- of an answer two things hold
+pub if_ok_both : {T E : Type 0} (result : Result T E) (P Q R : T → Type 0) → ((x : T) → P x → Q x → R x) → IfOk result P → IfOk result Q → IfOk result R
+if_ok_both (Ok x) P Q R so p q = so x p q
+if_ok_both (Err e) P Q R so p q = tt
+
+pub if_ok_one : {T E : Type 0} (result : Result T E) (P R : T → Type 0) → ((x : T) → P x → R x) → IfOk result P → IfOk result R
+if_ok_one (Ok x) P R so p = so x p
+if_ok_one (Err e) P R so p = tt

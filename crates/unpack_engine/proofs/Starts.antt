@@ -1,0 +1,23 @@
+-- Before a commit begins.
+use Rattle.std.proofs.Common.{◌≡◌, inl, inr, true, List, Option, refl}
+use Rattle.host_core.specs.Paths.{Path}
+use Rattle.host_core.specs.World.{World}
+use Rattle.host_core.specs.Host.{State, AtEachMoment, Needs}
+use Rattle.host_core.specs.Moments.{since_start}
+use Rattle.control_members.proofs.Starting.{since_here}
+use Rattle.diversions.specs.declared.entry.Diversion.{Diversion}
+use Rattle.file_lists.specs.declared.paths.PackageList.{PackageList}
+use Rattle.status_db.specs.Held.{IsKept}
+use Rattle.status_db.specs.Recorded.{Recorded}
+use Rattle.status_db.specs.declared.record.Record.{Record}
+use Rattle.cleanup_stack.specs.Transcripts.{Committed}
+use Rattle.unpack_commit.specs.Commit.{Changes, MayCommit}
+use Rattle.unpack_engine.specs.Units.{MayLeave, MayLeaveBy}
+use Rattle.unpack_engine.proofs.Ready.{kept_opens}
+
+module _ (c : Changes) (entries : List Diversion) (lists : List PackageList) (records : List Record) (d : Recorded) where
+  pub commit_start : (w : World) → IsKept d w → MayCommit c entries lists records d.records w w
+  commit_start w kept = MayCommit.renewing (inl (record { each = λ q. inl refl })) kept.holds (kept_opens d w kept)
+
+  pub leave_start : (a : State) → Needs a (IsKept d) → AtEachMoment (MayLeave c records entries lists d.records Committed) a a
+  leave_start a kept = since_here (λ so_far. MayLeave c records entries lists d.records Committed a.world) a (λ h. MayLeaveBy.following (commit_start a.world (kept h)))

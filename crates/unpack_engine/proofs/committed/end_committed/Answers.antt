@@ -1,0 +1,56 @@
+use Rattle.administration.specs.Directories.{IsRemoved}
+use Rattle.administration.specs.Places.{tmp_path}
+use Rattle.control_members.specs.LaidOut.{IsLaying}
+use Rattle.file_writing.proofs.WriteMoments.{on_ok}
+use Rattle.host_core.specs.Moments.{since_now}
+use Rattle.status_db.specs.Held.{IsKept}
+use Rattle.unpack_commit.specs.Commit.{HasCommitted, MayCommit, changes_of}
+use Rattle.unpack_commit.specs.Takeover.{put_records}
+use Rattle.unpack_moves.proofs.Moments.{at_each, then_at_each}
+use Rattle.unpack_engine.specs.Units.{HasLeftBy, MayLeaveBy}
+use Rattle.unpack_engine.proofs.Dropping.{committed_laid, laying_kept}
+use Rattle.unpack_engine.proofs.Ready.{kept_opens}
+use Rattle.unpack_engine.proofs.committed.end_committed.Goals as goal
+
+pub returns-in_err-commit-clause-any_moment : goal.returns-in_err-commit-clause-any_moment
+returns-in_err-commit-clause-any_moment g c =
+    let change = changes_of c.args.change.now c.args.new_list in
+    let entries = c.args.diversions.now.entries in
+    let lists = c.args.lists.now.lists in
+    let records = c.args.records.now in
+    let before = c.args.database.now.records in
+    at_each (MayCommit change entries lists records before) (MayLeaveBy (HasCommitted change entries lists (put_records records before)) (MayCommit change entries lists records before)) _ _ (λ now is. MayLeaveBy.following is) c.commit.ensures.any_moment
+
+pub clear_away-requires : goal.clear_away-requires
+clear_away-requires g c = λ h.
+    committed_laid (changes_of c.args.change.now c.args.new_list) c.args.diversions.now.entries c.args.lists.now.lists _ c.args.change.now.members _ _ c.requires.spared c.requires.elsewhere
+    (c.in_ok-commit.ensures.committed h) (c.requires.laid (c.commit.ensures.silent.honest h))
+
+pub returns-clause-left : goal.returns-clause-left
+returns-clause-left g c = λ h.
+    let change = changes_of c.args.change.now c.args.new_list in
+    let after = put_records c.args.records.now c.args.database.now.records in
+    let mid = g.H.Host.state c.commit.new.host in
+    let end = g.H.Host.state c.clear_away.new.host in
+    on_ok c.clear_away.result (IsRemoved tmp_path mid.world end.world) (HasLeftBy (HasCommitted change c.args.diversions.now.entries c.args.lists.now.lists after) (g.H.Host.state c.args.host.now).world end.world)
+    (λ removed. record { followed = mid.world; has_followed = c.in_ok-commit.ensures.committed (c.clear_away.ensures.silent.honest h); removed = removed }) (c.clear_away.ensures.removed h)
+
+pub returns-clause-kept : goal.returns-clause-kept
+returns-clause-kept g c = λ h.
+    let mid = g.H.Host.state c.commit.new.host in
+    let end = g.H.Host.state c.clear_away.new.host in
+    on_ok c.clear_away.result (IsRemoved tmp_path mid.world end.world) (IsKept c.commit.new.database end.world)
+    (λ removed. laying_kept mid.world end.world removed.rest c.commit.new.database (c.in_ok-commit.ensures.kept (c.clear_away.ensures.silent.honest h))) (c.clear_away.ensures.removed h)
+
+pub returns-clause-any_moment : goal.returns-clause-any_moment
+returns-clause-any_moment g c =
+    let change = changes_of c.args.change.now c.args.new_list in
+    let entries = c.args.diversions.now.entries in
+    let lists = c.args.lists.now.lists in
+    let records = c.args.records.now in
+    let before = c.args.database.now.records in
+    let mid = g.H.Host.state c.commit.new.host in
+    then_at_each (MayCommit change entries lists records before) IsLaying (MayLeaveBy (HasCommitted change entries lists (put_records records before)) (MayCommit change entries lists records before)) _ _ _ (λ now is. MayLeaveBy.following is)
+    (λ h now is. (let h1 = c.clear_away.ensures.silent.honest h in
+    MayLeaveBy.clearing_away mid.world (c.in_ok-commit.ensures.committed h1) (kept_opens c.commit.new.database mid.world (c.in_ok-commit.ensures.kept h1)) is))
+    c.commit.ensures.any_moment c.clear_away.ensures.any_moment

@@ -1,0 +1,93 @@
+use Rattle.std.proofs.Common.{◌≡◌, List, Option, Some, None, sym, subst}
+use Rattle.host_core.specs.Paths.{Path}
+use Rattle.host_core.specs.World.{World}
+use Rattle.host_core.specs.Host.{State, AtEachMoment}
+use Rattle.file_lists.specs.Filed.{Filed}
+use Rattle.file_lists.specs.Writing.{IsListReady}
+use Rattle.stack_run.specs.Ended.{ended_as}
+use Rattle.stack_run.specs.declared.unwinding.Unwinding.{Unwinding}
+use Rattle.status_db.specs.Held.{IsKept}
+use Rattle.status_db.specs.Records.{record_in}
+use Rattle.unpack_rows.specs.EndStates.{own_name}
+use Rattle.unpack_engine.specs.Courses.{changes_from, ended_lists, ended_records, ended_table, records_from}
+use Rattle.unpack_engine.specs.Touched.{AreTold}
+use Rattle.unpack_engine.specs.Units.{HasDropped, HasLeft, HasLeftBy, MayDrop, MayLeave, MayLeaveBy}
+use Rattle.unpack_engine.proofs.Dropping.{dropped_kept, laying_kept}
+use Rattle.unpack_engine.proofs.Ready.{list_ready}
+use Rattle.unpack_engine.proofs.finishing.finish.Goals as goal
+
+-- what was done with this name and these packages, where nothing was unwound
+moved : (P : Path → List Path → Option Unwinding → Type 0) (n own : Path) (y ys : List Path) (u : Option Unwinding) → n ≡ own → y ≡ ys → u ≡ None → P n y None → P own ys u
+moved P n own y ys u same_name same_yields none has = subst (P own ys) (sym none) (subst (λ l. P own l None) same_yields (subst (λ p. P p y None) same_name has))
+
+pub returns-in-Ok-clause-told : goal.returns-in-Ok-clause-told
+returns-in-Ok-clause-told g c =
+    moved (λ n y u. AreTold n (ended_records (ended_as u) (records_from n y c.args.diversions.now.entries c.args.lists.now.lists c.args.works.now c.args.rest c.args.database.now.records)) c.in-Ok.touched)
+    c.name-name.result.now _ c.as_slice-yields.result.now _ c.args.unwinding c.name-name.ensures c.as_slice-yields.ensures c.in-None.is c.in-Ok.ensures.told
+
+pub returns-in-Ok-clause-lists : goal.returns-in-Ok-clause-lists
+returns-in-Ok-clause-lists g c =
+    moved (λ n y u. c.finish_committed.new.lists ≡ record c.args.lists.now { lists = ended_lists (ended_as u) (changes_from n y c.args.diversions.now.entries c.args.lists.now.lists c.args.works.now c.args.rest) c.args.diversions.now.entries c.args.lists.now.lists })
+    c.name-name.result.now _ c.as_slice-yields.result.now _ c.args.unwinding c.name-name.ensures c.as_slice-yields.ensures c.in-None.is c.in-Ok.ensures.lists
+
+pub returns-in-Ok-clause-records : goal.returns-in-Ok-clause-records
+returns-in-Ok-clause-records g c =
+    moved (λ n y u. c.finish_committed.new.database.records ≡ ended_table (ended_as u) (records_from n y c.args.diversions.now.entries c.args.lists.now.lists c.args.works.now c.args.rest c.args.database.now.records) c.args.database.now.records)
+    c.name-name.result.now _ c.as_slice-yields.result.now _ c.args.unwinding c.name-name.ensures c.as_slice-yields.ensures c.in-None.is c.in-Ok.ensures.records
+
+pub returns-in-Ok-clause-left : goal.returns-in-Ok-clause-left
+returns-in-Ok-clause-left g c = λ h.
+    let entries = c.args.diversions.now.entries in
+    let lists = c.args.lists.now.lists in
+    let before = c.args.database.now.records in
+    moved (λ n y u. HasLeft (changes_from n y entries lists c.args.works.now c.args.rest) (records_from n y entries lists c.args.works.now c.args.rest before) entries lists before (ended_as u)
+    (g.H.Host.state c.args.host.now).world (g.H.Host.state c.finish_committed.new.host).world)
+    c.name-name.result.now _ c.as_slice-yields.result.now _ c.args.unwinding c.name-name.ensures c.as_slice-yields.ensures c.in-None.is (c.in-Ok.ensures.left h)
+
+pub returns-in-Ok-clause-any_moment : goal.returns-in-Ok-clause-any_moment
+returns-in-Ok-clause-any_moment g c =
+    let entries = c.args.diversions.now.entries in
+    let lists = c.args.lists.now.lists in
+    let before = c.args.database.now.records in
+    moved (λ n y u. AtEachMoment (MayLeave (changes_from n y entries lists c.args.works.now c.args.rest) (records_from n y entries lists c.args.works.now c.args.rest before) entries lists before (ended_as u))
+    (g.H.Host.state c.args.host.now) (g.H.Host.state c.finish_committed.new.host))
+    c.name-name.result.now _ c.as_slice-yields.result.now _ c.args.unwinding c.name-name.ensures c.as_slice-yields.ensures c.in-None.is c.finish_committed.ensures.any_moment
+
+pub returns-in-None-clause-any_moment : goal.returns-in-None-clause-any_moment
+returns-in-None-clause-any_moment g c =
+    let entries = c.args.diversions.now.entries in
+    let lists = c.args.lists.now.lists in
+    let before = c.args.database.now.records in
+    moved (λ n y u. AtEachMoment (MayLeave (changes_from n y entries lists c.args.works.now c.args.rest) (records_from n y entries lists c.args.works.now c.args.rest before) entries lists before (ended_as u))
+    (g.H.Host.state c.args.host.now) (g.H.Host.state c.finish_committed.new.host))
+    c.name-name.result.now _ c.as_slice-yields.result.now _ c.args.unwinding c.name-name.ensures c.as_slice-yields.ensures c.in-None.is c.finish_committed.ensures.any_moment
+
+pub finish_unwound-requires-clause-ready : goal.finish_unwound-requires-clause-ready
+finish_unwound-requires-clause-ready g c = λ h.
+    let w = (g.H.Host.state c.args.host.now).world in
+    subst (λ n. IsListReady n w) (sym c.name-name.ensures) (list_ready w (c.requires.info h) (c.requires.loose h) _ c.requires.named)
+
+pub returns-in-Ok-finish_unwound-clause-kept : goal.returns-in-Ok-finish_unwound-clause-kept
+returns-in-Ok-finish_unwound-clause-kept g c = λ h.
+    let old = (g.H.Host.state c.args.host.now).world in
+    let new = (g.H.Host.state c.finish_unwound.new.host).world in
+    let name = c.name-name.result.now in
+    let left = c.in-Ok-finish_unwound.ensures.left h in
+    laying_kept left.followed new left.removed.rest c.args.database.now
+    (dropped_kept (record_in c.args.database.now.records name) name old left.followed left.has_followed c.args.database.now (c.requires.kept (c.finish_unwound.ensures.silent.honest h)))
+
+pub returns-in-Ok-finish_unwound-clause-any_moment : goal.returns-in-Ok-finish_unwound-clause-any_moment
+returns-in-Ok-finish_unwound-clause-any_moment g c =
+    let before = c.args.database.now.records in
+    let old = g.H.Host.state c.args.host.now in
+    let new = g.H.Host.state c.finish_unwound.new.host in
+    subst (λ u. AtEachMoment (MayLeave (changes_from (own_name c.args.rows.now.found c.args.rows.now.incoming) c.args.rows.now.yields c.args.diversions.now.entries c.args.lists.now.lists c.args.works.now c.args.rest) (records_from (own_name c.args.rows.now.found c.args.rows.now.incoming) c.args.rows.now.yields c.args.diversions.now.entries c.args.lists.now.lists c.args.works.now c.args.rest before) c.args.diversions.now.entries c.args.lists.now.lists before (ended_as u)) old new) (sym c.in-Some.is)
+    (subst (λ n. AtEachMoment (MayLeaveBy (HasDropped (record_in before n) n) (MayDrop (record_in before n) n)) old new) c.name-name.ensures c.finish_unwound.ensures.any_moment)
+
+pub returns-clause-any_moment : goal.returns-clause-any_moment
+returns-clause-any_moment g c =
+    let before = c.args.database.now.records in
+    let old = g.H.Host.state c.args.host.now in
+    let new = g.H.Host.state c.finish_unwound.new.host in
+    subst (λ u. AtEachMoment (MayLeave (changes_from (own_name c.args.rows.now.found c.args.rows.now.incoming) c.args.rows.now.yields c.args.diversions.now.entries c.args.lists.now.lists c.args.works.now c.args.rest) (records_from (own_name c.args.rows.now.found c.args.rows.now.incoming) c.args.rows.now.yields c.args.diversions.now.entries c.args.lists.now.lists c.args.works.now c.args.rest before) c.args.diversions.now.entries c.args.lists.now.lists before (ended_as u)) old new) (sym c.in-Some.is)
+    (subst (λ n. AtEachMoment (MayLeaveBy (HasDropped (record_in before n) n) (MayDrop (record_in before n) n)) old new) c.name-name.ensures c.finish_unwound.ensures.any_moment)

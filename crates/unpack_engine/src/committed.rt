@@ -1,0 +1,121 @@
+// What follows rows that all succeeded.
+ghost use Rattle.std.specs.Prelude.{◌≡◌, not, true, false, ℕ, List, IfOk, OnOk, Contains, filter};
+ghost use Rattle.std.specs.Str.{bytes_eq};
+ghost use Rattle.texts.specs.PackageNames.{is_package_name};
+ghost use Rattle.host_core.specs.Host.{AtEachMoment, Counts, Leaves, Needs, Silent};
+ghost use Rattle.control_members.specs.LaidOut.{AreLaidOut};
+ghost use Rattle.control_members.specs.Stored.{IsMembersReady};
+ghost use Rattle.file_lists.specs.Owners.{AreListPaths};
+ghost use Rattle.file_lists.specs.Writing.{IsListReady};
+ghost use Rattle.status_db.specs.Held.{IsKept};
+ghost use Rattle.status_db.specs.Records.{AreStanding};
+ghost use Rattle.unpack_commit.specs.Commit.{HasCommitted, MayCommit, changes_of, committed_lists};
+ghost use Rattle.unpack_commit.specs.Takeover.{put_records};
+ghost use Rattle.unpack_moves.specs.Closing.{SparesAdministration};
+ghost use Rattle.unpack_moves.specs.Concluding.{AreElsewhere};
+ghost use Rattle.unpack_engine.specs.Courses.{changes_from, records_from};
+ghost use Rattle.unpack_engine.specs.Units.{HasLeftBy, MayLeaveBy};
+
+use crate::course::Rest;
+use control_members::clear_away;
+use diversions::Diversions;
+use file_lists::{FileLists, Paths};
+use file_works::Work;
+use host_core::{Host, HostFault};
+use status_db::{NotedDatabase, Record};
+use std::alloc::{AllocError, Global};
+use texts::{Text, Texts};
+use unpack_commit::{Change, commit, takeover_of};
+
+/// A commit that is ready to be made: what changes, the new list, and the records that are noted.
+#[derive(Drop)]
+pub(crate) struct Committing {
+    pub(crate) change: Change,
+    pub(crate) new_list: Paths,
+    pub(crate) records: Vec<Record>,
+}
+
+// All of these names but one.
+fn names_beside(alloc: Global, names: &[Text], name: &Text) -> Result<Texts, AllocError>
+    ensures { IfOk result (λ others. others ≡ filter (λ q. not (bytes_eq q name.now)) names.now) }
+{
+    let mut others = Texts::new(alloc);
+    for other in names {
+        if other.as_str() != name.as_str() {
+            others.push(other.copy()?)?;
+        }
+    }
+    Ok(others)
+}
+
+/// What is committed, where these works were written: no list but those of other packages that yield loses a place.
+pub(crate) fn committing_of(
+    alloc: Global,
+    database: &NotedDatabase,
+    lists: &FileLists,
+    diversions: &Diversions,
+    name: &Text,
+    yields: &[Text],
+    works: &[Work],
+    rest: Rest,
+) -> Result<Committing, AllocError>
+    ensures change { IfOk result (λ c. changes_of c.change c.new_list ≡ changes_from name.now yields.now diversions.now.entries lists.now.lists works.now rest) }
+    ensures members { IfOk result (λ c. c.change.members ≡ rest.members) }
+    ensures records { IfOk result (λ c. c.records.items ≡ records_from name.now yields.now diversions.now.entries lists.now.lists works.now rest database.now.records) }
+{
+    let others = names_beside(alloc, yields, name)?;
+    let takeover = takeover_of(alloc, works, database, lists, diversions, others.as_slice())?;
+    let mut records = takeover.records;
+    records.push(rest.fresh)?;
+    Ok(Committing {
+        change: Change {
+            name: name.copy()?,
+            leaving: rest.leaving,
+            members: rest.members,
+            places: takeover.places,
+            losers: takeover.losers,
+            names: rest.names,
+        },
+        new_list: rest.new_list,
+        records,
+    })
+}
+
+/// Ends a unit whose rows succeeded: it is committed, and `tmp.ci` goes.
+pub(crate) fn end_committed<H: Host>(
+    alloc: Global,
+    host: &mut H,
+    database: &mut NotedDatabase,
+    lists: &mut FileLists,
+    diversions: &Diversions,
+    change: &Change,
+    new_list: Paths,
+    records: &[Record],
+) -> Result<(), HostFault>
+    requires noting { database.old.closed ≡ false }
+    requires opened { lists.old.closed ≡ false }
+    requires named { is_package_name change.now.name ≡ true }
+    requires losers { (name : List ℕ) → Contains change.now.losers name → is_package_name name ≡ true }
+    requires spared { SparesAdministration change.now.leaving.items }
+    requires paths { AreListPaths new_list }
+    requires elsewhere { AreElsewhere change.now.names.items }
+    requires stands { AreStanding records.now }
+    requires ready { Needs (H.state host.old) (IsListReady change.now.name) }
+    requires losers_ready { Needs (H.state host.old) (λ w. (name : List ℕ) → Contains change.now.losers name → IsListReady name w) }
+    requires members { Needs (H.state host.old) (IsMembersReady change.now.name) }
+    requires kept { Needs (H.state host.old) (IsKept database.old) }
+    requires laid { Needs (H.state host.old) (AreLaidOut change.now.members) }
+    ensures lists { OnOk result (lists.new ≡ record lists.old { lists = committed_lists (changes_of change.now new_list) diversions.now.entries lists.old.lists }) }
+    ensures records { OnOk result (database.new.records ≡ put_records records.now database.old.records) }
+    ensures opened { OnOk result (database.new.closed ≡ false) }
+    ensures left { Leaves result (HasLeftBy (HasCommitted (changes_of change.now new_list) diversions.now.entries lists.old.lists (put_records records.now database.old.records))) (H.state host.old) (H.state host.new) }
+    ensures kept { Leaves result (λ old new. IsKept database.new new) (H.state host.old) (H.state host.new) }
+    ensures any_moment { AtEachMoment (MayLeaveBy (HasCommitted (changes_of change.now new_list) diversions.now.entries lists.old.lists (put_records records.now database.old.records)) (MayCommit (changes_of change.now new_list) diversions.now.entries lists.old.lists records.now database.old.records)) (H.state host.old) (H.state host.new) }
+    ensures silent { Silent (H.state host.old) (H.state host.new) }
+    ensures counts { Counts (H.state host.old) (H.state host.new) result }
+{
+    commit(
+        alloc, host, database, lists, diversions, change, new_list, records,
+    )?;
+    clear_away(alloc, host, &change.members)
+}

@@ -1,0 +1,215 @@
+// What follows the rows of a unit, however they ended.
+ghost use Rattle.std.specs.Prelude.{◌≡◌, [], true, false, ℕ, List, IfOk, OnOk, Contains};
+ghost use Rattle.texts.specs.PackageNames.{is_package_name};
+ghost use Rattle.host_core.specs.World.{IsDirectory};
+ghost use Rattle.host_core.specs.Host.{AtEachMoment, Counts, Leaves, Needs, Silent};
+ghost use Rattle.administration.specs.Places.{info_path};
+ghost use Rattle.cleanup_stack.specs.Transcripts.{Committed};
+ghost use Rattle.control_members.specs.LaidOut.{AreLaidOut};
+ghost use Rattle.control_members.specs.Stored.{IsMembersReady};
+ghost use Rattle.file_lists.specs.Info.{AreLoose};
+ghost use Rattle.file_lists.specs.Owners.{AreListPaths};
+ghost use Rattle.file_lists.specs.Writing.{IsListReady};
+ghost use Rattle.stack_run.specs.Ended.{ended_as};
+ghost use Rattle.status_db.specs.Held.{IsKept};
+ghost use Rattle.status_db.specs.Records.{AreStanding, record_in};
+ghost use Rattle.unpack_commit.specs.Commit.{HasCommitted, MayCommit, changes_of, committed_lists};
+ghost use Rattle.unpack_commit.specs.Takeover.{put_records};
+ghost use Rattle.unpack_moves.specs.Closing.{SparesAdministration};
+ghost use Rattle.unpack_moves.specs.Concluding.{AreElsewhere};
+ghost use Rattle.unpack_rows.specs.EndStates.{own_name};
+ghost use Rattle.unpack_engine.specs.Courses.{changes_from, ended_lists, ended_records, ended_table, records_from};
+ghost use Rattle.unpack_engine.specs.Touched.{AreTold};
+ghost use Rattle.unpack_engine.specs.Units.{HasDropped, HasLeft, HasLeftBy, MayDrop, MayLeave, MayLeaveBy};
+
+use crate::committed::{Committing, committing_of, end_committed};
+use crate::course::Rest;
+use crate::touched::touched_of;
+use crate::unwound::end_unwound;
+use control_members::Members;
+use diversions::Diversions;
+use file_lists::FileLists;
+use file_works::Work;
+use host_core::{Host, HostFault};
+use stack_run::Unwinding;
+use status_db::NotedDatabase;
+use std::alloc::Global;
+use texts::{Text, Texts};
+use unpack_run::Rows;
+
+/// How a unit ended: how its rows were unwound, or none where it was committed; and its packages, in the order of names: the
+/// one that was named, and each whose record differs since.
+#[derive(Drop)]
+pub struct Unpacked {
+    pub unwinding: Option<Unwinding>,
+    pub touched: Texts,
+}
+
+// Ends a unit whose rows were unwound.
+fn finish_unwound<H: Host>(
+    alloc: Global,
+    host: &mut H,
+    database: &NotedDatabase,
+    name: &Text,
+    members: &Members,
+) -> Result<Texts, HostFault>
+    requires named { is_package_name name.now ≡ true }
+    requires ready { Needs (H.state host.old) (IsListReady name.now) }
+    requires laid { Needs (H.state host.old) (AreLaidOut members.now) }
+    requires kept { Needs (H.state host.old) (IsKept database.now) }
+    ensures told { IfOk result (AreTold name.now []) }
+    ensures left { Leaves result (HasLeftBy (HasDropped (record_in database.now.records name.now) name.now)) (H.state host.old) (H.state host.new) }
+    ensures any_moment { AtEachMoment (MayLeaveBy (HasDropped (record_in database.now.records name.now) name.now) (MayDrop (record_in database.now.records name.now) name.now)) (H.state host.old) (H.state host.new) }
+    ensures silent { Silent (H.state host.old) (H.state host.new) }
+    ensures counts { Counts (H.state host.old) (H.state host.new) result }
+{
+    end_unwound(alloc, host, database, name, members)?;
+    Ok(touched_of(alloc, name, &[])?)
+}
+
+// Makes a commit that is ready.
+fn finish_ready<H: Host>(
+    alloc: Global,
+    host: &mut H,
+    database: &mut NotedDatabase,
+    lists: &mut FileLists,
+    diversions: &Diversions,
+    committing: Committing,
+) -> Result<Texts, HostFault>
+    requires noting { database.old.closed ≡ false }
+    requires opened { lists.old.closed ≡ false }
+    requires named { is_package_name committing.change.name ≡ true }
+    requires losers { (name : List ℕ) → Contains committing.change.losers name → is_package_name name ≡ true }
+    requires spared { SparesAdministration committing.change.leaving.items }
+    requires paths { AreListPaths committing.new_list }
+    requires elsewhere { AreElsewhere committing.change.names.items }
+    requires stands { AreStanding committing.records.items }
+    requires ready { Needs (H.state host.old) (IsListReady committing.change.name) }
+    requires losers_ready { Needs (H.state host.old) (λ w. (name : List ℕ) → Contains committing.change.losers name → IsListReady name w) }
+    requires members { Needs (H.state host.old) (IsMembersReady committing.change.name) }
+    requires kept { Needs (H.state host.old) (IsKept database.old) }
+    requires laid { Needs (H.state host.old) (AreLaidOut committing.change.members) }
+    ensures told { IfOk result (AreTold committing.change.name committing.records.items) }
+    ensures lists { OnOk result (lists.new ≡ record lists.old { lists = committed_lists (changes_of committing.change committing.new_list) diversions.now.entries lists.old.lists }) }
+    ensures records { OnOk result (database.new.records ≡ put_records committing.records.items database.old.records) }
+    ensures opened { OnOk result (database.new.closed ≡ false) }
+    ensures left { Leaves result (HasLeftBy (HasCommitted (changes_of committing.change committing.new_list) diversions.now.entries lists.old.lists (put_records committing.records.items database.old.records))) (H.state host.old) (H.state host.new) }
+    ensures kept { Leaves result (λ old new. IsKept database.new new) (H.state host.old) (H.state host.new) }
+    ensures any_moment { AtEachMoment (MayLeaveBy (HasCommitted (changes_of committing.change committing.new_list) diversions.now.entries lists.old.lists (put_records committing.records.items database.old.records)) (MayCommit (changes_of committing.change committing.new_list) diversions.now.entries lists.old.lists committing.records.items database.old.records)) (H.state host.old) (H.state host.new) }
+    ensures silent { Silent (H.state host.old) (H.state host.new) }
+    ensures counts { Counts (H.state host.old) (H.state host.new) result }
+{
+    let Committing {
+        change,
+        new_list,
+        records,
+    } = committing;
+    let noted = records.as_slice();
+    match end_committed(
+        alloc, host, database, lists, diversions, &change, new_list, noted,
+    ) {
+        Ok(()) => Ok(touched_of(alloc, &change.name, noted)?),
+        Err(fault) => Err(fault),
+    }
+}
+
+// Ends a unit whose rows succeeded.
+fn finish_committed<H: Host>(
+    alloc: Global,
+    host: &mut H,
+    database: &mut NotedDatabase,
+    lists: &mut FileLists,
+    diversions: &Diversions,
+    name: &Text,
+    yields: &[Text],
+    works: &[Work],
+    rest: Rest,
+) -> Result<Texts, HostFault>
+    requires noting { database.old.closed ≡ false }
+    requires opened { lists.old.closed ≡ false }
+    requires named { is_package_name name.now ≡ true }
+    requires yields { (other : List ℕ) → Contains yields.now other → is_package_name other ≡ true }
+    requires spared { SparesAdministration rest.leaving.items }
+    requires paths { AreListPaths rest.new_list }
+    requires elsewhere { AreElsewhere rest.names.items }
+    requires stands { AreStanding (records_from name.now yields.now diversions.now.entries lists.old.lists works.now rest database.old.records) }
+    requires info { Needs (H.state host.old) (λ w. IsDirectory (w info_path)) }
+    requires loose { Needs (H.state host.old) AreLoose }
+    requires kept { Needs (H.state host.old) (IsKept database.old) }
+    requires laid { Needs (H.state host.old) (AreLaidOut rest.members) }
+    ensures told { IfOk result (AreTold name.now (records_from name.now yields.now diversions.now.entries lists.old.lists works.now rest database.old.records)) }
+    ensures lists { OnOk result (lists.new ≡ record lists.old { lists = committed_lists (changes_from name.now yields.now diversions.now.entries lists.old.lists works.now rest) diversions.now.entries lists.old.lists }) }
+    ensures records { OnOk result (database.new.records ≡ put_records (records_from name.now yields.now diversions.now.entries lists.old.lists works.now rest database.old.records) database.old.records) }
+    ensures opened { OnOk result (database.new.closed ≡ false) }
+    ensures left { Leaves result (HasLeft (changes_from name.now yields.now diversions.now.entries lists.old.lists works.now rest) (records_from name.now yields.now diversions.now.entries lists.old.lists works.now rest database.old.records) diversions.now.entries lists.old.lists database.old.records Committed) (H.state host.old) (H.state host.new) }
+    ensures kept { Leaves result (λ old new. IsKept database.new new) (H.state host.old) (H.state host.new) }
+    ensures any_moment { AtEachMoment (MayLeave (changes_from name.now yields.now diversions.now.entries lists.old.lists works.now rest) (records_from name.now yields.now diversions.now.entries lists.old.lists works.now rest database.old.records) diversions.now.entries lists.old.lists database.old.records Committed) (H.state host.old) (H.state host.new) }
+    ensures silent { Silent (H.state host.old) (H.state host.new) }
+    ensures counts { Counts (H.state host.old) (H.state host.new) result }
+{
+    match committing_of(
+        alloc, database, lists, diversions, name, yields, works, rest,
+    ) {
+        Ok(committing) => finish_ready(alloc, host, database, lists, diversions, committing),
+        Err(_) => Err(HostFault::NoMemory),
+    }
+}
+
+/// Ends a unit: it is committed, or nothing of what it brought stays; then `tmp.ci` goes.
+pub(crate) fn finish<H: Host>(
+    alloc: Global,
+    host: &mut H,
+    database: &mut NotedDatabase,
+    lists: &mut FileLists,
+    diversions: &Diversions,
+    rows: &Rows,
+    works: &[Work],
+    rest: Rest,
+    unwinding: Option<Unwinding>,
+) -> Result<Unpacked, HostFault>
+    requires noting { database.old.closed ≡ false }
+    requires opened { lists.old.closed ≡ false }
+    requires named { is_package_name (own_name rows.now.found rows.now.incoming) ≡ true }
+    requires yields { (other : List ℕ) → Contains rows.now.yields other → is_package_name other ≡ true }
+    requires spared { SparesAdministration rest.leaving.items }
+    requires paths { AreListPaths rest.new_list }
+    requires elsewhere { AreElsewhere rest.names.items }
+    requires stands { AreStanding (records_from (own_name rows.now.found rows.now.incoming) rows.now.yields diversions.now.entries lists.old.lists works.now rest database.old.records) }
+    requires info { Needs (H.state host.old) (λ w. IsDirectory (w info_path)) }
+    requires loose { Needs (H.state host.old) AreLoose }
+    requires kept { Needs (H.state host.old) (IsKept database.old) }
+    requires laid { Needs (H.state host.old) (AreLaidOut rest.members) }
+    ensures unwinding { IfOk result (λ u. u.unwinding ≡ unwinding) }
+    ensures told { IfOk result (λ u. AreTold (own_name rows.now.found rows.now.incoming) (ended_records (ended_as unwinding) (records_from (own_name rows.now.found rows.now.incoming) rows.now.yields diversions.now.entries lists.old.lists works.now rest database.old.records)) u.touched) }
+    ensures lists { OnOk result (lists.new ≡ record lists.old { lists = ended_lists (ended_as unwinding) (changes_from (own_name rows.now.found rows.now.incoming) rows.now.yields diversions.now.entries lists.old.lists works.now rest) diversions.now.entries lists.old.lists }) }
+    ensures records { OnOk result (database.new.records ≡ ended_table (ended_as unwinding) (records_from (own_name rows.now.found rows.now.incoming) rows.now.yields diversions.now.entries lists.old.lists works.now rest database.old.records) database.old.records) }
+    ensures opened { OnOk result (database.new.closed ≡ false) }
+    ensures left { Leaves result (HasLeft (changes_from (own_name rows.now.found rows.now.incoming) rows.now.yields diversions.now.entries lists.old.lists works.now rest) (records_from (own_name rows.now.found rows.now.incoming) rows.now.yields diversions.now.entries lists.old.lists works.now rest database.old.records) diversions.now.entries lists.old.lists database.old.records (ended_as unwinding)) (H.state host.old) (H.state host.new) }
+    ensures kept { Leaves result (λ old new. IsKept database.new new) (H.state host.old) (H.state host.new) }
+    ensures any_moment { AtEachMoment (MayLeave (changes_from (own_name rows.now.found rows.now.incoming) rows.now.yields diversions.now.entries lists.old.lists works.now rest) (records_from (own_name rows.now.found rows.now.incoming) rows.now.yields diversions.now.entries lists.old.lists works.now rest database.old.records) diversions.now.entries lists.old.lists database.old.records (ended_as unwinding)) (H.state host.old) (H.state host.new) }
+    ensures silent { Silent (H.state host.old) (H.state host.new) }
+    ensures counts { Counts (H.state host.old) (H.state host.new) result }
+{
+    let name = rows.name();
+    match unwinding {
+        None => {
+            let yields = rows.yields.as_slice();
+            match finish_committed(
+                alloc, host, database, lists, diversions, name, yields, works, rest,
+            ) {
+                Ok(touched) => Ok(Unpacked {
+                    unwinding: None,
+                    touched,
+                }),
+                Err(fault) => Err(fault),
+            }
+        }
+        Some(unwinding) => match finish_unwound(alloc, host, database, name, &rest.members) {
+            Ok(touched) => Ok(Unpacked {
+                unwinding: Some(unwinding),
+                touched,
+            }),
+            Err(fault) => Err(fault),
+        },
+    }
+}

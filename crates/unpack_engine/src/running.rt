@@ -1,0 +1,59 @@
+// The beginning of a unit, and its rows.
+ghost use Rattle.std.specs.Prelude.{◌≡◌, false, IfOk, length};
+ghost use Rattle.host_core.specs.Host.{AtEachMomentOf, Counts, Needs};
+ghost use Rattle.cleanup_stack.specs.Place.{Fit};
+ghost use Rattle.stack_run.specs.Ended.{IsCauseOf, ended_as};
+ghost use Rattle.unpack_rows.specs.EndStates.{own_name};
+ghost use Rattle.unpack_rows.specs.ForwardRows.{Fits, records_of};
+ghost use Rattle.unpack_rows.specs.Kinds.{kinds_of};
+ghost use Rattle.unpack_run.specs.At.{holding};
+ghost use Rattle.unpack_run.specs.Task.{IsSound, task_of};
+ghost use Rattle.unpack_engine.specs.Order.{IsInOrder};
+ghost use Rattle.unpack_engine.specs.Units.{HasBegun, HasCalledRows, HasRunRows, IsRunning, MayBegin};
+
+use crate::beginning::begin;
+use control_members::Members;
+use diversions::Diversions;
+use file_lists::FileLists;
+use file_works::Work;
+use host_core::{Host, HostFault, Places};
+use stack_run::Unwinding;
+use status_db::NotedDatabase;
+use std::alloc::Global;
+use unpack_run::{Rows, run_unpack_rows};
+use unwind_stack::{Called, Row};
+
+/// Begins a unit and runs its rows.
+pub(crate) fn begin_and_run<H: Host>(
+    alloc: Global,
+    host: &mut H,
+    database: &mut NotedDatabase,
+    lists: &mut FileLists,
+    places: &mut Places,
+    diversions: &Diversions,
+    rows: &Rows,
+    works: &mut Vec<Work>,
+    calls: Vec<Row>,
+    members: &Members,
+    told: &mut Vec<Called>,
+) -> Result<Option<Unwinding>, HostFault>
+    requires noting { database.old.closed ≡ false }
+    requires listing { lists.old.closed ≡ false }
+    requires sound { IsSound (task_of (H.state host.old) database.old lists.old diversions.now.entries places.old works.old.items rows.now) }
+    requires kinds { rows.now.kinds.items ≡ (kinds_of rows.now.found (records_of rows.now.others.items)) }
+    requires rows { Fit (Fits (own_name rows.now.found rows.now.incoming) (kinds_of rows.now.found (records_of rows.now.others.items))) calls.items }
+    requires length { length calls.items ≡ length (kinds_of rows.now.found (records_of rows.now.others.items)) }
+    requires order { Needs (H.state host.old) (IsInOrder database.old lists.old.lists) }
+    ensures ran { IfOk result (λ u. HasRunRows (HasBegun rows.now.found (own_name rows.now.found rows.now.incoming) members.now) (λ s. task_of s database.old lists.old diversions.now.entries places.old works.old.items rows.now) calls.items (ended_as u) (holding database.new lists.new places.new works.new.items) (H.state host.old) (H.state host.new) told.old.items told.new.items) }
+    ensures cause { IfOk result (IsCauseOf calls.items) }
+    ensures told { HasCalledRows calls.items (H.state host.old) (H.state host.new) told.old.items told.new.items }
+    ensures any_moment { AtEachMomentOf (IsRunning (HasBegun rows.now.found (own_name rows.now.found rows.now.incoming) members.now) (MayBegin rows.now.found (own_name rows.now.found rows.now.incoming)) (λ s. task_of s database.old lists.old diversions.now.entries places.old works.old.items rows.now)) (H.state host.old) (H.state host.new) }
+    ensures counts { Counts (H.state host.old) (H.state host.new) result }
+{
+    match begin(alloc, host, rows.name(), &rows.found, members) {
+        Ok(()) => run_unpack_rows(
+            alloc, host, database, lists, places, diversions, rows, works, calls, told,
+        ),
+        Err(fault) => Err(fault),
+    }
+}

@@ -1,0 +1,174 @@
+// The unit of an unpack.
+ghost use Rattle.std.specs.Prelude.{◌≡◌, [], false, IfOk, OnOk};
+ghost use Rattle.host_core.specs.Host.{AtEachMomentOf, Counts, Needs, Reads, Silent, Tells};
+ghost use Rattle.package_tree.specs.declared.package.Package.{Package as APackage};
+ghost use Rattle.stack_run.specs.Ended.{IsCauseOf, ended_as};
+ghost use Rattle.unpack_commit.specs.Takeover.{yields_of};
+ghost use Rattle.unpack_plan.specs.Planned.{IsPlanned, planned};
+ghost use Rattle.unpack_rows.specs.EndStates.{own_name};
+ghost use Rattle.unpack_rows.specs.declared.rows.Present.{Present};
+ghost use Rattle.unpack_engine.specs.Courses.{planned_from};
+ghost use Rattle.unpack_engine.specs.Order.{IsInOrder};
+ghost use Rattle.unpack_engine.specs.Units.{HasCalled, HasCalledRows, HasCarriedOut, HasFailedFor, HasUnpacked, IsAmid, IsPlanFor, IsTouched, IsUnderWay, given, ground, job_of};
+
+use crate::course::{Course, course_of};
+use crate::finishing::{Unpacked, finish};
+use crate::looks::stored_scripts;
+use crate::running::begin_and_run;
+use diversions::Diversions;
+use file_lists::FileLists;
+use host_core::{Host, HostFault, Places};
+use package_tree::Package;
+use status_db::NotedDatabase;
+use std::alloc::Global;
+use unpack_plan::{Plan, plan_of};
+use unwind_stack::Called;
+
+// Carries out a plan by its parts.
+fn run_course<H: Host>(
+    alloc: Global,
+    host: &mut H,
+    database: &mut NotedDatabase,
+    lists: &mut FileLists,
+    places: &mut Places,
+    diversions: &Diversions,
+    course: Course,
+    told: &mut Vec<Called>,
+) -> Result<Unpacked, HostFault>
+    requires noting { database.old.closed ≡ false }
+    requires listing { lists.old.closed ≡ false }
+    requires plan { (p : APackage) × (stored : Present) × IsPlanned (job_of (given p database.old.records lists.old.lists diversions.now.entries) stored) (planned_from course.rows course.works.items course.calls.items course.rest) }
+    requires others { course.rows.others.items ≡ [] }
+    requires yields { course.rows.yields ≡ yields_of database.old.records }
+    requires order { Needs (H.state host.old) (IsInOrder database.old lists.old.lists) }
+    ensures unit { IfOk result (λ u. HasCarriedOut (ground database.old.records lists.old.lists diversions.now.entries places.old) (planned_from course.rows course.works.items course.calls.items course.rest) (ended_as u.unwinding) database.new lists.new.lists (H.state host.old) (H.state host.new) told.old.items told.new.items) }
+    ensures cause { IfOk result (λ u. IsCauseOf course.calls.items u.unwinding) }
+    ensures touched { IfOk result (λ u. IsTouched (own_name course.rows.found course.rows.incoming) database.old.records database.new.records u.touched) }
+    ensures told { HasCalledRows course.calls.items (H.state host.old) (H.state host.new) told.old.items told.new.items }
+    ensures order { IfOk result (λ u. Needs (H.state host.new) (IsInOrder database.new lists.new.lists)) }
+    ensures noting { OnOk result (database.new.closed ≡ false) }
+    ensures listing { OnOk result (lists.new.closed ≡ false) }
+    ensures any_moment { AtEachMomentOf (IsUnderWay (ground database.old.records lists.old.lists diversions.now.entries places.old) (planned_from course.rows course.works.items course.calls.items course.rest)) (H.state host.old) (H.state host.new) }
+    ensures counts { Counts (H.state host.old) (H.state host.new) result }
+{
+    let Course {
+        rows,
+        mut works,
+        calls,
+        rest,
+    } = course;
+    match begin_and_run(
+        alloc,
+        host,
+        database,
+        lists,
+        places,
+        diversions,
+        &rows,
+        &mut works,
+        calls,
+        &rest.members,
+        told,
+    ) {
+        Ok(unwinding) => finish(
+            alloc,
+            host,
+            database,
+            lists,
+            diversions,
+            &rows,
+            works.as_slice(),
+            rest,
+            unwinding,
+        ),
+        Err(fault) => Err(fault),
+    }
+}
+
+// Looks which scripts are stored, and plans.
+fn plan_unit<H: Host>(
+    alloc: Global,
+    host: &mut H,
+    database: &NotedDatabase,
+    lists: &FileLists,
+    diversions: &Diversions,
+    incoming: Package,
+) -> Result<Plan, HostFault>
+    ensures planned { IfOk result (λ plan. IsPlanFor (given incoming database.now.records lists.now.lists diversions.now.entries) (H.state host.old).world (H.state host.new).honest (planned plan)) }
+    ensures reads { Reads (H.state host.old) (H.state host.new) }
+    ensures silent { Silent (H.state host.old) (H.state host.new) }
+    ensures counts { Counts (H.state host.old) (H.state host.new) result }
+{
+    let found = database.get(&incoming.name);
+    match stored_scripts(alloc, host, &incoming.name, found) {
+        Ok(stored) => match plan_of(alloc, incoming, database, lists, diversions, stored) {
+            Ok(plan) => Ok(plan),
+            Err(_) => Err(HostFault::NoMemory),
+        },
+        Err(fault) => Err(fault),
+    }
+}
+
+// Carries out a plan.
+fn carry_out<H: Host>(
+    alloc: Global,
+    host: &mut H,
+    database: &mut NotedDatabase,
+    lists: &mut FileLists,
+    places: &mut Places,
+    diversions: &Diversions,
+    plan: Plan,
+    told: &mut Vec<Called>,
+) -> Result<Unpacked, HostFault>
+    requires noting { database.old.closed ≡ false }
+    requires listing { lists.old.closed ≡ false }
+    requires plan { (p : APackage) × (stored : Present) × IsPlanned (job_of (given p database.old.records lists.old.lists diversions.now.entries) stored) (planned plan) }
+    requires order { Needs (H.state host.old) (IsInOrder database.old lists.old.lists) }
+    ensures unit { IfOk result (λ u. HasCarriedOut (ground database.old.records lists.old.lists diversions.now.entries places.old) (planned plan) (ended_as u.unwinding) database.new lists.new.lists (H.state host.old) (H.state host.new) told.old.items told.new.items) }
+    ensures cause { IfOk result (λ u. IsCauseOf plan.rows.items u.unwinding) }
+    ensures touched { IfOk result (λ u. IsTouched (own_name plan.found plan.incoming) database.old.records database.new.records u.touched) }
+    ensures told { HasCalledRows plan.rows.items (H.state host.old) (H.state host.new) told.old.items told.new.items }
+    ensures order { IfOk result (λ u. Needs (H.state host.new) (IsInOrder database.new lists.new.lists)) }
+    ensures noting { OnOk result (database.new.closed ≡ false) }
+    ensures listing { OnOk result (lists.new.closed ≡ false) }
+    ensures any_moment { AtEachMomentOf (IsUnderWay (ground database.old.records lists.old.lists diversions.now.entries places.old) (planned plan)) (H.state host.old) (H.state host.new) }
+    ensures counts { Counts (H.state host.old) (H.state host.new) result }
+{
+    match course_of(alloc, plan, database) {
+        Ok(course) => run_course(
+            alloc, host, database, lists, places, diversions, course, told,
+        ),
+        Err(_) => Err(HostFault::NoMemory),
+    }
+}
+
+/// Unpacks a package that was checked. The places that scripts leave alone are left in no particular order: the caller
+/// computes them anew.
+pub fn unpack<H: Host>(
+    alloc: Global,
+    host: &mut H,
+    database: &mut NotedDatabase,
+    lists: &mut FileLists,
+    places: &mut Places,
+    diversions: &Diversions,
+    incoming: Package,
+    told: &mut Vec<Called>,
+) -> Result<Unpacked, HostFault>
+    requires noting { database.old.closed ≡ false }
+    requires listing { lists.old.closed ≡ false }
+    requires order { Needs (H.state host.old) (IsInOrder database.old lists.old.lists) }
+    ensures unit { IfOk result (λ u. HasUnpacked (given incoming database.old.records lists.old.lists diversions.now.entries) places.old (ended_as u.unwinding) database.new lists.new.lists (H.state host.old) (H.state host.new) told.old.items told.new.items) }
+    ensures cause { IfOk result (λ u. HasFailedFor (given incoming database.old.records lists.old.lists diversions.now.entries) (H.state host.old) (H.state host.new) u.unwinding) }
+    ensures touched { IfOk result (λ u. IsTouched incoming.name database.old.records database.new.records u.touched) }
+    ensures told { HasCalled (given incoming database.old.records lists.old.lists diversions.now.entries) (H.state host.old) (H.state host.new) told.old.items told.new.items }
+    ensures order { IfOk result (λ u. Needs (H.state host.new) (IsInOrder database.new lists.new.lists)) }
+    ensures noting { OnOk result (database.new.closed ≡ false) }
+    ensures listing { OnOk result (lists.new.closed ≡ false) }
+    ensures any_moment { AtEachMomentOf (IsAmid (given incoming database.old.records lists.old.lists diversions.now.entries) places.old) (H.state host.old) (H.state host.new) }
+    ensures counts { Counts (H.state host.old) (H.state host.new) result }
+{
+    match plan_unit(alloc, host, database, lists, diversions, incoming) {
+        Ok(plan) => carry_out(alloc, host, database, lists, places, diversions, plan, told),
+        Err(fault) => Err(fault),
+    }
+}

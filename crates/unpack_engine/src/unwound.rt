@@ -1,0 +1,71 @@
+// What follows rows that were unwound.
+ghost use Rattle.std.specs.Prelude.{◌≡◌, true};
+ghost use Rattle.texts.specs.PackageNames.{is_package_name};
+ghost use Rattle.host_core.specs.Host.{AtEachMoment, Counts, Leaves, Needs, Silent};
+ghost use Rattle.administration.specs.Files.{IsDropped, IsDropping};
+ghost use Rattle.administration.specs.Places.{list_path as list_place};
+ghost use Rattle.control_members.specs.LaidOut.{AreLaidOut};
+ghost use Rattle.file_lists.specs.Writing.{IsListReady};
+ghost use Rattle.status_db.specs.Held.{IsKept};
+ghost use Rattle.status_db.specs.Records.{record_in};
+ghost use Rattle.unpack_engine.specs.Units.{HasDropped, HasLeftBy, MayDrop, MayLeaveBy};
+
+use administration::{discard, list_path};
+use control_members::{Members, clear_away};
+use host_core::{Host, HostFault};
+use status_db::NotedDatabase;
+use std::alloc::Global;
+use texts::Text;
+
+fn drop_list<H: Host>(alloc: Global, host: &mut H, name: &Text) -> Result<(), HostFault>
+    requires named { is_package_name name.now ≡ true }
+    requires ready { Needs (H.state host.old) (IsListReady name.now) }
+    ensures dropped { Leaves result (IsDropped (list_place name.now)) (H.state host.old) (H.state host.new) }
+    ensures any_moment { AtEachMoment (IsDropping (list_place name.now)) (H.state host.old) (H.state host.new) }
+    ensures silent { Silent (H.state host.old) (H.state host.new) }
+    ensures counts { Counts (H.state host.old) (H.state host.new) result }
+{
+    let path = list_path(alloc, name)?;
+    discard(host, &path)
+}
+
+// Drops the list of a package that has no record.
+fn drop_unrecorded<H: Host>(
+    alloc: Global,
+    host: &mut H,
+    database: &NotedDatabase,
+    name: &Text,
+) -> Result<(), HostFault>
+    requires named { is_package_name name.now ≡ true }
+    requires ready { Needs (H.state host.old) (IsListReady name.now) }
+    ensures dropped { Leaves result (HasDropped (record_in database.now.records name.now) name.now) (H.state host.old) (H.state host.new) }
+    ensures any_moment { AtEachMoment (MayDrop (record_in database.now.records name.now) name.now) (H.state host.old) (H.state host.new) }
+    ensures silent { Silent (H.state host.old) (H.state host.new) }
+    ensures counts { Counts (H.state host.old) (H.state host.new) result }
+{
+    match database.get(name) {
+        Some(_) => Ok(()),
+        None => drop_list(alloc, host, name),
+    }
+}
+
+/// Ends a unit whose rows were unwound: nothing of a package without a record stays, and `tmp.ci` goes.
+pub(crate) fn end_unwound<H: Host>(
+    alloc: Global,
+    host: &mut H,
+    database: &NotedDatabase,
+    name: &Text,
+    members: &Members,
+) -> Result<(), HostFault>
+    requires named { is_package_name name.now ≡ true }
+    requires ready { Needs (H.state host.old) (IsListReady name.now) }
+    requires laid { Needs (H.state host.old) (AreLaidOut members.now) }
+    requires kept { Needs (H.state host.old) (IsKept database.now) }
+    ensures left { Leaves result (HasLeftBy (HasDropped (record_in database.now.records name.now) name.now)) (H.state host.old) (H.state host.new) }
+    ensures any_moment { AtEachMoment (MayLeaveBy (HasDropped (record_in database.now.records name.now) name.now) (MayDrop (record_in database.now.records name.now) name.now)) (H.state host.old) (H.state host.new) }
+    ensures silent { Silent (H.state host.old) (H.state host.new) }
+    ensures counts { Counts (H.state host.old) (H.state host.new) result }
+{
+    drop_unrecorded(alloc, host, database, name)?;
+    clear_away(alloc, host, members)
+}
