@@ -1,16 +1,18 @@
 -- What was read for words, and the run of it, between a moment before and one after.
-use Rattle.std.proofs.Common.{◌≡◌, ◌++◌, ◌∷◌, [], ℕ, List, Result, inl, inr, subst, sym}
+use Rattle.std.proofs.Common.{◌≡◌, ◌++◌, ◌∷◌, ◌∙◌, [], ℕ, Bool, false, List, Result, ap, inl, inr, subst, sym}
 use Rattle.std.specs.List.{All}
 use Rattle.std.proofs.lemmas.List.Elements.{All-push, All-weaker}
 use Rattle.host_core.specs.Host.{State}
-use Rattle.host_core.specs.Paths.{Path}
-use Rattle.status_db.specs.declared.record.Record.{Record}
+use Rattle.diversions.specs.Diverted.{Diverted}
+use Rattle.file_lists.specs.Filed.{Filed}
+use Rattle.status_db.specs.Recorded.{Recorded}
 use Rattle.package_tree.specs.declared.fault.TreeFault.{TreeFault}
 use Rattle.package_tree.specs.declared.package.Package.{Package}
+use Rattle.dpkg_session.specs.Held.{Held, held}
 use Rattle.dpkg_session.specs.declared.report.Candidate.{Candidate}
 use Rattle.dpkg_session.specs.declared.report.Report.{Report}
 use Rattle.command_line.specs.Roots.{Around}
-use Rattle.command_line.specs.Unpacks.{HasRunTrees, IsLabelled, IsReadFor, IsUnpackedOn}
+use Rattle.command_line.specs.Unpacks.{HasRunTrees, IsLabelled, IsReadFor, IsUnpackedOn, held_anew}
 
 -- what is known of trees between two moments is known between an earlier one and a later one
 pub record Within (outer inner : Around) : Type 0 where
@@ -41,9 +43,9 @@ pub labelled_push : (outer before later : Around) (cs more : List Candidate) (c 
 labelled_push outer before later cs more c e first last all this =
     subst (All (IsLabelled outer)) (sym e) (All-push (IsLabelled outer) cs c (labelled_within outer before first cs all) (read_within outer later last c.label c.tree this))
 
-pub run_within : (outer inner : Around) → Within outer inner → (trees : List (List ℕ)) (done : Report) (places : List Path) (table : List Record) (s end : State)
-    → HasRunTrees inner trees done places table s end → HasRunTrees outer trees done places table s end
-run_within outer inner within trees done places table s end ran = record {
+pub run_within : (outer inner : Around) → Within outer inner → (trees : List (List ℕ)) (done : Report) (before : Held) (s end : State)
+    → HasRunTrees inner trees done before s end → HasRunTrees outer trees done before s end
+run_within outer inner within trees done before s end ran = record {
   candidates = ran.candidates;
   labels = ran.labels;
   read = labelled_within outer inner within ran.candidates ran.read;
@@ -62,9 +64,13 @@ unpacked_within outer inner within left begun trees done u = record {
   entries = u.entries;
   state = u.state;
   opened = u.opened;
-  places = u.places;
-  kept = u.kept;
   end = u.end;
   given = left u.end u.given;
-  ran = run_within outer inner within trees done u.places u.table u.state u.end u.ran;
+  ran = run_within outer inner within trees done (held_anew u.table u.lists u.entries) u.state u.end u.ran;
 }
+
+-- what is held after an opening that merged the notes
+pub opened_anew : (database : Recorded) (lists : Filed) (diversions : Diverted) → database.notes ≡ 0 → database.closed ≡ false → held database lists diversions ≡ held_anew database.records lists.lists diversions.entries
+opened_anew database lists diversions number noting =
+    ap (λ (n : ℕ). record { records = record { records = database.records; notes = n; closed = database.closed }; lists = lists.lists; entries = diversions.entries }) number
+    ∙ ap (λ (b : Bool). record { records = record { records = database.records; notes = 0; closed = b }; lists = lists.lists; entries = diversions.entries }) noting

@@ -6,7 +6,7 @@ use Rattle.administration.specs.declared.fault.AdministrationFault.TheVariants a
 use Rattle.diversions.specs.declared.entry.Diversion.{Diversion}
 use Rattle.file_lists.specs.declared.paths.PackageList.{PackageList}
 use Rattle.opening.specs.Opened.{IsOpened}
-use Rattle.opening.specs.Leaving.{IsOpening}
+use Rattle.opening.specs.Leaving.{IsOpeningOrMerging}
 use Rattle.status_db.specs.declared.record.Record.{Record}
 use Rattle.dpkg_session.specs.Standing.{CountsRefusal, OpensAll}
 use Rattle.report_lines.specs.Openings.{opening_line}
@@ -38,7 +38,7 @@ around root tree left seen failed unopened = record { root = root; tree = tree; 
 pub record IsOpenedOn (begun state : State) (table : List Record) (lists : List PackageList) (entries : List Diversion) : Type 0 where
   pub silent : Silent begun state
   pub opens : OpensAll None begun state
-  pub opening : AtEachMoment IsOpening begun state
+  pub opening : AtEachMoment IsOpeningOrMerging begun state
   pub opened : Needs state (IsOpened table lists entries)
 
 -- the administration of a host couldn't be opened, for this fault; no script was called, and the host was given back
@@ -47,7 +47,7 @@ pub record IsRefusedOn (left : Given) (begun : State) (fault : AdministrationFau
   pub given : left end
   pub silent : Silent begun end
   pub opens : OpensAll (Some fault) begun end
-  pub opening : AtEachMoment IsOpening begun end
+  pub opening : AtEachMoment IsOpeningOrMerging begun end
   pub counts : CountsRefusal fault begun end
 
 -- the administration of a host was opened, and the host given back for want of memory
@@ -56,7 +56,7 @@ pub record IsStoppedOn (left : Given) (begun : State) : Type 0 where
   pub given : left end
   pub silent : Silent begun end
   pub opens : OpensAll None begun end
-  pub opening : AtEachMoment IsOpening begun end
+  pub opening : AtEachMoment IsOpeningOrMerging begun end
 
 -- so it went on a host behind the root's word, unless none could be opened: the device failed, or memory was wanting
 abbrev pub IsRootFault : Around → List ℕ → AdministrationFault → Type 0

@@ -2,6 +2,7 @@
 ghost use Rattle.std.specs.Prelude.{◌≡◌, ◌<◌, ◌≤◌, ◌⊎◌, IfOk, map, List, ℕ, IfErr, OnErr, false};
 ghost use Rattle.command_line.specs.Roots.{around, IsRefusedOn, IsRootFault, IsStoppedOn};
 ghost use Rattle.command_line.specs.Unpacks.{HasRunTrees, HasUnpacked, IsLabelled, IsReadFor, IsUnpackedOn};
+ghost use Rattle.dpkg_session.specs.Held.{held};
 ghost use Rattle.std.specs.List.{All};
 ghost use Rattle.host_core.specs.Host.{State};
 ghost use Rattle.administration.specs.declared.fault.AdministrationFault.TheVariants.{NoMemory};
@@ -60,13 +61,13 @@ fn run_trees<S: Hosts>(
     trees: &[Text],
 ) -> Result<Report, AllocError>
     requires { session.old.closed ≡ false }
-    ensures done { IfOk result (λ done. HasRunTrees (around (S.root hosts.old) (S.tree hosts.old) (S.left hosts.new) (S.seen hosts.new) (S.faults hosts.old < S.faults hosts.new) (S.unopened hosts.old hosts.new)) trees.now done session.old.places session.old.database (S.Opened.state session.old.host) (S.Opened.state session.new.host)) }
+    ensures done { IfOk result (λ done. HasRunTrees (around (S.root hosts.old) (S.tree hosts.old) (S.left hosts.new) (S.seen hosts.new) (S.faults hosts.old < S.faults hosts.new) (S.unopened hosts.old hosts.new)) trees.now done (held session.old.database session.old.lists session.old.diversions) (S.Opened.state session.old.host) (S.Opened.state session.new.host)) }
     ensures unread { OnErr result (S.Opened.state session.new.host ≡ S.Opened.state session.old.host) }
     ensures seen { (s : State) → S.seen hosts.old s → S.seen hosts.new s }
     ensures faults { S.faults hosts.old ≤ S.faults hosts.new }
 {
     let command = Command::Unpack(read_trees(alloc, hosts, trees)?);
-    Ok(session.run(&command))
+    Ok(session.run(command))
 }
 
 // An unpack on the host of the root, which is given back.

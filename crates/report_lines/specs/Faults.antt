@@ -14,9 +14,9 @@ use Rattle.relation_fields.specs.RelationFields.{relation_name}
 use Rattle.diversions.specs.declared.refusal.Refusal.{Refusal as ItsRefusal}
 use Rattle.diversions.specs.declared.refusal.Refusal.TheVariants as diverted
 use Rattle.dpkg_session.specs.declared.refusal.Rule.{Rule}
-use Rattle.dpkg_session.specs.declared.refusal.Rule.TheVariants.{Tree, NotYet, Divert}
-use Rattle.dpkg_session.specs.declared.refusal.Word.{Word}
-use Rattle.dpkg_session.specs.declared.refusal.Word.TheVariants.{Files, Record as ItsRecord, Conffiles, Relation}
+use Rattle.dpkg_session.specs.declared.refusal.Rule.TheVariants.{Tree, NotYet, ConffileDiverted, Divert}
+use Rattle.unwind_stack.specs.declared.fall.StepFault.{StepFault}
+use Rattle.unwind_stack.specs.declared.fall.StepFault.TheVariants as step
 
 -- a fault of control text, with its line
 abbrev pub control_text : ControlFault → List ℕ
@@ -59,13 +59,6 @@ tree_text (TooLarge path) = codes "TooLarge " ++ path_text path
 tree_text Device = codes "Device"
 tree_text NoMemory = codes "NoMemory"
 
--- what isn't carried out yet
-abbrev pub word_text : Word → List ℕ
-word_text Files = codes "files"
-word_text ItsRecord = codes "record"
-word_text Conffiles = codes "conffiles"
-word_text (Relation field) = relation_name field
-
 -- why a diversion isn't added or taken away
 abbrev pub divert_word : ItsRefusal → List ℕ
 divert_word diverted.Directory = codes "Directory"
@@ -80,5 +73,13 @@ divert_word diverted.NoParent = codes "NoParent"
 -- the rule of a refusal with its detail; of a tree's fault the fault is the rule
 abbrev pub rule_text : Rule → List ℕ
 rule_text (Tree fault) = tree_text fault
-rule_text (NotYet word) = codes "NotYet " ++ word_text word
+rule_text (NotYet field) = codes "NotYet " ++ relation_name field
+rule_text (ConffileDiverted path) = codes "ConffileDiverted " ++ path
 rule_text (Divert refusal) = divert_word refusal
+
+-- the step fault of the files with its path, and the package with which the path clashes
+abbrev pub step_text : StepFault → List ℕ
+step_text (step.LinkParent path) = codes "LinkParent " ++ path_text path
+step_text (step.NoParent path) = codes "NoParent " ++ path_text path
+step_text (step.DirInWay path) = codes "DirInWay " ++ path_text path
+step_text (step.Clash path owner) = codes "Clash " ++ (path_text path ++ (codes " " ++ owner))

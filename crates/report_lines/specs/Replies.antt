@@ -5,7 +5,9 @@ use Rattle.dpkg_session.specs.declared.report.Breakage.TheVariants.{Device, NoMe
 use Rattle.dpkg_session.specs.declared.report.Reply.{Reply}
 use Rattle.dpkg_session.specs.declared.report.Reply.TheVariants.{Done, Refused, Failed, Broken}
 use Rattle.report_lines.specs.Calls.{call_text}
-use Rattle.report_lines.specs.Faults.{rule_text}
+use Rattle.report_lines.specs.Faults.{rule_text, step_text}
+use Rattle.stack_run.specs.declared.failure.Failure.{Failure as Cause}
+use Rattle.stack_run.specs.declared.failure.Failure.TheVariants.{OfCall, OfFiles}
 
 -- why a unit was broken off
 abbrev pub breakage_word : Breakage → List ℕ
@@ -13,11 +15,16 @@ breakage_word Device = codes "device"
 breakage_word NoMemory = codes "memory"
 breakage_word Closed = codes "closed"
 
--- `done`, `refused PKG RULE` with its detail, `failed PKG SCRIPT ARGS` or `broken WHY`
+-- for what a package's unit failed: a call, or a step fault
+abbrev pub cause_text : List ℕ → Cause → List ℕ
+cause_text p (OfCall call) = call_text p call
+cause_text p (OfFiles fault) = p ++ (codes " " ++ step_text fault)
+
+-- `done`, `refused PKG RULE` with its detail, `failed PKG SCRIPT ARGS`, `failed PKG STEPFAULT PATH` with the owner, or `broken WHY`
 abbrev pub reply_line : Reply → List ℕ
 reply_line Done = codes "done\n"
 reply_line (Refused r) = codes "refused " ++ (r.package ++ (codes " " ++ (rule_text r.rule ++ codes "\n")))
-reply_line (Failed f) = codes "failed " ++ (call_text f.package f.call ++ codes "\n")
+reply_line (Failed f) = codes "failed " ++ (cause_text f.package f.cause ++ codes "\n")
 reply_line (Broken breakage) = codes "broken " ++ (breakage_word breakage ++ codes "\n")
 
 -- only of a unit that was carried out the touched packages are told

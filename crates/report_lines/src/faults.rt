@@ -1,14 +1,15 @@
 // Faults and refusals in the program's own words.
-ghost use Rattle.std.specs.Prelude.{◌≡◌, IfOk, string_bytes};
-ghost use Rattle.report_lines.specs.Faults.{control_text, divert_word, field_word, line_text, path_text, rule_text, tree_text, word_text};
+ghost use Rattle.std.specs.Prelude.{◌≡◌, ◌++◌, IfOk, codes, string_bytes};
+ghost use Rattle.report_lines.specs.Faults.{control_text, divert_word, field_word, line_text, path_text, rule_text, step_text, tree_text};
 ghost use Rattle.report_lines.specs.Openings.{opening_line};
 
 use administration::AdministrationFault;
 use control_fields::ControlFault;
-use dpkg_session::{Rule, Word};
+use dpkg_session::Rule;
 use host_core::RootPath;
 use package_tree::{FieldName, LineName, TreeFault};
 use std::alloc::{AllocError, Global};
+use unwind_stack::StepFault;
 
 fn control_text(alloc: Global, fault: ControlFault) -> Result<String, AllocError>
     ensures { IfOk result (λ text. string_bytes text ≡ control_text fault) }
@@ -44,6 +45,14 @@ fn path_text(path: &RootPath) -> &str
     }
 }
 
+// A fault of one path, by its name.
+fn at_path(alloc: Global, name: &str, path: &RootPath) -> Result<String, AllocError>
+    ensures { IfOk result (λ text. string_bytes text ≡ name.now ++ (codes " " ++ path_text path.now)) }
+{
+    let path = path_text(path);
+    format!(in alloc; "{name} {path}")
+}
+
 fn line_text(alloc: Global, name: &LineName) -> Result<String, AllocError>
     ensures { IfOk result (λ text. string_bytes text ≡ line_text name.now) }
 {
@@ -73,43 +82,20 @@ fn tree_text(alloc: Global, fault: &TreeFault) -> Result<String, AllocError>
             let name = field_word(*name);
             format!(in alloc; "FieldBad {name}")
         }
-        TreeFault::PathBad(path) => {
-            let path = path_text(path);
-            format!(in alloc; "PathBad {path}")
-        }
-        TreeFault::Reserved(path) => {
-            let path = path_text(path);
-            format!(in alloc; "Reserved {path}")
-        }
+        TreeFault::PathBad(path) => at_path(alloc, "PathBad", path),
+        TreeFault::Reserved(path) => at_path(alloc, "Reserved", path),
         TreeFault::ConffileNotShipped(name) => {
             let name = line_text(alloc, name)?;
             format!(in alloc; "ConffileNotShipped {name}")
         }
-        TreeFault::ConffileShipped(path) => {
-            let path = path_text(path);
-            format!(in alloc; "ConffileShipped {path}")
-        }
+        TreeFault::ConffileShipped(path) => at_path(alloc, "ConffileShipped", path),
         TreeFault::ConffileFlag(line) => {
             let line = *line;
             format!(in alloc; "ConffileFlag {line}")
         }
-        TreeFault::TooLarge(path) => {
-            let path = path_text(path);
-            format!(in alloc; "TooLarge {path}")
-        }
+        TreeFault::TooLarge(path) => at_path(alloc, "TooLarge", path),
         TreeFault::Device => String::from_str(alloc, "Device"),
         TreeFault::NoMemory => String::from_str(alloc, "NoMemory"),
-    }
-}
-
-fn word_text(word: Word) -> &'static str
-    ensures { result.now ≡ word_text word }
-{
-    match word {
-        Word::Files => "files",
-        Word::Record => "record",
-        Word::Conffiles => "conffiles",
-        Word::Relation(field) => field.name(),
     }
 }
 
@@ -134,11 +120,31 @@ pub(crate) fn rule_text(alloc: Global, rule: &Rule) -> Result<String, AllocError
 {
     match rule {
         Rule::Tree(fault) => tree_text(alloc, fault),
-        Rule::NotYet(word) => {
-            let word = word_text(*word);
-            format!(in alloc; "NotYet {word}")
+        Rule::NotYet(field) => {
+            let field = field.name();
+            format!(in alloc; "NotYet {field}")
+        }
+        Rule::ConffileDiverted(path) => {
+            let path = path.as_str();
+            format!(in alloc; "ConffileDiverted {path}")
         }
         Rule::Divert(refusal) => String::from_str(alloc, divert_word(*refusal)),
+    }
+}
+
+/// The step fault of a package's files.
+pub(crate) fn step_text(alloc: Global, fault: &StepFault) -> Result<String, AllocError>
+    ensures { IfOk result (λ text. string_bytes text ≡ step_text fault.now) }
+{
+    match fault {
+        StepFault::LinkParent(path) => at_path(alloc, "LinkParent", path),
+        StepFault::NoParent(path) => at_path(alloc, "NoParent", path),
+        StepFault::DirInWay(path) => at_path(alloc, "DirInWay", path),
+        StepFault::Clash(path, owner) => {
+            let path = path_text(path);
+            let owner = owner.as_str();
+            format!(in alloc; "Clash {path} {owner}")
+        }
     }
 }
 

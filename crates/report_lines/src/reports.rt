@@ -2,17 +2,18 @@
 ghost use Rattle.std.specs.Prelude.{◌≡◌, ◌≤◌, ◌++◌, IfOk, OnOk, string_bytes};
 ghost use Rattle.std.specs.List.{flat_map};
 ghost use Rattle.report_lines.specs.Calls.{arg_text, call_line, call_text, outcome_text, shown, side_word};
-ghost use Rattle.report_lines.specs.Replies.{breakage_word, reply_line, reply_status, tells_states};
+ghost use Rattle.report_lines.specs.Replies.{breakage_word, cause_text, reply_line, reply_status, tells_states};
 ghost use Rattle.report_lines.specs.Reports.{report_lines, report_status, states_lines, unit_lines, units_status};
 ghost use Rattle.report_lines.specs.States.{state_line, state_text};
 
-use crate::faults::rule_text;
+use crate::faults::{rule_text, step_text};
 use dpkg_session::{Breakage, Failure, Refusal, Reply, Report, Touched, Unit};
 use host_core::{Call, Outcome, Side};
+use stack_run::Failure as Cause;
 use status_db::Record;
 use std::alloc::{AllocError, Global};
 use texts::Text;
-use unwind_stack::Called;
+use unwind_stack::{Called, StepFault};
 
 fn side_word(side: Side) -> &'static str
     ensures { result.now ≡ side_word side }
@@ -113,11 +114,29 @@ fn refused_line(alloc: Global, refusal: &Refusal) -> Result<String, AllocError>
     format!(in alloc; "refused {package} {rule}\n")
 }
 
+fn files_text(alloc: Global, package: &Text, fault: &StepFault) -> Result<String, AllocError>
+    ensures { IfOk result (λ text. string_bytes text ≡ cause_text «package».now (Cause.OfFiles fault.now)) }
+{
+    let package = package.as_str();
+    let fault = step_text(alloc, fault)?;
+    format!(in alloc; "{package} {fault}")
+}
+
+// For what a package's unit failed.
+fn cause_text(alloc: Global, package: &Text, cause: &Cause) -> Result<String, AllocError>
+    ensures { IfOk result (λ text. string_bytes text ≡ cause_text «package».now cause.now) }
+{
+    match cause {
+        Cause::OfCall(call) => call_text(alloc, package, call),
+        Cause::OfFiles(fault) => files_text(alloc, package, fault),
+    }
+}
+
 fn failed_line(alloc: Global, failure: &Failure) -> Result<String, AllocError>
     ensures { IfOk result (λ line. string_bytes line ≡ reply_line (Reply.Failed failure.now)) }
 {
-    let call = call_text(alloc, &failure.package, &failure.call)?;
-    format!(in alloc; "failed {call}\n")
+    let cause = cause_text(alloc, &failure.package, &failure.cause)?;
+    format!(in alloc; "failed {cause}\n")
 }
 
 fn reply_line(alloc: Global, reply: &Reply) -> Result<String, AllocError>

@@ -7,6 +7,7 @@ mod memory_rows;
 mod query_rows;
 mod tree_rows;
 mod unpack_rows;
+mod upgrade_rows;
 mod word_rows;
 
 use super::{answer, expect, path_of, text_of};
@@ -94,6 +95,25 @@ fn text_at(alloc: Global, host: &mut MemoryHost, path: &str) -> Result<String, A
     }
 }
 
+// The names in a directory, each with a space before it.
+fn names_at(alloc: Global, host: &mut MemoryHost, path: &str) -> Result<String, AllocError> {
+    let mut text = String::from_str(alloc, "directory:")?;
+    match host.list(&path_of(alloc, path)?) {
+        Ok(listing) => add_names(listing.names.as_slice(), &mut text)?,
+        Err(_) => return Err(AllocError),
+    }
+    Ok(text)
+}
+
+// What stands at a path: what a file holds, or the names in a directory.
+fn shown_at(alloc: Global, host: &mut MemoryHost, path: &str) -> Result<String, AllocError> {
+    match host.node(&path_of(alloc, path)?) {
+        Ok(Some(Node::Dir { .. })) => names_at(alloc, host, path),
+        Ok(_) => text_at(alloc, host, path),
+        Err(_) => Err(AllocError),
+    }
+}
+
 // Adds what a file holds, behind a bar.
 fn add_text(
     alloc: Global,
@@ -162,21 +182,53 @@ impl MemoryHosts {
         Ok(())
     }
 
-    // Adds the answer to a line of words; a line that begins with `write` is the administrator's.
-    fn step(&mut self, line: &str, text: &mut String) -> Result<(), AllocError> {
-        match line.strip_prefix("write ") {
-            Some(words) => self.write(words),
-            None => text.push_str(answer(self.alloc, self, line)?.as_str()),
+    // Adds what stands at a path: what a file holds, or the names in a directory.
+    fn read(&mut self, path: &str, text: &mut String) -> Result<(), AllocError> {
+        if let Some(host) = &mut self.root {
+            text.push_str(shown_at(self.alloc, host, path)?.as_str())?;
         }
+        text.push('\n')
     }
 
-    // Adds the answers to lines of words, and what is left.
+    // Adds the answer to a line of words; a line that begins with `write` or `read` is the administrator's.
+    fn step(&mut self, line: &str, text: &mut String) -> Result<(), AllocError> {
+        if let Some(words) = line.strip_prefix("write ") {
+            return self.write(words);
+        }
+        if let Some(path) = line.strip_prefix("read ") {
+            return self.read(path, text);
+        }
+        text.push_str(answer(self.alloc, self, line)?.as_str())
+    }
+
+    // Adds the answers to lines of words.
     fn steps(&mut self, lines: &[&str], text: &mut String) -> Result<(), AllocError> {
         for line in lines {
             self.step(line, text)?;
         }
-        text.push_str(self.left()?.as_str())
+        Ok(())
     }
+
+    // The next opening merges the notes into the status file.
+    fn merge(&mut self) -> Result<(), AllocError> {
+        answer(self.alloc, self, "dpkg_cli list")?;
+        Ok(())
+    }
+}
+
+// The answers to lines of words.
+fn answers(
+    alloc: Global,
+    trees: &'static [TreeFile],
+    outcomes: &[Outcome],
+    files: &[&str],
+    lines: &[&str],
+) -> Result<String, AllocError> {
+    let mut text = String::new(alloc);
+    let mut hosts = hosts(alloc, trees, outcomes)?;
+    hosts.steps(files, &mut text)?;
+    hosts.steps(lines, &mut text)?;
+    Ok(text)
 }
 
 // The answers to lines of words, and what is left.
@@ -187,7 +239,10 @@ fn told(
     lines: &[&str],
 ) -> Result<String, AllocError> {
     let mut text = String::new(alloc);
-    hosts(alloc, trees, outcomes)?.steps(lines, &mut text)?;
+    let mut hosts = hosts(alloc, trees, outcomes)?;
+    hosts.steps(lines, &mut text)?;
+    hosts.merge()?;
+    text.push_str(hosts.left()?.as_str())?;
     Ok(text)
 }
 

@@ -1,7 +1,8 @@
-use Rattle.std.proofs.Common.{◌<◌, arith, subst, sym}
+use Rattle.std.proofs.Common.{◌≡◌, ◌<◌, arith, subst, sym}
 use Rattle.command_line.specs.Roots.{Around, around}
-use Rattle.command_line.specs.Unpacks.{HasRunTrees}
-use Rattle.command_line.proofs.Trees.{run_within}
+use Rattle.dpkg_session.specs.Held.{Held, held}
+use Rattle.command_line.specs.Unpacks.{HasRunTrees, held_anew}
+use Rattle.command_line.proofs.Trees.{opened_anew, run_within}
 use Rattle.command_line.proofs.unpacking.unpack_on.Goals as goal
 
 pub returns-in_ok-done-in-Ok-clause-done : goal.returns-in_ok-done-in-Ok-clause-done
@@ -13,8 +14,12 @@ returns-in_ok-done-in-Ok-clause-done g c =
     let outer : Around = around (g.S.Hosts.root old) (g.S.Hosts.tree old) (g.S.Hosts.left new) (g.S.Hosts.seen new) (g.S.Hosts.faults old < g.S.Hosts.faults new) (g.S.Hosts.unopened old new) in
     let session = c.in-Ok.session in
     let begun = g.S.Opened.Host.state session.host in
+    let done = c.in_ok-done-in-Ok.field-0 in
+    let before = held session.database session.lists session.diversions in
+    let anew = held_anew session.database.records session.lists.lists session.diversions.entries in
+    let same : before ≡ anew = opened_anew session.database session.lists session.diversions c.in-Ok.ensures.number (session.noting c.in-Ok.ensures.closed) in
     record {
-      table = session.database;
+      table = session.database.records;
       lists = session.lists.lists;
       entries = session.diversions.entries;
       state = begun;
@@ -24,10 +29,9 @@ returns-in_ok-done-in-Ok-clause-done g c =
         opening = c.in-Ok.ensures.any_moment;
         opened = c.in-Ok.ensures.opened;
       };
-      places = session.places;
-      kept = session.kept c.in-Ok.ensures.closed;
       end = g.S.Opened.Host.state c.into_host.result;
       given = c.close_root.ensures.given;
-      ran = subst (λ host. HasRunTrees outer c.args.trees.now c.in_ok-done-in-Ok.field-0 session.places session.database begun (g.S.Opened.Host.state host)) (sym c.into_host.ensures)
-          (run_within outer inner (record { tree = λ word s h. h; seen = c.close_root.ensures.seen; failed = λ h. omega arith }) c.args.trees.now c.in_ok-done-in-Ok.field-0 session.places session.database begun (g.S.Opened.Host.state c.run_trees-done.new.session.host) c.in_ok-done-in-Ok.ensures.done);
+      ran = subst (λ host. HasRunTrees outer c.args.trees.now done anew begun (g.S.Opened.Host.state host)) (sym c.into_host.ensures)
+          (run_within outer inner (record { tree = λ word s h. h; seen = c.close_root.ensures.seen; failed = λ h. omega arith }) c.args.trees.now done anew begun (g.S.Opened.Host.state c.run_trees-done.new.session.host)
+          (subst (λ (h : Held). HasRunTrees inner c.args.trees.now done h begun (g.S.Opened.Host.state c.run_trees-done.new.session.host)) same c.in_ok-done-in-Ok.ensures.done));
     }

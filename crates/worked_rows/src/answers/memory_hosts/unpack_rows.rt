@@ -50,8 +50,6 @@ pub(crate) const TREES: &[TreeFile] = &[
         CONTROL,
         "Package: alpha\nVersion: 1.0\nBreaks: bravo,\n charlie (>= )\n",
     ),
-    ("files", CONTROL, ALPHA),
-    ("files", "/usr/bin/x", "x"),
     (
         "depends",
         CONTROL,
@@ -133,12 +131,16 @@ call new alpha postrm abort-install: exit 1
 state alpha 1.0 install reinstreq half-installed
 failed alpha preinst install
 ||1
-refused alpha NotYet record
-||1
-|Package: alpha
-Status: install reinstreq half-installed
+call new alpha preinst upgrade 1.0 1.0: exit 0
+state alpha 1.0 install ok unpacked
+done
+||0
+ alpha.list alpha.postrm alpha.preinst|Package: alpha
+Status: install ok unpacked
 Version: 1.0
-||||directory|";
+|/.
+|#!/bin/sh
+||directory|";
     check(
         &rt,
         WITH_POSTRM,
@@ -154,8 +156,10 @@ fn preinst_succeeds(rt: HostRuntime) -> Result<(), Fail> {
 state alpha 1.0 install ok unpacked
 done
 ||0
-refused alpha NotYet record
-||1
+call new alpha preinst upgrade 1.0 1.0: exit 0
+state alpha 1.0 install ok unpacked
+done
+||0
  alpha.list alpha.preinst|Package: alpha
 Status: install ok unpacked
 Version: 1.0
@@ -197,7 +201,6 @@ pub(crate) const REFUSALS: &[(&str, &str)] = &[
         "dpkg_cli unpack folded",
         "refused folded FieldBad Breaks\n||1\n",
     ),
-    ("dpkg_cli unpack files", "refused alpha NotYet files\n||1\n"),
     (
         "dpkg_cli unpack depends",
         "refused alpha NotYet Depends\n||1\n",
@@ -206,7 +209,7 @@ pub(crate) const REFUSALS: &[(&str, &str)] = &[
         "dpkg_cli unpack conffile",
         "refused conffile ConffileNotShipped /etc/x\n||1\n",
     ),
-    ("dpkg_cli unpack both", "refused alpha NotYet files\n||1\n"),
+    ("dpkg_cli unpack both", "refused alpha NotYet Depends\n||1\n"),
     (
         "dpkg_cli unpack inside",
         "refused inside ConffileNotShipped /etc/q\n||1\n",
