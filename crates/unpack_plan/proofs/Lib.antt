@@ -9,3 +9,4 @@ pub mod Elsewhere
 pub mod Kept
 pub mod Own
 pub mod Fresh
+pub mod Parts
