@@ -209,7 +209,10 @@ pub(crate) const REFUSALS: &[(&str, &str)] = &[
         "dpkg_cli unpack conffile",
         "refused conffile ConffileNotShipped /etc/x\n||1\n",
     ),
-    ("dpkg_cli unpack both", "refused alpha NotYet Depends\n||1\n"),
+    (
+        "dpkg_cli unpack both",
+        "refused alpha NotYet Depends\n||1\n",
+    ),
     (
         "dpkg_cli unpack inside",
         "refused inside ConffileNotShipped /etc/q\n||1\n",
