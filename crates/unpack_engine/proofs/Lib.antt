@@ -15,3 +15,4 @@ pub mod Carrying
 pub mod Losing
 pub mod Leaving
 pub mod AfterRows
+pub mod EndOrder
