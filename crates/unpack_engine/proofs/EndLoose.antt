@@ -1,8 +1,8 @@
 -- No entry of `info` becomes a directory by what follows the rows.
-use Rattle.std.proofs.Common.{◌≡◌, ◌≢◌, ◌⊎◌, inl, inr, true, false, List, ◌∷◌, ◌++◌, Option, Some, None, refl, sym, ap, subst, ◌∙◌}
+use Rattle.std.proofs.Common.{◌≡◌, ◌≢◌, ◌⊎◌, inl, inr, List, ◌∷◌, ◌++◌, Option, Some, None, sym, subst}
 use Rattle.host_core.specs.Paths.{Path}
 use Rattle.host_core.specs.World.{World, IsDirectory}
-use Rattle.administration.specs.Places.{info_path, list_path, tmp_path, is_within}
+use Rattle.administration.specs.Places.{info_path, list_path}
 use Rattle.unwind_stack.specs.declared.fall.Fall.{Fall}
 use Rattle.cleanup_stack.specs.declared.failed.Failed.{Failed}
 use Rattle.cleanup_stack.specs.Transcripts.{Ended, Committed, Unwound}

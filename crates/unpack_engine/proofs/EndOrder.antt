@@ -1,5 +1,6 @@
 -- The administration as a unit leaves it.
-use Rattle.std.proofs.Common.{◌≡◌, ◌≢◌, inl, inr, IsTrue, ℕ, true, false, List, [], ◌∷◌, ◌++◌, Option, Some, None, length, refl, sym, ap, subst, ◌∙◌}
+use Rattle.std.proofs.Common.{◌≡◌, IsTrue, true, List, [], refl, sym, ap, subst, ◌∙◌}
+use Rattle.std.specs.Prelude.{Result, Ok, Err, IfOk, OnOk}
 use Rattle.texts.specs.PackageNames.{is_package_name}
 use Rattle.host_core.specs.Paths.{Path}
 use Rattle.host_core.specs.World.{World, IsDirectory}
@@ -25,7 +26,7 @@ use Rattle.unpack_commit.proofs.Ready.{info_is_no_list}
 use Rattle.unpack_commit.proofs.StillReady.{lists_still_ready}
 use Rattle.unpack_moves.specs.Closing.{SparesAdministration}
 use Rattle.unpack_moves.specs.Concluding.{AreElsewhere}
-use Rattle.unpack_plan.specs.Planned.{Planned}
+use Rattle.unpack_plan.specs.Planned.{IsPlanned, Job, Planned}
 use Rattle.unpack_rows.specs.Kinds.{kinds_of}
 use Rattle.unpack_rows.specs.Stages.{stage_of}
 use Rattle.unpack_run.specs.At.{At, Holding}
@@ -83,3 +84,15 @@ carried_order g p named works_named spares elsewhere ended before after lists_be
     let at_old = carried.ran.until.honest (carried.ran.between.honest at_last) in
     end_order g p named works_named before lists_before old.world (order at_old) ended carried.mid carried.ran.begun carried.last (carried.ran.begins_so at_last) carried.ran.rows_end at_last
     spares elsewhere new.world (carried.leaves h) after lists (kept h) (listed h)
+
+pub plan_named : (g : Ground) (j : Job) (p : Planned) → IsPlanned j p → is_package_name (package_name g p) ≡ true
+plan_named g j p planned = ap is_package_name planned.records_are.own ∙ planned.records_are.named
+
+-- and so says its answer
+pub order_if_ok : {T E : Type 0} (result : Result T E) (g : Ground) (j : Job) (p : Planned) → IsPlanned j p → (ended : T → Ended) (before after : Recorded) (lists_before lists : List PackageList)
+    (old new : State) (told now : List Called) → Needs old (IsInOrder before lists_before) → IfOk result (λ u. HasCarriedOut g p (ended u) after lists old new told now)
+    → (IsTrue new.honest → OnOk result (IsKept after new.world)) → IfOk result (λ u. Needs new (λ w. ∥ HasLists w (record_names after.records) lists ∥₁))
+    → IfOk result (λ u. Needs new (IsInOrder after lists))
+order_if_ok (Ok u) g j p planned ended before after lists_before lists old new told now order carried kept listed =
+    carried_order g p (plan_named g j p planned) planned.works_are.named planned.lists_are.spares planned.names_are.elsewhere (ended u) before after lists_before lists old new told now order carried kept listed
+order_if_ok (Err e) g j p planned ended before after lists_before lists old new told now order carried kept listed = tt
