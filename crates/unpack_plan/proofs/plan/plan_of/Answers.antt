@@ -15,3 +15,10 @@ returns c =
       names_are = names_planned _ _ _ same contents.names contents.elsewhere;
       members_are = contents.members;
     }
+
+pub invariant_of-records-in_err-contents : goal.invariant_of-records-in_err-contents
+invariant_of-records-in_err-contents c =
+    record { writable = c.drop-arg-in_err-contents-1.given.0.0.writable; current = c.drop-arg-in_err-contents-1.given.0.0.current }
+
+pub invariant_of-records-in_err-contents-3 : goal.invariant_of-records-in_err-contents-3
+invariant_of-records-in_err-contents-3 c = record { writable = c.in_ok-records.records.fresh.writable; current = c.in_ok-records.records.fresh.current }
