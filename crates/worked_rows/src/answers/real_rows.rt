@@ -219,7 +219,15 @@ script t preinst 644 'exit 0'",
     tree: "t",
     calls: "call new alpha preinst install: not started\n",
     rest: "state alpha none\nfailed alpha preinst install\n||1\n",
-    left: "calls 1 faults 0\n",
+    left: "calls 1 faults 0
+644 updates/0000
+Package: alpha
+Status: install reinstreq half-installed
+Version: 1.0
+644 updates/0001
+Package: alpha
+Status: unknown ok not-installed
+",
 }];
 
 #[test]
@@ -235,7 +243,16 @@ script t preinst 755 'kill -9 $$'",
         tree: "t",
         calls: "call new alpha preinst install: killed\n",
         rest: "state alpha none\nfailed alpha preinst install\n||1\n",
-        left: "calls 1 faults 0\npreinst install\n",
+        left: "calls 1 faults 0
+preinst install
+644 updates/0000
+Package: alpha
+Status: install reinstreq half-installed
+Version: 1.0
+644 updates/0001
+Package: alpha
+Status: unknown ok not-installed
+",
     },
     Step {
         before: "script t postrm 755 'exit 0'",
@@ -244,7 +261,17 @@ script t preinst 755 'kill -9 $$'",
 call new alpha postrm abort-install: exit 0
 ",
         rest: "state alpha none\nfailed alpha preinst install\n||1\n",
-        left: "calls 2 faults 0\npreinst install\npostrm abort-install\n",
+        left: "calls 2 faults 0
+preinst install
+postrm abort-install
+644 updates/0000
+Package: alpha
+Status: install reinstreq half-installed
+Version: 1.0
+644 updates/0001
+Package: alpha
+Status: unknown ok not-installed
+",
     },
 ];
 
@@ -281,7 +308,11 @@ preinst install
 #!/bin/sh
 echo \"preinst $*\" >>../started
 . ../looks
-644 status
+644 updates/0000
+Package: alpha
+Status: install reinstreq half-installed
+Version: 1.0
+644 updates/0001
 Package: alpha
 Status: install ok unpacked
 Version: 1.0

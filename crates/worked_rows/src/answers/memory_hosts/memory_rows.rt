@@ -140,11 +140,12 @@ fn preinst_succeeds(rt: HostRuntime) {
 }
 
 #[test]
-fn unpacked_package_is_refused(rt: HostRuntime) {
+fn unpacked_package_is_unpacked_again(rt: HostRuntime) {
     let line = "dpkg_cli unpack t";
     let before = (line, UNPACKED.0, UNPACKED.1);
     let told = told_after(rt.alloc(), WITH_PREINST, &[], &before, line);
-    check(&rt, told, "", "refused alpha NotYet record\n||1\n");
+    let calls = "call new alpha preinst upgrade 1.0 1.0: exit 0\n";
+    check(&rt, told, calls, UNPACKED.1);
 }
 
 #[test]

@@ -21,7 +21,11 @@ mkdir root",
         left: "calls 0 faults 0
 644 info/bravo.list
 /.
-644 status
+644 updates/0000
+Package: bravo
+Status: install reinstreq half-installed
+Version: 1
+644 updates/0001
 Package: bravo
 Status: install ok unpacked
 Version: 1
@@ -34,7 +38,7 @@ fn root_cannot_be_written_at_first(rt: HostRuntime) -> Result<(), Fail> {
     check(&rt, ROOT_IN_PROC)
 }
 
-// Its mode doesn't bind root, which is held off by the directory's attribute.
+// Its mode doesn't bind root, which is held off by the directory's attribute. The notes can't be merged then.
 const CLOSED: &[Step] = &[
     Step {
         before: "mkdir root
@@ -47,7 +51,11 @@ script b preinst 755 'exit 0'",
         left: "calls 0 faults 0
 644 info/alpha.list
 /.
-644 status
+644 updates/0000
+Package: alpha
+Status: install reinstreq half-installed
+Version: 1.0
+644 updates/0001
 Package: alpha
 Status: install ok unpacked
 Version: 1.0
@@ -58,12 +66,16 @@ Version: 1.0
 [ \"$(id -u)\" -ne 0 ] || chattr +i root/var/lib/dpkg",
         tree: "b",
         calls: "",
-        rest: "broken device\n||2\n",
+        rest: "|broken device\n|2\n",
         left: "calls 0 faults 1
 555 root/var/lib/dpkg
 644 info/alpha.list
 /.
-644 status
+644 updates/0000
+Package: alpha
+Status: install reinstreq half-installed
+Version: 1.0
+644 updates/0001
 Package: alpha
 Status: install ok unpacked
 Version: 1.0
@@ -89,7 +101,11 @@ exit 0
 Package: alpha
 Status: install ok unpacked
 Version: 1.0
-
+644 updates/0000
+Package: bravo
+Status: install reinstreq half-installed
+Version: 1
+644 updates/0001
 Package: bravo
 Status: install ok unpacked
 Version: 1
@@ -115,7 +131,12 @@ tree b bravo 1",
         left: "calls 1 faults 1
 preinst install
 755 root/away
-644 status
+755 tmp.ci
+755 tmp.ci/preinst
+#!/bin/sh
+echo \"preinst $*\" >>../started
+mv var/lib/dpkg/info away
+644 updates/0000
 Package: alpha
 Status: install reinstreq half-installed
 Version: 1.0
@@ -133,7 +154,11 @@ Version: 1.0
 Package: alpha
 Status: install reinstreq half-installed
 Version: 1.0
-
+644 updates/0000
+Package: bravo
+Status: install reinstreq half-installed
+Version: 1
+644 updates/0001
 Package: bravo
 Status: install ok unpacked
 Version: 1
