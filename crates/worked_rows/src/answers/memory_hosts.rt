@@ -95,14 +95,18 @@ fn text_at(alloc: Global, host: &mut MemoryHost, path: &str) -> Result<String, A
     }
 }
 
-// The names in a directory, each with a space before it.
-fn names_at(alloc: Global, host: &mut MemoryHost, path: &str) -> Result<String, AllocError> {
+// Tells a directory by its names, each with a space before it.
+fn told_of(alloc: Global, names: &[Text]) -> Result<String, AllocError> {
     let mut text = String::from_str(alloc, "directory:")?;
-    match host.list(&path_of(alloc, path)?) {
-        Ok(listing) => add_names(listing.names.as_slice(), &mut text)?,
-        Err(_) => return Err(AllocError),
-    }
+    add_names(names, &mut text)?;
     Ok(text)
+}
+
+fn names_at(alloc: Global, host: &mut MemoryHost, path: &str) -> Result<String, AllocError> {
+    match host.list(&path_of(alloc, path)?) {
+        Ok(listing) => told_of(alloc, listing.names.as_slice()),
+        Err(_) => Err(AllocError),
+    }
 }
 
 // What stands at a path: what a file holds, or the names in a directory.
