@@ -10,7 +10,9 @@ pub mod Order
 pub mod Cleared
 pub mod Starts
 pub mod UnderWay
+pub mod EndLoose
 pub mod Carrying
 pub mod Losing
 pub mod Leaving
 pub mod AfterRows
+pub mod EndOrder
