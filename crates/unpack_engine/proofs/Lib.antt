@@ -16,3 +16,5 @@ pub mod Losing
 pub mod Leaving
 pub mod AfterRows
 pub mod EndOrder
+pub mod Touching
+pub mod Whole
