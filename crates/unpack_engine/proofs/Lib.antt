@@ -16,3 +16,4 @@ pub mod Losing
 pub mod Leaving
 pub mod AfterRows
 pub mod EndOrder
+pub mod UnitMoments
