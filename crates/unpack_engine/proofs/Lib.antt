@@ -18,3 +18,4 @@ pub mod AfterRows
 pub mod EndOrder
 pub mod Touching
 pub mod Whole
+pub mod UnitMoments

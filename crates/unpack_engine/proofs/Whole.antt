@@ -1,24 +1,22 @@
 -- A unit by its parts: what its rows need, what they leave to what follows them, and what holds at each moment.
-use Rattle.std.proofs.Common.{◌≡◌, ◌≢◌, inl, inr, IsTrue, ℕ, true, false, List, [], ◌∷◌, ◌++◌, Option, Some, None, Contains, length, refl, sym, ap, subst, ◌∙◌, append_assoc}
+use Rattle.std.proofs.Common.{◌≡◌, ◌≢◌, IsTrue, ℕ, true, false, List, [], ◌∷◌, ◌++◌, Contains, length, refl, sym, ap, subst, ◌∙◌}
 use Rattle.std.specs.Prelude.{Result, Ok, Err, IfOk, OnOk}
-use Rattle.std.proofs.lemmas.List.{append_cancel_left, append-nil}
-use Rattle.std.specs.List.{AllByRecursion}
 use Rattle.texts.specs.PackageNames.{is_package_name}
 use Rattle.host_core.specs.Paths.{Path}
-use Rattle.host_core.specs.World.{World, IsDirectory}
-use Rattle.host_core.specs.Events.{Event, changes_of, scripts_of}
-use Rattle.host_core.specs.Host.{State, Silent, Since, AtEachMoment, AtEachMomentOf, Needs}
-use Rattle.host_core.specs.Moments.{since_then, since_weaker, since_weaker_if}
-use Rattle.host_core.specs.Scripts.{changes_of-append, no_change, silent_added, since_silent}
+use Rattle.host_core.specs.World.{IsDirectory}
+use Rattle.host_core.specs.Host.{State, Needs}
 use Rattle.host_core.specs.Tree.{IsTree}
 use Rattle.administration.specs.Places.{info_path}
-use Rattle.cleanup_stack.specs.Place.{Fit, Place}
+use Rattle.cleanup_stack.specs.Place.{Fit}
 use Rattle.cleanup_stack.specs.Transcripts.{Ended, Committed, Unwound}
-use Rattle.control_members.specs.LaidOut.{AreLaidOut, IsIncoming}
+use Rattle.control_members.specs.LaidOut.{AreLaidOut}
 use Rattle.control_members.proofs.LaidOut.{incoming_absent}
 use Rattle.diversions.specs.declared.entry.Diversion.{Diversion}
+use Rattle.file_lists.specs.Filed.{Filed}
 use Rattle.file_lists.specs.Info.{AreLoose}
 use Rattle.file_lists.specs.declared.paths.PackageList.{PackageList}
+use Rattle.file_works.specs.declared.work.Work.{Work}
+use Rattle.package_tree.specs.declared.package.Package.{Package}
 use Rattle.status_db.specs.Held.{IsKept}
 use Rattle.status_db.specs.Recorded.{Recorded}
 use Rattle.status_db.specs.Records.{AreApart, AreStanding, record_in}
@@ -26,27 +24,30 @@ use Rattle.status_db.specs.Words.{is_not_installed}
 use Rattle.status_db.specs.declared.record.Record.{Record}
 use Rattle.unwind_stack.specs.declared.rows.Called.{Called}
 use Rattle.unwind_stack.specs.declared.rows.Row.{Row}
-use Rattle.unpack_commit.specs.Takeover.{losing_records, put_records, taken_places}
-use Rattle.unpack_commit.proofs.Those.{losing_stand}
+use Rattle.unpack_commit.specs.Takeover.{put_records, taken_places, yields_of}
+use Rattle.unpack_commit.proofs.Those.{losing_stand, yields_named}
 use Rattle.unpack_plan.specs.Members.{scripts_in}
 use Rattle.unpack_plan.specs.Planned.{IsPlanned, Job, Planned}
 use Rattle.unpack_rows.specs.EndStates.{end_of, own_name}
-use Rattle.unpack_rows.specs.ForwardRows.{Fits}
-use Rattle.unpack_rows.specs.Kinds.{kinds_of, own_of}
+use Rattle.unpack_rows.specs.ForwardRows.{Fits, records_of}
+use Rattle.unpack_rows.specs.Kinds.{kinds_of}
 use Rattle.unpack_rows.specs.Notes.{noted, notes_at}
+use Rattle.unpack_rows.specs.declared.rows.Present.{Present}
 use Rattle.unpack_rows.proofs.Ends.{end_table}
 use Rattle.unpack_rows.proofs.Matching.{as_many, rows_fit}
 use Rattle.unpack_run.specs.At.{At, Holding}
-use Rattle.unpack_run.specs.Task.{IsSound, Task}
-use Rattle.unpack_engine.specs.Courses.{ended_records, ended_table}
+use Rattle.unpack_run.specs.Task.{IsSound, Task, task_of}
+use Rattle.unpack_run.specs.declared.plan.Rows.{Rows}
+use Rattle.unpack_engine.specs.declared.course.Rest.{Rest}
+use Rattle.unpack_engine.specs.Courses.{ended_records, ended_table, planned_from, records_from}
 use Rattle.unpack_engine.specs.Order.{IsInOrder}
 use Rattle.unpack_engine.specs.Touched.{AreTold}
-use Rattle.unpack_engine.specs.Units.{Begins, Ground, HasRunRows, IsRunning, IsTouched, IsUnderWay, MayBeginOne, MayLeave, changes, commit_records, ground, package_name, task_from}
-use Rattle.unpack_engine.proofs.AfterRows.{last_laid, leaving_under_way}
+use Rattle.unpack_engine.specs.Units.{Begins, Ground, HasBegun, HasRunRows, IsTouched, commit_records, given, ground, job_of, package_name, task_from}
+use Rattle.unpack_engine.proofs.AfterRows.{last_laid}
+use Rattle.unpack_engine.proofs.Carrying.{same_task}
 use Rattle.unpack_engine.proofs.EndOrder.{plan_named, rows_loose}
 use Rattle.unpack_engine.proofs.Order.{own_list, own_members}
 use Rattle.unpack_engine.proofs.Touching.{end_elsewhere, noted_changed, touched_by}
-use Rattle.unpack_engine.proofs.UnderWay.{run_under_way}
 
 -- what the rows of a plan need
 module _ (g : Ground) (j : Job) (p : Planned) (records : j.records ≡ g.records) (planned : IsPlanned j p) where
@@ -128,41 +129,65 @@ module _ (g : Ground) (j : Job) (p : Planned) (planned : IsPlanned j p) (d : Rec
   touched_ended Committed apart after touched is told = committed_touched apart after touched is told
   touched_ended (Unwound fall failed) apart after touched is told = unwound_touched after touched is told
 
-  -- each moment
-  module _ (same : d.records ≡ g.records) (rows : AtEachMomentOf (IsRunning (Begins g p) (MayBeginOne g p) (task_from g p)) old last) where
-    pub rows_under_way : AtEachMomentOf (IsUnderWay g p) old last
-    rows_under_way = since_weaker_if (IsRunning (Begins g p) (MayBeginOne g p) (task_from g p) old.world) (IsUnderWay g p old.world) old last
-        (λ h so_far w is.
-        let named = plan_named g j p planned in
-        let there' = order (rows.honest h) in
-        run_under_way g p named planned.works_are.named old.world (own_list d lists old.world there' (package_name g p) named) (own_members d lists old.world there' (package_name g p) named) there'.loose
-        (incoming_absent old.world (tree (rows.honest h)) there'.tmp) d there'.kept same so_far w is) rows
+-- the same by the parts of a plan
+module _ (pkg : Package) (stored : Present) (database : Recorded) (lists : Filed) (entries : List Diversion) (places : List Path) (rows : Rows) (works : List Work) (calls : List Row) (rest : Rest)
+    (planned : IsPlanned (job_of (given pkg database.records lists.lists entries) stored) (planned_from rows works calls rest)) (alone : rows.others.items ≡ []) (yielding : rows.yields ≡ yields_of database.records) where
+  abbrev own : Path
+  own = own_name rows.found rows.incoming
 
-    added_changes : changes_of rows.added ≡ changes_of there.since
-    added_changes =
-        let is : rows.added ≡ ran.until.added ++ there.since = append_cancel_left old.events rows.added (ran.until.added ++ there.since)
-            (sym rows.events ∙ there.events ∙ ap (λ (l : List Event). l ++ there.since) ran.until.events ∙ append_assoc old.events ran.until.added there.since) in
-        ap changes_of is ∙ changes_of-append ran.until.added there.since
-        ∙ ap (λ c. c ++ changes_of there.since) (no_change ran.until.added (silent_added old ran.begun ran.until.added ran.quiet ran.until.events))
+  abbrev g : Ground
+  g = ground database.records lists.lists entries places
 
-    grown_changes : (so_far : List Event) → scripts_of so_far ≡ [] → changes_of (rows.added ++ so_far) ≡ changes_of there.since
-    grown_changes so_far none =
-        changes_of-append rows.added so_far ∙ ap (λ c. changes_of rows.added ++ c) (no_change so_far none) ∙ append-nil (changes_of rows.added) ∙ added_changes
+  abbrev j : Job
+  j = job_of (given pkg database.records lists.lists entries) stored
 
-    pub unit_under_way : (new : State) → Silent last new
-        → AtEachMoment (MayLeave (changes g p mid.works mid.lists) (commit_records g p mid.works mid.lists mid.database.records) g.entries mid.lists mid.database.records ended) last new
-        → AtEachMomentOf (IsUnderWay g p) old new
-    unit_under_way new silent leaving =
-        since_then (IsUnderWay g p old.world) old last new rows_under_way
-        (since_weaker_if _ (λ so_far. IsUnderWay g p old.world (rows.added ++ so_far)) last new
-        (λ h so_far w is.
-        let honest = silent.honest h in
-        let named = plan_named g j p planned in
-        let there' = order (at_old honest) in
-        leaving_under_way g p named planned.works_are.named old.world (own_list d lists old.world there' (package_name g p) named) (own_members d lists old.world there' (package_name g p) named) there'.loose
-        (incoming_absent old.world (tree (at_old honest)) there'.tmp) mid ran.begun last (ran.begins_so honest) honest ended there planned.lists_are.spares planned.names_are.elsewhere
-        (rows.added ++ so_far) w (grown_changes so_far is.1) is.0)
-        (since_silent (λ so_far. MayLeave (changes g p mid.works mid.lists) (commit_records g p mid.works mid.lists mid.database.records) g.entries mid.lists mid.database.records ended last.world) last new silent leaving))
+  abbrev p : Planned
+  p = planned_from rows works calls rest
+
+  abbrev noted_then : List (List ℕ) → Holding → List Record
+  noted_then yields mid = records_from own yields entries mid.lists mid.works rest mid.database.records
+
+  pub parts_sound : AreStanding database.records → (s : State) → IsSound (task_of s database lists entries places works rows)
+  parts_sound standing s = subst (λ (task : State → Task). IsSound (task s)) (sym (same_task database lists entries places rows works calls rest alone yielding)) (plan_sound g j p refl planned standing s)
+
+  pub parts_kinds : rows.kinds.items ≡ kinds_of rows.found (records_of rows.others.items)
+  parts_kinds = planned.rows_are.kinds_are ∙ ap (λ o. kinds_of rows.found (records_of o)) (sym alone)
+
+  pub parts_rows : Fit (Fits own (kinds_of rows.found (records_of rows.others.items))) calls
+  parts_rows = subst (λ o. Fit (Fits own (kinds_of rows.found (records_of o))) calls) (sym alone) (plan_fits g j p refl planned)
+
+  pub parts_length : length calls ≡ length (kinds_of rows.found (records_of rows.others.items))
+  parts_length = plan_length g j p refl planned ∙ ap (λ o. length (kinds_of rows.found (records_of o))) (sym alone)
+
+  pub parts_yields : (other : Path) → Contains rows.yields other → is_package_name other ≡ true
+  parts_yields other has = yields_named database.records other (subst (λ (y : List Path). Contains y other) yielding has)
+
+  module _ (ended : Ended) (mid : Holding) (old last : State) (order : Needs old (IsInOrder database lists.lists)) (tree : Needs old IsTree) (told now : List Called)
+      (ran : HasRunRows (HasBegun rows.found own rest.members) (λ s. task_of s database lists entries places works rows) calls ended mid old last told now) where
+    same_ran : HasRunRows (Begins g p) (task_from g p) calls ended mid old last told now
+    same_ran = subst (λ task. HasRunRows (Begins g p) task calls ended mid old last told now) (same_task database lists entries places rows works calls rest alone yielding) ran
+
+    pub parts_info : Needs last (λ w. IsDirectory (w info_path))
+    parts_info = last_info g j p planned database lists.lists old last order tree ended mid told now same_ran (plan_length g j p refl planned)
+
+    pub parts_kept : Needs last (IsKept mid.database)
+    parts_kept = last_kept g j p planned database lists.lists old last order tree ended mid told now same_ran (plan_length g j p refl planned)
+
+    pub parts_loose : Needs last AreLoose
+    parts_loose = loose_last g j p planned database lists.lists old last order tree ended mid told now same_ran (plan_length g j p refl planned)
+
+    pub parts_laid : Needs last (AreLaidOut rest.members)
+    parts_laid = laid_last g j p planned database lists.lists old last order tree ended mid told now same_ran (plan_length g j p refl planned)
+
+    pub parts_stand : AreStanding mid.database.records → AreStanding (noted_then rows.yields mid)
+    parts_stand standing = subst (λ y. AreStanding (noted_then y mid)) (sym yielding)
+        (noted_stand g j p planned database lists.lists old last order tree ended mid told now same_ran (plan_length g j p refl planned) standing)
+
+    pub parts_touched : AreApart mid.database.records → (after : List Record) (touched : List Path) → after ≡ ended_table ended (noted_then rows.yields mid) mid.database.records
+        → AreTold own (ended_records ended (noted_then rows.yields mid)) touched → IsTouched own database.records after touched
+    parts_touched apart after touched is told =
+        touched_ended g j p planned database lists.lists old last order tree ended mid told now same_ran (plan_length g j p refl planned) ended apart after touched
+        (subst (λ y. after ≡ ended_table ended (noted_then y mid) mid.database.records) yielding is) (subst (λ y. AreTold own (ended_records ended (noted_then y mid)) touched) yielding told)
 
 -- of an answer three things hold, and a fourth where the host was honest
 pub if_ok_all : {T E : Type 0} (result : Result T E) (P Q : T → Type 0) (A B N L : Type 0) → ((x : T) → P x → A → B → (N → L) → Q x) → IfOk result P → OnOk result A → OnOk result B → (N → OnOk result L) → IfOk result Q
