@@ -2,4 +2,6 @@ mod Openings
 mod OneTable
 mod Faultless
 mod OneDiversions
+mod Merging
+mod Reopened
 pub mod KeptLists

@@ -1,13 +1,16 @@
--- A status file stands for one table, and then none of its lines is faulty.
-use Rattle.std.proofs.Common.{◌≡◌, inl, inr, ℕ, List, [], ◌∷◌, ◌++◌, Option, Some, None, refl, sym, ap, subst, ◌∙◌, codes}
+-- A status file with its notes stands for one table, and then none of its lines is faulty.
+use Rattle.std.proofs.Common.{◌≡◌, ◌<◌, inl, inr, zero, suc, arith, ℕ, List, [], ◌∷◌, ◌++◌, Option, Some, None, refl, sym, ap, subst, ◌∙◌, codes}
 use Rattle.std.specs.List.{AllByRecursion, list_any}
+use Rattle.std.specs.Option.{option_to_list}
 use Rattle.std.specs.Str.{bytes_eq}
 use Rattle.std.proofs.Props.{props}
 use Rattle.std.proofs.Math.Logic.{∥∥₁_elim}
 use Rattle.std.proofs.lemmas.Bool.{true≢false}
 use Rattle.std.proofs.lemmas.List.{map-append}
+use Rattle.host_core.specs.World.{World}
 use Rattle.host_core.specs.declared.node.Node.{Node}
 use Rattle.host_core.specs.declared.node.Node.TheVariants.{File, Dir, Link}
+use Rattle.administration.specs.Places.{status_path}
 use Rattle.control_fields.specs.Grammar.{lines_of, paragraphs_of}
 use Rattle.control_fields.specs.Faults.{IsReadTo}
 use Rattle.control_fields.specs.declared.field.Field.{Field}
@@ -15,13 +18,17 @@ use Rattle.control_fields.specs.declared.located.Located.{Located}
 use Rattle.control_fields.specs.declared.fault.ControlFault.{ControlFault}
 use Rattle.control_fields.proofs.Once.{reads_once, not_stuck}
 use Rattle.status_db.specs.declared.record.Record.{Record}
-use Rattle.status_db.specs.Records.{standing}
+use Rattle.status_db.specs.Records.{record_in, standing}
 use Rattle.status_db.specs.Paragraphs.{field_in, Says, IsGone, IsRecordOf, SaysEntry, IsEntry, Enters}
 use Rattle.status_db.specs.Damage.{IsMissing, IsFaultyEntry, IsFaultOf, IsFirstFault}
-use Rattle.status_db.specs.Status.{IsStatus, StandsFor, IsFileOrNothing, IsDamageAt}
+use Rattle.status_db.specs.Held.{HasRecords, Holds}
+use Rattle.status_db.specs.NoteDamage.{AreNotesFine, AreNotesDamaged, AreRecordsDamaged, IsFaultyNote, IsFaultyNumber, IsFaultyRest, IsFineNumber, IsNoteDamage}
+use Rattle.status_db.specs.Notes.{IsNote, IsNoteAt, Lookup, Note, entered, limit, note_path, with_notes}
+use Rattle.status_db.specs.Status.{IsStatus, IsStatusAt, IsDamageAt}
+use Rattle.status_db.proofs.Ordered.{one_table}
 use Rattle.status_db.proofs.Parsing.{gone_state}
+use Rattle.status_db.proofs.SameRecords.{record_once}
 use Rattle.status_db.proofs.Sayings.{says_same}
-use Rattle.opening.specs.Parts.{names_of}
 
 -- what holds of all holds of one
 
@@ -36,7 +43,7 @@ not_empty : {X : Type 0} (front rest : List X) (x : X) → [] ≡ front ++ x ∷
 not_empty [] rest x e = cc e
 not_empty (y ∷ front) rest x e = cc e
 
--- one paragraph says one name, and one package or none
+-- one paragraph says one name, and one record or none
 
 name_once : (fields : List Field) (a b : List ℕ) (k l : List Record) → SaysEntry fields a k → SaysEntry fields b l → a ≡ b
 name_once fields a b k l first second = says_same (codes "package") fields a b first.named.0 second.named.0
@@ -44,22 +51,20 @@ name_once fields a b k l first second = says_same (codes "package") fields a b f
 gone_or_not : (fields : List Field) (r : Record) → IsGone fields → IsRecordOf fields r → ⊥
 gone_or_not fields r gone is = true≢false (sym (gone_state r.want gone.0 r.flag gone.1 r.state (says_same (codes "status") fields _ _ is.status gone.2)) ∙ is.stands)
 
-kept_once : (fields : List Field) (a b : List ℕ) (k l : List Record) → SaysEntry fields a k → SaysEntry fields b l → names_of k ≡ names_of l
+kept_once : (fields : List Field) (a b : List ℕ) (k l : List Record) → SaysEntry fields a k → SaysEntry fields b l → k ≡ l
 kept_once fields a b k l first second = elim first.stands_for [
-  | inl gone ↦ elim second.stands_for [ inl also ↦ ap names_of (gone.1 ∙ sym also.1) | inr s ↦ absurd (gone_or_not fields s.0 gone.0 s.1) ]
+  | inl gone ↦ elim second.stands_for [ inl also ↦ gone.1 ∙ sym also.1 | inr s ↦ absurd (gone_or_not fields s.0 gone.0 s.1) ]
   | inr r ↦ elim second.stands_for [
     | inl also ↦ absurd (gone_or_not fields r.0 also.0 r.1)
-    | inr s ↦ ap names_of r.2 ∙ ap (λ (n : List ℕ). n ∷ []) (says_same (codes "package") fields r.0.name s.0.name r.1.name s.1.name) ∙ sym (ap names_of s.2)
+    | inr s ↦ r.2 ∙ ap (λ (x : Record). x ∷ []) (record_once fields r.0 s.0 r.1 s.1) ∙ sym s.2
   ]
 ]
 
-enters_once : (ps : List (List Field)) (n m a b : List (List ℕ)) (q r s t : List Record) → names_of q ≡ names_of r → Enters n q ps a s → Enters m r ps b t → names_of s ≡ names_of t
-enters_once [] n m a b q r s t same first second = ap names_of first.1 ∙ same ∙ sym (ap names_of second.1)
+enters_once : (ps : List (List Field)) (n m a b : List (List ℕ)) (q r s t : List Record) → q ≡ r → Enters n q ps a s → Enters m r ps b t → s ≡ t
+enters_once [] n m a b q r s t same first second = first.1 ∙ same ∙ sym second.1
 enters_once (p ∷ ps) n m a b q r s t same first second =
     enters_once ps (n ++ first.0 ∷ []) (m ++ second.0 ∷ []) a b (q ++ first.1) (r ++ second.1) s t
-    (map-append (λ (e : Record). e.name) q first.1 ∙ ap (λ (l : List (List ℕ)). l ++ names_of first.1) same
-    ∙ ap (λ (l : List (List ℕ)). names_of r ++ l) (kept_once p first.0 second.0 first.1 second.1 first.2.says second.2.says) ∙ sym (map-append (λ (e : Record). e.name) r second.1))
-    first.3 second.3
+    (ap (λ (l : List Record). l ++ first.1) same ∙ ap (λ (l : List Record). r ++ l) (kept_once p first.0 second.0 first.1 second.1 first.2.says second.2.says)) first.3 second.3
 
 -- a paragraph of a table, behind those before it
 entry_at : (front rest : List (List Field)) (p : List Field) (n a b : List (List ℕ)) (q r s t : List Record) → Enters n q (front ++ p ∷ rest) a s → Enters n r front b t → (name : List ℕ) × (kept : List Record) × IsEntry b p name kept
@@ -104,21 +109,100 @@ not_broken text rs paragraphs begun None line is read (inr end) = elim end.1 [
 whole_text : (text : List ℕ) (rs : List Record) (line : ℕ) → IsStatus text rs → IsFirstFault text line → ⊥
 whole_text text rs line is fault = not_broken text rs fault.paragraphs fault.begun fault.fault line is fault.read fault.told
 
-one_text : (text : List ℕ) (a b : List Record) → IsStatus text a → IsStatus text b → names_of (standing a) ≡ names_of (standing b)
+one_text : (text : List ℕ) (a b : List Record) → IsStatus text a → IsStatus text b → standing a ≡ standing b
 one_text text a b first second =
     enters_once second.paragraphs [] [] first.names second.names [] [] (standing a) (standing b) refl
     (subst (λ (ps : List (List Field)). Enters [] [] ps first.names (standing a)) (reads_once (lines_of text) first.paragraphs second.paragraphs first.reads second.reads) first.enters) second.enters
 
 -- the same of what stands at the status file's place
 
-pub not_damaged : (node : Option Node) (rs : List Record) (line : ℕ) → IsFileOrNothing node → StandsFor node rs → IsDamageAt node line → ⊥
-not_damaged None rs line file stands damage = ∥∥₁_elim stands (hlevel props) (λ is. whole_text [] rs line is damage)
-not_damaged (Some (File bytes access)) rs line file stands damage = ∥∥₁_elim stands (hlevel props) (λ is. whole_text bytes rs line is damage)
-not_damaged (Some (Dir access)) rs line file stands damage = file
-not_damaged (Some (Link target)) rs line file stands damage = file
+not_damaged : (node : Option Node) (rs : List Record) (line : ℕ) → IsStatusAt node rs → IsDamageAt node line → ⊥
+not_damaged None rs line is damage = whole_text [] rs line is damage
+not_damaged (Some (File bytes access)) rs line is damage = whole_text bytes rs line is damage
+not_damaged (Some (Dir access)) rs line is damage = is
+not_damaged (Some (Link target)) rs line is damage = is
 
-pub one_table : (node : Option Node) (a b : List Record) → IsFileOrNothing node → StandsFor node a → StandsFor node b → (names_of (standing a) ≡ names_of (standing b) → ⊥) → ⊥
-one_table None a b file first second apart = ∥∥₁_elim first (hlevel props) (λ is. ∥∥₁_elim second (hlevel props) (λ also. apart (one_text [] a b is also)))
-one_table (Some (File bytes access)) a b file first second apart = ∥∥₁_elim first (hlevel props) (λ is. ∥∥₁_elim second (hlevel props) (λ also. apart (one_text bytes a b is also)))
-one_table (Some (Dir access)) a b file first second apart = file
-one_table (Some (Link target)) a b file first second apart = file
+one_status : (node : Option Node) (a b : List Record) → IsStatusAt node a → IsStatusAt node b → standing a ≡ standing b
+one_status None a b first second = one_text [] a b first second
+one_status (Some (File bytes access)) a b first second = one_text bytes a b first second
+one_status (Some (Dir access)) a b first second = absurd first
+one_status (Some (Link target)) a b first second = absurd first
+
+-- a note's text is of one note, and none of its lines is faulty
+
+one_entry : (a b : Option Record) → option_to_list a ≡ option_to_list b → a ≡ b
+one_entry None None e = refl
+one_entry None (Some s) e = absurd (cc e)
+one_entry (Some r) None e = absurd (cc e)
+one_entry (Some r) (Some s) e = let same : r ≡ s = cc e in ap (λ (x : Record). Some x) same
+
+note_once : (text : List ℕ) (a b : Note) → IsNote text a → IsNote text b → a ≡ b
+note_once text a b first second =
+    let same : first.fields ∷ [] ≡ second.fields ∷ [] = reads_once (lines_of text) (first.fields ∷ []) (second.fields ∷ []) first.reads second.reads in
+    let fields : first.fields ≡ second.fields = cc same in
+    let says = subst (λ (fs : List Field). SaysEntry fs a.name (option_to_list a.entry)) fields first.entry.says in
+    let name = name_once second.fields a.name b.name (option_to_list a.entry) (option_to_list b.entry) says second.entry.says in
+    let entry = one_entry a.entry b.entry (kept_once second.fields a.name b.name (option_to_list a.entry) (option_to_list b.entry) says second.entry.says) in
+    λ i. record { name = name i; entry = entry i }
+
+one_note : (node : Option Node) (a b : Option Note) → IsNoteAt node a → IsNoteAt node b → a ≡ b
+one_note None a b first second = first ∙ sym second
+one_note (Some (File bytes access)) a b first second = first.1 ∙ ap (λ (n : Note). Some n) (note_once bytes first.0 second.0 first.2 second.2) ∙ sym second.1
+one_note (Some (Dir access)) a b first second = absurd first
+one_note (Some (Link target)) a b first second = absurd first
+
+rest_not_broken : (rest : List Located) (begun : ℕ) (fields : List Field) (line : ℕ) → [] ≡ paragraphs_of rest → fields ≡ [] → IsFaultyRest rest begun fields None line → ⊥
+rest_not_broken (second ∷ rest) begun fields line none empty told = let e : [] ≡ second.paragraph ∷ paragraphs_of rest = none in cc e
+rest_not_broken [] begun (field ∷ fields) line none empty told = cc empty
+rest_not_broken [] begun [] line none empty told = let e : None ≡ Some told.0 = told.1 in cc e
+
+note_not_broken : (text : List ℕ) (note : Note) (paragraphs : List Located) (begun : Located) (fault : Option ControlFault) (line : ℕ) → IsNote text note → IsReadTo (lines_of text) paragraphs begun fault → IsFaultyNote paragraphs begun fault line → ⊥
+note_not_broken text note paragraphs begun (Some fault) line is read told = not_stuck (lines_of text) is.reads.0 _ fault is.reads.1 read
+note_not_broken text note [] begun None line is read told =
+    let same : is.fields ∷ [] ≡ [] = reads_once (lines_of text) (is.fields ∷ []) [] is.reads (read.0, read.1, ap paragraphs_of read.2) in
+    cc same
+note_not_broken text note (first ∷ rest) begun None line is read told =
+    let same : is.fields ∷ [] ≡ first.paragraph ∷ paragraphs_of rest = reads_once (lines_of text) (is.fields ∷ []) (first.paragraph ∷ paragraphs_of rest) is.reads (read.0, read.1, ap paragraphs_of read.2) in
+    let here : is.fields ≡ first.paragraph = cc same in
+    let none : [] ≡ paragraphs_of rest = cc same in
+    elim told [
+      | inl faulty ↦ not_faulty [] first line note.name (option_to_list note.entry) (subst (λ (fs : List Field). IsEntry [] fs note.name (option_to_list note.entry)) here is.entry) faulty
+      | inr behind ↦ rest_not_broken rest begun.line begun.paragraph line none (ap (λ (l : Located). l.paragraph) read.3) behind.1
+    ]
+
+not_damaged_note : (node : Option Node) (note : Option Note) (line : ℕ) → IsNoteAt node note → IsNoteDamage node line → ⊥
+not_damaged_note None given line is damage = damage
+not_damaged_note (Some (File bytes access)) given line is damage = note_not_broken bytes is.0 damage.paragraphs damage.begun damage.fault line is.2 damage.read damage.told
+not_damaged_note (Some (Dir access)) given line is damage = is
+not_damaged_note (Some (Link target)) given line is damage = is
+
+-- the status file and the notes
+
+fine_number : (w : World) (n : ℕ) (file : List ℕ) (line : ℕ) → IsFineNumber w n → IsFaultyNumber w n file line → ⊥
+fine_number w n file line fine (inl damaged) = not_damaged_note (w (note_path n)) fine.note line fine.is damaged.1
+fine_number w n file line fine (inr spare) = fine.spare spare.3
+
+notes_not_damaged : (w : World) (file : List ℕ) (line : ℕ) → AreNotesFine w → AreNotesDamaged w file line → ⊥
+notes_not_damaged w file line fine (inl bad) = fine.text bad.0
+notes_not_damaged w file line fine (inr first) = fine_number w first.1.number file line (fine.each first.1.number first.1.within) first.1.here
+
+pub records_not_damaged : (w : World) (table : List Record) (file : List ℕ) (line : ℕ) → AreNotesFine w → HasRecords w table → AreRecordsDamaged w file line → ⊥
+records_not_damaged w table file line fine has (inl status) = ∥∥₁_elim has (hlevel props) (λ held. not_damaged (w status_path) held.base line held.status status.1)
+records_not_damaged w table file line fine has (inr noted) = notes_not_damaged w file line fine noted.1
+
+same_notes : (a b : ℕ → Option Note) (k : ℕ) (of : Lookup) → ((n : ℕ) → n < k → a n ≡ b n) → with_notes a k of ≡ with_notes b k of
+same_notes a b zero of same = refl
+same_notes a b (suc k) of same = ap (λ (n : Option Note). entered n (with_notes a k of)) (same k (omega arith)) ∙ ap (entered (b k)) (same_notes a b k of (λ n lt. same n (omega (arith, lt))))
+
+pub one_holding : (w : World) (a b : List Record) → Holds w a → Holds w b → a ≡ b
+one_holding w a b first second =
+    let base = one_status (w status_path) first.base second.base first.status second.status in
+    let notes : (n : ℕ) → n < limit → first.notes n ≡ second.notes n = λ n lt. one_note (w (note_path n)) (first.notes n) (second.notes n) (first.noted n lt) (second.noted n lt) in
+    one_table a b first.order second.order (λ q.
+    first.each q
+    ∙ ap (λ (rs : List Record). with_notes first.notes limit (record_in rs) q) base
+    ∙ ap (λ (of : Lookup). of q) (same_notes first.notes second.notes limit (record_in (standing second.base)) notes)
+    ∙ sym (second.each q))
+
+pub one_records : (w : World) (a b : List Record) → HasRecords w a → HasRecords w b → (a ≡ b → ⊥) → ⊥
+one_records w a b first second apart = ∥∥₁_elim first (hlevel props) (λ is. ∥∥₁_elim second (hlevel props) (λ also. apart (one_holding w a b is also)))

@@ -6,20 +6,19 @@ use Rattle.std.proofs.lemmas.Slice.Eq.{bytes_eq-Decides}
 use Rattle.std.proofs.lemmas.Bool.{true≢false}
 use Rattle.std.proofs.lemmas.Cmp.{nat_eq_equiv}
 use Rattle.std.proofs.lemmas.Map.Views.{Contains-from_any, list_any-from_Contains}
-use Rattle.host_core.proofs.Nodes.{none_stands, none_there}
+use Rattle.host_core.proofs.Nodes.{none_stands}
 use Rattle.host_core.specs.Paths.{Path, is_path}
-use Rattle.host_core.specs.Tree.{has_slash, IsListing}
 use Rattle.host_core.specs.World.{World, HasParent, IsDirectory, IsLoose, SameOn}
 use Rattle.host_core.specs.Host.{State, Reads, Since}
 use Rattle.host_core.specs.Moments.{since_reads, since_then, since_weaker, since_weaker_if, since_now}
 use Rattle.host_core.specs.declared.fault.HostFault.{HostFault}
 use Rattle.host_core.specs.declared.fault.HostFault.TheVariants as host
 use Rattle.host_core.specs.Nodes.{own_access}
-use Rattle.administration.specs.Places.{home_path, info_path, status_path, diversions_path, updates_path, tmp_path, list_path, is_within}
+use Rattle.administration.specs.Places.{home_path, info_path, status_path, diversions_path, updates_path, tmp_path, list_path, temporary, is_within}
 use Rattle.administration.specs.Directories.{new_directory, HasBadName, IsMade, IsMaking, IsRemoved, IsTaking}
 use Rattle.administration.specs.Fault.{fault_of}
 use Rattle.administration.specs.Files.{NoDirectory, KeepsBeside}
-use Rattle.administration.specs.Least.{IsLeast, IsLeastIn}
+use Rattle.administration.specs.Least.{IsLeastIn}
 use Rattle.administration.specs.declared.fault.AdministrationFault.{AdministrationFault}
 use Rattle.administration.specs.declared.fault.AdministrationFault.TheVariants.{Damaged, Device, NoMemory}
 use Rattle.administration.proofs.WholeFiles.{no_directory_none, no_directory_at}
@@ -34,10 +33,15 @@ use Rattle.file_lists.specs.declared.paths.PackageList.{PackageList}
 use Rattle.opening.proofs.KeptLists.{has_lists_kept}
 use Rattle.opening.specs.declared.open.Opened.{Opened as AnOpened}
 use Rattle.status_db.specs.declared.record.Record.{Record}
-use Rattle.status_db.specs.Status.{IsFileOrNothing, IsStatusDamage, StandsFor}
-use Rattle.opening.specs.Opened.{IsListed, IsOpened}
+use Rattle.status_db.specs.Held.{IsFree}
+use Rattle.status_db.specs.NoteDamage.{AreNotesFine, IsRecordsDamage}
+use Rattle.status_db.specs.Notes.{IsNoteAt, note_path}
+use Rattle.status_db.specs.Recorded.{Recorded}
+use Rattle.status_db.proofs.NotedWorlds.{records_same}
+use Rattle.host_core.specs.declared.node.Node.{Node}
+use Rattle.opening.specs.Opened.{IsFound, IsListed}
 use Rattle.opening.specs.Leaving.{IsOpening, HasMadeWays, IsNewWay, is_way, root_path, ways}
-use Rattle.opening.specs.Parts.{Part, Root, Way, is_leftovers, IsDamaged, IsTable, SparesLeftovers, Status, Spare, Updates, Info, Diversions, Leftovers, IsFine, IsFirstFault, IsDamage, IsLeftoversFault, Finds, Opens, fault_in, names_of, parts}
+use Rattle.opening.specs.Parts.{Part, Root, Way, is_leftovers, IsDamaged, IsTable, SparesLeftovers, Records, Spare, Info, Diversions, Leftovers, IsFine, IsFirstFault, IsDamage, IsLeftoversFault, Finds, Opens, fault_in, names_of, parts}
 
 pub opening_start : (w : World) → IsOpening w w
 opening_start w = record { rest = λ q out. inl refl; left = λ q within. inl refl }
@@ -155,15 +159,38 @@ plain_kept q u v plain (inr new) = absurd (true≢false (sym new.way ∙ plain))
 abbrev pub IsEarly : Part → Type 0
 IsEarly Root = Unit {0}
 IsEarly (Way path) = is_within tmp_path path ≡ false
-IsEarly Status = Unit {0}
+IsEarly Records = Unit {0}
 IsEarly (Spare path) = (is_within tmp_path path ≡ false) × (is_way path ≡ false)
-IsEarly Updates = Unit {0}
 IsEarly Info = Unit {0}
 IsEarly Diversions = Unit {0}
 IsEarly Leftovers = ⊥
 
-table_kept : (table : List Record) (u v : World) → v status_path ≡ u status_path → IsTable u table → IsTable v table
-table_kept table u v e is = record { records = subst (λ n. StandsFor n table) (sym e) is.records; standing = is.standing }
+-- what records are read of stays as it was
+
+pub status_kept : (u v : World) → IsOpening u v → v status_path ≡ u status_path
+status_kept u v opening = plain_kept status_path u v refl (opening.rest status_path refl)
+
+pub note_kept : (n : ℕ) (u v : World) → IsOpening u v → v (note_path n) ≡ u (note_path n)
+note_kept n u v opening = plain_kept (note_path n) u v refl (opening.rest (note_path n) refl)
+
+pub note_spare_kept : (n : ℕ) (u v : World) → IsOpening u v → v (temporary (note_path n)) ≡ u (temporary (note_path n))
+note_spare_kept n u v opening = plain_kept (temporary (note_path n)) u v refl (opening.rest (temporary (note_path n)) refl)
+
+table_kept : (table : List Record) (u v : World) → IsOpening u v → IsTable u table → IsTable v table
+table_kept table u v opening is = record { records = records_same u v table (status_kept u v opening) (λ n lt. note_kept n u v opening) is.records; standing = is.standing }
+
+notes_kept : (u v : World) → IsOpening u v → AreNotesFine u → AreNotesFine v
+notes_kept u v opening fine = record {
+  text = λ bad. fine.text (bad.0, bad.1, bad.2, subst IsSome (plain_kept (updates_path ++ 47 ∷ bad.0) u v refl (opening.rest (updates_path ++ 47 ∷ bad.0) refl)) bad.3);
+  each = λ n lt. record {
+    note = (fine.each n lt).note;
+    is = subst (λ (found : Option Node). IsNoteAt found (fine.each n lt).note) (sym (note_kept n u v opening)) (fine.each n lt).is;
+    spare = no_directory_at (v (temporary (note_path n))) (u (temporary (note_path n))) (note_spare_kept n u v opening) (fine.each n lt).spare;
+  };
+}
+
+pub free_kept : {among : List Part} {fault : Option AdministrationFault} (notes : ℕ) (u v : World) → Opens among fault u v → IsFree notes u → IsFree notes v
+free_kept notes u v opens free n le lt = note_kept n u v opens.changes ∙ free n le lt
 
 diverted_kept : (entries : List Diversion) (u v : World) → v diversions_path ≡ u diversions_path → HasDiversions u entries → HasDiversions v entries
 diverted_kept entries u v e has = subst (λ n. HasEntries n entries) (sym e) has
@@ -171,15 +198,11 @@ diverted_kept entries u v e has = subst (λ n. HasEntries n entries) (sym e) has
 pub fine_kept : (part : Part) (u v : World) → IsEarly part → IsOpening u v → IsFine u part → IsFine v part
 fine_kept Root u v early opening fine = directory_kept root_path u v (opening.rest root_path refl) fine
 fine_kept (Way path) u v early opening fine = directory_kept path u v (opening.rest path early) fine
-fine_kept Status u v early opening fine =
-    let e = plain_kept status_path u v refl (opening.rest status_path refl) in
-    (subst IsFileOrNothing (sym e) fine.0, (fine.1.0, table_kept fine.1.0 u v e fine.1.1))
+fine_kept Records u v early opening fine = (notes_kept u v opening fine.0, (fine.1.0, table_kept fine.1.0 u v opening fine.1.1))
 fine_kept (Spare path) u v early opening fine = no_directory_at (v path) (u path) (plain_kept path u v early.1 (opening.rest path early.0)) fine
-fine_kept Updates u v early opening fine = λ name plain.
-    plain_kept (updates_path ++ 47 ∷ name) u v refl (opening.rest (updates_path ++ 47 ∷ name) refl) ∙ fine name plain
 fine_kept Info u v early opening fine = record {
   table = fine.table;
-  is_table = table_kept fine.table u v (plain_kept status_path u v refl (opening.rest status_path refl)) fine.is_table;
+  is_table = table_kept fine.table u v opening fine.is_table;
   text = λ bad. fine.text (bad.0, bad.1, bad.2, subst IsSome (plain_kept (info_path ++ 47 ∷ bad.0) u v refl (opening.rest (info_path ++ 47 ∷ bad.0) refl)) bad.3);
   sound = λ entry plain. subst (IsSound (names_of fine.table) entry) (sym (plain_kept (info_path ++ 47 ∷ entry) u v refl (opening.rest (info_path ++ 47 ∷ entry) refl))) (fine.sound entry plain);
 }
@@ -225,9 +248,8 @@ early_spares (part ∷ among) early = ap (λ t. t || list_any is_leftovers among
     at : (part : Part) → IsEarly part → is_leftovers part ≡ false
     at Root is = refl
     at (Way path) is = refl
-    at Status is = refl
+    at Records is = refl
     at (Spare path) is = refl
-    at Updates is = refl
     at Info is = refl
     at Diversions is = refl
     at Leftovers is = absurd is
@@ -411,29 +433,13 @@ diversions_damaged fault u v same damage = opens_read (Diversions ∷ []) (Some 
 pub child_parent : (w : World) (front name : Path) → list_any (nat_eq 47) name ≡ false → IsDirectory (w front) → HasParent w (front ++ 47 ∷ name)
 child_parent w front name free is = (front, name, refl, (λ has. true≢false (sym (list_any-from_Contains nat_eq_equiv 47 name has) ∙ free)), is)
 
--- a directory that has to be empty
-
-pub no_entry : (w : World) (directory : Path) (names : List Path) (bad : Bool) → bad ≡ false → IsListing w directory names bad → IsLeast (λ n. Unit {0}) names None → (name : Path) → has_slash name ≡ false → w (directory ++ 47 ∷ name) ≡ None
-no_entry w directory names bad e listing none name plain = none_there (w (directory ++ 47 ∷ name)) (λ some. elim (listing.whole name plain some) [
-  | inl has ↦ none name has tt
-  | inr odd ↦ true≢false (sym odd.1 ∙ e)
-])
-
--- each name of a listing makes a path
-pub names_a_path : (w : World) (directory : Path) (names : List Path) (bad : Bool) (name : Path) → directory ≡ updates_path → IsListing w updates_path names bad → IsLeast (λ n. Unit {0}) names (Some name) → is_path (directory ++ 47 ∷ name) ≡ false → ⊥
-names_a_path w directory names bad name place listing least none =
-    true≢false (sym (listing.fits name least.among) ∙ ap (λ d. is_path (d ++ 47 ∷ name)) (sym place) ∙ none)
-
-pub entry_damage : (w : World) (directory file : Path) (name : Path) (fault : AdministrationFault) → directory ≡ updates_path → file ≡ directory ++ 47 ∷ name → fault ≡ Damaged file 0 → (HasBadName w updates_path → ⊥) → IsLeastIn IsSome w updates_path name → IsDamage (Updates ∷ []) w fault
-entry_damage w directory file name fault place path is good least = subst (IsDamage (Updates ∷ []) w) (sym is) (inl (refl, inr (good, (name, path ∙ ap (λ d. d ++ 47 ∷ name) place, least))))
-
 -- what is known before later parts are opened stays
 
 pub home_kept : {among : List Part} {fault : Option AdministrationFault} (u v : World) → Opens among fault u v → IsDirectory (u home_path) → IsDirectory (v home_path)
 home_kept u v opens is = directory_kept home_path u v (opens.changes.rest home_path refl) is
 
 pub table_opens : {among : List Part} {fault : Option AdministrationFault} (table : List Record) (u v : World) → Opens among fault u v → IsTable u table → IsTable v table
-table_opens table u v opens is = table_kept table u v (plain_kept status_path u v refl (opens.changes.rest status_path refl)) is
+table_opens table u v opens is = table_kept table u v opens.changes is
 
 pub listed_kept : {among : List Part} {fault : Option AdministrationFault} (names : List (List ℕ)) (lists : List PackageList) (u v : World) → Opens among fault u v → IsListed u names lists → IsListed v names lists
 listed_kept names lists u v opens has = record {
@@ -459,30 +465,37 @@ pub listed_read : (result : Result Filed AdministrationFault) (table : List Reco
 listed_read (Ok f) table v w same sound has = subst (λ x. IsListed x (names_of table) f.lists) (sym same) (record { sound = sound; lists = has })
 listed_read (Err fault) table v w same sound has = tt
 
-status_fault : (w : World) (fault : AdministrationFault) → IsStatusDamage w fault → IsDamage (Status ∷ []) w fault
-status_fault w (Damaged file line) damage = inl damage
-status_fault w Device damage = tt
-status_fault w NoMemory damage = tt
+records_fault : (w : World) (fault : AdministrationFault) → IsRecordsDamage w fault → IsDamage (Records ∷ []) w fault
+records_fault w (Damaged file line) damage = inl damage
+records_fault w Device damage = tt
+records_fault w NoMemory damage = tt
 
-pub status_damaged : (fault : AdministrationFault) (u v : World) → v ≡ u → IsStatusDamage u fault → Opens (Status ∷ []) (Some fault) u v
-status_damaged fault u v same damage = opens_read (Status ∷ []) (Some fault) u v same (status_fault u fault damage)
+pub records_damaged : (fault : AdministrationFault) (u v : World) → v ≡ u → IsRecordsDamage u fault → Opens (Records ∷ []) (Some fault) u v
+records_damaged fault u v same damage = opens_read (Records ∷ []) (Some fault) u v same (records_fault u fault damage)
 
-pub status_read : (table : List Record) (u v : World) → v ≡ u → IsFileOrNothing (u status_path) → IsTable u table → Opens (Status ∷ []) None u v
-status_read table u v same file is = opens_read (Status ∷ []) None u v same ((file, (table, is)), tt)
+pub records_read : (table : List Record) (u v : World) → v ≡ u → AreNotesFine u → IsTable u table → Opens (Records ∷ []) None u v
+records_read table u v same fine is = opens_read (Records ∷ []) None u v same ((fine, (table, is)), tt)
 
-pub opened_of : (table : List Record) (lists : List PackageList) (entries : List Diversion) (u v : World) → Opens parts None u v → IsTable v table → IsListed v (names_of table) lists → HasDiversions v entries → IsOpened table lists entries v
-opened_of table lists entries u v opens is listed diverted = record {
+found_of : (table : List Record) (notes : ℕ) (lists : List PackageList) (entries : List Diversion) (u v : World) → Opens parts None u v → IsTable v table → IsFree notes v → IsListed v (names_of table) lists → HasDiversions v entries → IsFound table notes lists entries v
+found_of table notes lists entries u v opens is free listed diverted = record {
   home = opens.finds.1.1.1.0;
-  info = opens.finds.1.1.1.1.1.1.1.1.0;
+  info = opens.finds.1.1.1.1.1.1.1.0;
   updates = opens.finds.1.1.1.1.1.1.0;
-  empty = opens.finds.1.1.1.1.1.1.1.0;
-  text = opens.finds.1.1.1.1.1.1.1.1.1.0.text;
-  status = opens.finds.1.1.1.1.0.0;
-  status_spare = opens.finds.1.1.1.1.1.0;
+  text = opens.finds.1.1.1.1.1.1.1.1.0.text;
   diversions = diverted;
-  diversions_spare = opens.finds.1.1.1.1.1.1.1.1.1.1.1.0;
-  tmp = opens.finds.1.1.1.1.1.1.1.1.1.1.1.1.0;
-  records = is.records;
+  diversions_spare = opens.finds.1.1.1.1.1.1.1.1.1.1.0;
+  tmp = opens.finds.1.1.1.1.1.1.1.1.1.1.1.0;
+  records = record {
+    unblocked = record {
+      home = opens.finds.1.1.1.0;
+      updates = opens.finds.1.1.1.1.1.1.0;
+      text = opens.finds.1.1.1.1.0.0.text;
+      status_spare = opens.finds.1.1.1.1.1.0;
+      spares = λ n lt. (opens.finds.1.1.1.1.0.0.each n lt).spare;
+    };
+    holds = is.records;
+    free = free;
+  };
   standing = is.standing;
   listed = listed;
 }
@@ -501,7 +514,12 @@ pub listed_through : {among : List Part} {fault : Option AdministrationFault} (r
 listed_through (Ok read) names f u v opens is has = subst (λ (x : Filed). IsListed v names x.lists) (sym is) (listed_kept names f.lists u v opens has)
 listed_through (Err fault) names f u v opens is has = tt
 
-pub opened_ok : (result : Result AnOpened AdministrationFault) (table : List Record) (u v : World) → Opens parts (fault_in result) u v → IfOk result (λ o. o.database ≡ table) → IsTable v table → IfOk result (λ o. IsListed v (names_of o.database) o.lists.lists) → IfOk result (λ o. HasDiversions v o.diversions.entries)
-    → IfOk result (λ o. IsOpened o.database o.lists.lists o.diversions.entries v)
-opened_ok (Ok o) table u v opens is table_is listed diverted = opened_of o.database o.lists.lists o.diversions.entries u v opens (subst (IsTable v) (sym is) table_is) listed diverted
-opened_ok (Err fault) table u v opens is table_is listed diverted = tt
+pub found_ok : (result : Result AnOpened AdministrationFault) (d : Recorded) (u v : World) → Opens parts (fault_in result) u v → IfOk result (λ o. o.database ≡ d) → IsTable v d.records → IsFree d.notes v → IfOk result (λ o. IsListed v (names_of o.database.records) o.lists.lists) → IfOk result (λ o. HasDiversions v o.diversions.entries)
+    → IfOk result (λ o. IsFound o.database.records o.database.notes o.lists.lists o.diversions.entries v)
+found_ok (Ok o) d u v opens is table free listed diverted =
+    found_of o.database.records o.database.notes o.lists.lists o.diversions.entries u v opens (subst (λ (x : Recorded). IsTable v x.records) (sym is) table) (subst (λ (x : Recorded). IsFree x.notes v) (sym is) free) listed diverted
+found_ok (Err fault) d u v opens is table free listed diverted = tt
+
+pub found_open : (result : Result AnOpened AdministrationFault) (d : Recorded) → IfOk result (λ o. o.database ≡ d) → d.closed ≡ false → IfOk result (λ o. o.database.closed ≡ false)
+found_open (Ok o) d is opened = ap (λ (x : Recorded). x.closed) is ∙ opened
+found_open (Err fault) d is opened = tt

@@ -4,6 +4,9 @@ use Rattle.std.specs.List.{list_any}
 use Rattle.std.specs.Str.{bytes_eq}
 use Rattle.host_core.specs.Paths.{Path}
 use Rattle.host_core.specs.World.{World, IsDirectory}
+use Rattle.status_db.specs.Noting.{IsMerging}
+use Rattle.status_db.specs.Held.{HasRecords}
+use Rattle.status_db.specs.declared.record.Record.{Record}
 use Rattle.administration.specs.Directories.{new_directory}
 use Rattle.administration.specs.Places.{home_path, info_path, updates_path, tmp_path, is_within}
 
@@ -38,3 +41,8 @@ HasMadeWays old new = (q : Path) → is_way q ≡ true → (new q ≡ old q) ⊎
 pub record IsOpening (old now : World) : Type 0 where
   pub rest : (q : Path) → is_within tmp_path q ≡ false → (now q ≡ old q) ⊎ IsNewWay q old now
   pub left : (q : Path) → is_within tmp_path q ≡ true → (now q ≡ old q) ⊎ (now q ≡ None)
+
+-- the same, or all that was opened, and the notes are being merged into the status file, which changes no record
+pub data IsOpeningOrMerging (old now : World) : Type 0 where
+  opening : IsOpening old now → IsOpeningOrMerging old now
+  merging : (read : World) (table : List Record) → IsOpening old read → HasRecords read table → IsMerging table read now → IsOpeningOrMerging old now

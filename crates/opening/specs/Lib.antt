@@ -1,3 +1,4 @@
 pub mod Leaving
 pub mod Parts
+pub mod Undamaged
 pub mod Opened

@@ -1,8 +1,7 @@
 -- The parts of the administration in the order in which they are read, and what is wrong with one that can't be.
-use Rattle.std.specs.Prelude.{◌≡◌, ◌⊎◌, ℕ, Bool, true, false, List, [], ◌∷◌, ◌++◌, Option, Some, None, IsSome, map, Result, Ok, Err}
+use Rattle.std.specs.Prelude.{◌≡◌, ◌⊎◌, ℕ, Bool, true, false, List, [], ◌∷◌, ◌++◌, Option, Some, None, map, Result, Ok, Err}
 use Rattle.std.specs.List.{AllByRecursion, list_any}
 use Rattle.host_core.specs.Paths.{Path}
-use Rattle.host_core.specs.Tree.{has_slash}
 use Rattle.host_core.specs.World.{World, IsDirectory, IsLoose, SameOn}
 use Rattle.administration.specs.Places.{home_path, info_path, status_path, diversions_path, updates_path, tmp_path, temporary, is_within}
 use Rattle.administration.specs.Directories.{HasBadName}
@@ -15,7 +14,11 @@ use Rattle.diversions.specs.Lines.{HasDiversions, IsDiversionsDamage}
 use Rattle.file_lists.specs.Info.{IsInfoDamage, AreSound}
 use Rattle.status_db.specs.declared.record.Record.{Record}
 use Rattle.status_db.specs.Records.{standing}
-use Rattle.status_db.specs.Status.{HasRecords, IsFileOrNothing, IsStatusDamage}
+use Rattle.status_db.specs.NoteDamage.{AreNotesFine, AreRecordsDamaged}
+use Rattle.status_db.specs.Noting.{IsMerging}
+use Rattle.status_db.specs.Held.{HasRecords}
+use Rattle.status_db.specs.declared.record_fault.RecordFault.{RecordFault}
+use Rattle.status_db.specs.declared.record_fault.RecordFault.TheVariants as fault
 use Rattle.opening.specs.Leaving.{IsOpening, HasMadeWays, root_path, var_path, lib_path}
 
 -- the names of packages that have a record
@@ -26,12 +29,10 @@ pub data Part : Type 0 where
   Root : Part
   -- a directory of the administration, or one above it
   Way : (path : Path) → Part
-  -- the status file
-  Status : Part
+  -- the status file, and the notes over it
+  Records : Part
   -- the name at which a file is written before it is renamed to its place
   Spare : (path : Path) → Part
-  -- noted records
-  Updates : Part
   -- file lists and stored scripts
   Info : Part
   Diversions : Part
@@ -39,13 +40,9 @@ pub data Part : Type 0 where
   Leftovers : Part
 
 abbrev pub parts : List Part
-parts = Root ∷ Way var_path ∷ Way lib_path ∷ Way home_path ∷ Status ∷ Spare (temporary status_path) ∷ Way updates_path ∷ Updates ∷ Way info_path ∷ Info ∷ Diversions ∷ Spare (temporary diversions_path) ∷ Leftovers ∷ []
+parts = Root ∷ Way var_path ∷ Way lib_path ∷ Way home_path ∷ Records ∷ Spare (temporary status_path) ∷ Way updates_path ∷ Way info_path ∷ Info ∷ Diversions ∷ Spare (temporary diversions_path) ∷ Leftovers ∷ []
 
--- nothing stands in a directory
-abbrev pub IsEmptyIn : World → Path → Type 0
-IsEmptyIn w directory = (name : Path) → has_slash name ≡ false → w (directory ++ 47 ∷ name) ≡ None
-
--- the status file stands for these records, each of a package that isn't gone
+-- the status file and the notes stand for these records, each of a package that isn't gone
 pub record IsTable (w : World) (table : List Record) : Type 0 where
   pub records : HasRecords w table
   pub standing : standing table ≡ table
@@ -61,16 +58,11 @@ pub record IsReadableInfo (w : World) : Type 0 where
 abbrev pub IsFine : World → Part → Type 0
 IsFine w Root = IsDirectory (w root_path)
 IsFine w (Way path) = IsDirectory (w path)
-IsFine w Status = IsFileOrNothing (w status_path) × ((table : List Record) × IsTable w table)
+IsFine w Records = AreNotesFine w × ((table : List Record) × IsTable w table)
 IsFine w (Spare path) = NoDirectory (w path)
-IsFine w Updates = IsEmptyIn w updates_path
 IsFine w Info = IsReadableInfo w
 IsFine w Diversions = (entries : List Diversion) × HasDiversions w entries
 IsFine w Leftovers = w tmp_path ≡ None
-
--- an entry of a directory that has to be empty: the directory itself where a name isn't text, else the first
-abbrev pub IsEntryFault : World → Path → Path → Type 0
-IsEntryFault w directory file = ((file ≡ directory) × HasBadName w directory) ⊎ ((HasBadName w directory → ⊥) × ((name : Path) × (file ≡ directory ++ 47 ∷ name) × IsLeastIn IsSome w directory name))
 
 -- `tmp.ci` is no directory or has a name in it that isn't text; else the first directory in it
 abbrev pub IsLeftoversFault : World → Path → Type 0
@@ -81,9 +73,8 @@ IsLeftoversFault w file =
 abbrev pub IsFaulty : World → Part → Path → ℕ → Type 0
 IsFaulty w Root file line = (file ≡ root_path) × (line ≡ 0) × NoDirectory (w root_path)
 IsFaulty w (Way path) file line = (file ≡ path) × (line ≡ 0) × IsLoose (w path)
-IsFaulty w Status file line = IsStatusDamage w (Damaged file line)
+IsFaulty w Records file line = AreRecordsDamaged w file line
 IsFaulty w (Spare path) file line = (file ≡ path) × (line ≡ 0) × IsDirectory (w path)
-IsFaulty w Updates file line = (line ≡ 0) × IsEntryFault w updates_path file
 IsFaulty w Info file line = (table : List Record) × IsTable w table × IsInfoDamage w (names_of table) (Damaged file line)
 IsFaulty w Diversions file line = IsDiversionsDamage w (Damaged file line)
 IsFaulty w Leftovers file line = (line ≡ 0) × IsLeftoversFault w file
@@ -111,9 +102,8 @@ fault_in (Err fault) = Some fault
 abbrev pub is_leftovers : Part → Bool
 is_leftovers Root = false
 is_leftovers (Way path) = false
-is_leftovers Status = false
+is_leftovers Records = false
 is_leftovers (Spare path) = false
-is_leftovers Updates = false
 is_leftovers Info = false
 is_leftovers Diversions = false
 is_leftovers Leftovers = true
@@ -134,3 +124,28 @@ pub record Opens (among : List Part) (fault : Option AdministrationFault) (old n
   pub finds : Finds among new fault
   pub made : (fault ≡ Some Device → ⊥) → HasMadeWays old new
   pub left : SparesLeftovers among fault → SameOn (is_within tmp_path) old new
+
+-- after all was read, the notes were merged into the status file, or that was broken off, which is never damage
+pub record HasMerged (fault : Option AdministrationFault) (read new : World) : Type 0 where
+  pub sound : IsDamaged fault → ⊥
+  pub table : List Record
+  pub records : HasRecords read table
+  pub merging : IsMerging table read new
+
+-- what was told of the reading is told, and nothing was merged
+abbrev pub Merges : Option AdministrationFault → Option AdministrationFault → World → World → Type 0
+Merges (Some found) fault read new = (fault ≡ Some found) × (new ≡ read)
+Merges None fault read new = HasMerged fault read new
+
+-- all parts were opened, and after them the notes were merged
+pub record OpensAndMerges (fault : Option AdministrationFault) (old new : World) : Type 0 where
+  pub read : World
+  pub found : Option AdministrationFault
+  pub opens : Opens parts found old read
+  pub merges : Merges found fault read new
+
+-- a fault of the records, as one of the administration; closed ones are never merged
+abbrev pub told : RecordFault → AdministrationFault
+told fault.Device = Device
+told fault.NoMemory = NoMemory
+told fault.Closed = NoMemory

@@ -1,12 +1,30 @@
-// Laws of the parts of an administration.
-ghost use Rattle.std.specs.Prelude.{ℕ};
+// Laws of the parts of an administration, and of an opening that was broken off.
+ghost use Rattle.std.specs.Prelude.{ℕ, List};
 ghost use Rattle.std.specs.List.{AllByRecursion};
 ghost use Rattle.host_core.specs.Paths.{Path};
 ghost use Rattle.host_core.specs.Tree.{IsTree};
 ghost use Rattle.host_core.specs.World.{World};
+ghost use Rattle.diversions.specs.Lines.{HasDiversions};
+ghost use Rattle.diversions.specs.declared.entry.Diversion.{Diversion};
+ghost use Rattle.file_lists.specs.Lists.{HasLists};
+ghost use Rattle.file_lists.specs.declared.paths.PackageList.{PackageList};
+ghost use Rattle.opening.specs.Leaving.{IsOpeningOrMerging};
 ghost use Rattle.opening.specs.Parts.{parts, IsFine, IsFirstFault};
+ghost use Rattle.opening.specs.Undamaged.{IsUndamaged};
+ghost use Rattle.status_db.specs.Held.{HasRecords};
+ghost use Rattle.status_db.specs.declared.record.Record.{Record};
 
 /// Where all parts can be read, none of them is told as damage.
 pub fn what_is_fine_has_no_fault()
     ensures { (w : World) (file : Path) (line : ℕ) → IsTree w → AllByRecursion (IsFine w) parts → IsFirstFault parts w file line → ⊥ }
+{}
+
+/// An opening of an administration that isn't damaged changes none of its records, lists and
+/// diversions, wherever it is broken off, and the next opening finds no damage.
+pub fn a_stopped_opening_can_be_opened()
+    ensures undamaged { (old now : World) → IsOpeningOrMerging old now → IsUndamaged old → IsUndamaged now }
+    ensures no_fault { (w : World) (file : Path) (line : ℕ) → IsUndamaged w → IsFirstFault parts w file line → ⊥ }
+    ensures records { (old now : World) (table : List Record) → IsOpeningOrMerging old now → HasRecords old table → HasRecords now table }
+    ensures lists { (old now : World) (names : List (List ℕ)) (lists : List PackageList) → IsOpeningOrMerging old now → HasLists old names lists → HasLists now names lists }
+    ensures diversions { (old now : World) (entries : List Diversion) → IsOpeningOrMerging old now → HasDiversions old entries → HasDiversions now entries }
 {}

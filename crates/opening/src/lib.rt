@@ -5,5 +5,5 @@
 mod laws;
 mod open;
 
-pub use laws::what_is_fine_has_no_fault;
+pub use laws::{a_stopped_opening_can_be_opened, what_is_fine_has_no_fault};
 pub use open::{Opened, open_administration};

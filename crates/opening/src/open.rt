@@ -1,34 +1,34 @@
 // The administration as a whole, part by part in the order in which they are opened.
-ghost use Rattle.std.specs.Prelude.{◌≡◌, ◌∷◌, [], true, false, IsTrue, Some, option_copied, IfOk, MatchBool};
-ghost use Rattle.host_core.specs.Host.{AtEachMoment, Counts, Gives, Needs, Reads, Silent, Tells};
+ghost use Rattle.std.specs.Prelude.{◌≡◌, ◌∷◌, [], true, false, IsTrue, Some, IfOk, OnOk, MatchBool};
+ghost use Rattle.host_core.specs.Host.{AtEachMoment, Counts, Gives, Leaves, Needs, Reads, Silent, Tells};
 ghost use Rattle.host_core.specs.Paths.{is_path};
 ghost use Rattle.host_core.specs.World.{HasParent, World, IsDirectory};
 ghost use Rattle.administration.specs.Fault.{CountsAdministration};
 ghost use Rattle.administration.specs.Files.{NoDirectory};
 ghost use Rattle.administration.specs.Places.{diversions_path, home_path, status_path, temporary, updates_path, info_path, tmp_path};
-ghost use Rattle.administration.specs.declared.fault.AdministrationFault.TheVariants.{Damaged, Device};
+ghost use Rattle.administration.specs.declared.fault.AdministrationFault.TheVariants.{Damaged};
 ghost use Rattle.diversions.specs.Lines.{HasDiversions};
-ghost use Rattle.opening.specs.Leaving.{is_way, IsOpening, var_path, lib_path};
-ghost use Rattle.opening.specs.Parts.{Root, Way, IsTable, Opens, fault_in, Spare, Updates, Finds, Info, names_of, Diversions as ItsDiversions, Leftovers, parts};
-ghost use Rattle.host_core.specs.Tree.{IsListing};
-ghost use Rattle.administration.specs.Least.{IsLeast};
-ghost use Rattle.opening.specs.Opened.{IsListed, IsOpened};
+ghost use Rattle.opening.specs.Leaving.{is_way, IsOpening, IsOpeningOrMerging, var_path, lib_path};
+ghost use Rattle.opening.specs.Parts.{Root, Way, IsDamaged, IsTable, Opens, OpensAndMerges, fault_in, told, Spare, Info, names_of, Diversions as ItsDiversions, Leftovers, parts};
+ghost use Rattle.status_db.specs.Noting.{AreNoted, IsMerging};
+ghost use Rattle.status_db.specs.Held.{IsKept};
+ghost use Rattle.opening.specs.Opened.{IsFound, IsListed, IsOpened};
 
 use administration::{
-    AdministrationFault, Flatness, INCOMING, INFO, Standing, UPDATES, inspect_flat, lesser, look,
+    AdministrationFault, Flatness, INCOMING, INFO, Standing, UPDATES, inspect_flat, look,
     make_directory, remove_flat,
 };
 use diversions::Diversions;
 use file_lists::FileLists;
-use host_core::{Host, HostFault, Listing, RootPath};
-use status_db::{Database, Record};
+use host_core::{Host, HostFault, RootPath};
+use status_db::{NotedDatabase, Record, RecordFault};
 use std::alloc::{AllocError, Global};
 use texts::{Text, Texts};
 
 /// What an administration holds: the records, the lists of recorded packages, and the diversions.
 #[derive(Drop)]
 pub struct Opened {
-    pub database: Database,
+    pub database: NotedDatabase,
     pub lists: FileLists,
     pub diversions: Diversions,
 }
@@ -114,58 +114,6 @@ fn check_spare<H: Host>(alloc: Global, host: &mut H, place: &str) -> Result<(), 
     Ok(())
 }
 
-// The least of these names.
-fn least(names: &[Text]) -> Option<&Text>
-    ensures { IsLeast (λ _. Unit {0}) names.now (option_copied result) }
-{
-    let mut least = None;
-    for name in names {
-        least = Some(lesser(least, name));
-    }
-    least
-}
-
-// What a directory that has to be empty holds.
-fn check_listing(directory: RootPath, listing: &Listing) -> Result<(), AdministrationFault>
-    requires { directory ≡ updates_path }
-    ensures finds { (w : World) → IsListing w updates_path listing.now.names listing.now.bad → Finds (Updates ∷ []) w (fault_in result) }
-    ensures device { fault_in result ≡ Some Device → ⊥ }
-{
-    if listing.bad {
-        return Err(damaged(directory, 0));
-    }
-    let Some(name) = least(listing.names.as_slice()) else {
-        return Ok(());
-    };
-    match directory.child(name)? {
-        Some(entry) => Err(damaged(entry, 0)),
-        None => Err(damaged(directory, 0)),
-    }
-}
-
-fn check_updates<H: Host>(alloc: Global, host: &mut H) -> Result<(), AdministrationFault>
-    ensures opens { IsTrue (H.state host.new).honest → Opens (Updates ∷ []) (fault_in result) (H.state host.old).world (H.state host.new).world }
-    ensures reads { Reads (H.state host.old) (H.state host.new) }
-    ensures silent { Silent (H.state host.old) (H.state host.new) }
-    ensures counts { CountsAdministration (H.state host.old) (H.state host.new) result }
-{
-    let directory = RootPath::from_str(alloc, UPDATES)?;
-    let listing = host.list(&directory)?;
-    check_listing(directory, &listing)
-}
-
-// The directory of noted records, which has to be empty.
-fn open_updates<H: Host>(alloc: Global, host: &mut H) -> Result<(), AdministrationFault>
-    requires { Needs (H.state host.old) (λ w. IsDirectory (w home_path)) }
-    ensures opens { IsTrue (H.state host.new).honest → Opens (Way updates_path ∷ Updates ∷ []) (fault_in result) (H.state host.old).world (H.state host.new).world }
-    ensures any_moment { AtEachMoment IsOpening (H.state host.old) (H.state host.new) }
-    ensures silent { Silent (H.state host.old) (H.state host.new) }
-    ensures counts { CountsAdministration (H.state host.old) (H.state host.new) result }
-{
-    make_way(alloc, host, UPDATES)?;
-    check_updates(alloc, host)
-}
-
 // The names of the packages that have a record.
 fn names_of(alloc: Global, records: &[Record]) -> Result<Texts, AllocError>
     ensures { IfOk result (λ names. names ≡ names_of records.now) }
@@ -181,12 +129,12 @@ fn names_of(alloc: Global, records: &[Record]) -> Result<Texts, AllocError>
 fn open_info<H: Host>(
     alloc: Global,
     host: &mut H,
-    database: &Database,
+    database: &NotedDatabase,
 ) -> Result<FileLists, AdministrationFault>
     requires home { Needs (H.state host.old) (λ w. IsDirectory (w home_path)) }
-    requires table { Needs (H.state host.old) (λ w. IsTable w database.now) }
+    requires table { Needs (H.state host.old) (λ w. IsTable w database.now.records) }
     ensures opens { IsTrue (H.state host.new).honest → Opens (Way info_path ∷ Info ∷ []) (fault_in result) (H.state host.old).world (H.state host.new).world }
-    ensures listed { Gives result (λ f old new. IsListed new (names_of database.now) f.lists) (H.state host.old) (H.state host.new) }
+    ensures listed { Gives result (λ f old new. IsListed new (names_of database.now.records) f.lists) (H.state host.old) (H.state host.new) }
     ensures any_moment { AtEachMoment IsOpening (H.state host.old) (H.state host.new) }
     ensures silent { Silent (H.state host.old) (H.state host.new) }
     ensures counts { CountsAdministration (H.state host.old) (H.state host.new) result }
@@ -313,12 +261,12 @@ fn open_settled<H: Host>(
 fn open_rest<H: Host>(
     alloc: Global,
     host: &mut H,
-    database: &Database,
+    database: &NotedDatabase,
 ) -> Result<(FileLists, Diversions), AdministrationFault>
     requires home { Needs (H.state host.old) (λ w. IsDirectory (w home_path)) }
-    requires table { Needs (H.state host.old) (λ w. IsTable w database.now) }
-    ensures opens { IsTrue (H.state host.new).honest → Opens (Spare (temporary status_path) ∷ Way updates_path ∷ Updates ∷ Way info_path ∷ Info ∷ ItsDiversions ∷ Spare (temporary diversions_path) ∷ Leftovers ∷ []) (fault_in result) (H.state host.old).world (H.state host.new).world }
-    ensures listed { Gives result (λ read old new. IsListed new (names_of database.now) read.0.lists) (H.state host.old) (H.state host.new) }
+    requires table { Needs (H.state host.old) (λ w. IsTable w database.now.records) }
+    ensures opens { IsTrue (H.state host.new).honest → Opens (Spare (temporary status_path) ∷ Way updates_path ∷ Way info_path ∷ Info ∷ ItsDiversions ∷ Spare (temporary diversions_path) ∷ Leftovers ∷ []) (fault_in result) (H.state host.old).world (H.state host.new).world }
+    ensures listed { Gives result (λ read old new. IsListed new (names_of database.now.records) read.0.lists) (H.state host.old) (H.state host.new) }
     ensures diverted { Gives result (λ read old new. HasDiversions new read.1.entries) (H.state host.old) (H.state host.new) }
     ensures writable { IfOk result (λ read. read.1.closed ≡ false) }
     ensures any_moment { AtEachMoment IsOpening (H.state host.old) (H.state host.new) }
@@ -326,7 +274,7 @@ fn open_rest<H: Host>(
     ensures counts { CountsAdministration (H.state host.old) (H.state host.new) result }
 {
     check_spare(alloc, host, STATUS_SPARE)?;
-    open_updates(alloc, host)?;
+    make_way(alloc, host, UPDATES)?;
     let lists = open_info(alloc, host, database)?;
     open_settled(alloc, host, lists)
 }
@@ -334,13 +282,13 @@ fn open_rest<H: Host>(
 fn open_with<H: Host>(
     alloc: Global,
     host: &mut H,
-    database: Database,
+    database: NotedDatabase,
 ) -> Result<Opened, AdministrationFault>
     requires home { Needs (H.state host.old) (λ w. IsDirectory (w home_path)) }
-    requires table { Needs (H.state host.old) (λ w. IsTable w database) }
-    ensures opens { IsTrue (H.state host.new).honest → Opens (Spare (temporary status_path) ∷ Way updates_path ∷ Updates ∷ Way info_path ∷ Info ∷ ItsDiversions ∷ Spare (temporary diversions_path) ∷ Leftovers ∷ []) (fault_in result) (H.state host.old).world (H.state host.new).world }
+    requires table { Needs (H.state host.old) (λ w. IsTable w database.records) }
+    ensures opens { IsTrue (H.state host.new).honest → Opens (Spare (temporary status_path) ∷ Way updates_path ∷ Way info_path ∷ Info ∷ ItsDiversions ∷ Spare (temporary diversions_path) ∷ Leftovers ∷ []) (fault_in result) (H.state host.old).world (H.state host.new).world }
     ensures database { IfOk result (λ opened. opened.database ≡ database) }
-    ensures listed { Gives result (λ opened old new. IsListed new (names_of opened.database) opened.lists.lists) (H.state host.old) (H.state host.new) }
+    ensures listed { Gives result (λ opened old new. IsListed new (names_of opened.database.records) opened.lists.lists) (H.state host.old) (H.state host.new) }
     ensures diverted { Gives result (λ opened old new. HasDiversions new opened.diversions.entries) (H.state host.old) (H.state host.new) }
     ensures writable { IfOk result (λ opened. opened.diversions.closed ≡ false) }
     ensures any_moment { AtEachMoment IsOpening (H.state host.old) (H.state host.new) }
@@ -361,20 +309,116 @@ fn open_with<H: Host>(
     }
 }
 
-/// Opens the administration below `/var/lib/dpkg`. A fault is that of the first part that can't be
-/// read; what opening changes is told by `opens`, whatever the answer.
-pub fn open_administration<H: Host>(
-    alloc: Global,
-    host: &mut H,
-) -> Result<Opened, AdministrationFault>
+// Reads the administration below `/var/lib/dpkg`, with its notes.
+fn read_administration<H: Host>(alloc: Global, host: &mut H) -> Result<Opened, AdministrationFault>
     ensures opens { IsTrue (H.state host.new).honest → Opens parts (fault_in result) (H.state host.old).world (H.state host.new).world }
-    ensures opened { Gives result (λ opened old new. IsOpened opened.database opened.lists.lists opened.diversions.entries new) (H.state host.old) (H.state host.new) }
+    ensures found { Gives result (λ opened old new. IsFound opened.database.records opened.database.notes opened.lists.lists opened.diversions.entries new) (H.state host.old) (H.state host.new) }
+    ensures open { IfOk result (λ opened. opened.database.closed ≡ false) }
     ensures writable { IfOk result (λ opened. opened.diversions.closed ≡ false) }
     ensures any_moment { AtEachMoment IsOpening (H.state host.old) (H.state host.new) }
     ensures silent { Silent (H.state host.old) (H.state host.new) }
     ensures counts { CountsAdministration (H.state host.old) (H.state host.new) result }
 {
     open_ways(alloc, host)?;
-    let database = Database::open(alloc, host)?;
+    let database = NotedDatabase::open(alloc, host)?;
+    database.law();
     open_with(alloc, host, database)
+}
+
+fn told(fault: RecordFault) -> AdministrationFault
+    ensures { result ≡ told fault }
+{
+    match fault {
+        RecordFault::Device => AdministrationFault::Device,
+        RecordFault::NoMemory => AdministrationFault::NoMemory,
+        RecordFault::Closed => AdministrationFault::NoMemory,
+    }
+}
+
+// Merges the notes into the status file, if there are any.
+fn merge_notes<H: Host>(
+    alloc: Global,
+    host: &mut H,
+    database: &mut NotedDatabase,
+) -> Result<(), AdministrationFault>
+    requires kept { Needs (H.state host.old) (IsKept database.old) }
+    requires open { database.old.closed ≡ false }
+    ensures records { database.new.records ≡ database.old.records }
+    ensures number { OnOk result (database.new.notes ≡ 0) }
+    ensures open { OnOk result (database.new.closed ≡ false) }
+    ensures sound { IsDamaged (fault_in result) → ⊥ }
+    ensures merged { Leaves result (AreNoted database.old.records 0) (H.state host.old) (H.state host.new) }
+    ensures any_moment { AtEachMoment (IsMerging database.old.records) (H.state host.old) (H.state host.new) }
+    ensures silent { Silent (H.state host.old) (H.state host.new) }
+    ensures counts { CountsAdministration (H.state host.old) (H.state host.new) result }
+{
+    if !database.has_notes() {
+        return Ok(());
+    }
+    match database.checkpoint(alloc, host) {
+        Ok(()) => {
+            return Ok(());
+        }
+        Err(fault) => {
+            return Err(told(fault));
+        }
+    }
+}
+
+// The same of what was opened.
+fn settle_notes<H: Host>(
+    alloc: Global,
+    host: &mut H,
+    opened: Opened,
+) -> Result<Opened, AdministrationFault>
+    requires found { Needs (H.state host.old) (IsFound opened.database.records opened.database.notes opened.lists.lists opened.diversions.entries) }
+    requires open { opened.database.closed ≡ false }
+    ensures opened { Gives result (λ kept old new. IsOpened kept.database.records kept.lists.lists kept.diversions.entries new) (H.state host.old) (H.state host.new) }
+    ensures number { IfOk result (λ kept. kept.database.notes ≡ 0) }
+    ensures open { IfOk result (λ kept. kept.database.closed ≡ false) }
+    ensures writable { IfOk result (λ kept. kept.diversions ≡ opened.diversions) }
+    ensures sound { IsDamaged (fault_in result) → ⊥ }
+    ensures any_moment { AtEachMoment (IsMerging opened.database.records) (H.state host.old) (H.state host.new) }
+    ensures silent { Silent (H.state host.old) (H.state host.new) }
+    ensures counts { CountsAdministration (H.state host.old) (H.state host.new) result }
+{
+    let Opened {
+        mut database,
+        lists,
+        diversions,
+    } = opened;
+    match merge_notes(alloc, host, &mut database) {
+        Ok(()) => {
+            return Ok(Opened {
+                database,
+                lists,
+                diversions,
+            });
+        }
+        Err(fault) => {
+            return Err(fault);
+        }
+    }
+}
+
+/// Opens the administration below `/var/lib/dpkg`, and merges the notes into the status file after all
+/// else was found fine. A fault is that of the first part that can't be read; what opening changes is
+/// told by `opens`, whatever the answer.
+pub fn open_administration<H: Host>(
+    alloc: Global,
+    host: &mut H,
+) -> Result<Opened, AdministrationFault>
+    ensures opens { IsTrue (H.state host.new).honest → OpensAndMerges (fault_in result) (H.state host.old).world (H.state host.new).world }
+    ensures opened { Gives result (λ opened old new. IsOpened opened.database.records opened.lists.lists opened.diversions.entries new) (H.state host.old) (H.state host.new) }
+    ensures number { IfOk result (λ opened. opened.database.notes ≡ 0) }
+    ensures open { IfOk result (λ opened. opened.database.closed ≡ false) }
+    ensures writable { IfOk result (λ opened. opened.diversions.closed ≡ false) }
+    ensures any_moment { AtEachMoment IsOpeningOrMerging (H.state host.old) (H.state host.new) }
+    ensures silent { Silent (H.state host.old) (H.state host.new) }
+    ensures counts { CountsAdministration (H.state host.old) (H.state host.new) result }
+{
+    match read_administration(alloc, host) {
+        Ok(opened) => settle_notes(alloc, host, opened),
+        Err(fault) => Err(fault),
+    }
 }

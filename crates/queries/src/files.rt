@@ -8,7 +8,7 @@ use crate::paths::path_text;
 use diversions::Diversions;
 use file_lists::{FileLists, Listed};
 use host_core::RootPath;
-use status_db::Database;
+use status_db::NotedDatabase;
 use std::alloc::{AllocError, Global};
 use texts::{Bytes, Text};
 
@@ -33,11 +33,11 @@ fn listing_text(alloc: Global, paths: &[RootPath]) -> Result<Bytes, AllocError>
 /// The paths that a package lists; none where the package has no record.
 pub fn files_text(
     alloc: Global,
-    database: &Database,
+    database: &NotedDatabase,
     lists: &FileLists,
     name: &Text,
 ) -> Result<Option<Bytes>, AllocError>
-    ensures { IfOk result (λ text. text ≡ files_text database.now lists.now.lists name.now) }
+    ensures { IfOk result (λ text. text ≡ files_text database.now.records lists.now.lists name.now) }
 {
     match database.get(name) {
         Some(_) => Ok(Some(listing_text(alloc, lists.list_of(name))?)),

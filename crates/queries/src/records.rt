@@ -7,7 +7,7 @@ ghost use Rattle.status_db.specs.Records.{place_record};
 ghost use Rattle.status_db.specs.declared.record.Record.{Record as ARecord};
 ghost use Rattle.queries.specs.Records.{audit_line, audit_lines, audit_text, by_name, is_final, is_settled, list_line, list_text, reinstreq_mark, status_text};
 
-use status_db::{Database, Flag, Record, State, record_text};
+use status_db::{Flag, NotedDatabase, Record, State, record_text};
 use std::alloc::{AllocError, Global};
 use std::cmp::Ordering;
 use texts::{Bytes, Text};
@@ -82,8 +82,8 @@ fn add_list(alloc: Global, lines: &mut String, entries: &[&Record]) -> Result<()
 
 /// The packages that have a record, in the order of their names: version and state, and
 /// `reinstreq` where a package has to be installed again.
-pub fn list_text(alloc: Global, database: &Database) -> Result<Bytes, AllocError>
-    ensures { IfOk result (λ text. text ≡ list_text database.now) }
+pub fn list_text(alloc: Global, database: &NotedDatabase) -> Result<Bytes, AllocError>
+    ensures { IfOk result (λ text. text ≡ list_text database.now.records) }
 {
     let ordered = by_name(alloc, database.records())?;
     let mut lines = String::new(alloc);
@@ -144,8 +144,8 @@ fn add_audit(alloc: Global, lines: &mut String, entries: &[&Record]) -> Result<(
 
 /// The packages with which something has to be done, in the order of their names: all but those
 /// installed or with their configuration files alone, and not to be installed again.
-pub fn audit_text(alloc: Global, database: &Database) -> Result<Bytes, AllocError>
-    ensures { IfOk result (λ text. text ≡ audit_text database.now) }
+pub fn audit_text(alloc: Global, database: &NotedDatabase) -> Result<Bytes, AllocError>
+    ensures { IfOk result (λ text. text ≡ audit_text database.now.records) }
 {
     let ordered = by_name(alloc, database.records())?;
     let mut lines = String::new(alloc);
@@ -156,10 +156,10 @@ pub fn audit_text(alloc: Global, database: &Database) -> Result<Bytes, AllocErro
 /// The record of a package as the status file has it; none where the package has no record.
 pub fn status_text(
     alloc: Global,
-    database: &Database,
+    database: &NotedDatabase,
     name: &Text,
 ) -> Result<Option<Bytes>, AllocError>
-    ensures { IfOk result (λ text. text ≡ status_text database.now name.now) }
+    ensures { IfOk result (λ text. text ≡ status_text database.now.records name.now) }
 {
     match database.get(name) {
         Some(entry) => Ok(Some(record_text(alloc, entry)?)),

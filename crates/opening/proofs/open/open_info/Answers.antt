@@ -22,7 +22,7 @@ returns-clause-opens g c = λ h.
     let made = c.in_ok-make_way.ensures.opens h1 in
     let named = c.as_slice.ensures ∙ c.in_ok-names.ensures ∙ ap names_of c.records.ensures in
     let world = (g.H.Host.state c.make_way.new.host).world in
-    info_read c.open.result c.args.database.now _ _ _ made (table_opens c.args.database.now _ _ made (c.requires.table (c.make_way.ensures.silent.honest h1))) c.open.ensures.reads.world (c.open.ensures.text h)
+    info_read c.open.result c.args.database.now.records _ _ _ made (table_opens c.args.database.now.records _ _ made (c.requires.table (c.make_way.ensures.silent.honest h1))) c.open.ensures.reads.world (c.open.ensures.text h)
     (subst (λ names. IfOk c.open.result (λ k. AreSound world names)) named (c.open.ensures.sound h))
     (subst (λ names. IfErr c.open.result (IsInfoDamage world names)) named (c.open.ensures.damage h))
 
@@ -30,7 +30,7 @@ pub returns-clause-listed : goal.returns-clause-listed
 returns-clause-listed g c = λ h.
     let named = c.as_slice.ensures ∙ c.in_ok-names.ensures ∙ ap names_of c.records.ensures in
     let world = (g.H.Host.state c.make_way.new.host).world in
-    listed_read c.open.result c.args.database.now _ _ c.open.ensures.reads.world
+    listed_read c.open.result c.args.database.now.records _ _ c.open.ensures.reads.world
     (subst (λ names. IfOk c.open.result (λ k. AreSound world names)) named (c.open.ensures.sound h))
     (subst (λ names. IfOk c.open.result (λ f. HasLists world names f.lists)) named (c.open.ensures.lists h))
 
