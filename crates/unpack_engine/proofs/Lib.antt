@@ -14,3 +14,4 @@ pub mod Carrying
 pub mod Losing
 pub mod Leaving
 pub mod AfterRows
+pub mod ReadBack
