@@ -15,3 +15,4 @@ pub mod Losing
 pub mod Leaving
 pub mod AfterRows
 pub mod ReadBack
+pub mod ListEnds
