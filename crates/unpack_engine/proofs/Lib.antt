@@ -16,3 +16,5 @@ pub mod Leaving
 pub mod AfterRows
 pub mod ReadBack
 pub mod ListEnds
+pub mod EndNames
+pub mod EndLists

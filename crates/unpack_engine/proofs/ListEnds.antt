@@ -21,6 +21,7 @@ use Rattle.file_lists.specs.Owners.{IsListable, paths_of}
 use Rattle.file_lists.specs.Taking.{without_all}
 use Rattle.file_lists.specs.Writing.{left_paths, list_file, without_places}
 use Rattle.file_lists.specs.declared.paths.PackageList.{PackageList}
+use Rattle.file_lists.proofs.Sorting.{all_of, listable}
 use Rattle.file_lists.proofs.TakingAll.{lefts_step, paths_with}
 use Rattle.unpack_engine.proofs.ReadBack.{list_readable, list_says}
 
@@ -109,9 +110,11 @@ node_texts (Some (File bytes access)) readable q is = lines_texts (lines_in byte
 node_texts (Some (Dir access)) readable q is = absurd is
 node_texts (Some (Link target)) readable q is = absurd is
 
-pub all_texts : (paths : List Path) → ((q : Path) → Contains paths q → IsUtf8 q) → AllByRecursion IsUtf8 paths
-all_texts [] each = tt
-all_texts (p ∷ ps) each = (each p (zero, omega arith, refl), all_texts ps (λ q has. each q (suc has.0, omega (arith, has.1), has.2)))
+node_can : (node : Option Node) → IsReadable node → (q : Path) → Lists node q → IsListable q
+node_can None readable q is = absurd is
+node_can (Some (File bytes access)) readable q is = all_of IsListable (paths_in (lines_in bytes)) q (listable (lines_in bytes) readable) is
+node_can (Some (Dir access)) readable q is = absurd is
+node_can (Some (Link target)) readable q is = absurd is
 
 -- the lists, by what is said of each name
 
@@ -151,6 +154,9 @@ module _ (old new : World) (names more : List (List ℕ)) (lists after : List Pa
     -- what is listed in the beginning is text, and of a name without a record nothing is listed
     pub listed_texts : (name : List ℕ) (q : Path) → Contains (paths_of lists name) q → IsUtf8 q
     listed_texts name q there = (let l = has.sound name q there in node_texts (old (list_path name)) (has.readable name l.0) q l.1)
+
+    pub listed_can : (name : List ℕ) (q : Path) → Contains (paths_of lists name) q → IsListable q
+    listed_can name q there = (let l = has.sound name q there in node_can (old (list_path name)) (has.readable name l.0) q l.1)
 
     pub unlisted : (name : List ℕ) → (Contains names name → ⊥) → paths_of lists name ≡ []
     unlisted name isnt = by (paths_of lists name) refl
