@@ -66,10 +66,10 @@ module _ (name own : List ℕ) (ne : name ≢ own) where
   not_name = false_from_ne_true (bytes_eq own name) (λ t. ne (sym ((bytes_eq-Decides own name).0 t)))
 
 module _ (G : Given) (stored : Present) (p : Planned) (plan : IsPlanned (job_of G stored) p) (places : List Path) where
-  own : List ℕ
+  abbrev own : List ℕ
   own = package_name (ground_of G places) p
 
-  names : List (List ℕ)
+  abbrev names : List (List ℕ)
   names = record_names G.records
 
   rows_many : length p.rows ≡ length (kinds_of p.found [])
@@ -89,7 +89,7 @@ module _ (G : Given) (stored : Present) (p : Planned) (plan : IsPlanned (job_of 
   own_unrecorded none has = true≢false (sym (has_record G.records own has) ∙ ap is_some (sym found_is ∙ none))
 
   module _ (begun last : State) (mid : Holding) (ended : Ended) (at : At (task_from (ground_of G places) p begun) mid last (last_place (ground_of G places) p ended)) where
-    task : Task
+    abbrev task : Task
     task = task_from (ground_of G places) p begun
 
     mid_record : (q : List ℕ) → record_in mid.database.records q ≡ end_record p.found p.incoming [] G.records ended q
@@ -127,19 +127,19 @@ module _ (G : Given) (stored : Present) (p : Planned) (plan : IsPlanned (job_of 
   -- a unit that has committed
   module _ (old new : State) (told now : List Called) (after : Recorded) (lists : List PackageList) (out : HasCarriedOut (ground_of G places) p Committed after lists old new told now) (h : IsTrue new.honest)
       (has : HasLists old.world names G.lists) (texts : AllByRecursion IsUtf8 p.new_list) where
-    last : State
+    abbrev last : State
     last = out.last
 
-    mid : Holding
+    abbrev mid : Holding
     mid = out.mid
 
-    taken : List Path
+    abbrev taken : List Path
     taken = taken_places mid.works
 
-    lost : List (List ℕ)
+    abbrev lost : List (List ℕ)
     lost = unit_losers (ground_of G places) p mid.works mid.lists
 
-    losing : List Record
+    abbrev losing : List Record
     losing = losing_records G.entries taken lost mid.database.records
 
     left : HasLeft (changes (ground_of G places) p mid.works mid.lists) (commit_records (ground_of G places) p mid.works mid.lists mid.database.records) G.entries mid.lists mid.database.records Committed last.world new.world
@@ -181,7 +181,7 @@ module _ (G : Given) (stored : Present) (p : Planned) (plan : IsPlanned (job_of 
     own_keeps : Contains lost own → ⊥
     own_keeps loses = lost_other own loses refl
 
-    renewed : List PackageList
+    abbrev renewed : List PackageList
     renewed = with_list own p.new_list mid.lists
 
     paths_renewed : (q : List ℕ) → q ≢ own → paths_of renewed q ≡ paths_of G.lists q
@@ -248,13 +248,13 @@ module _ (G : Given) (stored : Present) (p : Planned) (plan : IsPlanned (job_of 
 
   module _ (old new : State) (told now : List Called) (fall : Fall) (failed : List Failed) (after : Recorded) (lists : List PackageList) (out : HasCarriedOut (ground_of G places) p (Unwound fall failed) after lists old new told now) (h : IsTrue new.honest)
       (has : HasLists old.world names G.lists) where
-    back_mid : Holding
+    abbrev back_mid : Holding
     back_mid = out.mid
 
-    back : State
+    abbrev back : State
     back = out.last
 
-    begun : State
+    abbrev begun : State
     begun = out.ran.begun
 
     rows_end : At (task_from (ground_of G places) p begun) back_mid back (last_place (ground_of G places) p (Unwound fall failed))
