@@ -1,15 +1,17 @@
 -- The lists of the recorded packages, in the end of a unit.
-use Rattle.std.proofs.Common.{◌≡◌, ◌≢◌, ◌⊎◌, inl, inr, IsTrue, ℕ, zero, suc, ◌<◌, Bool, true, false, not, cond, List, [], ◌∷◌, ◌++◌, Option, Some, None, is_some, filter, length, map, take, refl, sym, ap, subst, ◌∙◌, arith, Contains}
+use Rattle.std.proofs.Common.{◌≡◌, ◌≢◌, inl, inr, IsTrue, ℕ, zero, suc, Bool, true, false, cond, List, [], ◌∷◌, ◌++◌, Option, Some, None, is_some, length, take, refl, sym, ap, subst, ◌∙◌, arith, Contains}
+use Rattle.std.specs.Prelude.{Result, Ok, Err, IfOk}
 use Rattle.std.specs.Str.{bytes_eq, IsUtf8}
 use Rattle.std.specs.List.{AllByRecursion}
 use Rattle.std.proofs.lemmas.Bool.{true≢false, false_from_ne_true, cond-true, cond-false}
 use Rattle.std.proofs.lemmas.List.{map-append}
 use Rattle.std.proofs.lemmas.List.Elements.{Contains-append_cases}
 use Rattle.std.proofs.lemmas.Slice.Eq.{bytes_eq-Decides}
+use Rattle.std.proofs.Math.Logic.{∥∥₁_map}
 use Rattle.host_core.specs.Paths.{Path}
 use Rattle.host_core.specs.World.{World, is_kept}
 use Rattle.host_core.specs.Events.{changes_of}
-use Rattle.host_core.specs.Host.{State}
+use Rattle.host_core.specs.Host.{State, Needs}
 use Rattle.host_core.specs.Scripts.{changed_kept}
 use Rattle.host_core.proofs.Paths.{decide}
 use Rattle.administration.specs.Places.{list_path}
@@ -17,6 +19,8 @@ use Rattle.unwind_stack.specs.declared.fall.Fall.{Fall}
 use Rattle.unwind_stack.specs.declared.rows.Called.{Called}
 use Rattle.cleanup_stack.specs.declared.failed.Failed.{Failed}
 use Rattle.cleanup_stack.specs.Transcripts.{Ended, Committed, Unwound}
+use Rattle.diversions.specs.declared.entry.Diversion.{Diversion}
+use Rattle.package_tree.specs.declared.package.Package.{Package}
 use Rattle.control_members.proofs.Apart.{no_list, no_list_temporary}
 use Rattle.file_lists.specs.Lists.{HasLists}
 use Rattle.file_lists.specs.Owners.{IsListable, paths_of}
@@ -27,7 +31,7 @@ use Rattle.file_lists.proofs.TakingAll.{paths_with}
 use Rattle.status_db.specs.Recorded.{Recorded}
 use Rattle.status_db.specs.Records.{record_in}
 use Rattle.status_db.specs.declared.record.Record.{Record}
-use Rattle.unpack_rows.specs.EndStates.{end_of, end_record, own_end, own_end_by, own_undo, OwnUndo, NoneFailed, OfPrerm, OfPreinstOrPostrm}
+use Rattle.unpack_rows.specs.EndStates.{end_of, end_record, own_end_by, OwnUndo, NoneFailed, OfPrerm, OfPreinstOrPostrm}
 use Rattle.unpack_rows.specs.Kinds.{kinds_of}
 use Rattle.unpack_rows.specs.Notes.{noted, notes_at}
 use Rattle.unpack_rows.specs.Stages.{Stage, Unwritten, Wrote, Restored, has_files, stage_of}
@@ -37,17 +41,16 @@ use Rattle.unpack_rows.proofs.Matching.{as_many}
 use Rattle.unpack_run.specs.At.{At, Holding}
 use Rattle.unpack_run.specs.Task.{Task, lists_at}
 use Rattle.unpack_run.specs.Trail.{HasCome}
-use Rattle.unpack_commit.specs.Commit.{HasCommitted}
-use Rattle.unpack_commit.specs.Takeover.{losers, losing_records, put_records, taken_places}
+use Rattle.unpack_commit.specs.Takeover.{losing_records, put_records, taken_places}
 use Rattle.unpack_commit.proofs.Left.{loser_list, other_list, own_list, same_list}
 use Rattle.unpack_plan.specs.Planned.{IsPlanned, Planned}
 use Rattle.unpack_plan.specs.Members.{scripts_in}
-use Rattle.unpack_engine.specs.Order.{record_names}
-use Rattle.unpack_engine.specs.Units.{Given, HasBegun, HasCarriedOut, HasCleared, HasDropped, HasLeft, changes, commit_records, end_lists, ground_of, job_of, last_place, package_name, task_from, unit_losers, yields}
+use Rattle.unpack_engine.specs.Order.{IsInOrder, record_names}
+use Rattle.unpack_engine.specs.Units.{Given, HasBegun, HasCarriedOut, HasCleared, HasDropped, HasLeft, changes, commit_records, given, ground, ground_of, job_of, last_place, package_name, task_from, unit_losers}
 use Rattle.unpack_engine.proofs.Begun.{dropped_same}
-use Rattle.unpack_engine.proofs.EndNames.{has_record, is_recorded, kept_passes, loser_other, loser_recorded, losing_named, puts_keep, puts_last, puts_named, same_recorded}
-use Rattle.unpack_engine.proofs.Frames.{IsBeside, come_same, follows_same}
-use Rattle.unpack_engine.proofs.ListEnds.{IsListEnd, among, has_lists_end, listed_can, listed_texts, none_has, paths_spared, paths_taken, unlisted}
+use Rattle.unpack_engine.proofs.EndNames.{has_record, is_recorded, loser_other, loser_recorded, losing_named, puts_keep, puts_last, puts_named, same_recorded}
+use Rattle.unpack_engine.proofs.Frames.{IsBeside, come_same}
+use Rattle.unpack_engine.proofs.ListEnds.{IsListEnd, among, has_lists_end, listed_can, listed_texts, paths_spared, paths_taken, unlisted}
 use Rattle.unpack_engine.proofs.Losing.{among_kept}
 
 -- the list of another package is none of the paths that a unit begins with, or that rows write
@@ -359,3 +362,13 @@ module _ (G : Given) (stored : Present) (p : Planned) (plan : IsPlanned (job_of 
       → AllByRecursion IsUtf8 p.new_list → HasLists new.world (record_names after.records) lists
   lists_carried old new told now Committed after lists out h has texts = lists_committed old new told now after lists out h has texts
   lists_carried old new told now (Unwound fall failed) after lists out h has texts = lists_unwound old new told now fall failed after lists out h has
+
+-- and so says its answer
+pub listed_if_ok : {T E : Type 0} (result : Result T E) («package» : Package) (stored : Present) (p : Planned) (entries : List Diversion) (places : List Path) (before after : Recorded) (lists_before lists : List PackageList)
+    → IsPlanned (job_of (given «package» before.records lists_before entries) stored) p → (ended : T → Ended) (old new : State) (told now : List Called) → Needs old (IsInOrder before lists_before) → AllByRecursion IsUtf8 p.new_list
+    → IfOk result (λ u. HasCarriedOut (ground before.records lists_before entries places) p (ended u) after lists old new told now)
+    → IfOk result (λ u. Needs new (λ w. ∥ HasLists w (record_names after.records) lists ∥₁))
+listed_if_ok (Ok u) «package» stored p entries places before after lists_before lists plan ended old new told now order texts out = λ h.
+    let at_old = out.ran.until.honest (out.ran.between.honest (out.since.honest h)) in
+    ∥∥₁_map (order at_old).listed (λ has. lists_carried (given «package» before.records lists_before entries) stored p plan places old new told now (ended u) after lists out h has texts)
+listed_if_ok (Err e) «package» stored p entries places before after lists_before lists plan ended old new told now order texts out = tt

@@ -8,7 +8,7 @@ use Rattle.std.proofs.lemmas.List.Splits.{slice_split-cons_yes, slice_split-cons
 use Rattle.std.proofs.lemmas.Slice.Eq.{bytes_eq-Decides}
 use Rattle.std.proofs.lemmas.Str.{IsUtf8-from_ascii}
 use Rattle.std.proofs.lemmas.Str.Ascii.{IsAscii-cons, IsAscii-nil}
-use Rattle.host_core.specs.Paths.{Path, components, has_break, has_room, is_component, is_path, is_path_text, is_rooted, path_of}
+use Rattle.host_core.specs.Paths.{Path, components, has_break, is_component, is_path, is_path_text, is_rooted, path_of}
 use Rattle.diversions.specs.Lines.{lines_in}
 use Rattle.diversions.proofs.WrittenTables.{line_read}
 use Rattle.file_lists.specs.Lists.{IsGood, IsReadable, Lists, paths_in, root_line}
