@@ -10,6 +10,7 @@ pub mod Order
 pub mod Cleared
 pub mod Starts
 pub mod UnderWay
+pub mod EndLoose
 pub mod Carrying
 pub mod Losing
 pub mod Leaving
@@ -18,3 +19,4 @@ pub mod ReadBack
 pub mod ListEnds
 pub mod EndNames
 pub mod EndLists
+pub mod EndOrder
