@@ -23,3 +23,4 @@ pub mod EndOrder
 pub mod Touching
 pub mod Whole
 pub mod UnitMoments
+pub mod Planning
