@@ -1,12 +1,12 @@
 -- A unit that is planned first: what it only looks at before changes nothing of what is carried out then.
-use Rattle.std.proofs.Common.{◌≡◌, IsTrue, true, List, [], ◌∷◌, ◌++◌, Option, Some, None, inl, refl, sym, ap, subst, ◌∙◌, append_assoc}
+use Rattle.std.proofs.Common.{◌≡◌, IsTrue, true, List, [], ◌∷◌, ◌++◌, Option, Some, None, inl, inr, refl, sym, ap, subst, ◌∙◌, append_assoc}
 use Rattle.std.specs.Prelude.{Result, Ok, Err, IfOk}
 use Rattle.host_core.specs.Paths.{Path}
 use Rattle.host_core.specs.World.{World}
 use Rattle.host_core.specs.Events.{Event, Failed, changes_of, scripts_of}
 use Rattle.host_core.specs.Host.{State, AllFailed, AtEachMomentOf, Needs, Reads, Silent}
 use Rattle.host_core.specs.Moments.{scripts_of-append, since_reads, since_then, since_weaker_if, silent_then}
-use Rattle.host_core.specs.Scripts.{changes_of-append, no_change}
+use Rattle.host_core.specs.Scripts.{changes_of-append, no_change, silent_added}
 use Rattle.host_core.specs.Tree.{IsTree}
 use Rattle.cleanup_stack.specs.Transcripts.{Ended}
 use Rattle.control_members.proofs.LaidOut.{incoming_absent}
@@ -23,7 +23,7 @@ use Rattle.unpack_run.specs.Trail.{HasCome}
 use Rattle.unpack_rows.specs.Kinds.{kinds_of}
 use Rattle.unpack_rows.specs.Stages.{stage_of}
 use Rattle.unpack_engine.specs.Order.{IsInOrder}
-use Rattle.unpack_engine.specs.Units.{Begins, Given, Ground, HasCalled, HasCalledRows, HasCarriedOut, HasRunRows, HasUnpacked, IsAmid, IsPlanFor, IsRunning, IsStage, IsUnderWay, MayBegin, MayClear, ground_of, last_place, package_name, task_from}
+use Rattle.unpack_engine.specs.Units.{Begins, Given, Ground, HasCalled, HasCalledRows, HasCarriedOut, HasRunRows, HasUnpacked, IsAmidUnit, IsPlanFor, IsRunning, IsStage, IsUnderWay, MayBegin, MayClear, ground_of, last_place, package_name, task_from}
 use Rattle.unpack_engine.proofs.EndOrder.{plan_named}
 use Rattle.unpack_engine.proofs.Order.{own_list, own_members}
 use Rattle.unpack_engine.proofs.Sequel.{called_behind}
@@ -76,10 +76,10 @@ none_failed [] all = refl
 none_failed (Failed ∷ es) all = none_failed es all
 
 module _ (g : Given) (places : List Path) (old mid : State) (reads : Reads old mid) (silent : Silent old mid) where
-  looking_moments : AtEachMomentOf (IsAmid g places) old mid
-  looking_moments = since_reads (IsAmid g places old.world) old mid reads (λ es all. IsAmid.looking (none_failed es all) refl)
+  looking_moments : AtEachMomentOf (IsAmidUnit g places) old mid
+  looking_moments = since_reads (IsAmidUnit g places old.world) old mid reads (λ es all. inl (refl, none_failed es all))
 
-  pub only_looked : AtEachMomentOf (IsAmid g places) old mid
+  pub only_looked : AtEachMomentOf (IsAmidUnit g places) old mid
   only_looked = looking_moments
 
   -- the plan is told by what was seen
@@ -90,14 +90,17 @@ module _ (g : Given) (places : List Path) (old mid : State) (reads : Reads old m
     planned_true : IsTrue new.honest → IsPlanFor g old.world true plan
     planned_true h = record { stored = plan_for.stored; seen = λ t. plan_for.seen (falls h); planned = plan_for.planned }
 
-    pub unit_amid : AtEachMomentOf (IsUnderWay (ground_of g places) plan) mid new → AtEachMomentOf (IsAmid g places) old new
-    unit_amid moments = since_then (IsAmid g places old.world) old mid new looking_moments
-        (since_weaker_if (IsUnderWay (ground_of g places) plan mid.world) (λ so_far. IsAmid g places old.world (looking_moments.added ++ so_far)) mid new
-        (λ h so_far now is. IsAmid.under_way plan (planned_true h)
-            (under_way_behind (ground_of g places) plan old.world looking_moments.added none_added so_far now (subst (λ w. IsUnderWay (ground_of g places) plan w so_far now) reads.world is))) moments)
+    pub unit_amid : AtEachMomentOf (IsUnderWay (ground_of g places) plan) mid new → AtEachMomentOf (IsAmidUnit g places) old new
+    unit_amid moments = since_then (IsAmidUnit g places old.world) old mid new looking_moments
+        (since_weaker_if (IsUnderWay (ground_of g places) plan mid.world) (λ so_far. IsAmidUnit g places old.world (looking_moments.added ++ so_far)) mid new
+        (λ h so_far now is. inr (record {
+            plan = plan;
+            plan_for = planned_true h;
+            under_way = under_way_behind (ground_of g places) plan old.world looking_moments.added none_added so_far now (subst (λ w. IsUnderWay (ground_of g places) plan w so_far now) reads.world is);
+        })) moments)
       where
         none_added : scripts_of looking_moments.added ≡ []
-        none_added = none_failed looking_moments.added reads.failed
+        none_added = silent_added old mid looking_moments.added silent looking_moments.events
 
     module _ (told now : List Called) where
       pub called_of : HasCalledRows plan.rows mid new told now → HasCalled g old new told now

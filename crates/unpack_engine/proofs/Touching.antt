@@ -14,7 +14,9 @@ use Rattle.status_db.specs.Records.{AreApart, IsWithout, put_record, record_in}
 use Rattle.status_db.proofs.Tables.{found_here, passed_over, record_in-put_record}
 use Rattle.unpack_commit.specs.Takeover.{losing_records, loses_conffile, put_records, without_conffiles}
 use Rattle.unpack_commit.proofs.Left.{losing_differs}
-use Rattle.unpack_rows.specs.EndStates.{end_record, own_name}
+use Rattle.unpack_rows.specs.EndStates.{end_record, own_end, own_name}
+use Rattle.unpack_rows.specs.Kinds.{own_of}
+use Rattle.unpack_rows.specs.Notes.{half_installed}
 use Rattle.unpack_engine.specs.Touched.{AreTold, is_named, is_touched}
 use Rattle.unpack_engine.specs.Units.{IsTouched}
 
@@ -129,5 +131,5 @@ end_elsewhere start incoming table ended q other = by ended
     unnamed = false_from_ne_true (bytes_eq (own_name start incoming) q) (λ t. other (sym ((bytes_eq-Decides (own_name start incoming) q).0 t)))
 
     by : (e : Ended) → end_record start incoming [] table e q ≡ record_in table q
-    by Committed = ap (λ b. cond b _ (record_in table q)) unnamed
-    by (Unwound fall failed) = ap (λ b. cond b _ (record_in table q)) unnamed
+    by Committed = ap (λ b. cond b (Some (half_installed (own_of start incoming))) (record_in table q)) unnamed
+    by (Unwound fall failed) = ap (λ b. cond b (own_end start incoming [] fall failed) (record_in table q)) unnamed

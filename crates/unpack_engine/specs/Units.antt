@@ -298,10 +298,15 @@ pub record HasUnpacked (g : Given) (places : List Path) (ended : Ended) (after :
   pub plan_for : IsPlanFor g old.world new.honest plan
   pub carried_out : HasCarriedOut (ground_of g places) plan ended after lists old new told now
 
--- at each moment of it: it only looks yet, or a plan is being carried out
-pub data IsAmid (g : Given) (places : List Path) (old : World) (so_far : List Event) (now : World) : Type 0 where
-  looking : scripts_of so_far ≡ [] → now ≡ old → IsAmid g places old so_far now
-  under_way : (plan : Planned) → IsPlanFor g old true plan → IsUnderWay (ground_of g places) plan old so_far now → IsAmid g places old so_far now
+-- at each moment of it
+pub record IsAmid (g : Given) (places : List Path) (old : World) (so_far : List Event) (now : World) : Type 0 where
+  pub plan : Planned
+  pub plan_for : IsPlanFor g old true plan
+  pub under_way : IsUnderWay (ground_of g places) plan old so_far now
+
+-- the same, or it only looks yet
+abbrev pub IsAmidUnit : Given → List Path → World → List Event → World → Type 0
+IsAmidUnit g places old so_far now = ((now ≡ old) × (scripts_of so_far ≡ [])) ⊎ IsAmid g places old so_far now
 
 -- The calls of these rows, whatever the answer: none; or the first of some that are legal for them, and they are told.
 pub data HasCalledRows (rows : List Row) (old new : State) (told now : List Called) : Type 0 where

@@ -10,11 +10,12 @@ ghost use Rattle.unpack_rows.specs.EndStates.{own_name};
 ghost use Rattle.unpack_rows.specs.declared.rows.Present.{Present};
 ghost use Rattle.unpack_engine.specs.Courses.{planned_from};
 ghost use Rattle.unpack_engine.specs.Order.{IsInOrder};
-ghost use Rattle.unpack_engine.specs.Units.{HasCalled, HasCalledRows, HasCarriedOut, HasFailedFor, HasUnpacked, IsAmid, IsPlanFor, IsTouched, IsUnderWay, given, ground, job_of};
+ghost use Rattle.unpack_engine.specs.Units.{HasCalled, HasCalledRows, HasCarriedOut, HasFailedFor, HasUnpacked, IsAmidUnit, IsPlanFor, IsTouched, IsUnderWay, given, ground, job_of};
 
 use crate::course::{Course, Rest, course_of};
 use crate::finishing::{Unpacked, finish};
 use crate::looks::stored_scripts;
+use crate::path_texts::are_texts;
 use crate::running::begin_and_run;
 use diversions::Diversions;
 use file_lists::FileLists;
@@ -199,11 +200,14 @@ pub fn unpack<H: Host>(
     ensures order { IfOk result (λ u. Needs (H.state host.new) (IsInOrder database.new lists.new.lists)) }
     ensures noting { OnOk result (database.new.closed ≡ false) }
     ensures listing { OnOk result (lists.new.closed ≡ false) }
-    ensures any_moment { AtEachMomentOf (IsAmid (given incoming database.old.records lists.old.lists diversions.now.entries) places.old) (H.state host.old) (H.state host.new) }
+    ensures any_moment { AtEachMomentOf (IsAmidUnit (given incoming database.old.records lists.old.lists diversions.now.entries) places.old) (H.state host.old) (H.state host.new) }
     ensures counts { Counts (H.state host.old) (H.state host.new) result }
 {
     match plan_unit(alloc, host, database, lists, diversions, incoming) {
-        Ok(plan) => carry_out(alloc, host, database, lists, places, diversions, plan, told),
+        Ok(plan) => {
+            are_texts(plan.new_list.as_slice());
+            carry_out(alloc, host, database, lists, places, diversions, plan, told)
+        }
         Err(fault) => Err(fault),
     }
 }
