@@ -3,7 +3,7 @@ use Rattle.std.proofs.Common.{◌≡◌, IsTrue, true, List, [], ◌∷◌, ◌+
 use Rattle.std.specs.Prelude.{Result, Ok, Err, IfOk}
 use Rattle.host_core.specs.Paths.{Path}
 use Rattle.host_core.specs.World.{World}
-use Rattle.host_core.specs.Events.{Event, Failed, changes_of, scripts_of}
+use Rattle.host_core.specs.Events.{Event, Did, Finished, Cut, Failed, changes_of, scripts_of}
 use Rattle.host_core.specs.Host.{State, AllFailed, AtEachMomentOf, Needs, Reads, Silent}
 use Rattle.host_core.specs.Moments.{scripts_of-append, since_reads, since_then, since_weaker_if, silent_then}
 use Rattle.host_core.specs.Scripts.{changes_of-append, no_change, silent_added}
@@ -73,6 +73,9 @@ module _ (g : Ground) (p : Planned) (old : World) (early : List Event) (none : s
 
 none_failed : (es : List Event) → AllFailed es → scripts_of es ≡ []
 none_failed [] all = refl
+none_failed (Did step ∷ es) all = elim all [ ]
+none_failed (Finished ran ∷ es) all = elim all [ ]
+none_failed (Cut call change ∷ es) all = elim all [ ]
 none_failed (Failed ∷ es) all = none_failed es all
 
 module _ (g : Given) (places : List Path) (old mid : State) (reads : Reads old mid) (silent : Silent old mid) where

@@ -185,9 +185,9 @@ module _ (pkg : Package) (stored : Present) (database : Recorded) (lists : Filed
 
     pub parts_touched : AreApart mid.database.records → (after : List Record) (touched : List Path) → after ≡ ended_table ended (noted_then rows.yields mid) mid.database.records
         → AreTold own (ended_records ended (noted_then rows.yields mid)) touched → IsTouched own database.records after touched
-    parts_touched apart after touched is told =
+    parts_touched apart after touched is says =
         touched_ended g j p planned database lists.lists old last order tree ended mid told now same_ran (plan_length g j p refl planned) ended apart after touched
-        (subst (λ y. after ≡ ended_table ended (noted_then y mid) mid.database.records) yielding is) (subst (λ y. AreTold own (ended_records ended (noted_then y mid)) touched) yielding told)
+        (subst (λ y. after ≡ ended_table ended (noted_then y mid) mid.database.records) yielding is) (subst (λ y. AreTold own (ended_records ended (noted_then y mid)) touched) yielding says)
 
 -- of an answer three things hold, and a fourth where the host was honest
 pub if_ok_all : {T E : Type 0} (result : Result T E) (P Q : T → Type 0) (A B N L : Type 0) → ((x : T) → P x → A → B → (N → L) → Q x) → IfOk result P → OnOk result A → OnOk result B → (N → OnOk result L) → IfOk result Q
