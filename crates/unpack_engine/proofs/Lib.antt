@@ -15,4 +15,12 @@ pub mod Carrying
 pub mod Losing
 pub mod Leaving
 pub mod AfterRows
+pub mod ReadBack
+pub mod ListEnds
+pub mod EndNames
+pub mod EndLists
 pub mod EndOrder
+pub mod Touching
+pub mod Whole
+pub mod UnitMoments
+pub mod Planning

@@ -304,6 +304,10 @@ pub record IsAmid (g : Given) (places : List Path) (old : World) (so_far : List 
   pub plan_for : IsPlanFor g old true plan
   pub under_way : IsUnderWay (ground_of g places) plan old so_far now
 
+-- the same, or it only looks yet
+abbrev pub IsAmidUnit : Given → List Path → World → List Event → World → Type 0
+IsAmidUnit g places old so_far now = ((now ≡ old) × (scripts_of so_far ≡ [])) ⊎ IsAmid g places old so_far now
+
 -- The calls of these rows, whatever the answer: none; or the first of some that are legal for them, and they are told.
 pub data HasCalledRows (rows : List Row) (old new : State) (told now : List Called) : Type 0 where
   nothing : Silent old new → now ≡ told → HasCalledRows rows old new told now

@@ -6,6 +6,7 @@ mod committed;
 mod course;
 mod finishing;
 mod looks;
+mod path_texts;
 mod running;
 mod touched;
 mod unit;

@@ -1,28 +1,87 @@
 // The unit of an unpack.
 ghost use Rattle.std.specs.Prelude.{◌≡◌, [], false, IfOk, OnOk};
-ghost use Rattle.host_core.specs.Host.{AtEachMomentOf, Counts, Needs, Reads, Silent, Tells};
+ghost use Rattle.host_core.specs.Host.{AtEachMomentOf, Counts, Leaves, Needs, Reads, Silent};
 ghost use Rattle.package_tree.specs.declared.package.Package.{Package as APackage};
 ghost use Rattle.stack_run.specs.Ended.{IsCauseOf, ended_as};
+ghost use Rattle.status_db.specs.Held.{IsKept};
 ghost use Rattle.unpack_commit.specs.Takeover.{yields_of};
 ghost use Rattle.unpack_plan.specs.Planned.{IsPlanned, planned};
 ghost use Rattle.unpack_rows.specs.EndStates.{own_name};
 ghost use Rattle.unpack_rows.specs.declared.rows.Present.{Present};
 ghost use Rattle.unpack_engine.specs.Courses.{planned_from};
 ghost use Rattle.unpack_engine.specs.Order.{IsInOrder};
-ghost use Rattle.unpack_engine.specs.Units.{HasCalled, HasCalledRows, HasCarriedOut, HasFailedFor, HasUnpacked, IsAmid, IsPlanFor, IsTouched, IsUnderWay, given, ground, job_of};
+ghost use Rattle.unpack_engine.specs.Units.{HasCalled, HasCalledRows, HasCarriedOut, HasFailedFor, HasUnpacked, IsAmidUnit, IsPlanFor, IsTouched, IsUnderWay, given, ground, job_of};
 
-use crate::course::{Course, course_of};
+use crate::course::{Course, Rest, course_of};
 use crate::finishing::{Unpacked, finish};
 use crate::looks::stored_scripts;
+use crate::path_texts::are_texts;
 use crate::running::begin_and_run;
 use diversions::Diversions;
 use file_lists::FileLists;
+use file_works::Work;
 use host_core::{Host, HostFault, Places};
 use package_tree::Package;
 use status_db::NotedDatabase;
 use std::alloc::Global;
 use unpack_plan::{Plan, plan_of};
-use unwind_stack::Called;
+use unpack_run::Rows;
+use unwind_stack::{Called, Row};
+
+// Begins a unit, runs its rows, and does what follows them.
+fn run_parts<H: Host>(
+    alloc: Global,
+    host: &mut H,
+    database: &mut NotedDatabase,
+    lists: &mut FileLists,
+    places: &mut Places,
+    diversions: &Diversions,
+    rows: &Rows,
+    works: &mut Vec<Work>,
+    calls: Vec<Row>,
+    rest: Rest,
+    told: &mut Vec<Called>,
+) -> Result<Unpacked, HostFault>
+    requires noting { database.old.closed ≡ false }
+    requires listing { lists.old.closed ≡ false }
+    requires plan { (p : APackage) × (stored : Present) × IsPlanned (job_of (given p database.old.records lists.old.lists diversions.now.entries) stored) (planned_from rows.now works.old.items calls.items rest) }
+    requires others { rows.now.others.items ≡ [] }
+    requires yields { rows.now.yields ≡ yields_of database.old.records }
+    requires order { Needs (H.state host.old) (IsInOrder database.old lists.old.lists) }
+    ensures unit { IfOk result (λ u. HasCarriedOut (ground database.old.records lists.old.lists diversions.now.entries places.old) (planned_from rows.now works.old.items calls.items rest) (ended_as u.unwinding) database.new lists.new.lists (H.state host.old) (H.state host.new) told.old.items told.new.items) }
+    ensures cause { IfOk result (λ u. IsCauseOf calls.items u.unwinding) }
+    ensures touched { IfOk result (λ u. IsTouched (own_name rows.now.found rows.now.incoming) database.old.records database.new.records u.touched) }
+    ensures told { HasCalledRows calls.items (H.state host.old) (H.state host.new) told.old.items told.new.items }
+    ensures kept { Leaves result (λ old new. IsKept database.new new) (H.state host.old) (H.state host.new) }
+    ensures noting { OnOk result (database.new.closed ≡ false) }
+    ensures listing { OnOk result (lists.new.closed ≡ false) }
+    ensures any_moment { AtEachMomentOf (IsUnderWay (ground database.old.records lists.old.lists diversions.now.entries places.old) (planned_from rows.now works.old.items calls.items rest)) (H.state host.old) (H.state host.new) }
+    ensures counts { Counts (H.state host.old) (H.state host.new) result }
+{
+    database.law();
+    match begin_and_run(
+        alloc,
+        host,
+        database,
+        lists,
+        places,
+        diversions,
+        rows,
+        works,
+        calls,
+        &rest.members,
+        told,
+    ) {
+        Ok(unwinding) => {
+            database.law();
+            let shipped = works.as_slice();
+            finish(
+                alloc, host, database, lists, diversions, rows, shipped, rest, unwinding,
+            )
+        }
+        Err(fault) => Err(fault),
+    }
+}
 
 // Carries out a plan by its parts.
 fn run_course<H: Host>(
@@ -45,7 +104,7 @@ fn run_course<H: Host>(
     ensures cause { IfOk result (λ u. IsCauseOf course.calls.items u.unwinding) }
     ensures touched { IfOk result (λ u. IsTouched (own_name course.rows.found course.rows.incoming) database.old.records database.new.records u.touched) }
     ensures told { HasCalledRows course.calls.items (H.state host.old) (H.state host.new) told.old.items told.new.items }
-    ensures order { IfOk result (λ u. Needs (H.state host.new) (IsInOrder database.new lists.new.lists)) }
+    ensures kept { Leaves result (λ old new. IsKept database.new new) (H.state host.old) (H.state host.new) }
     ensures noting { OnOk result (database.new.closed ≡ false) }
     ensures listing { OnOk result (lists.new.closed ≡ false) }
     ensures any_moment { AtEachMomentOf (IsUnderWay (ground database.old.records lists.old.lists diversions.now.entries places.old) (planned_from course.rows course.works.items course.calls.items course.rest)) (H.state host.old) (H.state host.new) }
@@ -57,32 +116,9 @@ fn run_course<H: Host>(
         calls,
         rest,
     } = course;
-    match begin_and_run(
-        alloc,
-        host,
-        database,
-        lists,
-        places,
-        diversions,
-        &rows,
-        &mut works,
-        calls,
-        &rest.members,
-        told,
-    ) {
-        Ok(unwinding) => finish(
-            alloc,
-            host,
-            database,
-            lists,
-            diversions,
-            &rows,
-            works.as_slice(),
-            rest,
-            unwinding,
-        ),
-        Err(fault) => Err(fault),
-    }
+    run_parts(
+        alloc, host, database, lists, places, diversions, &rows, &mut works, calls, rest, told,
+    )
 }
 
 // Looks which scripts are stored, and plans.
@@ -128,7 +164,7 @@ fn carry_out<H: Host>(
     ensures cause { IfOk result (λ u. IsCauseOf plan.rows.items u.unwinding) }
     ensures touched { IfOk result (λ u. IsTouched (own_name plan.found plan.incoming) database.old.records database.new.records u.touched) }
     ensures told { HasCalledRows plan.rows.items (H.state host.old) (H.state host.new) told.old.items told.new.items }
-    ensures order { IfOk result (λ u. Needs (H.state host.new) (IsInOrder database.new lists.new.lists)) }
+    ensures kept { Leaves result (λ old new. IsKept database.new new) (H.state host.old) (H.state host.new) }
     ensures noting { OnOk result (database.new.closed ≡ false) }
     ensures listing { OnOk result (lists.new.closed ≡ false) }
     ensures any_moment { AtEachMomentOf (IsUnderWay (ground database.old.records lists.old.lists diversions.now.entries places.old) (planned plan)) (H.state host.old) (H.state host.new) }
@@ -164,11 +200,14 @@ pub fn unpack<H: Host>(
     ensures order { IfOk result (λ u. Needs (H.state host.new) (IsInOrder database.new lists.new.lists)) }
     ensures noting { OnOk result (database.new.closed ≡ false) }
     ensures listing { OnOk result (lists.new.closed ≡ false) }
-    ensures any_moment { AtEachMomentOf (IsAmid (given incoming database.old.records lists.old.lists diversions.now.entries) places.old) (H.state host.old) (H.state host.new) }
+    ensures any_moment { AtEachMomentOf (IsAmidUnit (given incoming database.old.records lists.old.lists diversions.now.entries) places.old) (H.state host.old) (H.state host.new) }
     ensures counts { Counts (H.state host.old) (H.state host.new) result }
 {
     match plan_unit(alloc, host, database, lists, diversions, incoming) {
-        Ok(plan) => carry_out(alloc, host, database, lists, places, diversions, plan, told),
+        Ok(plan) => {
+            are_texts(plan.new_list.as_slice());
+            carry_out(alloc, host, database, lists, places, diversions, plan, told)
+        }
         Err(fault) => Err(fault),
     }
 }

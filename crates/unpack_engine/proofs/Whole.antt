@@ -1,0 +1,199 @@
+-- A unit by its parts: what its rows need, what they leave to what follows them, and what holds at each moment.
+use Rattle.std.proofs.Common.{◌≡◌, ◌≢◌, IsTrue, ℕ, true, false, List, [], ◌∷◌, ◌++◌, Contains, length, refl, sym, ap, subst, ◌∙◌}
+use Rattle.std.specs.Prelude.{Result, Ok, Err, IfOk, OnOk}
+use Rattle.texts.specs.PackageNames.{is_package_name}
+use Rattle.host_core.specs.Paths.{Path}
+use Rattle.host_core.specs.World.{IsDirectory}
+use Rattle.host_core.specs.Host.{State, Needs}
+use Rattle.host_core.specs.Tree.{IsTree}
+use Rattle.administration.specs.Places.{info_path}
+use Rattle.cleanup_stack.specs.Place.{Fit}
+use Rattle.cleanup_stack.specs.Transcripts.{Ended, Committed, Unwound}
+use Rattle.control_members.specs.LaidOut.{AreLaidOut}
+use Rattle.control_members.proofs.LaidOut.{incoming_absent}
+use Rattle.diversions.specs.declared.entry.Diversion.{Diversion}
+use Rattle.file_lists.specs.Filed.{Filed}
+use Rattle.file_lists.specs.Info.{AreLoose}
+use Rattle.file_lists.specs.declared.paths.PackageList.{PackageList}
+use Rattle.file_works.specs.declared.work.Work.{Work}
+use Rattle.package_tree.specs.declared.package.Package.{Package}
+use Rattle.status_db.specs.Held.{IsKept}
+use Rattle.status_db.specs.Recorded.{Recorded}
+use Rattle.status_db.specs.Records.{AreApart, AreStanding, record_in}
+use Rattle.status_db.specs.Words.{is_not_installed}
+use Rattle.status_db.specs.declared.record.Record.{Record}
+use Rattle.unwind_stack.specs.declared.rows.Called.{Called}
+use Rattle.unwind_stack.specs.declared.rows.Row.{Row}
+use Rattle.unpack_commit.specs.Takeover.{put_records, taken_places, yields_of}
+use Rattle.unpack_commit.proofs.Those.{losing_stand, yields_named}
+use Rattle.unpack_plan.specs.Members.{scripts_in}
+use Rattle.unpack_plan.specs.Planned.{IsPlanned, Job, Planned}
+use Rattle.unpack_rows.specs.EndStates.{end_of, own_name}
+use Rattle.unpack_rows.specs.ForwardRows.{Fits, records_of}
+use Rattle.unpack_rows.specs.Kinds.{kinds_of}
+use Rattle.unpack_rows.specs.Notes.{noted, notes_at}
+use Rattle.unpack_rows.specs.declared.rows.Present.{Present}
+use Rattle.unpack_rows.proofs.Ends.{end_table}
+use Rattle.unpack_rows.proofs.Matching.{as_many, rows_fit}
+use Rattle.unpack_run.specs.At.{At, Holding}
+use Rattle.unpack_run.specs.Task.{IsSound, Task, task_of}
+use Rattle.unpack_run.specs.declared.plan.Rows.{Rows}
+use Rattle.unpack_engine.specs.declared.course.Rest.{Rest}
+use Rattle.unpack_engine.specs.Courses.{ended_records, ended_table, planned_from, records_from}
+use Rattle.unpack_engine.specs.Order.{IsInOrder}
+use Rattle.unpack_engine.specs.Touched.{AreTold}
+use Rattle.unpack_engine.specs.Units.{Begins, Ground, HasBegun, HasRunRows, IsTouched, commit_records, given, ground, job_of, package_name, task_from}
+use Rattle.unpack_engine.proofs.AfterRows.{last_laid}
+use Rattle.unpack_engine.proofs.Carrying.{same_task}
+use Rattle.unpack_engine.proofs.EndOrder.{plan_named, rows_loose}
+use Rattle.unpack_engine.proofs.Order.{own_list, own_members}
+use Rattle.unpack_engine.proofs.Touching.{end_elsewhere, noted_changed, touched_by}
+
+-- what the rows of a plan need
+module _ (g : Ground) (j : Job) (p : Planned) (records : j.records ≡ g.records) (planned : IsPlanned j p) where
+  pub plan_sound : AreStanding g.records → (s : State) → IsSound (task_from g p s)
+  plan_sound standing s = record {
+    named = plan_named g j p planned;
+    concerned = record {
+      own = ap (record_in g.records) planned.records_are.own ∙ ap (λ rs. record_in rs j.«package».name) (sym records) ∙ sym planned.records_are.found_is;
+      recorded = tt;
+      apart = (tt, tt);
+    };
+    standing = standing;
+    union = planned.lists_are.union_is.paths;
+    listed = planned.lists_are.listed_paths;
+    works = planned.works_are.named;
+    fitting = planned.works_are.fitting;
+  }
+
+  pub plan_fits : Fit (Fits (package_name g p) (kinds_of p.found [])) p.rows
+  plan_fits = subst (Fit (Fits (package_name g p) (kinds_of p.found []))) (sym planned.rows_are.rows_are) (rows_fit p.found p.incoming j.stored (scripts_in j.«package».scripts) [] tt)
+
+  pub plan_length : length p.rows ≡ length (kinds_of p.found [])
+  plan_length = ap (λ (l : List Row). length l) planned.rows_are.rows_are ∙ as_many p.found p.incoming j.stored (scripts_in j.«package».scripts) []
+
+last_stands : (rs : List Record) (r : Record) → AreStanding rs → is_not_installed r.state ≡ false → AreStanding (rs ++ r ∷ [])
+last_stands [] r all here = (here, tt)
+last_stands (s ∷ rs) r all here = (all.0, last_stands rs r all.1 here)
+
+-- what the rows leave
+module _ (g : Ground) (j : Job) (p : Planned) (planned : IsPlanned j p) (d : Recorded) (lists : List PackageList) (old last : State) (order : Needs old (IsInOrder d lists)) (tree : Needs old IsTree)
+    (ended : Ended) (mid : Holding) (told now : List Called) (ran : HasRunRows (Begins g p) (task_from g p) p.rows ended mid old last told now) (many : length p.rows ≡ length (kinds_of p.found [])) where
+  abbrev there : At (task_from g p ran.begun) mid last (end_of (length p.rows) ended)
+  there = ran.rows_end
+
+  at_old : IsTrue last.honest → IsTrue old.honest
+  at_old h = ran.until.honest (ran.between.honest h)
+
+  pub last_info : Needs last (λ w. IsDirectory (w info_path))
+  last_info = λ h. (there.world h).ready.info
+
+  pub last_kept : Needs last (IsKept mid.database)
+  last_kept = λ h. (there.world h).kept
+
+  pub loose_last : Needs last AreLoose
+  loose_last = λ h. rows_loose g p (plan_named g j p planned) planned.works_are.named d lists old.world (order (at_old h)) ended mid ran.begun last (ran.begins_so h) there h
+
+  pub laid_last : Needs last (AreLaidOut p.members)
+  laid_last = λ h.
+      let named = plan_named g j p planned in
+      let there' = order (at_old h) in
+      last_laid g p named planned.works_are.named old.world (own_list d lists old.world there' (package_name g p) named) (own_members d lists old.world there' (package_name g p) named) there'.loose
+      (incoming_absent old.world (tree (at_old h)) there'.tmp) mid ran.begun last (ran.begins_so h) h ended there
+
+  pub noted_stand : AreStanding mid.database.records → AreStanding (commit_records g p mid.works mid.lists mid.database.records)
+  noted_stand standing = last_stands _ p.fresh (losing_stand g.entries (taken_places mid.works) _ mid.database.records standing) (ap is_not_installed planned.records_are.fresh_is.is.state_is)
+
+  -- which packages are touched
+  rows_elsewhere : (q : Path) → q ≢ package_name g p → record_in mid.database.records q ≡ record_in g.records q
+  rows_elsewhere q other =
+      ap (λ rs. record_in rs q) there.records
+      ∙ ap (λ n. record_in (noted g.records (notes_at p.found p.incoming (kinds_of p.found []) (end_of n ended))) q) many
+      ∙ end_table p.found p.incoming [] g.records there.sound.concerned ended q
+      ∙ end_elsewhere p.found p.incoming g.records ended q other
+
+  pub fresh_named : p.fresh.name ≡ package_name g p
+  fresh_named = planned.records_are.fresh_is.is.name_is ∙ sym planned.records_are.own
+
+  pub committed_touched : AreApart mid.database.records → (after : List Record) (touched : List Path) → after ≡ put_records (commit_records g p mid.works mid.lists mid.database.records) mid.database.records
+      → AreTold (package_name g p) (commit_records g p mid.works mid.lists mid.database.records) touched → IsTouched (package_name g p) g.records after touched
+  committed_touched apart after touched is told =
+      touched_by (package_name g p) g.records mid.database.records after (commit_records g p mid.works mid.lists mid.database.records) rows_elsewhere
+      (λ q other. noted_changed g.entries (taken_places mid.works) _ mid.database.records q p.fresh (package_name g p) apart fresh_named other) is touched told
+
+  pub unwound_touched : (after : List Record) (touched : List Path) → after ≡ mid.database.records → AreTold (package_name g p) [] touched → IsTouched (package_name g p) g.records after touched
+  unwound_touched after touched is told = touched_by (package_name g p) g.records mid.database.records after [] rows_elsewhere (λ q other. tt) is touched told
+
+  pub touched_ended : (e : Ended) → AreApart mid.database.records → (after : List Record) (touched : List Path) → after ≡ ended_table e (commit_records g p mid.works mid.lists mid.database.records) mid.database.records
+      → AreTold (package_name g p) (ended_records e (commit_records g p mid.works mid.lists mid.database.records)) touched → IsTouched (package_name g p) g.records after touched
+  touched_ended Committed apart after touched is told = committed_touched apart after touched is told
+  touched_ended (Unwound fall failed) apart after touched is told = unwound_touched after touched is told
+
+-- the same by the parts of a plan
+module _ (pkg : Package) (stored : Present) (database : Recorded) (lists : Filed) (entries : List Diversion) (places : List Path) (rows : Rows) (works : List Work) (calls : List Row) (rest : Rest)
+    (planned : IsPlanned (job_of (given pkg database.records lists.lists entries) stored) (planned_from rows works calls rest)) (alone : rows.others.items ≡ []) (yielding : rows.yields ≡ yields_of database.records) where
+  abbrev own : Path
+  own = own_name rows.found rows.incoming
+
+  abbrev g : Ground
+  g = ground database.records lists.lists entries places
+
+  abbrev j : Job
+  j = job_of (given pkg database.records lists.lists entries) stored
+
+  abbrev p : Planned
+  p = planned_from rows works calls rest
+
+  abbrev noted_then : List (List ℕ) → Holding → List Record
+  noted_then yields mid = records_from own yields entries mid.lists mid.works rest mid.database.records
+
+  pub parts_sound : AreStanding database.records → (s : State) → IsSound (task_of s database lists entries places works rows)
+  parts_sound standing s = subst (λ (task : State → Task). IsSound (task s)) (sym (same_task database lists entries places rows works calls rest alone yielding)) (plan_sound g j p refl planned standing s)
+
+  pub parts_kinds : rows.kinds.items ≡ kinds_of rows.found (records_of rows.others.items)
+  parts_kinds = planned.rows_are.kinds_are ∙ ap (λ o. kinds_of rows.found (records_of o)) (sym alone)
+
+  pub parts_rows : Fit (Fits own (kinds_of rows.found (records_of rows.others.items))) calls
+  parts_rows = subst (λ o. Fit (Fits own (kinds_of rows.found (records_of o))) calls) (sym alone) (plan_fits g j p refl planned)
+
+  pub parts_length : length calls ≡ length (kinds_of rows.found (records_of rows.others.items))
+  parts_length = plan_length g j p refl planned ∙ ap (λ o. length (kinds_of rows.found (records_of o))) (sym alone)
+
+  pub parts_yields : (other : Path) → Contains rows.yields other → is_package_name other ≡ true
+  parts_yields other has = yields_named database.records other (subst (λ (y : List Path). Contains y other) yielding has)
+
+  module _ (ended : Ended) (mid : Holding) (old last : State) (order : Needs old (IsInOrder database lists.lists)) (tree : Needs old IsTree) (told now : List Called)
+      (ran : HasRunRows (HasBegun rows.found own rest.members) (λ s. task_of s database lists entries places works rows) calls ended mid old last told now) where
+    same_ran : HasRunRows (Begins g p) (task_from g p) calls ended mid old last told now
+    same_ran = subst (λ task. HasRunRows (Begins g p) task calls ended mid old last told now) (same_task database lists entries places rows works calls rest alone yielding) ran
+
+    pub parts_info : Needs last (λ w. IsDirectory (w info_path))
+    parts_info = last_info g j p planned database lists.lists old last order tree ended mid told now same_ran (plan_length g j p refl planned)
+
+    pub parts_kept : Needs last (IsKept mid.database)
+    parts_kept = last_kept g j p planned database lists.lists old last order tree ended mid told now same_ran (plan_length g j p refl planned)
+
+    pub parts_loose : Needs last AreLoose
+    parts_loose = loose_last g j p planned database lists.lists old last order tree ended mid told now same_ran (plan_length g j p refl planned)
+
+    pub parts_laid : Needs last (AreLaidOut rest.members)
+    parts_laid = laid_last g j p planned database lists.lists old last order tree ended mid told now same_ran (plan_length g j p refl planned)
+
+    pub parts_stand : AreStanding mid.database.records → AreStanding (noted_then rows.yields mid)
+    parts_stand standing = subst (λ y. AreStanding (noted_then y mid)) (sym yielding)
+        (noted_stand g j p planned database lists.lists old last order tree ended mid told now same_ran (plan_length g j p refl planned) standing)
+
+    pub parts_touched : AreApart mid.database.records → (after : List Record) (touched : List Path) → after ≡ ended_table ended (noted_then rows.yields mid) mid.database.records
+        → AreTold own (ended_records ended (noted_then rows.yields mid)) touched → IsTouched own database.records after touched
+    parts_touched apart after touched is says =
+        touched_ended g j p planned database lists.lists old last order tree ended mid told now same_ran (plan_length g j p refl planned) ended apart after touched
+        (subst (λ y. after ≡ ended_table ended (noted_then y mid) mid.database.records) yielding is) (subst (λ y. AreTold own (ended_records ended (noted_then y mid)) touched) yielding says)
+
+-- of an answer three things hold, and a fourth where the host was honest
+pub if_ok_all : {T E : Type 0} (result : Result T E) (P Q : T → Type 0) (A B N L : Type 0) → ((x : T) → P x → A → B → (N → L) → Q x) → IfOk result P → OnOk result A → OnOk result B → (N → OnOk result L) → IfOk result Q
+if_ok_all (Ok x) P Q A B N L so p a b l = so x p a b l
+if_ok_all (Err e) P Q A B N L so p a b l = tt
+
+pub if_ok_with : {T E : Type 0} (result : Result T E) (P Q : T → Type 0) (A : Type 0) → ((x : T) → P x → A → Q x) → IfOk result P → OnOk result A → IfOk result Q
+if_ok_with (Ok x) P Q A so p a = so x p a
+if_ok_with (Err e) P Q A so p a = tt
