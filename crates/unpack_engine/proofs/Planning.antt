@@ -97,9 +97,9 @@ module _ (g : Given) (places : List Path) (old mid : State) (reads : Reads old m
     unit_amid moments = since_then (IsAmidUnit g places old.world) old mid new looking_moments
         (since_weaker_if (IsUnderWay (ground_of g places) plan mid.world) (λ so_far. IsAmidUnit g places old.world (looking_moments.added ++ so_far)) mid new
         (λ h so_far now is. inr (record {
-            plan = plan;
-            plan_for = planned_true h;
-            under_way = under_way_behind (ground_of g places) plan old.world looking_moments.added none_added so_far now (subst (λ w. IsUnderWay (ground_of g places) plan w so_far now) reads.world is);
+          plan = plan;
+          plan_for = planned_true h;
+          under_way = under_way_behind (ground_of g places) plan old.world looking_moments.added none_added so_far now (subst (λ w. IsUnderWay (ground_of g places) plan w so_far now) reads.world is);
         })) moments)
       where
         none_added : scripts_of looking_moments.added ≡ []

@@ -82,9 +82,11 @@ module _ (entries : List Diversion) (places : List Path) (names : List Path) (ta
     where
       by : (b : Bool) → list_any (bytes_eq r.name) names && loses_conffile entries places r ≡ b → AllByRecursion Changed (losing_records entries places names rs)
           → AllByRecursion Changed (map (without_conffiles entries places) (cond b (r ∷ filter (λ x. list_any (bytes_eq x.name) names && loses_conffile entries places x) rs) (filter (λ x. list_any (bytes_eq x.name) names && loses_conffile entries places x) rs)))
-      by true e rest =
-          ((λ named same. losing_differs entries places r (both_second (list_any (bytes_eq r.name) names) (loses_conffile entries places r) e)
-          (some_same (without_conffiles entries places r) r (same ∙ ap (record_in table) (sym named) ∙ all.0))), rest)
+      by true e rest = (
+        (λ named same. losing_differs entries places r (both_second (list_any (bytes_eq r.name) names) (loses_conffile entries places r) e)
+            (some_same (without_conffiles entries places r) r (same ∙ ap (record_in table) (sym named) ∙ all.0))),
+        rest,
+      )
       by false e rest = rest
 
   with_last : (rs : List Record) (r : Record) → AllByRecursion Changed rs → Changed r → AllByRecursion Changed (rs ++ r ∷ [])

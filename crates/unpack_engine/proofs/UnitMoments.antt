@@ -52,9 +52,9 @@ module _ (g : Ground) (j : Job) (p : Planned) (planned : IsPlanned j p) (before 
   run_moments =
       since_weaker_if (IsRunning (Begins g p) (MayBeginOne g p) (task_from g p) a.world) (IsUnderWay g p a.world) a b
       (λ h so_far now is.
-          let o = order (first.honest h) in
-          run_under_way g p named planned.works_are.named a.world (own_list before lists_before a.world o (package_name g p) named) (own_members before lists_before a.world o (package_name g p) named) o.loose
-          (incoming_absent a.world (tree (first.honest h)) o.tmp) before o.kept same so_far now is) first
+      let o = order (first.honest h) in
+      run_under_way g p named planned.works_are.named a.world (own_list before lists_before a.world o (package_name g p) named) (own_members before lists_before a.world o (package_name g p) named) o.loose
+      (incoming_absent a.world (tree (first.honest h)) o.tmp) before o.kept same so_far now is) first
 
   module _ (c : State) (ended : Ended) (mid : Holding) (told now : List Called) (ran : HasRunRows (Begins g p) (task_from g p) p.rows ended mid a b told now) (silent : Silent b c)
       (second : AtEachMoment (MayLeave (changes g p mid.works mid.lists) (commit_records g p mid.works mid.lists mid.database.records) g.entries mid.lists mid.database.records ended) b c) where

@@ -1,5 +1,6 @@
-use Rattle.std.proofs.Common.{sym, subst}
-use Rattle.host_core.specs.Host.{State}
+use Rattle.std.proofs.Common.{subst}
+use Rattle.std.specs.List.{AllByRecursion}
+use Rattle.std.specs.Str.{IsUtf8}
 use Rattle.stack_run.specs.Ended.{IsCauseOf, ended_as}
 use Rattle.unpack_plan.specs.Planned.{planned}
 use Rattle.unpack_engine.specs.Units.{HasCarriedOut, HasFailedFor, HasUnpacked, given, ground_of, job_of}
@@ -77,4 +78,4 @@ returns-in-Ok-clause-order g c =
     order_if_ok c.carry_out.result (ground_of G places) (job_of G stored) plan c.in-Ok.ensures.planned.planned (λ u. ended_as u.unwinding) c.args.database.now c.carry_out.new.database c.args.lists.now.lists c.carry_out.new.lists.lists
     old new c.args.told.now.items c.carry_out.new.told.items c.requires.order carried c.carry_out.ensures.kept
     (listed_if_ok c.carry_out.result c.args.incoming stored plan c.args.diversions.now.entries places c.args.database.now c.carry_out.new.database c.args.lists.now.lists c.carry_out.new.lists.lists
-    c.in-Ok.ensures.planned.planned (λ u. ended_as u.unwinding) old new c.args.told.now.items c.carry_out.new.told.items c.requires.order c.are_texts.ensures carried)
+    c.in-Ok.ensures.planned.planned (λ u. ended_as u.unwinding) old new c.args.told.now.items c.carry_out.new.told.items c.requires.order (subst (AllByRecursion IsUtf8) c.as_slice.ensures c.are_texts.ensures) carried)
