@@ -2,7 +2,6 @@ use Rattle.administration.specs.Directories.{IsRemoved}
 use Rattle.administration.specs.Places.{tmp_path}
 use Rattle.control_members.specs.LaidOut.{IsLaying}
 use Rattle.file_writing.proofs.WriteMoments.{on_ok}
-use Rattle.host_core.specs.Moments.{since_now}
 use Rattle.status_db.specs.Held.{IsKept}
 use Rattle.unpack_commit.specs.Commit.{HasCommitted, MayCommit, changes_of}
 use Rattle.unpack_commit.specs.Takeover.{put_records}

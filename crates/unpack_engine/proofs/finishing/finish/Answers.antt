@@ -1,17 +1,14 @@
-use Rattle.std.proofs.Common.{◌≡◌, List, Option, Some, None, sym, subst}
+use Rattle.std.proofs.Common.{◌≡◌, List, Option, None, sym, subst}
 use Rattle.host_core.specs.Paths.{Path}
-use Rattle.host_core.specs.World.{World}
-use Rattle.host_core.specs.Host.{State, AtEachMoment}
-use Rattle.file_lists.specs.Filed.{Filed}
+use Rattle.host_core.specs.Host.{AtEachMoment}
 use Rattle.file_lists.specs.Writing.{IsListReady}
 use Rattle.stack_run.specs.Ended.{ended_as}
 use Rattle.stack_run.specs.declared.unwinding.Unwinding.{Unwinding}
-use Rattle.status_db.specs.Held.{IsKept}
 use Rattle.status_db.specs.Records.{record_in}
 use Rattle.unpack_rows.specs.EndStates.{own_name}
 use Rattle.unpack_engine.specs.Courses.{changes_from, ended_lists, ended_records, ended_table, records_from}
 use Rattle.unpack_engine.specs.Touched.{AreTold}
-use Rattle.unpack_engine.specs.Units.{HasDropped, HasLeft, HasLeftBy, MayDrop, MayLeave, MayLeaveBy}
+use Rattle.unpack_engine.specs.Units.{HasDropped, HasLeft, MayDrop, MayLeave, MayLeaveBy}
 use Rattle.unpack_engine.proofs.Dropping.{dropped_kept, laying_kept}
 use Rattle.unpack_engine.proofs.Ready.{list_ready}
 use Rattle.unpack_engine.proofs.finishing.finish.Goals as goal

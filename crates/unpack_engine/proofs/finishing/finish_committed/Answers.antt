@@ -1,4 +1,4 @@
-use Rattle.std.proofs.Common.{◌≡◌, Contains, ℕ, List, sym, ap, subst, ◌∙◌}
+use Rattle.std.proofs.Common.{Contains, sym, ap, subst, ◌∙◌}
 use Rattle.texts.specs.PackageNames.{is_package_name}
 use Rattle.cleanup_stack.specs.Transcripts.{Committed}
 use Rattle.control_members.specs.LaidOut.{AreLaidOut}
@@ -9,7 +9,7 @@ use Rattle.host_core.specs.Host.{AtEachMoment}
 use Rattle.unpack_commit.specs.Commit.{Changes, changes_of}
 use Rattle.unpack_moves.specs.Closing.{SparesAdministration}
 use Rattle.unpack_moves.specs.Concluding.{AreElsewhere}
-use Rattle.unpack_engine.specs.Courses.{changes_from, records_from}
+use Rattle.unpack_engine.specs.Courses.{records_from}
 use Rattle.unpack_engine.specs.Units.{HasLeft, MayLeave}
 use Rattle.unpack_engine.proofs.Losing.{loser_named}
 use Rattle.unpack_engine.proofs.Ready.{list_ready, members_ready}

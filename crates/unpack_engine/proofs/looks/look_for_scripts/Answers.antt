@@ -1,4 +1,4 @@
-use Rattle.std.proofs.Common.{◌≡◌, is_some, sym, subst, ◌∙◌, ap}
+use Rattle.std.proofs.Common.{◌≡◌, is_some, ◌∙◌, ap}
 use Rattle.host_core.specs.World.{World}
 use Rattle.host_core.specs.declared.call.Script.{Script as AScript}
 use Rattle.host_core.specs.declared.call.Script.TheVariants.{Preinst, Postinst, Prerm, Postrm}

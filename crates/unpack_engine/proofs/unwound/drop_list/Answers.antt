@@ -1,6 +1,4 @@
-use Rattle.std.proofs.Common.{ap}
 use Rattle.administration.proofs.NamePaths.{list_is_path}
-use Rattle.administration.proofs.WholeFiles.{no_directory_at}
 use Rattle.unpack_engine.proofs.unwound.drop_list.Goals as goal
 
 pub list_path-requires : goal.list_path-requires

@@ -1,8 +1,6 @@
-use Rattle.std.proofs.Common.{sym}
 use Rattle.administration.specs.Directories.{IsRemoved}
 use Rattle.administration.specs.Places.{tmp_path}
 use Rattle.control_members.specs.LaidOut.{IsLaying}
-use Rattle.control_members.proofs.LaidOut.{laid_elsewhere}
 use Rattle.file_writing.proofs.WriteMoments.{on_ok}
 use Rattle.status_db.specs.Records.{record_in}
 use Rattle.unpack_moves.proofs.Moments.{at_each, then_at_each}
