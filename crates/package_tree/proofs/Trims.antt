@@ -1,5 +1,5 @@
 -- Lines without the white space at their end.
-use Rattle.std.proofs.Common.{◌≡◌, ◌≤◌, ◌+◌, ◌-◌, ℕ, zero, suc, Bool, true, false, cond, Option, Some, None, List, [], ◌∷◌, ◌++◌, drop, length, get_or, map, take, sym, ap, subst, refl, ◌∙◌, inl, inr, arith}
+use Rattle.std.proofs.Common.{◌≡◌, ◌≤◌, ◌+◌, ◌-◌, ℕ, zero, suc, Bool, true, false, cond, Option, Some, None, List, [], ◌∷◌, ◌++◌, drop, length, get_or, map, take, sym, ap, subst, refl, ◌∙◌, arith}
 use Rattle.std.specs.List.{list_any, starts_with}
 use Rattle.std.specs.Prelude.{◌||◌, nat_eq, codes}
 use Rattle.std.specs.Str.{bytes_eq}
@@ -11,10 +11,9 @@ use Rattle.control_fields.specs.Names.{is_blank, trim_end}
 use Rattle.control_fields.specs.Names.{keep_before as keep_blank}
 use Rattle.host_core.specs.declared.node.Node.{Node}
 use Rattle.host_core.specs.declared.node.Node.TheVariants.{File, Dir, Link}
-use Rattle.package_tree.specs.Conffiles.{is_white, keep_before, trimmed, said, entry_of, entries_at, flag, flag_and_blank}
+use Rattle.package_tree.specs.Conffiles.{is_white, keep_before, trimmed, entry_of, entries_at, flag, flag_and_blank}
 use Rattle.package_tree.specs.LineNames.{is_named}
 use Rattle.package_tree.specs.Package.{is_trimmed}
-use Rattle.package_tree.specs.declared.conffile_lines.Entry.{Entry}
 use Rattle.package_tree.specs.declared.conffile_lines.Entry.TheVariants as entry
 use Rattle.package_tree.specs.declared.line_names.LineKind.{LineKind}
 use Rattle.package_tree.specs.declared.line_names.LineKind.TheVariants.{Plain, Flagged}
@@ -63,11 +62,11 @@ white_trimmed : (line : List ℕ) → trim_end (trimmed line) ≡ trimmed line
 white_trimmed [] = refl
 white_trimmed (b ∷ bs) = kept_before b (trimmed bs) (white_trimmed bs)
 
-rest_of : List ℕ → List ℕ
+abbrev rest_of : List ℕ → List ℕ
 rest_of [] = []
 rest_of (b ∷ bs) = bs
 
-is_some_byte : List ℕ → Bool
+abbrev is_some_byte : List ℕ → Bool
 is_some_byte [] = false
 is_some_byte (b ∷ bs) = true
 
@@ -106,11 +105,11 @@ line_trimmed kind q line named =
 
 lines_trimmed : (kind : LineKind) (q : List ℕ) (lines : List (List ℕ)) → list_any (is_named kind q) (map entry_of lines) ≡ true → trim_end q ≡ q
 lines_trimmed kind q [] e = absurd (false≢true e)
-lines_trimmed kind q (line ∷ lines) e = at (is_named kind q (entry_of line)) refl e
+lines_trimmed kind q (line ∷ lines) e = at (lines_trimmed kind q lines) (is_named kind q (entry_of line)) refl e
   where
-    at : (first : Bool) → is_named kind q (entry_of line) ≡ first → (first || list_any (is_named kind q) (map entry_of lines)) ≡ true → trim_end q ≡ q
-    at true is h = line_trimmed kind q line is
-    at false is h = lines_trimmed kind q lines h
+    at : (list_any (is_named kind q) (map entry_of lines) ≡ true → trim_end q ≡ q) → (first : Bool) → is_named kind q (entry_of line) ≡ first → (first || list_any (is_named kind q) (map entry_of lines)) ≡ true → trim_end q ≡ q
+    at rest true is h = line_trimmed kind q line is
+    at rest false is h = rest h
 
 pub named_trimmed : (kind : LineKind) (q : List ℕ) (node : Option Node) → list_any (is_named kind q) (entries_at node) ≡ true → is_trimmed q ≡ true
 named_trimmed kind q node e = (bytes_eq-Decides (trim_end q) q).1 (at node e)

@@ -1,10 +1,10 @@
 -- Lists of rows, and what a row has that fails.
-use Rattle.std.proofs.Common.{◌≡◌, ◌<◌, ◌+◌, ℕ, Bool, true, false, List, [], ◌∷◌, ◌++◌, Option, Some, None, IsSome, length, refl, sym, ap, subst, ◌∙◌, arith, length-append, get_or}
-use Rattle.std.proofs.lemmas.List.{get_or_append_left, get_or_at}
+use Rattle.std.proofs.Common.{◌≡◌, ℕ, Bool, IsTrue, false, List, [], ◌∷◌, ◌++◌, Option, Some, None, IsSome, length, refl, sym, ap, subst, ◌∙◌, arith, append_assoc, length-append, get_or}
+use Rattle.std.proofs.lemmas.List.{append-nil, get_or_append_left, get_or_at}
 use Rattle.host_core.specs.Paths.{Path}
 use Rattle.host_core.specs.World.{World}
 use Rattle.host_core.specs.Events.{Event, Ran}
-use Rattle.host_core.specs.Host.{State, Silent}
+use Rattle.host_core.specs.Host.{State, Silent, OnlyScripts}
 use Rattle.host_core.specs.declared.call.Call.{Call}
 use Rattle.unwind_stack.specs.declared.rows.Row.{Row}
 use Rattle.unwind_stack.specs.declared.fall.StepFault.{StepFault}
@@ -12,7 +12,9 @@ use Rattle.unwind_stack.specs.declared.fall.Fall.{Fall}
 use Rattle.unwind_stack.specs.Transcript.{Goes, Tries}
 use Rattle.cleanup_stack.specs.Place.{Fit}
 use Rattle.cleanup_stack.specs.Stops.{AtEachStop, stops_then}
-use Rattle.stack_run.specs.Ended.{row_at}
+use Rattle.stack_run.specs.declared.stopped.Stopped.{Stopped}
+use Rattle.stack_run.specs.declared.unwinding.Unwinding.{Unwinding}
+use Rattle.stack_run.specs.Ended.{IsCauseOf, cause_of, failure_of, forward_of, row_at}
 
 pub nothing_done : (a : State) → Silent a a
 nothing_done a = record { honest = λ h. h; scripts = refl }
@@ -58,3 +60,32 @@ module _ (Task : Type 0) (stops : Task → List Event → World → Type 0) (t u
   -- a part that has the same task
   pub next_part : (a b c : State) → AtEachStop (stops t) a b → AtEachStop (stops u) b c → AtEachStop (stops t) a c
   next_part a b c first second = stops_then (stops t) a b c first (subst (λ x. AtEachStop (stops x) b c) same second)
+
+-- nothing was done yet, and what runs may be cut off
+pub at_once : (stops : List Event → World → Type 0) (kept : Path → Bool) (a : State) → (IsTrue a.honest → (more : List Event) (v : World) → OnlyScripts kept a.world more v → stops (a.events ++ more) v) → AtEachStop stops a a
+at_once stops kept a law = record {
+  added = [];
+  events = sym (append-nil a.events);
+  honest = λ h. h;
+  world = refl;
+  each = λ h. law h [] a.world (record { world = refl; avoids = tt });
+}
+
+module _ (stopped : Stopped) (rows before after : List Row) (row : Row) (are : rows ≡ before ++ row ∷ after) where
+  -- the rows up to the one that failed
+  pub up_to : before ++ row ∷ after ≡ (before ++ row ∷ []) ++ after
+  up_to = sym (append_assoc before (row ∷ []) after)
+
+  pub fit_stack : (fits : ℕ → Row → Type 0) (stack : List Row) → stack ≡ before ++ row ∷ [] → Fit fits rows → Fit fits stack
+  fit_stack fits stack is fit = subst (λ l. Fit fits l) (sym is) (fit_front fits rows (before ++ row ∷ []) after (are ∙ up_to) fit)
+
+  -- for what it failed
+  pub failed_for : (u : Unwinding) → stopped.fall.row ≡ length before → stopped.forward ≡ row.forward → u.fall ≡ stopped.fall → cause_of stopped.fall.fault stopped.forward ≡ Some u.failure → IsCauseOf rows (Some u)
+  failed_for u at called same cause =
+      let fault = stopped.fall.fault in
+      ap (λ (f : Fall). failure_of rows f.row f.fault) same
+      ∙ ap (λ (i : ℕ). failure_of rows i fault) at
+      ∙ ap (λ (l : List Row). failure_of l (length before) fault) are
+      ∙ ap (λ (o : Option Row). cause_of fault (forward_of o)) (row_at-here before row after)
+      ∙ ap (λ (o : Option Call). cause_of fault o) (sym called)
+      ∙ cause

@@ -1,10 +1,11 @@
 -- Some of the elements so far.
-use Rattle.std.proofs.Common.{◌≡◌, ℕ, zero, suc, ◌+◌, ◌<◌, ◌||◌, Bool, true, false, not, cond, List, [], ◌∷◌, ◌++◌, filter, take, length, get_or, map, refl, sym, ap, subst, ◌∙◌, arith}
+use Rattle.std.proofs.Common.{◌≡◌, ℕ, zero, suc, ◌+◌, ◌<◌, Bool, true, false, cond, List, [], ◌∷◌, ◌++◌, filter, take, length, get_or, map, refl, sym, ap, subst, ◌∙◌, arith}
 use Rattle.std.specs.List.{list_any, AllByRecursion}
 use Rattle.std.specs.Str.{bytes_eq}
-use Rattle.std.proofs.lemmas.Bool.{or_from}
+use Rattle.std.proofs.lemmas.Bool.{false_from_ne_true, or_from, true≢false}
 use Rattle.std.proofs.lemmas.List.{append-nil, map-append}
 use Rattle.std.proofs.lemmas.List.Elements.{filter_more}
+use Rattle.std.proofs.lemmas.Slice.Eq.{bytes_eq-Decides}
 use Rattle.host_core.specs.Paths.{Path}
 use Rattle.status_db.specs.ConffilePaths.{AreInOrder, is_before, placed_by}
 use Rattle.status_db.proofs.PathOrder.{before_apart, placed_last}
@@ -60,9 +61,14 @@ module _ {X : Type 0} (path : X → Path) where
       (all_kept (λ y. is_before (path y) (path x) ≡ true) keep (take i xs) (before_at xs i x order lt at)))
 
   -- so it isn't there yet, and its place is the last
+
+  other : (y x : X) → is_before (path y) (path x) ≡ true → bytes_eq (path x) (path y) ≡ false
+  other y x before = false_from_ne_true (bytes_eq (path x) (path y))
+      (λ t. true≢false (sym ((bytes_eq-Decides (path y) (path x)).1 (sym ((bytes_eq-Decides (path x) (path y)).0 t))) ∙ before_apart (path y) (path x) before))
+
   none_same : (x : X) (ys : List X) → AllByRecursion (λ y. is_before (path y) (path x) ≡ true) ys → list_any (λ y. bytes_eq (path x) (path y)) ys ≡ false
   none_same x [] all = refl
-  none_same x (y ∷ ys) all = or_from (bytes_eq (path x) (path y)) (list_any (λ z. bytes_eq (path x) (path z)) ys) (before_apart (path y) (path x) all.0) (none_same x ys all.1)
+  none_same x (y ∷ ys) all = or_from (bytes_eq (path x) (path y)) (list_any (λ z. bytes_eq (path x) (path z)) ys) (other y x all.0) (none_same x ys all.1)
 
   pub left_new : (keep : X → Bool) (xs : List X) (i : ℕ) (x copy : X) (so_far : List X) → AreInOrder (map path xs) → i < length xs → x ≡ get_or xs i x → copy ≡ x → so_far ≡ filter keep (take i xs) → list_any (λ y. bytes_eq (path copy) (path y)) so_far ≡ false
   left_new keep xs i x copy so_far order lt at same is = none_same copy so_far (left_before keep xs i x copy so_far order lt at same is)

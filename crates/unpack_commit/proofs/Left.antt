@@ -1,12 +1,12 @@
 -- What a commit leaves.
-use Rattle.std.proofs.Common.{◌≡◌, ◌≢◌, ℕ, suc, ◌<◌, ◌≤◌, ◌||◌, Bool, true, false, not, cond, List, [], ◌∷◌, ◌++◌, codes, filter, length, Some, inl, inr, refl, sym, ap, subst, ◌∙◌, arith, Contains}
+use Rattle.std.proofs.Common.{◌≡◌, ◌≢◌, ◌<◌, ◌≤◌, ◌||◌, Bool, true, false, not, cond, List, [], ◌∷◌, ◌++◌, codes, filter, length, Some, inl, inr, refl, sym, ap, subst, ◌∙◌, arith, Contains}
 use Rattle.std.specs.List.{list_any}
 use Rattle.std.proofs.lemmas.Bool.{or_cases, or_from, true≢false}
 use Rattle.std.proofs.lemmas.List.{append_cancel_left, append_cancel_right}
 use Rattle.std.proofs.lemmas.List.Elements.{Contains-append_right}
 use Rattle.host_core.specs.Paths.{Path}
 use Rattle.host_core.specs.World.{World}
-use Rattle.administration.specs.Places.{home_path, is_within, list_name, list_path, temporary}
+use Rattle.administration.specs.Places.{home_path, is_within, list_name, list_path}
 use Rattle.administration.proofs.Within.{below_within}
 use Rattle.control_members.specs.Stored.{AreStored, stored_member_path}
 use Rattle.control_members.proofs.Apart.{no_list_temporary}
@@ -59,16 +59,16 @@ losing_differs entries places r loses e = elim (or_cases (list_any (λ x. is_at 
 
 -- names of lists
 
-same_list : (name other : Path) → list_path name ≡ list_path other → name ≡ other
+pub same_list : (name other : Path) → list_path name ≡ list_path other → name ≡ other
 same_list name other e = append_cancel_right name other (codes ".list") (append_cancel_left (codes "/var/lib/dpkg/info/") (list_name name) (list_name other) e)
 
-no_other : (names : List Path) (name : Path) → (Contains names name → ⊥) → IsNoList names (list_path name)
+pub no_other : (names : List Path) (name : Path) → (Contains names name → ⊥) → IsNoList names (list_path name)
 no_other names name none other has = (λ e. none (subst (λ (n : Path). Contains names n) (sym (same_list name other e)) has), λ e. no_list_temporary name (list_path other) e)
 
-list_within : (name : Path) → is_within home_path (list_path name) ≡ true
+pub list_within : (name : Path) → is_within home_path (list_path name) ≡ true
 list_within name = below_within home_path (codes "info/" ++ list_name name)
 
-member_within : (owner name : Path) → is_within home_path (stored_member_path owner name) ≡ true
+pub member_within : (owner name : Path) → is_within home_path (stored_member_path owner name) ≡ true
 member_within owner name = below_within home_path (codes "info/" ++ (owner ++ 46 ∷ name))
 
 first_of_names : (x : Path) (xs : List Path) → Contains (x ∷ xs) x

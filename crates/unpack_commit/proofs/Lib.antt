@@ -5,3 +5,7 @@ pub mod NotedOnes
 pub mod Parts
 pub mod Left
 pub mod Filtering
+pub mod Loose
+pub mod StillReady
+pub mod Those
+pub mod Opening

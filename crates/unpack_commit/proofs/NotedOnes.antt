@@ -30,7 +30,7 @@ standing_at (x ∷ xs) zero r all lt at = ap (λ (y : Record). is_not_installed 
 standing_at (x ∷ xs) (suc i) r all lt at = standing_at xs i r all.1 (omega (arith, lt)) at
 
 pub some_noted : (records before table now : List Record) (i : ℕ) → table ≡ put_records (take i records) before → now ≡ table → HasSomeNoted records before now
-some_noted records before table now i is same = record { front = take i records; back = drop i records; are = sym (take-append-drop i records); table = same ∙ is }
+some_noted records before table now i is same = record { front = take i records; back = drop i records; are = sym (take-append-drop i records); is = same ∙ is }
 
 pub noting_start : (records : List Record) (d : Recorded) (w : World) → IsKept d w → AreNoting records d.records w w
 noting_start records d w kept = record { front = []; back = records; are = refl; has = kept.holds; opens = kept_opens d w kept; rest = λ q out. refl }

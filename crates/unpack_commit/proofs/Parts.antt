@@ -1,5 +1,5 @@
 -- The parts of a commit, one after another.
-use Rattle.std.proofs.Common.{◌≡◌, ◌⊎◌, inl, inr, true, IsTrue, List, [], Result, Ok, Err, OnOk, refl, ap, ◌∙◌}
+use Rattle.std.proofs.Common.{◌≡◌, ◌⊎◌, inl, inr, true, IsTrue, List, [], Result, Ok, Err, OnOk, refl, ap, subst, ◌∙◌}
 use Rattle.std.specs.Prelude.{OnErr}
 use Rattle.host_core.specs.World.{World}
 use Rattle.host_core.specs.Host.{State, AtEachMoment}
@@ -38,6 +38,13 @@ module _ (c : Changes) (entries : List Diversion) (lists : List PackageList) whe
 
   abbrev Released : World → World → Type 0
   Released = HasReleased entries c.places c.losers (renewed_lists c entries lists) c.names
+
+  -- the lists that stood then are those with the new one
+  pub releasing_as : (had : List PackageList) → had ≡ renewed_lists c entries lists → (a b : State) → AtEachMoment (MayRelease entries c.places c.losers had c.names) a b → AtEachMoment Releasing a b
+  releasing_as had same a b = subst (λ had. AtEachMoment (MayRelease entries c.places c.losers had c.names) a b) same
+
+  pub released_as : (had : List PackageList) → had ≡ renewed_lists c entries lists → (old new : World) → HasReleased entries c.places c.losers had c.names old new → Released old new
+  released_as had same old new = subst (λ had. HasReleased entries c.places c.losers had c.names old new) same
 
   pub has_committed : (after : List Record) (old renewed stored released new : World) → Renewed old renewed → HasStored c.name c.members renewed stored → Released stored released → HaveNoted after released new
       → HasCommitted c entries lists after old new
@@ -140,4 +147,4 @@ module _ (c : Changes) (entries : List Diversion) (old : Filed) where
   lists_last renewed now first (inr second) = inr (inr (inr (ap (λ (f : Filed). f.lists) (lists_both renewed now first second))))
 
 pub none_noted : (records table : List Record) → HasSomeNoted records table table
-none_noted records table = record { front = []; back = records; are = refl; table = refl }
+none_noted records table = record { front = []; back = records; are = refl; is = refl }

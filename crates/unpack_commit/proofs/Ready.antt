@@ -1,5 +1,5 @@
 -- The parts of a commit leave no directory in the way of those behind them.
-use Rattle.std.proofs.Common.{◌≡◌, ◌≢◌, ℕ, Bool, true, false, List, ◌∷◌, ◌++◌, codes, length, refl, sym, ap, subst, ◌∙◌, arith, Some}
+use Rattle.std.proofs.Common.{◌≡◌, ◌≢◌, Bool, true, false, List, ◌∷◌, ◌++◌, codes, length, refl, sym, ap, subst, ◌∙◌, arith, Some}
 use Rattle.std.specs.Str.{bytes_eq}
 use Rattle.std.proofs.lemmas.Bool.{false≢true}
 use Rattle.std.proofs.lemmas.Slice.Eq.{bytes_eq-Decides}
@@ -53,7 +53,7 @@ module _ (xs : List Leaving) (name : Path) (node : Node) (old new : World) (spar
 
 -- lists, once another was written
 
-loose_replaced : (path : Path) (node : Node) (old new : World) (q : Path) → IsFile node → IsReplaced path node old new → NoDirectory (old q) → NoDirectory (new q)
+pub loose_replaced : (path : Path) (node : Node) (old new : World) (q : Path) → IsFile node → IsReplaced path node old new → NoDirectory (old q) → NoDirectory (new q)
 loose_replaced path node old new q file is none = by (bytes_eq q path) (bytes_eq q (temporary path)) refl refl
   where
     by : (b t : Bool) → bytes_eq q path ≡ b → bytes_eq q (temporary path) ≡ t → NoDirectory (new q)

@@ -1,12 +1,12 @@
 -- What stays of the administration at each moment of a commit: all but the names in `info`.
-use Rattle.std.proofs.Common.{◌≡◌, ◌≢◌, ◌||◌, ◌&&◌, inl, inr, ℕ, suc, Bool, true, false, List, [], ◌∷◌, ◌++◌, get_or, nat_eq, codes, refl, sym, ap, subst, ◌∙◌, arith, Contains, IsTrue}
+use Rattle.std.proofs.Common.{◌≡◌, ◌≢◌, ◌||◌, ◌&&◌, inl, inr, ℕ, Bool, true, false, List, [], ◌∷◌, ◌++◌, get_or, nat_eq, codes, refl, sym, ap, subst, ◌∙◌, arith}
 use Rattle.std.specs.List.{starts_with}
 use Rattle.std.specs.Str.{bytes_eq}
 use Rattle.std.proofs.lemmas.Bool.{false_from_ne_true, or_cases, or_from, true≢false}
 use Rattle.std.proofs.lemmas.List.Elements.{Contains-append_right}
 use Rattle.std.proofs.lemmas.Slice.Eq.{bytes_eq-Decides}
 use Rattle.host_core.specs.Paths.{Path}
-use Rattle.host_core.specs.World.{World, IsDirectory, SameOn}
+use Rattle.host_core.specs.World.{World, IsDirectory}
 use Rattle.host_core.specs.declared.node.Node.{Node}
 use Rattle.administration.specs.Places.{home_path, is_within, list_path, status_path, temporary, updates_path}
 use Rattle.administration.proofs.Within.{below_within, rest_of}
@@ -48,7 +48,7 @@ no_leaving_place (x ∷ xs) q spares within =
     here true true goes e =
         absurd (true≢false (sym within ∙ ap (is_within home_path) ((bytes_eq-Decides q x.place).0 e) ∙ spares x (0, omega arith, refl) goes))
 
-no_list_place : (list q : Path) → q ≢ list → q ≢ temporary list → is_list_place list q ≡ false
+pub no_list_place : (list q : Path) → q ≢ list → q ≢ temporary list → is_list_place list q ≡ false
 no_list_place list q ne_list ne_spare =
     or_from (bytes_eq q list) (bytes_eq q (temporary list)) (false_from_ne_true (bytes_eq q list) (λ e. ne_list ((bytes_eq-Decides q list).0 e)))
     (false_from_ne_true (bytes_eq q (temporary list)) (λ e. ne_spare ((bytes_eq-Decides q (temporary list)).0 e)))

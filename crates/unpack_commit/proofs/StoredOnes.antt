@@ -1,5 +1,5 @@
 -- New control files in the place of all that are stored.
-use Rattle.std.proofs.Common.{◌≡◌, inl, true, [], IsTrue, List, Option, Some, None, sym, ap, subst, refl}
+use Rattle.std.proofs.Common.{◌≡◌, inl, [], IsTrue, List, Option, Some, None, subst, refl}
 use Rattle.host_core.specs.Paths.{Path}
 use Rattle.host_core.specs.World.{World}
 use Rattle.host_core.specs.Host.{State, AtEachMoment, Reads}
@@ -8,7 +8,6 @@ use Rattle.host_core.specs.declared.node.Node.{Node}
 use Rattle.administration.specs.Files.{NoDirectory}
 use Rattle.administration.specs.Places.{temporary}
 use Rattle.control_members.specs.Members.{member_node}
-use Rattle.control_members.specs.Names.{is_member_name}
 use Rattle.control_members.specs.Stored.{AreReplaced, AreReplacing, AreStoredNames, IsMembersReady, IsSpare, stored_member_path}
 use Rattle.control_members.specs.declared.member.Member.{Member}
 use Rattle.control_members.proofs.Replacing.{stored_whole}

@@ -1,5 +1,5 @@
 -- Where a commit leaves all as it was.
-use Rattle.std.specs.Prelude.{◌≡◌, ◌≢◌, false, true, List, ◌∷◌}
+use Rattle.std.specs.Prelude.{◌≡◌, ◌≢◌, false, true, ◌∷◌}
 use Rattle.host_core.specs.Paths.{Path}
 use Rattle.administration.specs.Places.{temporary}
 use Rattle.control_members.specs.Names.{is_member_name}

@@ -48,7 +48,7 @@ pub record HasSomeNoted (records before table : List Record) : Type 0 where
   pub front : List Record
   pub back : List Record
   pub are : records ≡ front ++ back
-  pub table : table ≡ put_records front before
+  pub is : table ≡ put_records front before
 
 -- at each moment of noting records one after another: the first of them are noted
 pub record AreNoting (records : List Record) (before : List Record) (old now : World) : Type 0 where

@@ -13,7 +13,7 @@ ghost use Rattle.unpack_commit.specs.Commit.{AreListsAmid, HasCommitted, HasSome
 ghost use Rattle.unpack_commit.specs.Takeover.{put_records};
 
 use crate::change::Change;
-use crate::moving::{give_free, renew};
+use crate::moving::{release_places, renew};
 use crate::noting::note_records;
 use crate::storing::store_members;
 use diversions::Diversions;
@@ -59,6 +59,6 @@ pub fn commit<H: Host>(
 {
     renew(alloc, host, lists, change, new_list)?;
     store_members(alloc, host, &change.name, &change.members)?;
-    give_free(alloc, host, lists, diversions, change)?;
+    release_places(alloc, host, lists, diversions, change)?;
     note_records(alloc, host, database, records)
 }

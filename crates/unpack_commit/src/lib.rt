@@ -14,5 +14,8 @@ mod takeover;
 
 pub use change::Change;
 pub use committing::commit;
-pub use laws::{a_losing_record_changes, what_a_commit_leaves};
+pub use laws::{
+    a_commit_can_be_opened_amid, a_commit_leaves_info_loose, a_commit_leaves_packages_ready,
+    a_losing_record_changes, losers_are_packages, what_a_commit_leaves,
+};
 pub use takeover::{Takeover, takeover_of, yields_of};

@@ -10,19 +10,26 @@ use status_db::{ConffileEntries, PendingDigests, Record};
 use std::alloc::{AllocError, Global};
 use texts::Text;
 
+fn has_entry(diversions: &Diversions, taken: &Taken, name: &Text, entries: &ConffileEntries) -> bool
+    ensures { result ≡ list_any (λ e. is_at diversions.now.entries taken.now name.now e.path) entries.now }
+{
+    entries
+        .as_slice()
+        .iter()
+        .any(|entry| taken.has_ship_path(diversions, name, &entry.path))
+}
+
+fn has_digest(diversions: &Diversions, taken: &Taken, name: &Text, pending: &PendingDigests) -> bool
+    ensures { result ≡ list_any (λ p. is_at diversions.now.entries taken.now name.now p.path) pending.now }
+{
+    pending.as_slice().iter().any(|digest| taken.has_ship_path(diversions, name, &digest.path))
+}
+
 fn loses_conffile(diversions: &Diversions, taken: &Taken, entry: &Record) -> bool
     ensures { result ≡ loses_conffile diversions.now.entries taken.now entry.now }
 {
-    let name = &entry.name;
-    entry.conffiles.as_slice().iter().any(|conffile| taken.has_ship_path(
-        diversions,
-        name,
-        &conffile.path,
-    )) || entry.pending.as_slice().iter().any(|digest| taken.has_ship_path(
-        diversions,
-        name,
-        &digest.path,
-    ))
+    has_entry(diversions, taken, &entry.name, &entry.conffiles)
+        || has_digest(diversions, taken, &entry.name, &entry.pending)
 }
 
 fn left_entries(

@@ -40,7 +40,7 @@ pub(crate) fn renew<H: Host>(
 }
 
 /// Takes the places out of other lists, and clears the names that only the installer writes.
-pub(crate) fn give_free<H: Host>(
+pub(crate) fn release_places<H: Host>(
     alloc: Global,
     host: &mut H,
     lists: &mut FileLists,

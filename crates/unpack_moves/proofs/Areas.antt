@@ -99,4 +99,4 @@ module _ (entries : List Diversion) (places from : List Path) (had : List Packag
 
   pub releasing_keeps : (now : World) (q : Path) → MayRelease entries places from had names old now → IsNoList from q → is_among names q ≡ false → now q ≡ old q
   releasing_keeps now q (inl is) none out = is.rest q none
-  releasing_keeps now q (inr m) none out = clearing_keeps m.0 now q (m.2.each q) out ∙ m.1.rest q none
+  releasing_keeps now q (inr m) none out = clearing_keeps m.0 now q (m.3.each q) out ∙ m.1.rest q none

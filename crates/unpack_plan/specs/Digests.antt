@@ -1,5 +1,5 @@
 -- The digests of the conffiles that a package ships (Policy 10.7).
-use Rattle.std.specs.Prelude.{◌×◌, ℕ, cond, List, [], ◌∷◌, map}
+use Rattle.std.specs.Prelude.{ℕ, cond, List, [], ◌∷◌}
 use Rattle.std.specs.List.{flat_map}
 use Rattle.md5.specs.Md5.{md5}
 use Rattle.host_core.specs.Paths.{Path}

@@ -1,5 +1,5 @@
 -- What the package lists before, while and after its files are written (Policy 6.6), and which of the old paths go.
-use Rattle.std.specs.Prelude.{◌≡◌, ◌↔◌, ◌⊎◌, ℕ, not, List, Option, map, filter, Contains}
+use Rattle.std.specs.Prelude.{◌↔◌, ◌⊎◌, ℕ, not, List, Option, map, filter, Contains}
 use Rattle.host_core.specs.Paths.{Path}
 use Rattle.diversions.specs.declared.entry.Diversion.{Diversion}
 use Rattle.file_lists.specs.Owners.{AreListPaths}
@@ -18,7 +18,7 @@ entry_paths entries = map (λ e. e.path) entries
 
 -- conffiles that the record keeps beside what is shipped: obsolete ones, and those that go with the upgrade
 abbrev pub staying : List Shipped → List ConffileEntry → List Path
-staying files entries = filter (λ q. not (is_shipped files q)) (entry_paths entries)
+staying files entries = entry_paths (filter (λ e. not (is_shipped files e.path)) entries)
 
 -- the paths of both, each once, in order
 pub record IsUnion (listed shipped union : List Path) : Type 0 where

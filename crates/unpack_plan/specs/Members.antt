@@ -1,5 +1,5 @@
 -- The control files that are kept with the package: its scripts, and the other files of its tree (Policy 6.1).
-use Rattle.std.specs.Prelude.{◌≡◌, ◌×◌, ℕ, false, cond, List, [], ◌∷◌, Option, Some, None, is_some}
+use Rattle.std.specs.Prelude.{◌≡◌, ℕ, false, cond, List, [], ◌∷◌, Option, Some, None, is_some}
 use Rattle.std.specs.Str.{bytes_eq}
 use Rattle.host_core.specs.Outcome.{script_name}
 use Rattle.host_core.specs.declared.call.Script.{Script}
@@ -11,6 +11,16 @@ use Rattle.control_members.specs.Names.{is_script_name}
 use Rattle.control_members.specs.declared.member.Member.{Member}
 use Rattle.package_tree.specs.declared.other_file.OtherFile.{OtherFile}
 use Rattle.unpack_rows.specs.declared.rows.Present.{Present}
+
+-- a name with its file
+abbrev pub Named : Type 0
+Named = List ℕ × Node
+
+abbrev pub named_member : Member → Named
+named_member m = (m.name, m.node)
+
+abbrev pub named_other : OtherFile → Named
+named_other o = (o.name, o.node)
 
 -- the file of a name among those of the tree
 abbrev pub other_node : List OtherFile → List ℕ → Option Node

@@ -1,5 +1,5 @@
 -- What an unpack is going to do, told before anything is done: by the tree and by what the administration says (Policy 6.6).
-use Rattle.std.specs.Prelude.{◌≡◌, ◌×◌, ℕ, true, List, [], Option, map}
+use Rattle.std.specs.Prelude.{◌≡◌, ℕ, true, List, [], Option, map}
 use Rattle.host_core.specs.Paths.{Path}
 use Rattle.host_core.specs.declared.node.Node.{Node}
 use Rattle.texts.specs.PackageNames.{is_package_name}

@@ -1,5 +1,5 @@
 // The digests of the conffiles that a package ships.
-ghost use Rattle.std.specs.Prelude.{◌≡◌, ◌++◌, ℕ, true, List, IfOk, OnOk, map, Contains};
+ghost use Rattle.std.specs.Prelude.{◌≡◌, ◌++◌, true, List, IfOk, OnOk, map};
 ghost use Rattle.std.specs.List.{AllByRecursion};
 ghost use Rattle.std.specs.BTreeSet.{contains_text};
 ghost use Rattle.host_core.specs.Paths.{Path};
@@ -27,7 +27,8 @@ fn add_digest(path: &ShipPath, node: &Node, pending: &mut PendingDigests) -> Res
     match node {
         Node::File { bytes, .. } => {
             let digest = Digest::of(bytes.as_slice());
-            pending.put(PendingDigest::new(path.copy()?, digest))
+            pending.put(PendingDigest::new(path.copy()?, digest))?;
+            Ok(())
         }
         Node::Dir { .. } => Ok(()),
         Node::Link { .. } => Ok(()),
@@ -45,7 +46,8 @@ fn add_conffile(
     ensures { OnOk result ((paths : List Path) → ((q : Path) → contains_text conffiles.now q ≡ is_conffile paths q) → map told_digest pending.new ≡ map told_digest pending.old ++ conffile_digest paths file.now) }
 {
     if conffiles.contains(file.path.as_str()) {
-        return add_digest(&file.path, &file.node, pending);
+        add_digest(&file.path, &file.node, pending)?;
+        return Ok(());
     }
     Ok(())
 }

@@ -3,6 +3,7 @@
 #![tactic(auto)]
 
 mod conffile_paths;
+mod contents;
 mod digests;
 mod lists;
 mod members;

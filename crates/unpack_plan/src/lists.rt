@@ -1,14 +1,12 @@
 // What the package lists before, while and after its files are written, and which of the old paths go.
-ghost use Rattle.std.specs.Prelude.{◌≡◌, ◌++◌, ℕ, not, List, IfOk, OnOk, filter};
+ghost use Rattle.std.specs.Prelude.{◌≡◌, not, IfOk, filter};
 ghost use Rattle.std.specs.BTreeSet.{contains_text};
 ghost use Rattle.std.specs.List.{AllByRecursion};
 ghost use Rattle.std.specs.Option.{option_copied};
 ghost use Rattle.file_lists.specs.Owners.{AreListPaths, IsListable, paths_of as listed_paths};
-ghost use Rattle.host_core.specs.Paths.{Path};
 ghost use Rattle.package_tree.specs.ShipMap.{paths_of};
 ghost use Rattle.unpack_moves.specs.Closing.{SparesAdministration};
 ghost use Rattle.unpack_plan.specs.Lists.{entry_paths, staying, IsAfter, IsUnion, old_leaving};
-ghost use Rattle.unpack_plan.specs.Records.{is_shipped};
 
 use crate::conffile_paths::entry_paths;
 use crate::texts_of::shipped_texts;
@@ -17,7 +15,7 @@ use file_lists::{FileLists, Paths};
 use file_removal::Leaving;
 use host_core::RootPath;
 use list_changes::{leaving_of, list_of, union_of};
-use package_tree::Shipped;
+use package_tree::{Package, Shipped};
 use status_db::{ConffileEntry, Record};
 use std::alloc::{AllocError, Global};
 use std::collections::BTreeSet;
@@ -55,15 +53,16 @@ fn staying_paths(
     entries: &[ConffileEntry],
     shipped: &BTreeSet<String>,
 ) -> Result<Vec<RootPath>, AllocError>
-    ensures paths { IfOk result (λ paths. paths.items ≡ filter (λ q. not (contains_text shipped.now q)) (entry_paths entries.now)) }
+    ensures paths { IfOk result (λ paths. paths.items ≡ entry_paths (filter (λ e. not (contains_text shipped.now e.path)) entries.now)) }
     ensures listable { IfOk result (λ paths. AllByRecursion IsListable paths.items) }
 {
     let mut paths = Vec::new(alloc);
     for entry in entries {
-        entry.path.law();
-        if !shipped.contains(entry.path.as_str()) {
-            paths.push(entry.path.at()?)?;
+        if shipped.contains(entry.path.as_str()) {
+            continue;
         }
+        entry.path.law();
+        paths.push(entry.path.at()?)?;
     }
     Ok(paths)
 }
@@ -81,7 +80,8 @@ fn new_list(
 {
     let set = shipped_texts(alloc, files)?;
     let staying = staying_paths(alloc, fresh.conffiles.as_slice(), &set)?;
-    list_of(alloc, shipped, staying.as_slice())
+    let paths = list_of(alloc, shipped, staying.as_slice())?;
+    Ok(paths)
 }
 
 // Which of the old paths go.
@@ -98,7 +98,7 @@ fn old_leaving(
     ensures spares { IfOk result (λ leaving. SparesAdministration leaving.items) }
 {
     let conffiles = entry_paths(alloc, found)?;
-    leaving_of(
+    let leaving = leaving_of(
         alloc,
         lists,
         diversions,
@@ -106,7 +106,8 @@ fn old_leaving(
         new_list,
         conffiles.as_slice(),
         listed,
-    )
+    )?;
+    Ok(leaving)
 }
 
 /// The lists of an unpack, and which of the old paths go.
@@ -118,8 +119,8 @@ pub(crate) struct ListChanges {
     pub(crate) leaving: Vec<Leaving>,
 }
 
-/// Those of a package that ships these files, with the record found and the one that it ends with.
-pub(crate) fn changes_of(
+// Those of a package that ships these files, with the record found and the one that it ends with.
+fn changes_of(
     alloc: Global,
     lists: &FileLists,
     diversions: &Diversions,
@@ -154,4 +155,25 @@ pub(crate) fn changes_of(
         new_list,
         leaving,
     })
+}
+
+/// Those of an unpack of a tree.
+pub(crate) fn own_changes(
+    alloc: Global,
+    lists: &FileLists,
+    diversions: &Diversions,
+    tree: &Package,
+    found: Option<&Record>,
+    fresh: &Record,
+) -> Result<ListChanges, AllocError>
+    ensures listed { IfOk result (λ c. c.listed ≡ listed_paths lists.now.lists tree.now.name) }
+    ensures listed_paths { IfOk result (λ c. AreListPaths c.listed) }
+    ensures union { IfOk result (λ c. IsUnion c.listed (paths_of tree.now.files) c.union) }
+    ensures new_list { IfOk result (λ c. IsAfter tree.now.files fresh.now c.new_list) }
+    ensures leaving { IfOk result (λ c. c.leaving.items ≡ old_leaving diversions.now.entries lists.now.lists tree.now.name (option_copied found.entry) c.new_list c.listed) }
+    ensures spares { IfOk result (λ c. SparesAdministration c.leaving.items) }
+{
+    let files = tree.files.as_slice();
+    let changes = changes_of(alloc, lists, diversions, &tree.name, files, found, fresh)?;
+    Ok(changes)
 }

@@ -1,7 +1,6 @@
 // The control files that are kept with a package.
-ghost use Rattle.std.specs.Prelude.{◌≡◌, ℕ, List, IfOk};
-ghost use Rattle.control_members.specs.Members.{member_node};
-ghost use Rattle.unpack_plan.specs.Members.{other_node, AreMembersOf};
+ghost use Rattle.std.specs.Prelude.{◌≡◌, IfOk, map};
+ghost use Rattle.unpack_plan.specs.Members.{named_member, named_other, AreMembersOf};
 
 use administration::Scripts;
 use control_members::{Member, Members};
@@ -19,11 +18,11 @@ fn member_of(other: OtherFile) -> Member
     }
 }
 
-fn other_members(alloc: Global, others: OtherFiles) -> Result<Vec<Member>, AllocError>
-    ensures { IfOk result (λ members. (name : List ℕ) → member_node members.items name ≡ other_node others name) }
+fn other_members(alloc: Global, others: Vec<OtherFile>) -> Result<Vec<Member>, AllocError>
+    ensures { IfOk result (λ members. map named_member members.items ≡ map named_other others.items) }
 {
     let mut members = Vec::new(alloc);
-    for other in others.into_vec() {
+    for other in others {
         members.push(member_of(other))?;
     }
     Ok(members)
@@ -37,6 +36,7 @@ pub(crate) fn own_members(
 ) -> Result<Members, AllocError>
     ensures { IfOk result (AreMembersOf scripts others) }
 {
-    let others = other_members(alloc, others)?;
-    Members::of(alloc, scripts, others)
+    let others = other_members(alloc, others.into_vec())?;
+    let members = Members::of(alloc, scripts, others)?;
+    Ok(members)
 }

@@ -1,8 +1,7 @@
 // Names that only the installer writes, and at which nothing is left after an unpack.
-ghost use Rattle.std.specs.Prelude.{◌≡◌, ◌++◌, IfOk, OnOk};
+ghost use Rattle.std.specs.Prelude.{◌≡◌, ◌++◌, ◌∷◌, [], List, IfOk, OnOk};
 ghost use Rattle.std.specs.BTreeSet.{contains_text};
 ghost use Rattle.std.specs.Option.{option_copied};
-ghost use Rattle.std.specs.Prelude.{List};
 ghost use Rattle.file_check.specs.Ships.{is_conffile};
 ghost use Rattle.file_works.specs.Files.{Each};
 ghost use Rattle.file_works.specs.Names.{IsNamed};
@@ -42,7 +41,8 @@ fn waiting_name(
 {
     let place = diversions.ship_place(name, path);
     place.law();
-    place.beside(Suffix::New)
+    let beside = place.beside(Suffix::New)?;
+    Ok(beside)
 }
 
 // Adds that of each path which isn't in the set.
@@ -58,9 +58,10 @@ fn add_left(
     ensures elsewhere { OnOk result (AreElsewhere names.new.items) }
 {
     for path in paths {
-        if !conffiles.contains(path.as_str()) {
-            names.push(waiting_name(diversions, name, path)?)?;
+        if conffiles.contains(path.as_str()) {
+            continue;
         }
+        names.push(waiting_name(diversions, name, path)?)?;
     }
     Ok(())
 }

@@ -1,13 +1,11 @@
 // What an unpack is going to do.
-ghost use Rattle.std.specs.Prelude.{◌≡◌, IfOk};
+ghost use Rattle.std.specs.Prelude.{IfOk};
 ghost use Rattle.unpack_plan.specs.Planned.{planned, IsPlanned};
 
-use crate::lists::changes_of;
-use crate::members::own_members;
-use crate::names::cleared_names;
-use crate::records::{copied, fresh_record, incoming_record};
-use crate::rows::{own_kinds, own_rows};
-use crate::works::own_works;
+use crate::contents::contents_of;
+use crate::lists::own_changes;
+use crate::records::own_records;
+use crate::rows::own_rows;
 use control_members::Members;
 use diversions::Diversions;
 use file_lists::{FileLists, Paths};
@@ -59,49 +57,22 @@ pub fn plan_of(
     ensures { IfOk result (λ p. IsPlanned (record { «package» = incoming; records = database.now.records; lists = lists.now.lists; entries = diversions.now.entries; stored = stored }) (planned p)) }
 {
     let found = database.get(&incoming.name);
-    let record = incoming_record(alloc, &incoming)?;
-    let fresh = fresh_record(alloc, &incoming, found)?;
-    let rows = own_rows(alloc, found, &record, stored, &incoming.scripts)?;
-    let kinds = own_kinds(alloc, found)?;
-    let files = incoming.files.as_slice();
-    let changes = changes_of(
-        alloc,
-        lists,
-        diversions,
-        &incoming.name,
-        files,
-        found,
-        &fresh,
-    )?;
-    let conffiles = incoming.conffiles;
-    let works = own_works(
-        alloc,
-        &incoming.name,
-        diversions,
-        incoming.files,
-        &conffiles,
-    )?;
-    let names = cleared_names(
-        alloc,
-        diversions,
-        &incoming.name,
-        found,
-        conffiles.as_slice(),
-        works.as_slice(),
-    )?;
-    let members = own_members(alloc, incoming.scripts, incoming.others)?;
+    let records = own_records(alloc, &incoming, found)?;
+    let rows = own_rows(alloc, found, &records.incoming, stored, &incoming.scripts)?;
+    let changes = own_changes(alloc, lists, diversions, &incoming, found, &records.fresh)?;
+    let contents = contents_of(alloc, diversions, incoming, found)?;
     Ok(Plan {
-        found: copied(found)?,
-        incoming: record,
-        fresh,
-        rows,
-        kinds,
-        works,
+        found: records.found,
+        incoming: records.incoming,
+        fresh: records.fresh,
+        rows: rows.rows,
+        kinds: rows.kinds,
+        works: contents.works,
         listed: changes.listed,
         union: changes.union,
         new_list: changes.new_list,
         leaving: changes.leaving,
-        names,
-        members,
+        names: contents.names,
+        members: contents.members,
     })
 }

@@ -1,10 +1,9 @@
 // The records of the package beside an unpack.
-ghost use Rattle.std.specs.Prelude.{◌≡◌, ℕ, Bool, List, IfOk};
+ghost use Rattle.std.specs.Prelude.{◌≡◌, IfOk};
 ghost use Rattle.std.specs.BTreeSet.{contains_text};
 ghost use Rattle.std.specs.Option.{option_copied};
-ghost use Rattle.host_core.specs.Paths.{Path};
 ghost use Rattle.status_db.specs.Conffiles.{committed_entries as committed};
-ghost use Rattle.unpack_plan.specs.Records.{entries_of, is_shipped, IsFresh, IsIncoming};
+ghost use Rattle.unpack_plan.specs.Records.{entries_of, IsFresh, IsIncoming};
 
 use crate::digests::digests_of;
 use crate::texts_of::shipped_texts;
@@ -28,18 +27,19 @@ impl Ships for ShippedPaths {
     }
 }
 
-/// The record of a package as its tree tells of it: unpacked, wanted installed, without conffiles.
-pub(crate) fn incoming_record(alloc: Global, package: &Package) -> Result<Record, AllocError>
-    ensures { IfOk result (IsIncoming package.now) }
+// The record of a package as its tree tells of it: unpacked, wanted installed, without conffiles.
+fn incoming_record(alloc: Global, tree: &Package) -> Result<Record, AllocError>
+    ensures { IfOk result (IsIncoming tree.now) }
 {
-    Record::of_package(
+    let record = Record::of_package(
         alloc,
-        &package.name,
-        &package.version,
-        &package.control,
+        &tree.name,
+        &tree.version,
+        &tree.control,
         Flag::Ok,
         State::Unpacked,
-    )
+    )?;
+    Ok(record)
 }
 
 // The conffiles of the record to come.
@@ -58,38 +58,63 @@ fn entries_after(
     }
 }
 
-/// The record of the unpacked package.
-pub(crate) fn fresh_record(
-    alloc: Global,
-    package: &Package,
-    found: Option<&Record>,
-) -> Result<Record, AllocError>
-    ensures { IfOk result (IsFresh package.now (option_copied found.entry)) }
+// The record of the unpacked package.
+fn fresh_record(alloc: Global, tree: &Package, found: Option<&Record>) -> Result<Record, AllocError>
+    ensures { IfOk result (IsFresh tree.now (option_copied found.entry)) }
 {
-    package.files.law();
-    let files = package.files.as_slice();
+    tree.files.law();
+    let files = tree.files.as_slice();
     let ships = ShippedPaths {
         texts: shipped_texts(alloc, files)?,
     };
-    let digests = digests_of(alloc, files, package.conffiles.as_slice())?;
-    let entries = entries_after(alloc, found, &digests, package.flagged.as_slice(), &ships)?;
-    Record::unpacked(
+    let digests = digests_of(alloc, files, tree.conffiles.as_slice())?;
+    let entries = entries_after(alloc, found, &digests, tree.flagged.as_slice(), &ships)?;
+    let record = Record::unpacked(
         alloc,
-        &package.name,
-        &package.version,
-        &package.control,
+        &tree.name,
+        &tree.version,
+        &tree.control,
         found,
         entries,
         digests,
-    )
+    )?;
+    Ok(record)
 }
 
-/// An equal record, where there is one.
-pub(crate) fn copied(found: Option<&Record>) -> Result<Option<Record>, AllocError>
+// An equal record, where there is one.
+fn copied(found: Option<&Record>) -> Result<Option<Record>, AllocError>
     ensures { IfOk result (λ copy. copy ≡ option_copied found.entry) }
 {
     match found {
         Some(found) => Ok(Some(found.copy()?)),
         None => Ok(None),
     }
+}
+
+/// The record found, the one noted where none was, and the one noted last.
+#[derive(Drop)]
+pub(crate) struct OwnRecords {
+    pub(crate) found: Option<Record>,
+    pub(crate) incoming: Record,
+    pub(crate) fresh: Record,
+}
+
+/// Those of an unpack of this tree.
+pub(crate) fn own_records(
+    alloc: Global,
+    tree: &Package,
+    found: Option<&Record>,
+) -> Result<OwnRecords, AllocError>
+    ensures found { IfOk result (λ r. r.found ≡ option_copied found.entry) }
+    ensures incoming { IfOk result (λ r. IsIncoming tree.now r.incoming) }
+    ensures fresh { IfOk result (λ r. IsFresh tree.now (option_copied found.entry) r.fresh) }
+{
+    let incoming = incoming_record(alloc, tree)?;
+    let fresh = fresh_record(alloc, tree, found)?;
+    let found = copied(found)?;
+    Ok(OwnRecords {
+        found,
+        incoming,
+        fresh,
+    })
 }

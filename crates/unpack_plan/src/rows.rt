@@ -22,23 +22,26 @@ fn scripts_in(scripts: &Scripts) -> Present
     }
 }
 
-/// The rows, for a tree with these scripts.
+/// Rows with their kinds.
+#[derive(Drop)]
+pub(crate) struct OwnRows {
+    pub(crate) rows: Vec<Row>,
+    pub(crate) kinds: Vec<RowKind>,
+}
+
+/// Those of an unpack of a tree with these scripts.
 pub(crate) fn own_rows(
     alloc: Global,
     found: Option<&Record>,
     incoming: &Record,
     stored: Present,
     scripts: &Scripts,
-) -> Result<Vec<Row>, AllocError>
-    ensures { IfOk result (λ rows. rows.items ≡ forward_rows (option_copied found.entry) incoming.now stored (scripts_in scripts.now) []) }
+) -> Result<OwnRows, AllocError>
+    ensures rows { IfOk result (λ r. r.rows.items ≡ forward_rows (option_copied found.entry) incoming.now stored (scripts_in scripts.now) []) }
+    ensures kinds { IfOk result (λ r. r.kinds.items ≡ row_kinds (option_copied found.entry) []) }
 {
     let others = Vec::new(alloc);
-    rows_of(alloc, found, incoming, stored, scripts_in(scripts), others)
-}
-
-/// Their kinds.
-pub(crate) fn own_kinds(alloc: Global, found: Option<&Record>) -> Result<Vec<RowKind>, AllocError>
-    ensures { IfOk result (λ kinds. kinds.items ≡ row_kinds (option_copied found.entry) []) }
-{
-    kinds_of(alloc, found, &[])
+    let rows = rows_of(alloc, found, incoming, stored, scripts_in(scripts), others)?;
+    let kinds = kinds_of(alloc, found, &[])?;
+    Ok(OwnRows { rows, kinds })
 }

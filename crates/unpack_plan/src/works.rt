@@ -12,16 +12,16 @@ use diversions::Diversions;
 use file_check::works_of;
 use file_works::Work;
 use host_core::{Node, ShipPath};
-use package_tree::{ShipMap, ShipPaths};
+use package_tree::{ShipMap, ShipPaths, Shipped};
 use std::alloc::{AllocError, Global};
 use texts::Text;
 
 // Each shipped path with what stands there, moved and not copied.
-fn pairs_of(alloc: Global, files: ShipMap) -> Result<Vec<(ShipPath, Node)>, AllocError>
-    ensures { IfOk result (λ pairs. pairs.items ≡ pairs_of files) }
+fn pairs_of(alloc: Global, files: Vec<Shipped>) -> Result<Vec<(ShipPath, Node)>, AllocError>
+    ensures { IfOk result (λ pairs. pairs.items ≡ pairs_of files.items) }
 {
     let mut pairs = Vec::new(alloc);
-    for file in files.into_vec() {
+    for file in files {
         pairs.push((file.path, file.node))?;
     }
     Ok(pairs)
@@ -42,6 +42,7 @@ pub(crate) fn own_works(
 {
     files.law();
     conffiles.law();
-    let pairs = pairs_of(alloc, files)?;
-    works_of(alloc, name, diversions, pairs, conffiles.as_slice())
+    let pairs = pairs_of(alloc, files.into_vec())?;
+    let works = works_of(alloc, name, diversions, pairs, conffiles.as_slice())?;
+    Ok(works)
 }

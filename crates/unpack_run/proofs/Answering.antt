@@ -1,8 +1,8 @@
 -- The file row and its undo by what was answered.
-use Rattle.std.proofs.Common.{◌≡◌, inl, inr, ◌+◌, ◌<◌, ℕ, List, ◌++◌, Option, Some, None, IsTrue, Result, Ok, Err, OnOk, refl, subst, sym, ◌∙◌, ap}
+use Rattle.std.proofs.Common.{◌≡◌, inl, inr, ◌+◌, ◌<◌, ℕ, List, [], ◌++◌, Option, Some, None, IsTrue, Result, Ok, Err, OnOk, refl, subst, sym, ◌∙◌, ap}
 use Rattle.std.specs.Prelude.{IfOk, IfNone, IfSome, MatchOption}
+use Rattle.std.proofs.lemmas.List.{append-nil}
 use Rattle.std.specs.List.Sorted.{IsPermutation}
-use Rattle.std.proofs.lemmas.List.Sorted.{IsPermutation-refl}
 use Rattle.host_core.specs.Paths.{Path}
 use Rattle.host_core.specs.World.{World, kind_of}
 use Rattle.host_core.specs.Events.{Event}
@@ -21,7 +21,7 @@ use Rattle.file_check.specs.Sound.{AllSound, IsFirstFault}
 use Rattle.file_lists.specs.Filed.{Filed}
 use Rattle.file_lists.specs.Writing.{list_file, with_list}
 use Rattle.file_steps.specs.Unpacked.{IsRearranged}
-use Rattle.file_steps.proofs.Permuting.{each_permuted, rearranged}
+use Rattle.file_steps.proofs.Permuting.{each_permuted}
 use Rattle.file_works.specs.declared.work.Work.{Work}
 use Rattle.file_works.specs.Free.{IsFreeIn, IsSeen}
 use Rattle.file_works.specs.Files.{Each}
@@ -39,9 +39,9 @@ use Rattle.unpack_run.specs.Task.{IsFileRow, Task, kinds, name}
 use Rattle.unpack_run.proofs.FileRow.{at_back, at_stopped, at_written, file_fault}
 use Rattle.unpack_run.proofs.Rearranged.{sound_same}
 
-
-pub same_moved : (xs ys : List Work) → IsSameBut xs ys → IsRearranged xs ys
-same_moved xs ys same = rearranged xs ys ys same (IsPermutation-refl ys)
+-- nothing was done
+pub quiet_moments : (P : World → Type 0) (s : State) → (IsTrue s.honest → P s.world) → Since (λ so_far. P) s s
+quiet_moments P s here = record { added = []; events = sym (append-nil s.events); honest = λ h. h; world = refl; each = here }
 
 -- it was looked at, and perhaps written then
 module _ (list : Path) (node : Node) (works : List Work) (a b : State) (reads : Reads a b) where

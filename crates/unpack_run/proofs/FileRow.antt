@@ -1,5 +1,5 @@
 -- The file row and its undo: each leads from a place of the rows to the next.
-use Rattle.std.proofs.Common.{◌≡◌, inl, inr, ℕ, ◌+◌, ◌<◌, ◌≤◌, zero, suc, false, List, [], ◌∷◌, ◌++◌, Option, Some, None, IsTrue, length, get_or, refl, sym, ap, subst, ◌∙◌, append_assoc, arith}
+use Rattle.std.proofs.Common.{◌≡◌, inl, inr, ℕ, ◌+◌, ◌<◌, ◌≤◌, false, List, [], ◌∷◌, ◌++◌, Option, Some, None, IsTrue, length, get_or, refl, sym, ap, subst, ◌∙◌, append_assoc, arith}
 use Rattle.std.specs.Prelude.{MatchOption}
 use Rattle.std.proofs.lemmas.List.{append-nil}
 use Rattle.host_core.specs.Paths.{Path}
@@ -16,7 +16,7 @@ use Rattle.cleanup_stack.specs.declared.failed.Failed.{Failed}
 use Rattle.file_check.specs.Clashes.{owning}
 use Rattle.file_check.specs.Sound.{AllSound, IsFirstFault}
 use Rattle.file_lists.specs.Filed.{Filed}
-use Rattle.file_lists.specs.Writing.{IsListReady, list_file, list_text, with_list}
+use Rattle.file_lists.specs.Writing.{list_file, list_text, with_list}
 use Rattle.file_steps.specs.Unpacked.{IsRearranged}
 use Rattle.file_works.specs.declared.work.Work.{Work}
 use Rattle.file_works.specs.Files.{Each}
@@ -25,7 +25,7 @@ use Rattle.file_works.specs.Names.{AllInOrder, IsNamed}
 use Rattle.file_writing.specs.Back.{CanGoBack}
 use Rattle.status_db.specs.Held.{HasRecords}
 use Rattle.status_db.specs.Recorded.{Recorded}
-use Rattle.unpack_moves.specs.Listing.{HasUnlisted, MayList, MayUnlist}
+use Rattle.unpack_moves.specs.Listing.{HasUnlisted, MayUnlist}
 use Rattle.unpack_rows.proofs.Growth.{notes_put_back, notes_worked}
 use Rattle.unpack_rows.proofs.Staging.{marked, stage_before, stage_failed, stage_put_back, stage_wrote}
 use Rattle.unpack_rows.specs.Notes.{noted, notes_at}
@@ -38,15 +38,11 @@ use Rattle.unpack_run.specs.At.{AreWorksAt, At, HasFault, IsAmid, IsFileFault, I
 use Rattle.unpack_run.specs.FileMoves.{HasWrittenRow, MayWriteRow, places_before, places_of}
 use Rattle.unpack_run.specs.Follows.{follows_none}
 use Rattle.unpack_run.specs.Task.{IsFileRow, Task, all_places, kinds, lists_at, name, places_at}
-use Rattle.unpack_run.specs.Trail.{AreOrdered, Follows, HasCome, HasFiles, HasGoneBack}
+use Rattle.unpack_run.specs.Trail.{AreOrdered, Follows, HasCome, HasFiles}
 use Rattle.unpack_run.proofs.FileWorlds.{home_before, still_written}
 use Rattle.unpack_run.proofs.Rearranged.{length_rearranged, named_rearranged, places_cut, places_enough}
+use Rattle.unpack_run.proofs.RowKinds.{kind_at}
 use Rattle.unpack_run.proofs.Standing.{Stands, listed_stands, listing_stands, unlisted_stands, unlisting_stands}
-
-kind_there : (l : List RowKind) (i : ℕ) → i < length l → (k : RowKind) × (k ≡ get_or l i k)
-kind_there [] i within = absurd (omega (arith, within))
-kind_there (x ∷ l) zero within = (x, refl)
-kind_there (x ∷ l) (suc i) within = kind_there l i (omega (arith, within))
 
 list_is_file : (paths : List Path) → IsFile (list_file paths)
 list_is_file paths = (list_text paths, own_access 0o644, refl)
@@ -90,16 +86,16 @@ module _ (t : Task) (d : Recorded) (lists : Filed) (places : List Path) (works :
     at_next : (filed : Filed) (now : List Path) (ordered : List Work) → notes_at t.found t.incoming (kinds t) next ≡ notes_at t.found t.incoming (kinds t) place
         → IsWithin (length (kinds t)) next → filed.lists ≡ lists_at t stage → filed.closed ≡ false → now ≡ places_at t stage → AreWorksAt t next stage ordered
         → (IsTrue u.honest → Stands d.records d.notes (name t) u.world) → (IsTrue u.honest → HasCome t stage ordered (changes_of at.since) u.world) → At t (holding d filed now ordered) u next
-    at_next filed now ordered notes within lists_are open places_are works_are stands came =
+    at_next filed now ordered notes within lists_are opened places_are works_are stands came =
         let none = silent_added s u moments.added silent moments.events in
         record {
           sound = at.sound;
           falls = λ h. at.falls (silent.honest h);
           within = within;
           records = at.records ∙ ap (noted t.records) (sym notes);
-          open = at.open;
+          opened = at.opened;
           lists = lists_are ∙ ap (lists_at t) (sym stage_is);
-          lists_open = open;
+          lists_open = opened;
           places = places_are ∙ ap (places_at t) (sym stage_is);
           works = subst (λ st. AreWorksAt t next st ordered) (sym stage_is) works_are;
           since = at.since ++ moments.added;
@@ -116,11 +112,11 @@ module _ (t : Task) (d : Recorded) (lists : Filed) (places : List Path) (works :
 -- the work of the file row
 
 module _ (t : Task) (d : Recorded) (lists : Filed) (places : List Path) (works : List Work) (s : State) (i : ℕ) (row : IsFileRow (kinds t) i) (at : At t (holding d lists places works) s (Forward i)) where
-  k : RowKind
-  k = (kind_there (kinds t) i row.0).0
+  abbrev k : RowKind
+  k = (kind_at (kinds t) i row.0).0
 
   k_is : k ≡ get_or (kinds t) i k
-  k_is = (kind_there (kinds t) i row.0).1
+  k_is = (kind_at (kinds t) i row.0).1
 
   files : k ≡ Files
   files = row.1 k k_is
@@ -222,11 +218,11 @@ module _ (t : Task) (d : Recorded) (lists : Filed) (places : List Path) (works :
 
 module _ (t : Task) (d : Recorded) (lists : Filed) (places : List Path) (works : List Work) (s : State) (i : ℕ) (fall : Fall) (failed : List Failed) (row : IsFileRow (kinds t) i) (less : i < fall.row)
     (at : At t (holding d lists places works) s (Back (i + 1) fall failed)) where
-  kind : RowKind
-  kind = (kind_there (kinds t) i row.0).0
+  abbrev kind : RowKind
+  kind = (kind_at (kinds t) i row.0).0
 
   kind_is : kind ≡ get_or (kinds t) i kind
-  kind_is = (kind_there (kinds t) i row.0).1
+  kind_is = (kind_at (kinds t) i row.0).1
 
   are_files : kind ≡ Files
   are_files = row.1 kind kind_is
@@ -267,9 +263,9 @@ module _ (t : Task) (d : Recorded) (lists : Filed) (places : List Path) (works :
         (omega (arith, less), at.within.1) (ap (λ (f : Filed). f.lists) filed_is ∙ ap (with_list (name t) t.listed) (at.lists ∙ ap (lists_at t) wrote)) (ap (λ (f : Filed). f.closed) filed_is ∙ at.lists_open)
         (now_is ∙ ap (λ (l : List Path). places_before l works) places_there ∙ places_cut t.places t.works works as_many) ordered_there
         (λ h.
-            let has = came_there (silent.honest h) in
-            unlisted_stands d.records d.notes (name t) works ordered_there.named (list_file t.listed) (list_is_file t.listed) s.world u.world (stands_here t d lists places works s (Back (i + 1) fall failed) at (silent.honest h))
-            has.listed.mid (from_there has) (home_before t works (changes_of at.since) s.world has) (undone h))
+        let has = came_there (silent.honest h) in
+        unlisted_stands d.records d.notes (name t) works ordered_there.named (list_file t.listed) (list_is_file t.listed) s.world u.world (stands_here t d lists places works s (Back (i + 1) fall failed) at (silent.honest h))
+        has.listed.mid (from_there has) (home_before t works (changes_of at.since) s.world has) (undone h))
         (λ h. record {
           early = changes_of at.since;
           late = [];

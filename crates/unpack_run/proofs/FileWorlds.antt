@@ -1,5 +1,5 @@
 -- The files that the file row wrote stay while scripts are called and records are noted.
-use Rattle.std.proofs.Common.{◌≡◌, List, Bool, true, false, Contains, refl, sym, subst, ◌∙◌}
+use Rattle.std.proofs.Common.{◌≡◌, List, true, false, Contains, refl, sym, subst, ◌∙◌}
 use Rattle.std.proofs.lemmas.Bool.{false_from_ne_true}
 use Rattle.host_core.specs.Paths.{Path}
 use Rattle.host_core.specs.World.{World, Change, IsDirectory, is_kept}

@@ -1,9 +1,7 @@
 -- The hooks of an unpack's rows: each leads to the next place.
-use Rattle.std.proofs.Common.{◌≡◌, ◌≢◌, ℕ, ◌+◌, ◌<◌, ◌≤◌, Bool, true, false, cond, ◌||◌, List, [], ◌∷◌, ◌++◌, Option, Some, None, IsTrue, Result, Ok, Err, OnOk, length, get_or, refl, sym, ap, subst, ◌∙◌, arith}
+use Rattle.std.proofs.Common.{◌≡◌, ℕ, ◌+◌, ◌<◌, ◌≤◌, Bool, true, false, cond, ◌||◌, List, [], ◌++◌, Option, Result, Ok, Err, OnOk, length, get_or, refl, sym, ap, ◌∙◌, arith}
 use Rattle.std.proofs.lemmas.List.{append-nil}
-use Rattle.host_core.specs.World.{World}
-use Rattle.host_core.specs.Events.{Event}
-use Rattle.host_core.specs.Host.{State, AtEachMoment, Leaves, Silent, Since}
+use Rattle.host_core.specs.Host.{State, AtEachMoment, Leaves, Silent}
 use Rattle.host_core.specs.declared.fault.HostFault.{HostFault}
 use Rattle.unwind_stack.specs.declared.fall.Fall.{Fall}
 use Rattle.unwind_stack.specs.declared.rows.Owner.{Owner}
@@ -13,11 +11,10 @@ use Rattle.cleanup_stack.specs.Stops.{AtEachStop}
 use Rattle.status_db.specs.Noting.{IsNoted, IsNoting}
 use Rattle.status_db.specs.Recorded.{Recorded}
 use Rattle.unpack_rows.specs.Failures.{has_failed}
-use Rattle.unpack_rows.specs.Kinds.{own_of, owner_of}
+use Rattle.unpack_rows.specs.Kinds.{owner_of}
 use Rattle.unpack_rows.specs.Notes.{listed, note_before, note_undone, noted, notes_at}
-use Rattle.unpack_rows.specs.Stages.{Stage, is_files, stage_of}
+use Rattle.unpack_rows.specs.Stages.{is_files, stage_of}
 use Rattle.unpack_rows.specs.declared.kinds.RowKind.{RowKind}
-use Rattle.unpack_rows.specs.declared.kinds.RowKind.TheVariants.{Files}
 use Rattle.unpack_rows.specs.declared.notes.Note.{Note}
 use Rattle.unpack_rows.proofs.Growth.{notes_called, notes_put_back, notes_ready, notes_undone}
 use Rattle.unpack_rows.proofs.Staging.{stage_called, stage_spared, stage_undone}
@@ -34,10 +31,10 @@ Leads t g s p r entry = IsWithin (length (kinds t)) r × (stage_of (kinds t) r �
     × (notes_at t.found t.incoming (kinds t) r ≡ notes_at t.found t.incoming (kinds t) p ++ listed entry)
 
 module _ (t : Task) (g : Holding) (s u : State) (p r : Place) (entry : Option Note) (at : At t g s p) (leads : Leads t g s p r entry) (silent : Silent s u) where
-  pub noted_place : {T : Type 0} (result : Result T HostFault) (now : Recorded) (P : List Event → World → Type 0) → Since P s u → OnOk result (now.records ≡ noted g.database.records (listed entry)) → OnOk result (now.closed ≡ false)
+  pub noted_place : {T : Type 0} (result : Result T HostFault) (now : Recorded) → AtEachMoment (IsNoting g.database.records (noted g.database.records (listed entry))) s u → OnOk result (now.records ≡ noted g.database.records (listed entry)) → OnOk result (now.closed ≡ false)
       → Leaves result (IsNoted now) s u → OnOk result (At t (record g { database = now }) u r)
-  noted_place (Ok x) now P since is opened has = at_noted t g s p r leads.0 leads.1 leads.2 at u entry leads.3 silent now P is opened since has
-  noted_place (Err e) now P since is opened has = tt
+  noted_place (Ok x) now since is opened has = at_noted t g s p r leads.0 leads.1 leads.2 at u entry leads.3 silent now (λ so_far. IsNoting g.database.records (noted g.database.records (listed entry)) s.world) is opened since has
+  noted_place (Err e) now since is opened has = tt
 
   pub noted_moments : AtEachMoment (IsNoting g.database.records (noted g.database.records (listed entry))) s u → AtEachStop (Stops t) s u
   noted_moments since = noting_stops t g s p r leads.0 leads.1 leads.2 at u entry leads.3 silent since

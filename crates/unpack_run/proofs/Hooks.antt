@@ -1,13 +1,12 @@
 -- From one place of the rows to the next, with a note or with nothing.
-use Rattle.std.proofs.Common.{◌≡◌, ◌≢◌, inl, inr, ℕ, ◌<◌, false, List, [], ◌∷◌, ◌++◌, Option, Some, None, IsTrue, length, refl, sym, ap, subst, ◌∙◌, append_assoc}
+use Rattle.std.proofs.Common.{◌≡◌, inl, inr, false, List, [], ◌∷◌, ◌++◌, Option, IsTrue, length, refl, sym, ap, subst, ◌∙◌, append_assoc}
 use Rattle.std.proofs.lemmas.List.{append-nil}
-use Rattle.host_core.specs.Paths.{Path}
-use Rattle.host_core.specs.World.{World, is_kept}
+use Rattle.host_core.specs.World.{Change, World, is_kept}
 use Rattle.host_core.specs.Events.{Event, changes_of, scripts_of}
 use Rattle.host_core.specs.Host.{State, AtEachMoment, Silent, Since}
 use Rattle.host_core.specs.Moments.{scripts_of-append}
 use Rattle.host_core.specs.Scripts.{changes_of-append, no_change, only_start, silent_added}
-use Rattle.cleanup_stack.specs.Place.{Back, Forward, Place, Ready, called}
+use Rattle.cleanup_stack.specs.Place.{Place}
 use Rattle.cleanup_stack.specs.Stops.{AtEachStop, stops_quiet}
 use Rattle.file_works.specs.declared.work.Work.{Work}
 use Rattle.status_db.specs.Held.{HasRecords}
@@ -19,7 +18,7 @@ use Rattle.unpack_rows.specs.Notes.{listed, noted, notes_at}
 use Rattle.unpack_rows.specs.Stages.{Stage, Unwritten, Wrote, Restored, stage_of}
 use Rattle.unpack_rows.specs.declared.notes.Note.{Note}
 use Rattle.unpack_rows.specs.declared.notes.Note.TheVariants.{Put, Drop}
-use Rattle.unpack_run.specs.At.{AreFound, AreWorksAt, At, Holding, IsThere, IsWithin, Stops, table_at}
+use Rattle.unpack_run.specs.At.{AreFound, AreWorksAt, At, Holding, IsWithin, Stops, table_at}
 use Rattle.unpack_run.specs.Follows.{come_noted, ready_noted}
 use Rattle.unpack_run.specs.Stays.{holds_at, stop_at}
 use Rattle.unpack_run.specs.Task.{Task, kinds, lists_at, name, places_at}
@@ -51,8 +50,8 @@ module _ (t : Task) (g : Holding) (s : State) (p r : Place) (within : IsWithin (
   works_now : AreWorksAt t r (stage_of (kinds t) r) g.works
   works_now = subst (λ st. AreWorksAt t r st g.works) (sym stage) (works_move t p r (stage_of (kinds t) p) g.works found at.works)
 
-  came_now : {c : List (Path × Option _)} {w : World} → HasCome t (stage_of (kinds t) p) g.works c w → HasCome t (stage_of (kinds t) r) g.works c w
-  came_now has = subst (λ st. HasCome t st g.works _ _) (sym stage) has
+  came_now : (c : Change) (w : World) → HasCome t (stage_of (kinds t) p) g.works c w → HasCome t (stage_of (kinds t) r) g.works c w
+  came_now c w has = subst (λ st. HasCome t st g.works c w) (sym stage) has
 
   -- with nothing noted
   pub at_moves : notes_at t.found t.incoming (kinds t) r ≡ notes_at t.found t.incoming (kinds t) p → At t g s r
@@ -61,7 +60,7 @@ module _ (t : Task) (g : Holding) (s : State) (p r : Place) (within : IsWithin (
     falls = at.falls;
     within = within;
     records = at.records ∙ ap (noted t.records) (sym notes);
-    open = at.open;
+    opened = at.opened;
     lists = at.lists ∙ ap (lists_at t) (sym stage);
     lists_open = at.lists_open;
     places = at.places ∙ ap (places_at t) (sym stage);
@@ -70,7 +69,7 @@ module _ (t : Task) (g : Holding) (s : State) (p r : Place) (within : IsWithin (
     events = at.events;
     ran = at.ran;
     ended = at.ended;
-    world = λ h. record { kept = (at.world h).kept; ready = (at.world h).ready; came = came_now (at.world h).came };
+    world = λ h. record { kept = (at.world h).kept; ready = (at.world h).ready; came = came_now (changes_of at.since) s.world (at.world h).came };
   }
 
   -- with one note, or none
@@ -83,14 +82,14 @@ module _ (t : Task) (g : Holding) (s : State) (p r : Place) (within : IsWithin (
 
     pub at_noted : (now : Recorded) (P : List Event → World → Type 0) → now.records ≡ noted g.database.records (listed entry) → now.closed ≡ false → Since P s u → (IsTrue u.honest → IsNoted now s.world u.world)
         → At t (record g { database = now }) u r
-    at_noted now P is opened moments has =
+    at_noted now P is still_open moments has =
         let none = silent_added s u moments.added silent moments.events in
         record {
           sound = at.sound;
           falls = λ h. at.falls (silent.honest h);
           within = within;
           records = is ∙ sym next_table;
-          open = opened;
+          opened = still_open;
           lists = at.lists ∙ ap (lists_at t) (sym stage);
           lists_open = at.lists_open;
           places = at.places ∙ ap (places_at t) (sym stage);
@@ -106,7 +105,7 @@ module _ (t : Task) (g : Holding) (s : State) (p r : Place) (within : IsWithin (
                 kept = noted_now.kept;
                 ready = ready_noted (name t) s.world u.world noted_now.rest there.ready;
                 came = subst (λ c. HasCome t (stage_of (kinds t) r) g.works c u.world) (sym (same_change moments.added none))
-                    (came_now (come_noted t g.works (changes_of at.since) s.world u.world (stage_of (kinds t) p) noted_now.rest there.came));
+                    (came_now (changes_of at.since) u.world (come_noted t g.works (changes_of at.since) s.world u.world (stage_of (kinds t) p) noted_now.rest there.came));
               };
         }
 
@@ -118,7 +117,7 @@ module _ (t : Task) (g : Holding) (s : State) (p r : Place) (within : IsWithin (
         let came = subst (λ c. HasCome t (stage_of (kinds t) p) g.works c w) (sym (same_change so_far none)) (come_noted t g.works (changes_of at.since) s.world w (stage_of (kinds t) p) is.rest there.came) in
         elim is.records [
           | inl before ↦ stop_at t p g.works (at.since ++ so_far) (s.events ++ so_far) w at.within events (subst (HasRecords w) at.records before) is.opens ready at.works came
-          | inr after ↦ stop_at t r g.works (at.since ++ so_far) (s.events ++ so_far) w within events (subst (HasRecords w) (sym next_table) after) is.opens ready works_now (came_now came)
+          | inr after ↦ stop_at t r g.works (at.since ++ so_far) (s.events ++ so_far) w within events (subst (HasRecords w) (sym next_table) after) is.opens ready works_now (came_now (changes_of (at.since ++ so_far)) w came)
         ]
 
     pub noting_stops : AtEachMoment (IsNoting g.database.records (noted g.database.records (listed entry))) s u → AtEachStop (Stops t) s u

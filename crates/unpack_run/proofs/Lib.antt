@@ -1,9 +1,10 @@
-pub mod Answering
-pub mod FileRow
+pub mod Standing
+pub mod Rearranged
 pub mod FileWorlds
-pub mod HookRows
+pub mod FileRow
+pub mod Answering
+pub mod RowKinds
 pub mod Hooks
 pub mod Notables
-pub mod Rearranged
-pub mod RowKinds
-pub mod Standing
+pub mod HookRows
+pub mod Begins

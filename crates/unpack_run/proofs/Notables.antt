@@ -1,5 +1,5 @@
 -- Each note beside the rows can be written.
-use Rattle.std.proofs.Common.{◌≡◌, ℕ, ◌<◌, zero, suc, Bool, true, false, cond, List, [], ◌∷◌, ◌++◌, Option, Some, None, length, get_or, map, refl, sym, ap, subst, ◌∙◌, arith}
+use Rattle.std.proofs.Common.{◌≡◌, ℕ, ◌<◌, zero, suc, Bool, true, false, cond, List, [], ◌∷◌, ◌++◌, Option, Some, None, length, get_or, map, refl, sym, subst, ◌∙◌, arith}
 use Rattle.std.specs.Str.{bytes_eq}
 use Rattle.status_db.specs.Records.{AreStanding, record_in}
 use Rattle.status_db.specs.Words.{is_not_installed}
@@ -9,7 +9,7 @@ use Rattle.unpack_rows.specs.Kinds.{first_kinds, has_prerm, is_upgrade, kinds_of
 use Rattle.unpack_rows.specs.Notes.{as_before, note_before, note_undone, unpacked}
 use Rattle.unpack_rows.specs.declared.kinds.RowKind.{RowKind}
 use Rattle.unpack_rows.specs.declared.kinds.RowKind.TheVariants.{Prerm, Other, Preinst, Files, Postrm}
-use Rattle.unpack_rows.specs.declared.notes.Note.TheVariants.{Put, Drop}
+use Rattle.unpack_rows.specs.declared.notes.Note.TheVariants.{Put}
 use Rattle.unpack_run.specs.Notable.{IsNotable}
 
 some_is : (a b : Record) → Some a ≡ Some b → a ≡ b
@@ -24,7 +24,7 @@ pub found_standing : (rs : List Record) (q : List ℕ) (r : Record) → AreStand
 found_standing [] q r are is = absurd cc
 found_standing (x ∷ rs) q r are is = standing_at (bytes_eq x.name q) x r (record_in rs q) are.0 (found_standing rs q r are.1) is
 
-each_kind : (RowKind → Type 0) → List RowKind → Type 0
+abbrev each_kind : (RowKind → Type 0) → List RowKind → Type 0
 each_kind P [] = Unit {0}
 each_kind P (k ∷ ks) = P k × each_kind P ks
 
@@ -38,7 +38,7 @@ each_at P (x ∷ ks) zero k all within at = subst P (sym at) all.0
 each_at P (x ∷ ks) (suc i) k all within at = each_at P ks i k all.1 (omega (arith, within)) at
 
 module _ (start : Option Record) (incoming : Record) where
-  IsNoted : RowKind → Type 0
+  abbrev IsNoted : RowKind → Type 0
   IsNoted k = IsNotable (note_undone start incoming k)
 
   before_is : (o : Option Record) → ((r : Record) → o ≡ Some r → is_not_installed r.state ≡ false) → IsNotable (Some (as_before start incoming o))

@@ -1,5 +1,5 @@
 -- What holds of works holds of them in another order, and whatever was seen of them.
-use Rattle.std.proofs.Common.{◌≡◌, ◌⊎◌, ◌-◌, ◌≤◌, ℕ, Bool, List, [], ◌∷◌, ◌++◌, map, take, length, Contains, refl, sym, ap, subst, ◌∙◌, arith}
+use Rattle.std.proofs.Common.{◌≡◌, ◌-◌, ◌≤◌, Bool, List, [], ◌∷◌, ◌++◌, map, take, length, Contains, refl, sym, ap, subst, ◌∙◌, arith}
 use Rattle.std.specs.Prelude.{◌||◌, ◌&&◌}
 use Rattle.std.specs.Str.{bytes_eq}
 use Rattle.std.proofs.Math.Seq.{take-append_seam}
@@ -11,7 +11,7 @@ use Rattle.host_core.specs.World.{World, kind_of}
 use Rattle.file_check.specs.Clashes.{Owning}
 use Rattle.file_check.specs.Index.{makes_directory, is_made, is_place, is_twice}
 use Rattle.file_check.specs.Ready.{unseen, IsSameBut}
-use Rattle.file_check.specs.Sound.{AllSound, AreSound, IsSound}
+use Rattle.file_check.specs.Sound.{AllSound, AreSound}
 use Rattle.file_check.proofs.WorkLists.{named_seen, named_unseen}
 use Rattle.file_steps.specs.Unpacked.{IsRearranged}
 use Rattle.file_steps.proofs.Permuting.{each_permuted}

@@ -1,7 +1,7 @@
 -- Which kind a row has.
 use Rattle.std.proofs.Common.{◌≡◌, ℕ, ◌<◌, zero, suc, false, List, [], ◌∷◌, length, get_or, refl, sym, ◌∙◌, arith}
 use Rattle.unwind_stack.specs.declared.rows.Owner.{Owner}
-use Rattle.unwind_stack.specs.declared.rows.Owner.TheVariants.{Package as OfPackage, Files as OfFiles}
+use Rattle.unwind_stack.specs.declared.rows.Owner.TheVariants.{Files as OfFiles}
 use Rattle.unwind_stack.specs.declared.rows.Row.{Row}
 use Rattle.unpack_rows.specs.ForwardRows.{Fits}
 use Rattle.unpack_rows.specs.Kinds.{owner_of}

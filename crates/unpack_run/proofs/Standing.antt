@@ -1,5 +1,5 @@
 -- The administration stands while the list and the files of a package are written or put back.
-use Rattle.std.proofs.Common.{◌≡◌, ◌≢◌, ◌⊎◌, inl, inr, ℕ, Bool, true, false, List, [], ◌∷◌, ◌++◌, Some, IsTrue, codes, nat_eq, refl, sym, ap, subst, ◌∙◌}
+use Rattle.std.proofs.Common.{◌≡◌, ◌≢◌, ◌⊎◌, inl, inr, ℕ, Bool, true, false, List, [], ◌∷◌, ◌++◌, Some, codes, nat_eq, refl, sym, ap, subst, ◌∙◌}
 use Rattle.std.specs.Prelude.{◌||◌}
 use Rattle.std.specs.List.{list_any, starts_with}
 use Rattle.std.specs.Str.{bytes_eq}
@@ -8,15 +8,13 @@ use Rattle.std.proofs.lemmas.Slice.Eq.{bytes_eq-Decides}
 use Rattle.host_core.specs.Paths.{Path, is_below_administration}
 use Rattle.host_core.specs.World.{World, IsDirectory, IsFile}
 use Rattle.host_core.specs.declared.node.Node.{Node}
-use Rattle.host_core.specs.declared.suffix.Suffix.TheVariants.{Tmp, Inst}
-use Rattle.host_core.specs.Suffixes.{suffix_text}
 use Rattle.administration.specs.Files.{KeepsBesideFile, NoDirectory, IsReplaced, IsReplacing}
 use Rattle.administration.specs.Places.{home_path, info_path, list_path, status_path, temporary, updates_path}
 use Rattle.administration.proofs.WholeFiles.{no_directory_at, no_directory_file, no_directory_none}
 use Rattle.administration.proofs.Within.{rest_of}
 use Rattle.file_lists.specs.Writing.{IsListReady}
 use Rattle.file_works.specs.declared.work.Work.{Work}
-use Rattle.file_works.specs.Files.{Each, Misses, HasPutBack, PutBack, IsWhole, before, between, behind, IsAmid, is_written}
+use Rattle.file_works.specs.Files.{Each, Misses, HasPutBack, PutBack, IsWhole, before, between, behind, IsAmid}
 use Rattle.file_works.specs.Free.{IsWrittenFrom}
 use Rattle.file_works.specs.Names.{IsNamed}
 use Rattle.file_writing.proofs.Written.{keeps_directory, written_amid}
@@ -51,9 +49,9 @@ module _ (rs : List Record) (notes : ℕ) (name : List ℕ) (v now : World) wher
   list_still : KeepsBesideFile (list_path name) v now → NoDirectory (now (list_path name)) → NoDirectory (now (temporary (list_path name))) → Stands rs notes name v → Stands rs notes name now
   list_still rest target spare stands =
       let still : (q : Path) → bytes_eq (list_path name) q ≡ false → bytes_eq (temporary (list_path name)) q ≡ false → now q ≡ v q =
-          λ q list side. rest q (λ e. apart_by (list_path name) q list (sym e)) (λ e. apart_by (temporary (list_path name)) q side (sym e)) in
+      λ q list side. rest q (λ e. apart_by (list_path name) q list (sym e)) (λ e. apart_by (temporary (list_path name)) q side (sym e)) in
       let records : (q : Path) → is_record_place q ≡ true → now q ≡ v q =
-          λ q is. rest q (λ e. true≢false (sym is ∙ ap is_record_place e)) (λ e. true≢false (sym is ∙ ap is_record_place e)) in
+      λ q is. rest q (λ e. true≢false (sym is ∙ ap is_record_place e)) (λ e. true≢false (sym is ∙ ap is_record_place e)) in
       record {
         kept = kept_on v now rs notes records (subst IsDirectory (sym (still home_path refl refl)) stands.kept.unblocked.home)
             (subst IsDirectory (sym (still updates_path refl refl)) stands.kept.unblocked.updates) stands.kept;

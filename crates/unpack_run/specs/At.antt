@@ -69,7 +69,7 @@ pub record At (t : Task) (g : Holding) (s : State) (place : Place) : Type 0 wher
   pub falls : Falls t.start s
   pub within : IsWithin (length (kinds t)) place
   pub records : g.database.records ≡ table_at t place
-  pub open : g.database.closed ≡ false
+  pub opened : g.database.closed ≡ false
   pub lists : g.lists ≡ lists_at t (stage_of (kinds t) place)
   pub lists_open : g.lists_closed ≡ false
   pub places : g.places ≡ places_at t (stage_of (kinds t) place)

@@ -2,21 +2,22 @@
 use Rattle.std.specs.Prelude.{◌≡◌, ◌||◌, ℕ, Bool, true, false, List, [], ◌∷◌, ◌++◌, codes, nat_eq}
 use Rattle.std.specs.List.{list_any, starts_with}
 use Rattle.std.specs.Str.{bytes_eq}
-use Rattle.std.proofs.Common.{IsTrue, refl, sym, ◌∙◌, ap, subst, append_assoc}
-use Rattle.std.proofs.lemmas.List.{append-nil, map-append}
+use Rattle.std.proofs.Common.{refl, sym, ◌∙◌, ap, subst, append_assoc}
+use Rattle.std.proofs.lemmas.Bool.{true≢false}
+use Rattle.std.proofs.lemmas.List.{append-nil}
 use Rattle.std.proofs.lemmas.Slice.Eq.{bytes_eq-Decides}
-use Rattle.host_core.specs.Paths.{Path, is_own, is_owned_by, own_places}
+use Rattle.host_core.specs.Paths.{Path, is_named_by, is_own, is_owned_by, own_places}
 use Rattle.host_core.specs.World.{World, Change, changed, Avoids, IsDirectory, KeepsBut, SameOn, is_kept}
 use Rattle.host_core.specs.Events.{Event, Finished, Ran, changes_of, follow_all, scripts_of}
 use Rattle.host_core.specs.Host.{finished}
-use Rattle.host_core.specs.Scripts.{Avoids-append, changed-append, changed_at, changed_kept}
+use Rattle.host_core.specs.Scripts.{Avoids-append, changed-append, changed_at}
 use Rattle.administration.specs.Files.{NoDirectory}
 use Rattle.administration.specs.Places.{home_path, info_path, list_path, status_path, temporary, updates_path}
 use Rattle.file_lists.specs.Writing.{IsListReady}
 use Rattle.file_works.specs.declared.work.Work.{Work}
 use Rattle.status_db.specs.Held.{AreKept, is_record_place}
 use Rattle.status_db.specs.declared.record.Record.{Record}
-use Rattle.status_db.proofs.NotedWorlds.{kept_on, records_on}
+use Rattle.status_db.proofs.NotedWorlds.{kept_on}
 use Rattle.unpack_rows.specs.Stages.{Stage, Unwritten, Wrote, Restored}
 use Rattle.unpack_run.specs.Task.{Task, all_places, places_at}
 use Rattle.unpack_run.specs.Trail.{Follows, HasCome, HasFiles, HasGoneBack}
@@ -96,14 +97,14 @@ own_note q below = true_or (bytes_eq q (codes "/var/lib/dpkg")) (list_any (is_ow
   where
     or_first : (a b : Bool) → a ≡ true → a || b ≡ true
     or_first true b is = refl
-    or_first false b is = is
+    or_first false b is = absurd (true≢false (sym is))
 
 pub own_record : (q : Path) → is_record_place q ≡ true → is_own q ≡ true
 own_record q = or_cases (bytes_eq q status_path) _ (is_own q) (own_is status_path q refl)
     (or_cases (bytes_eq q (temporary status_path)) _ (is_own q) (own_is (temporary status_path) q refl) (own_note q))
 
 kept_own : (places : List Path) (q : Path) → is_own q ≡ true → is_kept places q ≡ true
-kept_own places q own = ap (λ b. b || _) own
+kept_own places q own = ap (λ b. b || list_any (is_named_by q) places) own
 
 no_directory : (v w : World) (q : Path) → w q ≡ v q → NoDirectory (v q) → NoDirectory (w q)
 no_directory v w q same none is = none (subst IsDirectory same is)

@@ -1,13 +1,12 @@
 -- What holds at a place while scripts run there.
-use Rattle.std.specs.Prelude.{◌≡◌, List, [], ◌++◌, true}
+use Rattle.std.specs.Prelude.{◌≡◌, List, ◌++◌, length}
 use Rattle.std.proofs.Common.{IsTrue, refl, sym, ◌∙◌, ap, subst, append_assoc}
 use Rattle.std.proofs.lemmas.List.{map-append}
-use Rattle.host_core.specs.Paths.{Path}
-use Rattle.host_core.specs.World.{World, Change, SameOn, changed, is_kept}
+use Rattle.host_core.specs.World.{World, Avoids, Change, SameOn, changed, is_kept}
 use Rattle.host_core.specs.Events.{Event, Finished, Ran, changes_of, scripts_of}
 use Rattle.host_core.specs.Host.{State, Calls, OnlyScripts, finished}
 use Rattle.host_core.specs.Moments.{scripts_of-append}
-use Rattle.host_core.specs.Scripts.{changed_kept, changes_of-append, only_kept}
+use Rattle.host_core.specs.Scripts.{changed_kept, changes_of-append}
 use Rattle.cleanup_stack.specs.Place.{Place}
 use Rattle.file_lists.specs.Writing.{IsListReady}
 use Rattle.file_works.specs.declared.work.Work.{Work}
@@ -17,8 +16,8 @@ use Rattle.unpack_rows.specs.Stages.{Stage, Unwritten, Wrote, Restored, stage_of
 use Rattle.unpack_rows.proofs.Staging.{marked}
 use Rattle.unpack_run.specs.At.{AreWorksAt, At, Holding, IsAmid, IsMarked, IsThere, IsWithin, Stops, table_at}
 use Rattle.unpack_run.specs.Follows.{come_then, follow_finished, follows_scripts, ready_kept, records_kept, scripts_of-finished}
-use Rattle.unpack_run.specs.Task.{Task, kinds, name}
-use Rattle.unpack_run.specs.Trail.{AreOrdered, HasCome}
+use Rattle.unpack_run.specs.Task.{Task, kinds, name, places_at}
+use Rattle.unpack_run.specs.Trail.{Follows, HasCome}
 
 -- what a stop shows of the files in each stage
 amid_at : (t : Task) (place : Place) (stage : Stage) (works : List Work) (table : List Record) (c : Change) (w : World)
@@ -57,7 +56,7 @@ stays_at t g s u place us at calls = record {
   falls = λ h. at.falls (calls.goes.honest h);
   within = at.within;
   records = at.records;
-  open = at.open;
+  opened = at.opened;
   lists = at.lists;
   lists_open = at.lists_open;
   places = at.places;

@@ -70,7 +70,7 @@ impl<'a, 's, H: Host> Around<H> for Unpacking<'a, 's, H> {
     }
 
     fn prepare(&mut self, host: &mut H, _row: &Row, index: usize) -> Result<(), HostFault> {
-        let kind = &self.plan.kinds[index];
+        let kind = self.plan.kind(index);
         let entry = note_before(self.plan.found.as_ref(), &self.plan.incoming, kind)?;
         write_note(self.alloc, host, self.database, entry)
     }
@@ -106,7 +106,7 @@ impl<'a, 's, H: Host> Around<H> for Unpacking<'a, 's, H> {
         if is_spared(fails, index, &row.owner, failed) {
             return Ok(());
         }
-        let kind = &self.plan.kinds[index];
+        let kind = self.plan.kind(index);
         let entry = note_undone(self.plan.found.as_ref(), &self.plan.incoming, kind)?;
         write_note(self.alloc, host, self.database, entry)
     }

@@ -32,7 +32,8 @@ pub(crate) fn write_row<H: Host>(
     ensures silent { Silent (H.state host.old) (H.state host.new) }
     ensures counts { Counts (H.state host.old) (H.state host.new) result }
 {
-    let _index = index;
+    // It stands in the clauses alone.
+    let _ = index;
     check_and_write(
         unpacking.alloc,
         host,
@@ -65,7 +66,10 @@ pub(crate) fn restore_row<H: Host>(
     ensures silent { Silent (H.state host.old) (H.state host.new) }
     ensures counts { Counts (H.state host.old) (H.state host.new) result }
 {
-    let _at = (index, fall, failed);
+    // They stand in the clauses alone.
+    let _ = index;
+    let _ = fall;
+    let _ = failed;
     put_back(
         unpacking.alloc,
         host,

@@ -7,5 +7,7 @@ mod file_moves;
 mod files;
 mod notes;
 mod plan;
+mod run;
 
 pub use plan::Rows;
+pub use run::run_unpack_rows;

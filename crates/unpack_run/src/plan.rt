@@ -1,5 +1,5 @@
 // What is known before the rows of an unpack run.
-ghost use Rattle.std.specs.Prelude.{◌≡◌};
+ghost use Rattle.std.specs.Prelude.{◌≡◌, ◌<◌, get_or, length};
 ghost use Rattle.unpack_rows.specs.EndStates.{own_name};
 
 use file_lists::Paths;
@@ -33,5 +33,13 @@ impl Rows {
             None => &self.incoming.name,
             Some(record) => &record.name,
         }
+    }
+
+    pub(crate) fn kind(&self, index: usize) -> &RowKind
+        requires { index < length self.now.kinds.items }
+        ensures { result.now ≡ get_or self.now.kinds.items index result.now }
+    {
+        let kinds = self.kinds.as_slice();
+        &kinds[index]
     }
 }

@@ -47,6 +47,6 @@ returns-clause-read g c = λ h.
     let control = c.in_ok-control.ensures.read honest-1 in
     let contents = subst (λ (v : World). AreContents v c.read_contents.new.contents) same-1 (c.in_ok-read_contents.ensures.found honest-2) in
     let paths = subst HasGoodPaths same-1 (c.in_ok-read_contents.ensures.paths honest-2).0 in
-    let lines = subst (λ n. AreLinesOf (entries_at n) c.in_ok-lines.lines) contents.conffiles c.in_ok-lines.ensures in
+    let lines = subst (λ n. AreLinesOf (entries_at n) c.in_ok-lines.lines) contents.conffiles c.in_ok-lines.ensures.lines in
     let found = subst (λ (v : World). IsFound v c.read_found.new.found) same-2 (c.in_ok-read_found.ensures.found h) in
     c.assemble.ensures w control.0 control.1 control.2 contents paths lines found

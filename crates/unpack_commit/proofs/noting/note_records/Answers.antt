@@ -1,11 +1,11 @@
-use Rattle.std.proofs.Common.{◌≡◌, ◌+◌, take, refl, sym, ap, subst, rules, ◌∙◌}
+use Rattle.std.proofs.Common.{refl, sym, ap, subst, rules, ◌∙◌}
 use Rattle.std.proofs.lemmas.List.{take_all}
-use Rattle.host_core.specs.Moments.{since_now}
 use Rattle.control_members.proofs.Starting.{since_here}
 use Rattle.status_db.specs.Held.{HasRecords}
 use Rattle.status_db.specs.Records.{put_record}
 use Rattle.unpack_commit.specs.Takeover.{put_records}
 use Rattle.unpack_commit.proofs.NotedOnes.{noting_start, put_more, since_noting, some_noted, standing_at}
+use Rattle.unpack_commit.proofs.Parts.{on_err_as}
 use Rattle.unpack_commit.proofs.noting.note_records.Goals as goal
 
 pub loop-entry-init : goal.loop-entry-init
@@ -24,7 +24,8 @@ note_copy-requires-clause-stands g c = standing_at c.args.records.now c.loop-ent
 
 pub returns-in_err-note_copy-clause-err : goal.returns-in_err-note_copy-clause-err
 returns-in_err-note_copy-clause-err g c =
-    some_noted c.args.records.now c.args.database.now.records c.loop-entry.database.records _ c.loop-entry.entry-index c.loop-entry.invariant.records c.in_err-note_copy.ensures.same
+    on_err_as c.from_residual.result _
+    (some_noted c.args.records.now c.args.database.now.records c.loop-entry.database.records _ c.loop-entry.entry-index c.loop-entry.invariant.records c.in_err-note_copy.ensures.same)
 
 pub returns-in_err-note_copy-clause-any_moment : goal.returns-in_err-note_copy-clause-any_moment
 returns-in_err-note_copy-clause-any_moment g c =

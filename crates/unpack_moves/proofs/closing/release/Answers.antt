@@ -4,6 +4,7 @@ use Rattle.file_removal.specs.Clearing.{IsClearing}
 use Rattle.file_writing.proofs.WriteMoments.{on_ok}
 use Rattle.unpack_moves.specs.Closing.{MayRelease}
 use Rattle.unpack_moves.proofs.Moments.{at_each, then_at_each}
+use Rattle.unpack_moves.proofs.Closings.{spares_loose}
 use Rattle.unpack_moves.proofs.closing.release.Goals as goal
 
 pub returns-in_err-take_places-clause-any_moment : goal.returns-in_err-take_places-clause-any_moment
@@ -16,7 +17,14 @@ returns-in_err-take_places-clause-any_moment g c =
 
 pub returns-clause-released : goal.returns-clause-released
 returns-clause-released g c = λ h.
-    on_ok c.clear_names.result _ _ (λ is. record { mid = _; taken = c.in_ok-take_places.ensures.taken (c.clear_names.ensures.silent.honest h); cleared = is }) (c.clear_names.ensures.cleared h)
+    let h0 = c.clear_names.ensures.silent.honest h in
+    on_ok c.clear_names.result _ _
+    (λ is. record {
+      mid = _;
+      taken = c.in_ok-take_places.ensures.taken h0;
+      spares = spares_loose c.args.diversions.now.entries c.args.places.now c.args.from.now c.args.lists.now.lists _ _ c.take_places.ensures.any_moment h0;
+      cleared = is;
+    }) (c.clear_names.ensures.cleared h)
 
 pub returns-clause-any_moment : goal.returns-clause-any_moment
 returns-clause-any_moment g c =
@@ -26,4 +34,5 @@ returns-clause-any_moment g c =
     let had = c.args.lists.now.lists in
     let names = c.args.names.now in
     then_at_each (IsTaking entries places from had) (IsClearing names) (MayRelease entries places from had names) _ _ _ (λ now is. inl is)
-    (λ h now is. inr (_, c.in_ok-take_places.ensures.taken (c.clear_names.ensures.silent.honest h), is)) c.take_places.ensures.any_moment c.clear_names.ensures.any_moment
+    (λ h now is. (let h0 = c.clear_names.ensures.silent.honest h in
+    inr (_, c.in_ok-take_places.ensures.taken h0, spares_loose entries places from had _ _ c.take_places.ensures.any_moment h0, is))) c.take_places.ensures.any_moment c.clear_names.ensures.any_moment

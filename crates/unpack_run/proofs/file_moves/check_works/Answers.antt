@@ -1,9 +1,10 @@
-use Rattle.std.proofs.Common.{List, sym, subst, rules}
-use Rattle.std.specs.Prelude.{IfOk, IfNone}
+use Rattle.std.proofs.Common.{◌≡◌, List, sym, subst, rules}
+use Rattle.std.specs.Prelude.{IfOk, IfNone, IfSome, MatchOption}
 use Rattle.std.specs.List.{IsDistinct}
 use Rattle.host_core.specs.Host.{Tells}
-use Rattle.file_check.specs.Clashes.{owning}
+use Rattle.file_check.specs.Clashes.{Owning, owning}
 use Rattle.file_check.specs.Ready.{IsSameBut, is_one_place}
+use Rattle.file_check.specs.Sound.{AllSound, IsFirstFault}
 use Rattle.file_steps.proofs.Permuting.{written_back}
 use Rattle.file_works.specs.declared.work.Work.{Work}
 use Rattle.file_works.specs.Files.{Each}
@@ -45,6 +46,12 @@ returns-clause-distinct g c =
 
 pub returns-clause-judged : goal.returns-clause-judged
 returns-clause-judged g c = λ h.
-    let o = owning c.args.diversions.now.entries c.args.lists.now.lists c.args.plan.now.yields (own_name c.args.plan.now.found c.args.plan.now.incoming) in
-    let same = subst (λ (xs : List Work). IsSameBut xs c.check.new.works) c.as_mut_slice.ensures.value c.check.ensures.same_works in
-    judged_by o (g.H.Host.state c.args.host.now).world c.args.works.now.items c.check.new.works c.check.result same (c.check.ensures.sound h) (c.check.ensures.fault h)
+    let entries = c.args.diversions.now.entries in
+    let lists = c.args.lists.now.lists in
+    let w = (g.H.Host.state c.args.host.now).world in
+    let xs = c.args.works.now.items in
+    let same = subst (λ (ys : List Work). IsSameBut ys c.check.new.works) c.as_mut_slice.ensures.value c.check.ensures.same_works in
+    let is : owning entries lists c.as_slice.result.now c.name.result.now ≡ owning entries lists c.args.plan.now.yields (own_name c.args.plan.now.found c.args.plan.now.incoming) = λ i. owning entries lists (c.as_slice.ensures i) (c.name.ensures i) in
+    subst (λ (o : Owning). IfOk c.check.result (λ found. MatchOption found (AllSound o xs w) (IsFirstFault o xs w))) is
+    (judged_by (owning entries lists c.as_slice.result.now c.name.result.now) w xs c.check.new.works c.check.result same (c.check.ensures.sound h)
+    (subst (λ (ys : List Work). IfOk c.check.result (λ found. IfSome found (IsFirstFault (owning entries lists c.as_slice.result.now c.name.result.now) ys w))) c.as_mut_slice.ensures.value (c.check.ensures.fault h)))

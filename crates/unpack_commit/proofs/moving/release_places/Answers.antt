@@ -1,13 +1,11 @@
-use Rattle.std.proofs.Common.{◌≡◌, ◌⊎◌, ℕ, List, true, OnOk, Contains, sym, subst}
+use Rattle.std.proofs.Common.{◌≡◌, ◌⊎◌, ℕ, List, true, OnOk, Contains, subst}
 use Rattle.std.specs.Prelude.{OnErr}
-use Rattle.texts.specs.PackageNames.{is_package_name}
 use Rattle.host_core.specs.Host.{AtEachMoment}
 use Rattle.host_core.specs.Paths.{Path}
 use Rattle.file_lists.specs.Filed.{Filed}
 use Rattle.file_lists.specs.Taking.{without_all}
-use Rattle.file_lists.specs.Writing.{IsListReady}
 use Rattle.unpack_moves.specs.Closing.{HasReleased, MayRelease}
-use Rattle.unpack_commit.proofs.moving.give_free.Goals as goal
+use Rattle.unpack_commit.proofs.moving.release_places.Goals as goal
 
 pub release-requires-clause-named : goal.release-requires-clause-named
 release-requires-clause-named g c = λ name has. c.requires.named name (subst (λ l. Contains l name) c.as_slice-losers.ensures has)

@@ -1,0 +1,11 @@
+pub mod Gathered
+pub mod Ordered
+pub mod Digested
+pub mod Recordable
+pub mod Shipping
+pub mod Listable
+pub mod Sparing
+pub mod Elsewhere
+pub mod Kept
+pub mod Own
+pub mod Fresh

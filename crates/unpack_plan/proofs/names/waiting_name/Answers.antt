@@ -1,0 +1,8 @@
+use Rattle.std.proofs.Common.{[], ◌∷◌, sym, subst}
+use Rattle.host_core.specs.Paths.{Path}
+use Rattle.unpack_moves.specs.Concluding.{AreElsewhere}
+use Rattle.unpack_plan.proofs.Elsewhere.{new_elsewhere}
+use Rattle.unpack_plan.proofs.names.waiting_name.Goals as goal
+
+pub returns-clause-elsewhere : goal.returns-clause-elsewhere
+returns-clause-elsewhere c = subst (λ (q : Path). AreElsewhere (q ∷ [])) (sym c.in_ok-beside.ensures) (new_elsewhere c.ship_place-place.result.now c.law.ensures)

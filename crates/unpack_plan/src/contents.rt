@@ -1,0 +1,57 @@
+// What of a tree is written and kept, and which names are cleared.
+ghost use Rattle.std.specs.Prelude.{◌≡◌, IfOk};
+ghost use Rattle.std.specs.Option.{option_copied};
+ghost use Rattle.file_check.specs.Ready.{IsFitting};
+ghost use Rattle.file_check.specs.Ships.{shipped_works};
+ghost use Rattle.file_works.specs.Files.{Each};
+ghost use Rattle.file_works.specs.Names.{IsNamed};
+ghost use Rattle.unpack_moves.specs.Concluding.{AreElsewhere};
+ghost use Rattle.unpack_plan.specs.Members.{AreMembersOf};
+ghost use Rattle.unpack_plan.specs.Names.{cleared_names as names_cleared};
+ghost use Rattle.unpack_plan.specs.Planned.{pairs_of};
+
+use crate::members::own_members;
+use crate::names::cleared_names;
+use crate::works::own_works;
+use control_members::Members;
+use diversions::Diversions;
+use file_works::Work;
+use host_core::RootPath;
+use package_tree::Package;
+use status_db::Record;
+use std::alloc::{AllocError, Global};
+
+/// The works, the control files, and names that only the installer writes.
+#[derive(Drop)]
+pub(crate) struct Contents {
+    pub(crate) works: Vec<Work>,
+    pub(crate) names: Vec<RootPath>,
+    pub(crate) members: Members,
+}
+
+/// Those of a tree, which is used up.
+pub(crate) fn contents_of(
+    alloc: Global,
+    diversions: &Diversions,
+    tree: Package,
+    found: Option<&Record>,
+) -> Result<Contents, AllocError>
+    ensures works { IfOk result (λ c. c.works.items ≡ shipped_works diversions.now.entries tree.name tree.conffiles (pairs_of tree.files)) }
+    ensures named { IfOk result (λ c. Each IsNamed c.works.items) }
+    ensures fitting { IfOk result (λ c. Each IsFitting c.works.items) }
+    ensures names { IfOk result (λ c. c.names.items ≡ names_cleared diversions.now.entries tree.name (option_copied found.entry) tree.conffiles c.works.items) }
+    ensures elsewhere { IfOk result (λ c. AreElsewhere c.names.items) }
+    ensures members { IfOk result (λ c. AreMembersOf tree.scripts tree.others c.members) }
+{
+    let name = tree.name;
+    let conffiles = tree.conffiles;
+    let works = own_works(alloc, &name, diversions, tree.files, &conffiles)?;
+    let kept = conffiles.as_slice();
+    let names = cleared_names(alloc, diversions, &name, found, kept, works.as_slice())?;
+    let members = own_members(alloc, tree.scripts, tree.others)?;
+    Ok(Contents {
+        works,
+        names,
+        members,
+    })
+}

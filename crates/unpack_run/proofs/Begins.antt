@@ -1,0 +1,33 @@
+-- Where the rows begin.
+use Rattle.std.proofs.Common.{◌≡◌, false, List, [], refl, sym, arith}
+use Rattle.std.proofs.lemmas.List.{append-nil}
+use Rattle.host_core.specs.Paths.{Path}
+use Rattle.host_core.specs.Host.{State, Needs}
+use Rattle.cleanup_stack.specs.Place.{Forward}
+use Rattle.diversions.specs.declared.entry.Diversion.{Diversion}
+use Rattle.file_lists.specs.Filed.{Filed}
+use Rattle.file_works.specs.declared.work.Work.{Work}
+use Rattle.status_db.specs.Recorded.{Recorded}
+use Rattle.unpack_run.specs.declared.plan.Rows.{Rows}
+use Rattle.unpack_run.specs.At.{At, IsBegun, holding}
+use Rattle.unpack_run.specs.Follows.{follows_none}
+use Rattle.unpack_run.specs.Task.{IsSound, task_of}
+
+pub at_begin : (s : State) (d : Recorded) (l : Filed) (entries : List Diversion) (places : List Path) (works : List Work) (plan : Rows) → IsSound (task_of s d l entries places works plan) → d.closed ≡ false → l.closed ≡ false
+    → Needs s (IsBegun (task_of s d l entries places works plan) d) → At (task_of s d l entries places works plan) (holding d l places works) s (Forward 0)
+at_begin s d l entries places works plan sound opened lists_open begun = record {
+  sound = sound;
+  falls = λ h. h;
+  within = omega arith;
+  records = refl;
+  opened = opened;
+  lists = refl;
+  lists_open = lists_open;
+  places = refl;
+  works = refl;
+  since = [];
+  events = sym (append-nil s.events);
+  ran = [];
+  ended = refl;
+  world = λ h. record { kept = (begun h).kept; ready = (begun h).ready; came = follows_none places s.world };
+}

@@ -1,0 +1,68 @@
+use Rattle.std.proofs.Common.{◌≡◌, List, get_or, sym, subst, rules}
+use Rattle.cleanup_stack.specs.Place.{Forward, Ready}
+use Rattle.unpack_rows.specs.Notes.{note_before}
+use Rattle.unpack_run.specs.Notable.{IsNotable}
+use Rattle.unpack_run.proofs.Hooks.{stops_here}
+use Rattle.unpack_run.proofs.HookRows.{Leads, before_can, noted_moments, noted_place, prepared}
+use Rattle.unpack_rows.specs.declared.kinds.RowKind.{RowKind}
+use Rattle.unpack_run.specs.At.{Holding, holding}
+use Rattle.unpack_run.specs.Task.{Task, kinds, task_of}
+use Rattle.unpack_run.proofs.around.UnpackingAround.prepare.Goals as goal
+
+pub returns-in_err-entry-clause-any_moment : goal.returns-in_err-entry-clause-any_moment
+returns-in_err-entry-clause-any_moment g c =
+    let self = c.args.self.now in
+    let t : Task = task_of (g.H.Host.state self.start.now.host.value) self.start.now.database.value self.start.now.lists.value self.diversions.now.entries self.start.now.places.value self.start.now.works.value.items self.plan.now in
+    let h : Holding = holding self.database.now self.lists.now self.places.now self.works.now.items in
+    let s = g.H.Host.state c.args.host.now in
+    let at = c.requires.place in
+    stops_here t h s (Forward c.args.index) at
+
+pub write_note-requires-clause-notable : goal.write_note-requires-clause-notable
+write_note-requires-clause-notable g c =
+    let self = c.args.self.now in
+    let t : Task = task_of (g.H.Host.state self.start.now.host.value) self.start.now.database.value self.start.now.lists.value self.diversions.now.entries self.start.now.places.value self.start.now.works.value.items self.plan.now in
+    let h : Holding = holding self.database.now self.lists.now self.places.now self.works.now.items in
+    let s = g.H.Host.state c.args.host.now in
+    let at = c.requires.place in
+    let k = c.kind-kind.result.now in
+    let is : k ≡ get_or (kinds t) c.args.index k = subst (λ (l : List RowKind). k ≡ get_or l c.args.index k) self.kinds_are c.kind-kind.ensures in
+    let entry_is : c.in_ok-entry.entry ≡ note_before t.found t.incoming k = search rules in
+    subst IsNotable (sym entry_is) (before_can t h s c.args.index k c.requires.row.0 is)
+
+pub write_note-requires-clause-kept : goal.write_note-requires-clause-kept
+write_note-requires-clause-kept g c =
+    let self = c.args.self.now in
+    let t : Task = task_of (g.H.Host.state self.start.now.host.value) self.start.now.database.value self.start.now.lists.value self.diversions.now.entries self.start.now.places.value self.start.now.works.value.items self.plan.now in
+    let h : Holding = holding self.database.now self.lists.now self.places.now self.works.now.items in
+    let s = g.H.Host.state c.args.host.now in
+    let at = c.requires.place in
+    λ honest. (at.world honest).kept
+
+pub returns-clause-place : goal.returns-clause-place
+returns-clause-place g c =
+    let self = c.args.self.now in
+    let t : Task = task_of (g.H.Host.state self.start.now.host.value) self.start.now.database.value self.start.now.lists.value self.diversions.now.entries self.start.now.places.value self.start.now.works.value.items self.plan.now in
+    let h : Holding = holding self.database.now self.lists.now self.places.now self.works.now.items in
+    let s = g.H.Host.state c.args.host.now in
+    let at = c.requires.place in
+    let k = c.kind-kind.result.now in
+    let is : k ≡ get_or (kinds t) c.args.index k = subst (λ (l : List RowKind). k ≡ get_or l c.args.index k) self.kinds_are c.kind-kind.ensures in
+    let entry_is : c.in_ok-entry.entry ≡ note_before t.found t.incoming k = search rules in
+    let u = g.H.Host.state c.write_note.new.host in
+    let leads = subst (Leads t h s (Forward c.args.index) (Ready c.args.index)) (sym entry_is) (prepared t h s c.args.index k c.requires.row.0 is) in
+    noted_place t h s u (Forward c.args.index) (Ready c.args.index) c.in_ok-entry.entry at leads c.write_note.ensures.silent c.write_note.result c.write_note.new.database c.write_note.ensures.any_moment c.write_note.ensures.records c.write_note.ensures.opened c.write_note.ensures.kept
+
+pub returns-clause-any_moment : goal.returns-clause-any_moment
+returns-clause-any_moment g c =
+    let self = c.args.self.now in
+    let t : Task = task_of (g.H.Host.state self.start.now.host.value) self.start.now.database.value self.start.now.lists.value self.diversions.now.entries self.start.now.places.value self.start.now.works.value.items self.plan.now in
+    let h : Holding = holding self.database.now self.lists.now self.places.now self.works.now.items in
+    let s = g.H.Host.state c.args.host.now in
+    let at = c.requires.place in
+    let k = c.kind-kind.result.now in
+    let is : k ≡ get_or (kinds t) c.args.index k = subst (λ (l : List RowKind). k ≡ get_or l c.args.index k) self.kinds_are c.kind-kind.ensures in
+    let entry_is : c.in_ok-entry.entry ≡ note_before t.found t.incoming k = search rules in
+    let u = g.H.Host.state c.write_note.new.host in
+    let leads = subst (Leads t h s (Forward c.args.index) (Ready c.args.index)) (sym entry_is) (prepared t h s c.args.index k c.requires.row.0 is) in
+    noted_moments t h s u (Forward c.args.index) (Ready c.args.index) c.in_ok-entry.entry at leads c.write_note.ensures.silent c.write_note.ensures.any_moment
