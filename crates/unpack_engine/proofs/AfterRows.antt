@@ -27,6 +27,7 @@ use Rattle.unpack_run.specs.Trail.{HasCome}
 use Rattle.unpack_engine.specs.Units.{Begins, Ground, IsStage, IsTableAmid, IsUnderWay, MayLeave, changes, commit_records, last_place, lists_after, package_name, table_after, task_from}
 use Rattle.unpack_engine.proofs.Frames.{IsBeside, come_same}
 use Rattle.unpack_engine.proofs.Leaving.{IsKeptOpen, IsOpenable, committed_incoming, committed_open, unwound_incoming, unwound_open}
+use Rattle.unpack_engine.proofs.EndLoose.{committed_leaving_loose, unwound_leaving_loose}
 use Rattle.unpack_engine.proofs.UnderWay.{still_laid, still_loose}
 
 module _ (g : Ground) (p : Planned) (named : is_package_name (package_name g p) ≡ true) (works_named : Each IsNamed p.works) (old : World)
@@ -63,6 +64,7 @@ module _ (g : Ground) (p : Planned) (named : is_package_name (package_name g p) 
         records = open'.has;
         opens = open'.opens;
         incoming = committed_incoming (changes g p mid.works mid.lists) (commit_records g p mid.works mid.lists mid.database.records) g.entries mid.lists mid.database last.world now p.members spares elsewhere (last_laid Committed at) may;
+        loose = committed_leaving_loose (changes g p mid.works mid.lists) (commit_records g p mid.works mid.lists mid.database.records) g.entries mid.lists mid.database.records last.world now may (last_loose Committed at);
       }
   leaving_under_way (Unwound fall failed) at spares elsewhere so_far now same may =
       let c = changes g p mid.works mid.lists in
@@ -75,4 +77,5 @@ module _ (g : Ground) (p : Planned) (named : is_package_name (package_name g p) 
         records = open'.has;
         opens = open'.opens;
         incoming = unwound_incoming c records g.entries mid.lists mid.database last.world now (Unwound fall failed) fall failed p.members (last_laid (Unwound fall failed) at) may;
+        loose = unwound_leaving_loose c records g.entries mid.lists mid.database.records last.world now fall failed may (last_loose (Unwound fall failed) at);
       }

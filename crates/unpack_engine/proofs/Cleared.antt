@@ -31,7 +31,7 @@ record_beside name q is = record {
   members = λ member m e. place_differs q (stored_member_path name member) is refl (sym e);
 }
 
-gone_at : (w : World) (p q : Path) → w p ≡ None → IsDirectory (w q) → q ≡ p → ⊥
+pub gone_at : (w : World) (p q : Path) → w p ≡ None → IsDirectory (w q) → q ≡ p → ⊥
 gone_at w p q none is e = no_directory_at (w p) None none no_directory_none (subst (λ x. IsDirectory (w x)) e is)
 
 loose_at : (v w : World) (p q : Path) → (w p ≡ v p) ⊎ (w p ≡ None) → NoDirectory (v p) → IsDirectory (w q) → q ≡ p → ⊥
@@ -90,7 +90,7 @@ module _ (found : Option Record) (name : Path) (named : is_package_name name ≡
       by (Some r) same = same
 
 -- and then the control files are laid out
-laid_loose : (v w : World) → KeepsBut (is_within tmp_path) v w → AreLoose v → AreLoose w
+pub laid_loose : (v w : World) → KeepsBut (is_within tmp_path) v w → AreLoose v → AreLoose w
 laid_loose v w keeps loose entry plain = no_directory_at (w (info_path ++ 47 ∷ entry)) (v (info_path ++ 47 ∷ entry)) (keeps (info_path ++ 47 ∷ entry) refl) (loose entry plain)
 
 module _ (found : Option Record) (name : Path) (named : is_package_name name ≡ true) (v : World) (list : IsListReady name v) (members : IsMembersReady name v) (loose : AreLoose v) where

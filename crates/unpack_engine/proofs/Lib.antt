@@ -10,6 +10,7 @@ pub mod Order
 pub mod Cleared
 pub mod Starts
 pub mod UnderWay
+pub mod EndLoose
 pub mod Carrying
 pub mod Losing
 pub mod Leaving

@@ -37,12 +37,13 @@ module _ (g : Ground) (p : Planned) (named : is_package_name (package_name g p) 
   beginning_under_way d kept same so_far now none may =
       let here = beginning_kept p.found (package_name g p) named old list members loose now may d kept in
       record {
-        stage = IsStage.running (IsRunning.beginning none may) (beginning_loose p.found (package_name g p) named old list members loose now may);
+        stage = IsStage.running (IsRunning.beginning none may);
         table = g.records;
         is_table = IsTableAmid.noting (Forward 0) (omega arith) no_notes;
         records = subst (HasRecords now) same here.holds;
         opens = kept_opens d now here;
         incoming = beginning_incoming p.found (package_name g p) named old list members loose now may incoming;
+        loose = beginning_loose p.found (package_name g p) named old list members loose now may;
       }
 
   -- what the rows leave alone: the control files, and what is in `info`
@@ -57,12 +58,13 @@ module _ (g : Ground) (p : Planned) (named : is_package_name (package_name g p) 
     running_under_way so_far more now before is none stops =
         let same : (q : Path) → IsBeside (list_path (package_name g p)) q → now q ≡ begun.world q = λ q beside. amid_same (task_from g p begun) q beside works_named _ _ now stops.files in
         record {
-          stage = IsStage.running (IsRunning.running begun before more is none begins stops) (still_loose now same stops.ready);
+          stage = IsStage.running (IsRunning.running begun before more is none begins stops);
           table = table_after g p stops.place;
           is_table = IsTableAmid.noting stops.place stops.within refl;
           records = stops.records;
           opens = stops.opens;
           incoming = laid_incoming p.members now (still_laid now same);
+          loose = still_loose now same stops.ready;
         }
 
   pub run_under_way : (d : Recorded) → IsKept d old → d.records ≡ g.records → (so_far : List Event) (now : World) → IsRunning (Begins g p) (MayBeginOne g p) (task_from g p) old so_far now → IsUnderWay g p old so_far now

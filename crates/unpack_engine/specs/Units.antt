@@ -246,7 +246,7 @@ module _ (g : Ground) (p : Planned) where
 
   -- How far a unit is: it begins, its rows run, or they have run and what follows is under way.
   pub data IsStage (old : World) (so_far : List Event) (now : World) : Type 0 where
-    running : IsRunning Begins MayBeginOne task_from old so_far now → AreLoose now → IsStage old so_far now
+    running : IsRunning Begins MayBeginOne task_from old so_far now → IsStage old so_far now
     leaving : (ended : Ended) (works : List Work) (begun : State) (last : World) → Begins old begun.world
         → AreWorksAt (task_from begun) (last_place ended) (stage_of (kinds_of p.found []) (last_place ended)) works
         → HasCome (task_from begun) (stage_of (kinds_of p.found []) (last_place ended)) works (changes_of so_far) last
@@ -281,6 +281,7 @@ module _ (g : Ground) (p : Planned) where
     pub records : HasRecords now table
     pub opens : CanOpenRecords now
     pub incoming : IsIncoming now
+    pub loose : AreLoose now
 
 abbrev pub ground_of : Given → List Path → Ground
 ground_of g places = ground g.records g.lists g.entries places
