@@ -15,3 +15,5 @@ pub mod Carrying
 pub mod Losing
 pub mod Leaving
 pub mod AfterRows
+pub mod EndRecords
+pub mod InfoSound
