@@ -12,7 +12,6 @@ use Rattle.host_core.specs.World.{World}
 use Rattle.host_core.specs.declared.node.Node.{Node}
 use Rattle.host_core.specs.declared.node.Node.TheVariants.{File, Dir, Link}
 use Rattle.administration.specs.Places.{list_path}
-use Rattle.control_members.specs.Stored.{is_among}
 use Rattle.control_members.proofs.Drawn.{any_contains, contains_any}
 use Rattle.diversions.specs.Lines.{lines_in}
 use Rattle.file_lists.specs.Lists.{HasLists, IsGood, IsReadable, Lists, paths_in, root_line}

@@ -1,6 +1,6 @@
 -- What commands leave is what a further command can open.
 use Rattle.std.specs.Prelude.{IsSome}
-use Rattle.std.proofs.Common.{◌≡◌, ℕ, List, [], ◌∷◌, ◌++◌, IsTrue, refl, sym, ap, subst, ◌∙◌}
+use Rattle.std.proofs.Common.{ℕ, List, [], ◌∷◌, ◌++◌, IsTrue, refl, sym, subst, ◌∙◌}
 use Rattle.host_core.specs.Paths.{is_own}
 use Rattle.host_core.specs.World.{World, SameOn, IsDirectory}
 use Rattle.host_core.specs.Host.{State}

@@ -1,5 +1,3 @@
-use Rattle.unpack_engine.proofs.InfoSound.{sound_left}
-use Rattle.unpack_engine.proofs.EndRecords.{committed_known}
 use Rattle.administration.proofs.NamePaths.{script_is_path}
 use Rattle.unpack_engine.proofs.looks.is_stored.Goals as goal
 
