@@ -1,9 +1,8 @@
 -- What commands leave is what a further command can open.
 use Rattle.std.specs.Prelude.{IsSome}
-use Rattle.std.proofs.Common.{◌≡◌, ℕ, List, [], ◌∷◌, ◌++◌, IsTrue, refl, sym, ap, subst, ◌∙◌}
-use Rattle.std.proofs.Math.Logic.{∥∥₁_map}
+use Rattle.std.proofs.Common.{ℕ, List, [], ◌∷◌, ◌++◌, IsTrue, refl, sym, subst, ◌∙◌}
 use Rattle.host_core.specs.Paths.{is_own}
-use Rattle.host_core.specs.World.{World, SameOn, IsDirectory, is_directory}
+use Rattle.host_core.specs.World.{World, SameOn, IsDirectory}
 use Rattle.host_core.specs.Host.{State}
 use Rattle.administration.specs.Places.{home_path, info_path, status_path, tmp_path, list_path, updates_path, diversions_path, temporary}
 use Rattle.administration.proofs.WholeFiles.{no_directory_at}
@@ -24,10 +23,10 @@ use Rattle.dpkg_session.specs.declared.report.Unit.{Unit as AUnit}
 use Rattle.dpkg_session.specs.Held.{Held}
 use Rattle.dpkg_session.specs.History.{Diverted, HasDone, IsCommand, IsHistory, KeepsRest, Ran, Stands, Undiverted, Unpacked}
 use Rattle.dpkg_session.specs.Run.{IsRun}
-use Rattle.dpkg_session.specs.Standing.{IsStanding}
-use Rattle.dpkg_session.proofs.Retabled.{standing_diverted, standing_undiverted}
+use Rattle.dpkg_session.proofs.Found.{found_run}
+use Rattle.dpkg_session.proofs.Retabled.{found_diverted, found_undiverted}
 use Rattle.dpkg_session.proofs.Runs.{Ready, ready_after}
-use Rattle.dpkg_session.proofs.Standings.{order_standing, standing_found, standing_run}
+use Rattle.dpkg_session.proofs.Standings.{order_standing, standing_found}
 
 -- the administration is read from its own paths alone
 
@@ -64,27 +63,6 @@ found_outside table notes lists entries old new same found = record {
 pub stands_outside : (h : Held) (old new : World) → SameOn is_own old new → Stands h old → Stands h new
 stands_outside h old new same found = found_outside h.records.records h.records.notes h.lists h.entries old new same found
 
--- what a session knows of it, too
-standing_outside : (h : Held) (old new : World) → SameOn is_own old new → IsStanding h old → IsStanding h new
-standing_outside h old new same standing = (
-  (
-    ap is_directory (same home_path refl) ∙ standing.0.0,
-    ap is_directory (same updates_path refl) ∙ standing.0.1,
-    (λ bad. standing.0.2 (bad.0, bad.1, bad.2, subst IsSome (same (updates_path ++ 47 ∷ bad.0) refl) bad.3)),
-    no_directory_at (new (temporary status_path)) (old (temporary status_path)) (same (temporary status_path) refl) standing.0.3,
-    (λ n lt. no_directory_at (new (temporary (note_path n))) (old (temporary (note_path n))) (same (temporary (note_path n)) refl) (standing.0.4 n lt)),
-    records_same old new h.records.records (same status_path refl) (λ n lt. same (note_path n) refl) standing.0.5,
-    (λ n le lt. same (note_path n) refl ∙ standing.0.6 n le lt),
-  ),
-  ap is_directory (same info_path refl) ∙ standing.1,
-  (λ entry plain there. standing.2 entry plain (subst IsDirectory (same (entry_path entry) refl) there)),
-  no_directory_at (new diversions_path) (old diversions_path) (same diversions_path refl) standing.3,
-  no_directory_at (new (temporary diversions_path)) (old (temporary diversions_path)) (same (temporary diversions_path) refl) standing.4,
-  same tmp_path refl ∙ standing.5,
-  ∥∥₁_map standing.6 (λ has. has_lists_kept old new (names_of h.records.records) h.lists (λ name known. same (list_path name) refl) has),
-  ∥∥₁_map standing.7 (λ has. subst (λ n. HasEntries n h.entries) (sym (same diversions_path refl)) has),
-)
-
 -- one command
 
 ready_run : (cs : List Candidate) (us : List AUnit) (before after : Held) (s t : State) → IsRun cs us before after s t → Ready before s → Ready after t
@@ -93,25 +71,25 @@ ready_run [] (u ∷ us) before after s t run ready = absurd run
 ready_run (c ∷ cs) [] before after s t run ready = absurd run
 ready_run (c ∷ cs) (u ∷ us) before after s t run ready = ready_run cs us run.1 after run.0 t run.3 (ready_after c before run.1 u s run.0 ready run.2.is)
 
-kept_rest : (before after : Held) (w : World) → KeepsRest before after → IsStanding (record { records = before.records; lists = before.lists; entries = after.entries }) w → IsStanding after w
-kept_rest before after w keeps standing =
-    subst (λ (d : Recorded). IsStanding (record { records = d; lists = after.lists; entries = after.entries }) w) (sym keeps.records)
-    (subst (λ (l : List PackageList). IsStanding (record { records = before.records; lists = l; entries = after.entries }) w) (sym keeps.lists) standing)
+kept_rest : (before after : Held) (w : World) → KeepsRest before after → Stands (record { records = before.records; lists = before.lists; entries = after.entries }) w → Stands after w
+kept_rest before after w keeps found =
+    subst (λ (d : Recorded). Stands (record { records = d; lists = after.lists; entries = after.entries }) w) (sym keeps.records)
+    (subst (λ (l : List PackageList). Stands (record { records = before.records; lists = l; entries = after.entries }) w) (sym keeps.lists) found)
 
-done_stands : (ran : Ran) (before after : Held) (s t : State) → HasDone ran before after s t → IsTrue t.honest → IsStanding before s.world → IsStanding after t.world
-done_stands (Unpacked candidates units) before after s t done h standing =
-    standing_run candidates units before after s t done h (ready_run candidates units before after s t done (λ honest. order_standing before s.world standing) h) standing
-done_stands (Diverted asked unit) before after s t done h standing =
-    kept_rest before after t.world done.1 (standing_diverted before.records before.lists asked _ before.entries after.entries unit s t done.0 h standing)
-done_stands (Undiverted asked unit) before after s t done h standing =
-    kept_rest before after t.world done.1 (standing_undiverted before.records before.lists asked before.entries after.entries unit s t done.0 h standing)
+done_stands : (ran : Ran) (before after : Held) (s t : State) → HasDone ran before after s t → IsTrue t.honest → Stands before s.world → Stands after t.world
+done_stands (Unpacked candidates units) before after s t done h found =
+    found_run candidates units before after s t done h (ready_run candidates units before after s t done (λ honest. order_standing before s.world (standing_found before s.world found)) h) found
+done_stands (Diverted asked unit) before after s t done h found =
+    kept_rest before after t.world done.1 (found_diverted before.records before.lists asked _ before.entries after.entries unit s t done.0 h found)
+done_stands (Undiverted asked unit) before after s t done h found =
+    kept_rest before after t.world done.1 (found_undiverted before.records before.lists asked before.entries after.entries unit s t done.0 h found)
 
-stands_command : (ran : Ran) (before after : Held) (old new : World) → IsCommand ran before after old new → IsStanding after new
+stands_command : (ran : Ran) (before after : Held) (old new : World) → IsCommand ran before after old new → Stands after new
 stands_command ran before after old new command =
-    subst (IsStanding after) command.to
-    (done_stands ran before after command.start command.end command.done command.honest (subst (IsStanding before) (sym command.from) (standing_found before old command.opened)))
+    subst (Stands after) command.to
+    (done_stands ran before after command.start command.end command.done command.honest (subst (Stands before) (sym command.from) command.opened))
 
-pub stands_history : (commands : List Ran) (before after : Held) (old new : World) → IsHistory commands before after old new → IsStanding before old → IsStanding after new
-stands_history [] before after old new history standing = subst (λ (x : Held). IsStanding x new) (sym history.0) (standing_outside before old new history.1 standing)
-stands_history (ran ∷ rest) before after old new history standing =
+pub stands_history : (commands : List Ran) (before after : Held) (old new : World) → IsHistory commands before after old new → Stands before old → Stands after new
+stands_history [] before after old new history found = subst (λ (x : Held). Stands x new) (sym history.0) (stands_outside before old new history.1 found)
+stands_history (ran ∷ rest) before after old new history found =
     stands_history rest history.1 after history.3 new history.6 (stands_command ran history.0 history.1 history.2 history.3 history.5)

@@ -22,9 +22,11 @@ use Rattle.diversions.specs.declared.refusal.Answer.{Answer}
 use Rattle.diversions.specs.declared.refusal.Answer.TheVariants as answered
 use Rattle.diversions.specs.declared.refusal.Seen.{Seen}
 use Rattle.diversions.proofs.Moving.{moved_away, own_other}
+use Rattle.file_lists.specs.Info.{IsSound}
 use Rattle.file_lists.specs.declared.paths.PackageList.{PackageList}
 use Rattle.opening.proofs.KeptLists.{has_lists_kept}
 use Rattle.file_lists.specs.Lists.{HasLists}
+use Rattle.opening.specs.Opened.{IsFound}
 use Rattle.opening.specs.Parts.{names_of}
 use Rattle.status_db.proofs.NotedWorlds.{records_same}
 use Rattle.status_db.specs.Held.{HasRecords, IsFree}
@@ -81,6 +83,9 @@ module _ (d : Recorded) (lists : List PackageList) (before after : List Diversio
   no_updates_name : (HasBadName old updates_path → ⊥) → HasBadName new updates_path → ⊥
   no_updates_name text bad = text (bad.0, bad.1, bad.2, subst IsSome (same_updates (47 ∷ bad.0)) bad.3)
 
+  no_info_name : (HasBadName old info_path → ⊥) → HasBadName new info_path → ⊥
+  no_info_name text bad = text (bad.0, bad.1, bad.2, subst IsSome (same_info (47 ∷ bad.0)) bad.3)
+
   no_spare : ((n : ℕ) → n < limit → NoDirectory (old (temporary (note_path n)))) → (n : ℕ) → n < limit → NoDirectory (new (temporary (note_path n)))
   no_spare spares n lt = no_directory_at (new (temporary (note_path n))) (old (temporary (note_path n))) (same_updates (47 ∷ digits n ++ codes ".dpkg-inst")) (spares n lt)
 
@@ -113,6 +118,33 @@ module _ (d : Recorded) (lists : List PackageList) (before after : List Diversio
     ∣ is.recorded.table ∣₁,
   )
 
+  found_retabled : IsFound d.records d.notes lists before old → IsFound d.records d.notes lists after new
+  found_retabled found = record {
+    home = is.recorded.ready.home;
+    info = subst IsDirectory (sym (same_info [])) found.info;
+    updates = subst IsDirectory (sym (same_updates [])) found.updates;
+    text = no_info_name found.text;
+    diversions = is.recorded.table;
+    diversions_spare = is.recorded.ready.spare;
+    tmp = same_tmp ∙ found.tmp;
+    records = record {
+      unblocked = record {
+        home = is.recorded.ready.home;
+        updates = subst IsDirectory (sym (same_updates [])) found.updates;
+        text = no_updates_name found.records.unblocked.text;
+        status_spare = no_directory_at (new (temporary status_path)) (old (temporary status_path)) (same_status (codes ".dpkg-inst")) found.records.unblocked.status_spare;
+        spares = no_spare found.records.unblocked.spares;
+      };
+      holds = still_records d.records found.records.holds;
+      free = still_free d.notes found.records.free;
+    };
+    standing = found.standing;
+    listed = record {
+      sound = λ entry plain. subst (IsSound (names_of d.records) entry) (sym (same_info (47 ∷ entry))) (found.listed.sound entry plain);
+      lists = still_lists (names_of d.records) found.listed.lists;
+    };
+  }
+
 -- what holds of a table and a world goes on to hold where the table is recorded
 
 module _ (X : List Diversion → World → Type 0) (keep : (before after : List Diversion) (old new : World) → IsRetabled after old new → X before old → X after new) where
@@ -143,3 +175,9 @@ module _ (d : Recorded) (lists : List PackageList) where
 
   pub standing_undiverted : (asked : Undiverting) (before after : List Diversion) (u : AUnit) (s t : State) → IsUndiverted asked before after u s t → IsTrue t.honest → IsStanding (with_entries d lists before) s.world → IsStanding (with_entries d lists after) t.world
   standing_undiverted = undiverted_kept (λ entries. IsStanding (with_entries d lists entries)) (λ before after old new is. standing_retabled d lists before after old new is)
+
+  pub found_diverted : (asked : Diverting) (seen : Seen) (before after : List Diversion) (u : AUnit) (s t : State) → IsDiverted asked seen before after u s t → IsTrue t.honest → IsFound d.records d.notes lists before s.world → IsFound d.records d.notes lists after t.world
+  found_diverted = diverted_kept (IsFound d.records d.notes lists) (λ before after old new is. found_retabled d lists before after old new is)
+
+  pub found_undiverted : (asked : Undiverting) (before after : List Diversion) (u : AUnit) (s t : State) → IsUndiverted asked before after u s t → IsTrue t.honest → IsFound d.records d.notes lists before s.world → IsFound d.records d.notes lists after t.world
+  found_undiverted = undiverted_kept (IsFound d.records d.notes lists) (λ before after old new is. found_retabled d lists before after old new is)

@@ -24,3 +24,5 @@ pub mod Touching
 pub mod Whole
 pub mod UnitMoments
 pub mod Planning
+pub mod EndRecords
+pub mod InfoSound
