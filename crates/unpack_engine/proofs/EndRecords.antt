@@ -193,7 +193,7 @@ module _ (names : List (List ℕ)) (own : List ℕ) (start : Option Record) (inc
   rows_known table place all =
       all_noted (IsKnown names own) start incoming (notes_at start incoming (kinds_of start []) place) table
       (all_at (IsKnown names own) start incoming (kinds_of start []) place
-        (kinds_then (IsKnown names own) start incoming (first_kinds (has_prerm (state_of start))) (last_kinds (is_upgrade (state_of start))) (first_known (has_prerm (state_of start))) (last_known (is_upgrade (state_of start)))))
+      (kinds_then (IsKnown names own) start incoming (first_kinds (has_prerm (state_of start))) (last_kinds (is_upgrade (state_of start))) (first_known (has_prerm (state_of start))) (last_known (is_upgrade (state_of start)))))
       all
 
 -- the records that lose conffiles keep their names

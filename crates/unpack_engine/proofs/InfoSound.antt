@@ -241,7 +241,7 @@ module _ (g : Ground) (p : Planned) (named : is_package_name (package_name g p) 
       let is = script_is_member script in
       followed_link script ended left.followed left.has_followed
       (λ at_last. cleared_link script p.found begins.clears before
-        (subst IsLink (rows_same entry (no_list own own word is) (no_temporary own word (list_path own) is) ∙ begins.lays (entry_path entry) refl) at_last))
+      (subst IsLink (rows_same entry (no_list own own word is) (no_temporary own word (list_path own) is) ∙ begins.lays (entry_path entry) refl) at_last))
       (subst IsLink (left.removed.rest (entry_path entry) refl) link)
 
   -- each entry is sound in the end, for packages of before and this one
