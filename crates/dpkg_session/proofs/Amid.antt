@@ -8,7 +8,7 @@ use Rattle.host_core.specs.Host.{State, Since}
 use Rattle.host_core.specs.Moments.{grown, since_start, since_then, since_weaker}
 use Rattle.package_tree.specs.declared.package.Package.{Package}
 use Rattle.package_tree.specs.declared.fault.TreeFault.{TreeFault}
-use Rattle.unpack_engine.specs.Units.{IsAmid}
+use Rattle.unpack_engine.specs.Units.{IsAmidUnit}
 use Rattle.dpkg_session.specs.Held.{Held, places_of}
 use Rattle.dpkg_session.specs.declared.refusal.Rule.{Rule}
 use Rattle.dpkg_session.specs.declared.report.Candidate.{Candidate}
@@ -83,10 +83,8 @@ since_next cs done us c rest before mid s m t split run first second =
 
 -- a package that isn't refused
 
-pub since_under_way : (p : Package) (before : Held) (places : List Path) (s t : State) → places ≡ places_of before → Since (IsAmid (given_by p before) places s.world) s t → Since (IsAmidUnpack p before s.world) s t
-since_under_way p before places s t are since =
-    since_weaker (IsAmid (given_by p before) (places_of before) s.world) (IsAmidUnpack p before s.world) s t (λ so_far w amid. inr amid)
-    (subst (λ ps. Since (IsAmid (given_by p before) ps s.world) s t) are since)
+pub since_under_way : (p : Package) (before : Held) (places : List Path) (s t : State) → places ≡ places_of before → Since (IsAmidUnit (given_by p before) places s.world) s t → Since (IsAmidUnpack p before s.world) s t
+since_under_way p before places s t are since = subst (λ ps. Since (IsAmidUnit (given_by p before) ps s.world) s t) are since
 
 pub since_unpack_start : (p : Package) (before : Held) (s : State) → Since (IsAmidUnpack p before s.world) s s
 since_unpack_start p before s = since_start (IsAmidUnpack p before s.world) s (inl (refl, refl))

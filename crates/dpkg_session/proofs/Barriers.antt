@@ -21,7 +21,7 @@ use Rattle.stack_run.specs.declared.unwinding.Unwinding.{Unwinding}
 use Rattle.status_db.specs.Noting.{IsMerging}
 use Rattle.status_db.specs.Recorded.{Recorded}
 use Rattle.unpack_engine.specs.Order.{IsInOrder}
-use Rattle.unpack_engine.specs.Units.{Begins, Given, Ground, HasCalled, HasCalledRows, HasCarriedOut, HasFailedFor, HasLeft, HasUnpacked, IsAmid, IsPlanFor, IsRunning, IsStage, MayBeginOne, changes, commit_records, ground_of, last_place, task_from}
+use Rattle.unpack_engine.specs.Units.{Begins, Given, Ground, HasCalled, HasCalledRows, HasCarriedOut, HasFailedFor, HasLeft, HasUnpacked, IsAmid, IsAmidUnit, IsPlanFor, IsRunning, IsStage, MayBeginOne, changes, commit_records, ground_of, last_place, task_from}
 use Rattle.unpack_plan.specs.Planned.{Planned}
 use Rattle.unpack_rows.specs.Kinds.{kinds_of}
 use Rattle.unpack_rows.specs.Stages.{stage_of}
@@ -108,7 +108,7 @@ stage_still g p old x quiet now none (IsStage.running is) = IsStage.running (run
 stage_still g p old x quiet now none (IsStage.leaving ended works begun last begins are came may) =
     IsStage.leaving ended works begun last begins are (subst (λ c. HasCome (task_from g p begun) (stage_of (kinds_of p.found []) (last_place g p ended)) works c last) (sym (quiet_changes x quiet none)) came) may
 
-pub amid_still : (g : Given) (places : List Path) (old : World) (x quiet : List Event) (now : World) → scripts_of quiet ≡ [] → IsAmid g places old x now → IsAmid g places old (x ++ quiet) now
+amid_still : (g : Given) (places : List Path) (old : World) (x quiet : List Event) (now : World) → scripts_of quiet ≡ [] → IsAmid g places old x now → IsAmid g places old (x ++ quiet) now
 amid_still g places old x quiet now none amid = record {
   plan = amid.plan;
   plan_for = amid.plan_for;
@@ -122,6 +122,10 @@ amid_still g places old x quiet now none amid = record {
     loose = amid.under_way.loose;
   };
 }
+
+pub amid_unit_still : (g : Given) (places : List Path) (old : World) (x quiet : List Event) (now : World) → scripts_of quiet ≡ [] → IsAmidUnit g places old x now → IsAmidUnit g places old (x ++ quiet) now
+amid_unit_still g places old x quiet now none (inl here) = inl (here.0, quiet_scripts x quiet none here.1)
+amid_unit_still g places old x quiet now none (inr amid) = inr (amid_still g places old x quiet now none amid)
 
 -- the unit of a package, with a barrier behind it
 

@@ -1,12 +1,12 @@
 -- A run of units, one after another.
 use Rattle.std.specs.Prelude.{◌≡◌, ◌⊎◌, List, [], ◌∷◌, ◌++◌, length, take, drop, Option, Some, None, IfSome, Result, Ok, Err}
-use Rattle.host_core.specs.Events.{Event, scripts_of}
+use Rattle.host_core.specs.Events.{Event}
 use Rattle.host_core.specs.Host.{State, AtEachMomentOf}
 use Rattle.host_core.specs.Loss.{IsAnswered}
 use Rattle.host_core.specs.World.{World}
 use Rattle.package_tree.specs.declared.fault.TreeFault.{TreeFault}
 use Rattle.package_tree.specs.declared.package.Package.{Package}
-use Rattle.unpack_engine.specs.Units.{IsAmid}
+use Rattle.unpack_engine.specs.Units.{IsAmidUnit}
 use Rattle.dpkg_session.specs.Held.{Held, places_of}
 use Rattle.dpkg_session.specs.Units.{IsBrokenOff, IsUnit, given_by, rule_for}
 use Rattle.dpkg_session.specs.declared.refusal.Rule.{Rule}
@@ -21,7 +21,7 @@ pub record AddsUnit (c : Candidate) (before after : Held) (s t : State) (old new
 
 -- at each moment of the unpack of a package: nothing is done yet, or it is under way
 abbrev pub IsAmidUnpack : Package → Held → World → List Event → World → Type 0
-IsAmidUnpack p before old so_far now = ((now ≡ old) × (scripts_of so_far ≡ [])) ⊎ IsAmid (given_by p before) (places_of before) old so_far now
+IsAmidUnpack p before old so_far now = IsAmidUnit (given_by p before) (places_of before) old so_far now
 
 -- at each moment of the unit of a package: nothing has changed where it is refused
 abbrev pub IsAmidByRule : Package → Option Rule → Held → World → List Event → World → Type 0

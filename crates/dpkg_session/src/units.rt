@@ -7,7 +7,7 @@ ghost use Rattle.status_db.specs.Records.{record_in};
 ghost use Rattle.stack_run.specs.Ended.{ended_as};
 ghost use Rattle.unwind_stack.specs.Transcript.{TellsAll};
 ghost use Rattle.unpack_engine.specs.Order.{IsInOrder};
-ghost use Rattle.unpack_engine.specs.Units.{HasCalled, HasFailedFor, HasUnpacked, IsAmid, IsTouched};
+ghost use Rattle.unpack_engine.specs.Units.{HasCalled, HasFailedFor, HasUnpacked, IsAmidUnit, IsTouched};
 ghost use Rattle.dpkg_session.specs.declared.refusal.Rule.TheVariants.{Tree};
 ghost use Rattle.dpkg_session.specs.declared.report.Breakage.TheVariants.{NoMemory, Closed};
 ghost use Rattle.dpkg_session.specs.Held.{held};
@@ -144,7 +144,7 @@ fn unpack_to_disk<H: Host>(
     ensures listing { OnOk result (lists.new.closed ≡ false) }
     ensures on_disk { OnOk result (IsOnDisk (H.state host.new).events) }
     ensures told { HasCalled (given_by incoming (held database.old lists.old diversions.now)) (H.state host.old) (H.state host.new) told.old.items told.new.items }
-    ensures any_moment { AtEachMomentOf (IsAmid (given_by incoming (held database.old lists.old diversions.now)) places.old) (H.state host.old) (H.state host.new) }
+    ensures any_moment { AtEachMomentOf (IsAmidUnit (given_by incoming (held database.old lists.old diversions.now)) places.old) (H.state host.old) (H.state host.new) }
     ensures counts { Counts (H.state host.old) (H.state host.new) result }
 {
     match unpack(

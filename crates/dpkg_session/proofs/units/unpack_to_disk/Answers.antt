@@ -1,4 +1,4 @@
-use Rattle.dpkg_session.proofs.Barriers.{amid_still, called_behind, failed_behind, on_disk, order_behind, since_to_disk, unpacked_to_disk}
+use Rattle.dpkg_session.proofs.Barriers.{amid_unit_still, called_behind, failed_behind, on_disk, order_behind, since_to_disk, unpacked_to_disk}
 use Rattle.host_core.specs.Moments.{since_barrier}
 use Rattle.dpkg_session.proofs.units.unpack_to_disk.Goals as goal
 
@@ -22,7 +22,7 @@ pub returns-in-Err-barrier-clause-told : goal.returns-in-Err-barrier-clause-told
 returns-in-Err-barrier-clause-told g c = called_behind _ _ _ _ _ _ c.unpack.ensures.told c.barrier.ensures.silent
 
 pub returns-in-Ok-barrier-clause-any_moment : goal.returns-in-Ok-barrier-clause-any_moment
-returns-in-Ok-barrier-clause-any_moment g c = since_to_disk _ _ _ _ _ (λ x quiet w none amid. amid_still _ _ _ x quiet w none amid) c.unpack.ensures.any_moment c.barrier.ensures.does
+returns-in-Ok-barrier-clause-any_moment g c = since_to_disk _ _ _ _ _ (λ x quiet w none amid. amid_unit_still _ _ _ x quiet w none amid) c.unpack.ensures.any_moment c.barrier.ensures.does
 
 pub returns-in-Err-barrier-clause-any_moment : goal.returns-in-Err-barrier-clause-any_moment
-returns-in-Err-barrier-clause-any_moment g c = since_to_disk _ _ _ _ _ (λ x quiet w none amid. amid_still _ _ _ x quiet w none amid) c.unpack.ensures.any_moment c.barrier.ensures.does
+returns-in-Err-barrier-clause-any_moment g c = since_to_disk _ _ _ _ _ (λ x quiet w none amid. amid_unit_still _ _ _ x quiet w none amid) c.unpack.ensures.any_moment c.barrier.ensures.does
