@@ -10,4 +10,4 @@ mod machine;
 #[cfg(test)]
 mod opening_rows;
 #[cfg(test)]
-mod unpack_rows;
+mod script_rows;

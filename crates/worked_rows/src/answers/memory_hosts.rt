@@ -5,8 +5,8 @@ ghost use Rattle.host_memory.specs.Memory.{memory_state};
 mod diversion_rows;
 mod memory_rows;
 mod query_rows;
+mod script_rows;
 mod tree_rows;
-mod unpack_rows;
 mod upgrade_rows;
 mod word_rows;
 

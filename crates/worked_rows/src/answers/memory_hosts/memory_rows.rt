@@ -1,6 +1,6 @@
 // The same answers where an allocation is refused, which scripts/refused_memory does at each one in turn: in place of
 // the row only a want of memory may come. Where the test's own memory is refused, there is no answer.
-use super::unpack_rows::{DAMAGING, REFUSALS, TREES, WITH_POSTRM, WITH_PREINST};
+use super::script_rows::{DAMAGING, REFUSALS, TREES, WITH_POSTRM, WITH_PREINST};
 use super::word_rows::{FAULTS, NAMES};
 use super::{MemoryHosts, TreeFile, hosts, is_usage, worded};
 use crate::answers::control_rows::{ONE_PARAGRAPH_ROWS, ROWS};

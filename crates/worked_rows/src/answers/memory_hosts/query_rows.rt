@@ -1,6 +1,6 @@
 // Questions about an administration in memory: the answers, and what is left.
 use super::check;
-use super::unpack_rows::{DAMAGING, WITH_POSTRM};
+use super::script_rows::{DAMAGING, WITH_POSTRM};
 use host_core::Outcome;
 use std::test::Fail;
 

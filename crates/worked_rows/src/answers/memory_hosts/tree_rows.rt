@@ -1,5 +1,5 @@
 // A tree in memory: what is read of it, and what stands in it.
-use super::unpack_rows::WITH_POSTRM;
+use super::script_rows::WITH_POSTRM;
 use super::{TreeFile, expect, file, path_of, text_of, tree_of};
 use control_fields::write_paragraph;
 use host_core::Script;
