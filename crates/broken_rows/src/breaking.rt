@@ -173,6 +173,7 @@ impl Machine {
             text.push_str("again: ")?;
             text.push_str(answer.as_str())?;
         }
+        self.judge_opening(text)?;
         self.judge_files(row.left, text)
     }
 

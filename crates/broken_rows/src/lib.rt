@@ -6,6 +6,8 @@ mod breaking;
 #[cfg(test)]
 mod diversion_rows;
 #[cfg(test)]
+mod file_rows;
+#[cfg(test)]
 mod machine;
 #[cfg(test)]
 mod opening_rows;
