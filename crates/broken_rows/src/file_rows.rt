@@ -1,6 +1,6 @@
 // An upgrade of a package with files and scripts, broken off: where it succeeds, and where its old postrm fails in both ways.
 use crate::breaking::{
-    Found, Moment, Row, fail_at_each_read, fail_at_each_step, lose_at_each_step, stop_at_each_step,
+    Found, Moment, Row, fail_at_each_read, fail_at_each_step, stop_at_each_step,
 };
 use crate::machine::{RootFile, TreeFile};
 use host_core::Outcome;
@@ -167,9 +167,4 @@ fn stops_within_an_unwinding(rt: HostRuntime) -> Result<(), Fail> {
 fn faults_within_an_upgrade(rt: HostRuntime) -> Result<(), Fail> {
     fail_at_each_step(&rt, &UPGRADED)?;
     fail_at_each_read(&rt, &UPGRADED)
-}
-
-#[test]
-fn losses_within_an_upgrade(rt: HostRuntime) -> Result<(), Fail> {
-    lose_at_each_step(&rt, &UPGRADED)
 }
