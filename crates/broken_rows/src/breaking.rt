@@ -70,6 +70,11 @@ pub(crate) const OPENED: &str = "refused absent NoControl\n||1\n";
 // So ends the answer of a command that was broken off.
 const BROKEN_OFF: &str = "|2\n";
 
+// So ends the answer for a package whose files were being written or removed: it has to be unpacked again.
+const MARKED: &str = " Reinstreq\n||1\n";
+
+const UNPACKING: &str = "dpkg_cli unpack t";
+
 fn plan(host: &mut MemoryHost, how: Break) {
     match how {
         Break::Stop(before, effect) => host.stop_step(before, effect),
@@ -166,9 +171,20 @@ impl Machine {
         Ok(None)
     }
 
+    // What a command answers when it is given again; where its package is marked, the answer of an unpack and that of the
+    // command behind it too.
+    fn answer_again(&mut self, line: &str) -> Result<String, AllocError> {
+        let mut answer = self.answer(line)?;
+        if answer.as_str().ends_with(MARKED) {
+            answer.push_str(self.answer(UNPACKING)?.as_str())?;
+            answer.push_str(self.answer(line)?.as_str())?;
+        }
+        Ok(answer)
+    }
+
     // Gives the command again: it is to answer so, and to leave what it leaves where it isn't broken off.
     fn finish(&mut self, row: &Row, again: &str, text: &mut String) -> Result<(), AllocError> {
-        let answer = self.answer(row.line)?;
+        let answer = self.answer_again(row.line)?;
         if answer.as_str() != again {
             text.push_str("again: ")?;
             text.push_str(answer.as_str())?;

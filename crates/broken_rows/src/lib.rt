@@ -4,6 +4,8 @@
 #[cfg(test)]
 mod breaking;
 #[cfg(test)]
+mod configure_rows;
+#[cfg(test)]
 mod diversion_rows;
 #[cfg(test)]
 mod file_rows;
@@ -11,5 +13,7 @@ mod file_rows;
 mod machine;
 #[cfg(test)]
 mod opening_rows;
+#[cfg(test)]
+mod removal_rows;
 #[cfg(test)]
 mod script_rows;

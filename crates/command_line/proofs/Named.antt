@@ -6,14 +6,16 @@ use Rattle.texts.specs.PackageNames.{is_package_name}
 use Rattle.clap.specs.Words.{Kinds, Row, Text, fault_of, first_of}
 use Rattle.diversions.specs.Entries.{is_owner}
 use Rattle.command_words.specs.CommandLine.{whole_app}
-use Rattle.command_words.specs.Commands.{asked_by, asked_in, asked_of, comparison_of, entered, unless_faulty, unpacking_of}
+use Rattle.command_words.specs.Commands.{asked_by, asked_in, asked_of, comparison_of, entered, unless_faulty}
+use Rattle.command_words.specs.Packages.{configuring_of, removing_of}
+use Rattle.command_words.specs.Unpacks.{unpacking_of}
 use Rattle.command_words.specs.Diversions.{owner_from, owner_of, undiverting_from, undiverting_of, with_target}
 use Rattle.command_words.specs.Given.{is_absolute, is_set}
 use Rattle.command_words.specs.Queries.{query_of}
 use Rattle.command_words.specs.declared.diverting.Diverting.{Diverting}
 use Rattle.command_words.specs.declared.diverting.Undiverting.{Undiverting}
 use Rattle.command_words.specs.declared.words.Asked.{Asked}
-use Rattle.command_words.specs.declared.words.Asked.TheVariants.{CompareVersions, Divert, Names, Query, Undivert, Unpack}
+use Rattle.command_words.specs.declared.words.Asked.TheVariants.{CompareVersions, Configure, Divert, Install, Names, Purge, Query, Remove, Undivert, Unpack}
 use Rattle.command_line.specs.Changes.{owner_in}
 
 abbrev IsNamed : Asked → Type 0
@@ -22,6 +24,10 @@ IsNamed (CompareVersions c) = Unit {0}
 IsNamed (Divert d) = is_owner (owner_in d.owner) ≡ true
 IsNamed (Undivert u) = is_owner (owner_in u.owner) ≡ true
 IsNamed (Unpack u) = Unit {0}
+IsNamed (Install u) = Unit {0}
+IsNamed (Configure c) = Unit {0}
+IsNamed (Remove r) = Unit {0}
+IsNamed (Purge r) = Unit {0}
 IsNamed (Query q) = Unit {0}
 
 abbrev Named : Option Asked → Type 0
@@ -80,10 +86,14 @@ by_named : (name : Text) (rows : List Row) → Named (asked_by name rows)
 by_named name rows =
     let undivert = undivert_named (first_of (codes "root") rows) (owner_of rows) (is_set (first_of (codes "rename") rows)) (first_of (codes "PATH") rows) (owner_named (first_of (codes "package") rows) (is_set (first_of (codes "local") rows))) in
     if_named (bytes_eq name (codes "compare-versions")) _ _ (map_named CompareVersions (comparison_of rows) (λ c. tt))
+    (if_named (bytes_eq name (codes "configure")) _ _ (map_named Configure (configuring_of rows) (λ c. tt))
     (if_named (bytes_eq name (codes "divert")) _ _ (divert_asked (first_of (codes "divert") rows) (undiverting_of rows) undivert)
+    (if_named (bytes_eq name (codes "install")) _ _ (map_named Install (unpacking_of rows) (λ u. tt))
+    (if_named (bytes_eq name (codes "purge")) _ _ (map_named Purge (removing_of rows) (λ r. tt))
+    (if_named (bytes_eq name (codes "remove")) _ _ (map_named Remove (removing_of rows) (λ r. tt))
     (if_named (bytes_eq name (codes "undivert")) _ _ (undivert_asked (undiverting_of rows) undivert)
     (if_named (bytes_eq name (codes "unpack")) _ _ (map_named Unpack (unpacking_of rows) (λ u. tt))
-    (map_named Query (query_of name rows) (λ q. tt)))))
+    (map_named Query (query_of name rows) (λ q. tt)))))))))
 
 in_named : (sub : Option (Text × List Row)) → Named (asked_in sub)
 in_named None = tt

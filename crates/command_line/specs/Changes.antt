@@ -11,9 +11,9 @@ use Rattle.diversions.specs.declared.entry.Owner.TheVariants.{Local, Package}
 use Rattle.file_lists.specs.declared.paths.PackageList.{PackageList}
 use Rattle.status_db.specs.declared.record.Record.{Record}
 use Rattle.dpkg_session.specs.Diversions.{HasBroken, IsDiverted, IsOneUnit, IsUndiverted, asked_entry, seen_of}
-use Rattle.dpkg_session.specs.Units.{CountsLast, TellsCalls}
-use Rattle.dpkg_session.specs.declared.report.Report.{Report}
-use Rattle.dpkg_session.specs.declared.report.Unit.{Unit as AUnit}
+use Rattle.unit_reports.specs.Units.{CountsLast, TellsCalls}
+use Rattle.unit_reports.specs.declared.report.Report.{Report}
+use Rattle.unit_reports.specs.declared.report.Unit.{Unit as AUnit}
 use Rattle.command_words.specs.declared.diverting.Diverting.{Diverting}
 use Rattle.command_words.specs.declared.diverting.Undiverting.{Undiverting}
 use Rattle.command_line.specs.Roots.{Around, Given, IsOpenedOn, IsRootFault}

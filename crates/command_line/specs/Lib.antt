@@ -2,4 +2,5 @@ pub mod Roots
 pub mod Unpacks
 pub mod Queries
 pub mod Changes
+pub mod Packages
 pub mod Reports

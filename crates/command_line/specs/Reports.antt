@@ -1,24 +1,31 @@
 -- What a command writes, and the status that it ends with.
-use Rattle.std.specs.Prelude.{ℕ, List, [], ◌++◌, ◌⊎◌, ◌≡◌, ◌≢◌, Bool, true, false, Option, Some, None, Result, Ok, Err, codes, if◌then◌else◌, is_ok}
+use Rattle.std.specs.Prelude.{ℕ, List, [], ◌++◌, ◌⊎◌, ◌≡◌, ◌≢◌, max, Bool, true, false, Option, Some, None, Result, Ok, Err, codes, if◌then◌else◌, is_ok}
 use Rattle.std.specs.Option.{option_map_or}
 use Rattle.std.specs.Io.KnownBytes.{Appends, Keeps}
 use Rattle.version_order.specs.VersionOrder.{version_order}
 use Rattle.version_order.specs.declared.fault.VersionFault.{VersionFault}
 use Rattle.administration.specs.declared.fault.AdministrationFault.{AdministrationFault}
-use Rattle.dpkg_session.specs.declared.report.Report.{Report}
+use Rattle.unit_reports.specs.declared.report.Report.{Report}
 use Rattle.report_lines.specs.Reports.{report_lines, report_status}
 use Rattle.command_words.specs.Comparisons.{bad_version, bad_version_line, holds}
 use Rattle.command_line.specs.declared.answer.Answer.{Answer}
 use Rattle.command_line.specs.Changes.{HasEndedChange, IsDivertOf, IsUndivertOf, bad_of_divert, bad_of_undivert, is_good}
+use Rattle.command_line.specs.Packages.{HasEndedWork, policy_of, work_of}
+use Rattle.command_line.specs.declared.packages.Work.{Work}
+use Rattle.command_line.specs.declared.packages.Work.TheVariants as work
+use Rattle.conffiles.specs.declared.decisions.ConfPolicy.{ConfPolicy}
 use Rattle.command_line.specs.Queries.{IsQueryAnswer, bad_path_answer, inquiry_of}
 use Rattle.command_line.specs.declared.changing.Change.{Change}
 use Rattle.command_line.specs.Roots.{Around, IsRootFault, opening_answer}
 use Rattle.command_line.specs.Unpacks.{HasUnpacked}
+use Rattle.command_line.specs.declared.unpacking.Done.{Done}
+use Rattle.command_line.specs.declared.unpacking.Done.TheVariants as done
+use Rattle.dpkg_session.specs.declared.installing.Installed.{Installed}
 use Rattle.command_words.specs.CommandLine.{lines, subcommand_names}
 use Rattle.command_words.specs.declared.comparison.Comparison.{Comparison}
 use Rattle.command_words.specs.declared.words.Asked.{Asked}
-use Rattle.command_words.specs.declared.words.Asked.TheVariants.{Names, CompareVersions, Divert, Query, Undivert, Unpack}
-use Rattle.command_words.specs.declared.words.Unpacking.{Unpacking}
+use Rattle.command_words.specs.declared.words.Asked.TheVariants.{Names, CompareVersions, Configure, Divert, Install, Purge, Query, Remove, Undivert, Unpack}
+use Rattle.command_words.specs.declared.unpacking.Unpacking.{Unpacking}
 
 -- the names of the subcommands, one a line
 abbrev pub names_answer : Answer
@@ -38,32 +45,62 @@ comparison_answer c = option_map_or bad_answer
 abbrev pub report_answer : Report → Answer
 report_answer done = record { output = report_lines done; error = []; status = report_status done }
 
--- what came of an unpack: its report, or why the root couldn't be opened
-abbrev pub HasEndedAs : Around → Unpacking → Result Report AdministrationFault → Type 0
-HasEndedAs a u (Ok done) = HasUnpacked a u done
-HasEndedAs a u (Err fault) = IsRootFault a u.root fault
+-- the lines of the reports of an install, one after the other, and the worse of their statuses
+abbrev pub install_answer : Installed → Answer
+install_answer reports = record {
+  output = report_lines reports.unpacked ++ report_lines reports.configured;
+  error = [];
+  status = max (report_status reports.unpacked) (report_status reports.configured);
+}
 
-abbrev pub unpack_answer : Result Report AdministrationFault → Answer
-unpack_answer (Ok done) = report_answer done
-unpack_answer (Err fault) = opening_answer fault
+abbrev pub done_answer : Done → Answer
+done_answer (done.Unpacked report) = report_answer report
+done_answer (done.Installed reports) = install_answer reports
+
+-- what came of trees, whose packages are configured too where a policy for conffiles is given: reports, or why the root
+-- couldn't be opened
+abbrev pub HasEndedAs : Around → Option ConfPolicy → Unpacking → Result Done AdministrationFault → Type 0
+HasEndedAs a policy u (Ok came) = HasUnpacked a policy u came
+HasEndedAs a policy u (Err fault) = IsRootFault a u.root fault
+
+abbrev pub trees_answer : Result Done AdministrationFault → Answer
+trees_answer (Ok came) = done_answer came
+trees_answer (Err fault) = opening_answer fault
+
+-- what came of a command: its report, or why the root couldn't be opened
+abbrev pub ended_answer : Result Report AdministrationFault → Answer
+ended_answer (Ok done) = report_answer done
+ended_answer (Err fault) = opening_answer fault
 
 -- a change of the diversions has ended as its answer tells
 abbrev pub IsChangeAnswer : Around → List ℕ → Change → Answer → Type 0
-IsChangeAnswer a word asked answer = (ended : Result Report AdministrationFault) × HasEndedChange a word asked ended × (answer ≡ unpack_answer ended)
+IsChangeAnswer a word asked answer = (ended : Result Report AdministrationFault) × HasEndedChange a word asked ended × (answer ≡ ended_answer ended)
 
 -- its paths are read first, and only where each names one is the root opened, for a change as it is asked for
 abbrev pub IsReadChange : Around → List ℕ → Option (List ℕ) → (Change → Type 0) → Answer → Type 0
 IsReadChange a word None P answer = (asked : Change) × P asked × IsChangeAnswer a word asked answer
 IsReadChange a word (Some text) P answer = answer ≡ bad_path_answer text
 
--- the answer to what is asked for; an unpack has ended as its answer tells
+-- packages are unpacked, or installed, and this has ended as its answer tells
+abbrev pub IsTreesAnswer : Around → Option ConfPolicy → Unpacking → Answer → Type 0
+IsTreesAnswer a policy u answer = (ended : Result Done AdministrationFault) × HasEndedAs a policy u ended × (answer ≡ trees_answer ended)
+
+-- work on packages by their names has ended as its answer tells
+abbrev pub IsWorkAnswer : Around → List ℕ → Work → Answer → Type 0
+IsWorkAnswer a word asked answer = (ended : Result Report AdministrationFault) × HasEndedWork a word asked ended × (answer ≡ ended_answer ended)
+
+-- the answer to what is asked for
 abbrev pub IsAnswerTo : Around → Asked → Answer → Type 0
 IsAnswerTo a Names answer = answer ≡ names_answer
 IsAnswerTo a (CompareVersions c) answer = answer ≡ comparison_answer c
 IsAnswerTo a (Query q) answer = IsQueryAnswer a q answer
 IsAnswerTo a (Divert d) answer = IsReadChange a d.root (bad_of_divert d) (IsDivertOf d) answer
 IsAnswerTo a (Undivert u) answer = IsReadChange a u.root (bad_of_undivert u) (IsUndivertOf u) answer
-IsAnswerTo a (Unpack u) answer = (ended : Result Report AdministrationFault) × HasEndedAs a u ended × (answer ≡ unpack_answer ended)
+IsAnswerTo a (Unpack u) answer = IsTreesAnswer a None u answer
+IsAnswerTo a (Install u) answer = IsTreesAnswer a (Some (policy_of u.forced)) u answer
+IsAnswerTo a (Configure c) answer = IsWorkAnswer a c.root (work_of c) answer
+IsAnswerTo a (Remove r) answer = IsWorkAnswer a r.root (work.Remove r.names) answer
+IsAnswerTo a (Purge r) answer = IsWorkAnswer a r.root (work.Purge r.names) answer
 
 -- for want of memory
 abbrev pub memory_answer : Answer
@@ -86,6 +123,10 @@ prints (Some (Query q)) = is_ok (inquiry_of q.question)
 prints (Some (Divert d)) = is_good (bad_of_divert d)
 prints (Some (Undivert u)) = is_good (bad_of_undivert u)
 prints (Some (Unpack u)) = true
+prints (Some (Install u)) = true
+prints (Some (Configure c)) = true
+prints (Some (Remove r)) = true
+prints (Some (Purge r)) = true
 prints None = false
 
 -- only for these is a root opened: not for a question about a text that names no path, nor for such a diversion
@@ -96,6 +137,10 @@ opens_root (Some (Query q)) = is_ok (inquiry_of q.question)
 opens_root (Some (Divert d)) = is_good (bad_of_divert d)
 opens_root (Some (Undivert u)) = is_good (bad_of_undivert u)
 opens_root (Some (Unpack u)) = true
+opens_root (Some (Install u)) = true
+opens_root (Some (Configure c)) = true
+opens_root (Some (Remove r)) = true
+opens_root (Some (Purge r)) = true
 opens_root None = false
 
 -- an answer is written to what standard output and standard error held, and its status returned

@@ -1,5 +1,5 @@
 -- How the root of a command is opened, and what is known of its hosts.
-use Rattle.std.specs.Prelude.{◌≡◌, ◌⊎◌, ℕ, List, [], Some, None}
+use Rattle.std.specs.Prelude.{◌≡◌, ◌⊎◌, ℕ, false, List, [], Some, None}
 use Rattle.host_core.specs.Host.{AtEachMoment, Needs, Silent, State}
 use Rattle.administration.specs.declared.fault.AdministrationFault.{AdministrationFault}
 use Rattle.administration.specs.declared.fault.AdministrationFault.TheVariants as opening_faults
@@ -8,6 +8,7 @@ use Rattle.file_lists.specs.declared.paths.PackageList.{PackageList}
 use Rattle.opening.specs.Opened.{IsOpened}
 use Rattle.opening.specs.Leaving.{IsOpeningOrMerging}
 use Rattle.status_db.specs.declared.record.Record.{Record}
+use Rattle.unit_reports.specs.Held.{Held}
 use Rattle.dpkg_session.specs.Standing.{CountsRefusal, OpensAll}
 use Rattle.report_lines.specs.Openings.{opening_line}
 use Rattle.command_line.specs.declared.answer.Answer.{Answer}
@@ -67,3 +68,7 @@ IsRootFault a word fault =
 -- why the root can't be opened is told on standard error
 abbrev pub opening_answer : AdministrationFault → Answer
 opening_answer fault = record { output = []; error = opening_line fault; status = 2 }
+
+-- what is held of an administration that was just opened, where no note stands
+abbrev pub held_anew : List Record → List PackageList → List Diversion → Held
+held_anew table lists entries = record { records = record { records = table; notes = 0; closed = false }; lists = lists; entries = entries }

@@ -2,24 +2,28 @@
 ghost use Rattle.std.specs.Prelude.{◌≡◌, ◌<◌, ◌≤◌, ◌⊎◌, IfOk, Result, is_ok, map, string_bytes, true, []};
 ghost use Rattle.command_words.specs.Commands.{asked_of};
 ghost use Rattle.administration.specs.declared.fault.AdministrationFault.{AdministrationFault as AFault};
-ghost use Rattle.dpkg_session.specs.declared.report.Report.{Report as AReport};
+ghost use Rattle.unit_reports.specs.declared.report.Report.{Report as AReport};
 ghost use Rattle.command_line.specs.declared.answer.Answer.{Answer as AnAnswer};
+ghost use Rattle.command_line.specs.declared.unpacking.Done.{Done as ADone};
+ghost use Rattle.command_line.specs.Packages.{HasEndedWork, work_of};
 ghost use Rattle.command_line.specs.Queries.{IsInquired, IsQueryAnswer, bad_path_answer, inquiry_of};
-ghost use Rattle.command_line.specs.Reports.{HasEndedAs, IsAnswerOf, IsReadChange, comparison_answer, memory_answer, names_answer, opens_root, prints, report_answer, unpack_answer};
+ghost use Rattle.command_line.specs.Reports.{HasEndedAs, IsAnswerOf, IsReadChange, comparison_answer, done_answer, ended_answer, install_answer, memory_answer, names_answer, opens_root, prints, report_answer, trees_answer};
 ghost use Rattle.command_line.specs.Changes.{HasEndedChange, IsDivertOf, IsUndivertOf, bad_of_divert, bad_of_undivert, is_good, owner_in};
 ghost use Rattle.diversions.specs.Entries.{is_owner};
 ghost use Rattle.command_line.specs.Roots.{around, opening_answer};
 
 use crate::changing::{Change, change_under, diverting_in, undiverting_in};
 use crate::hosts::Hosts;
+use crate::packages::{Work, policy_of, work_under};
 use crate::questions::{Inquiry, bad_path, inquire_under, inquiry_of};
-use crate::unpacking::unpack;
+use crate::unpacking::{Done, unpack};
 use administration::AdministrationFault;
 use command_words::{
-    Asked, Comparison, Diverting, Query, Undiverting, Unpacking, Verdict, WordsFault,
-    bad_version_line, command_of, subcommand_names,
+    Asked, Comparison, Configuring, Diverting, Query, Removing, Undiverting, Unpacking, Verdict,
+    WordsFault, bad_version_line, command_of, subcommand_names,
 };
-use dpkg_session::Report;
+use conffiles::ConfPolicy;
+use dpkg_session::{Installed, Report};
 use report_lines::{opening_line, report_status, report_text};
 use std::alloc::{AllocError, Global};
 use texts::{Bytes, Text};
@@ -98,6 +102,28 @@ fn reported(alloc: Global, done: &Report) -> Result<Answer, AllocError>
     Ok(printed(alloc, text, report_status(done)))
 }
 
+// The two reports of an install.
+fn installed(alloc: Global, done: &Installed) -> Result<Answer, AllocError>
+    ensures answer { IfOk result (λ answer. answer ≡ install_answer done.now) }
+    ensures bound { IfOk result (λ answer. answer.status ≤ 2) }
+{
+    let mut text = report_text(alloc, &done.unpacked)?;
+    let configured = report_text(alloc, &done.configured)?;
+    text.push_str(configured.as_str())?;
+    let status = report_status(&done.unpacked).max(report_status(&done.configured));
+    Ok(printed(alloc, text, status))
+}
+
+fn done_answer(alloc: Global, done: &Done) -> Result<Answer, AllocError>
+    ensures answer { IfOk result (λ answer. answer ≡ done_answer done.now) }
+    ensures bound { IfOk result (λ answer. answer.status ≤ 2) }
+{
+    match done {
+        Done::Unpacked(report) => reported(alloc, report),
+        Done::Installed(reports) => installed(alloc, reports),
+    }
+}
+
 fn not_opened(alloc: Global, fault: &AdministrationFault) -> Result<Answer, AllocError>
     ensures { IfOk result (λ answer. answer ≡ opening_answer fault.now) }
 {
@@ -109,14 +135,15 @@ fn unpacked<S: Hosts>(
     alloc: Global,
     hosts: &mut S,
     unpacking: &Unpacking,
+    policy: Option<ConfPolicy>,
 ) -> Result<Answer, AllocError>
-    ensures ended { (ended : Result AReport AFault)
-        × HasEndedAs (around (S.root hosts.old) (S.tree hosts.old) (S.left hosts.new) (S.seen hosts.new) (S.faults hosts.old < S.faults hosts.new) (S.unopened hosts.old hosts.new)) unpacking.now ended
-        × IfOk result (λ answer. answer ≡ unpack_answer ended) }
+    ensures ended { (ended : Result ADone AFault)
+        × HasEndedAs (around (S.root hosts.old) (S.tree hosts.old) (S.left hosts.new) (S.seen hosts.new) (S.faults hosts.old < S.faults hosts.new) (S.unopened hosts.old hosts.new)) policy unpacking.now ended
+        × IfOk result (λ answer. answer ≡ trees_answer ended) }
     ensures bound { IfOk result (λ answer. answer.status ≤ 2) }
 {
-    match unpack(alloc, hosts, unpacking) {
-        Ok(done) => reported(alloc, &done),
+    match unpack(alloc, hosts, unpacking, policy) {
+        Ok(done) => done_answer(alloc, &done),
         Err(fault) => not_opened(alloc, &fault),
     }
 }
@@ -129,13 +156,71 @@ fn changed<S: Hosts>(
 ) -> Result<Answer, AllocError>
     ensures ended { (ended : Result AReport AFault)
         × HasEndedChange (around (S.root hosts.old) (S.tree hosts.old) (S.left hosts.new) (S.seen hosts.new) (S.faults hosts.old < S.faults hosts.new) (S.unopened hosts.old hosts.new)) root.now asked.now ended
-        × IfOk result (λ answer. answer ≡ unpack_answer ended) }
+        × IfOk result (λ answer. answer ≡ ended_answer ended) }
     ensures bound { IfOk result (λ answer. answer.status ≤ 2) }
 {
     match change_under(alloc, hosts, root, asked) {
         Ok(done) => reported(alloc, &done),
         Err(fault) => not_opened(alloc, &fault),
     }
+}
+
+fn worked<S: Hosts>(
+    alloc: Global,
+    hosts: &mut S,
+    root: &Text,
+    asked: &Work,
+) -> Result<Answer, AllocError>
+    ensures ended { (ended : Result AReport AFault)
+        × HasEndedWork (around (S.root hosts.old) (S.tree hosts.old) (S.left hosts.new) (S.seen hosts.new) (S.faults hosts.old < S.faults hosts.new) (S.unopened hosts.old hosts.new)) root.now asked.now ended
+        × IfOk result (λ answer. answer ≡ ended_answer ended) }
+    ensures bound { IfOk result (λ answer. answer.status ≤ 2) }
+{
+    match work_under(alloc, hosts, root, asked) {
+        Ok(done) => reported(alloc, &done),
+        Err(fault) => not_opened(alloc, &fault),
+    }
+}
+
+fn configured<S: Hosts>(
+    alloc: Global,
+    hosts: &mut S,
+    asked: Configuring,
+) -> Result<Answer, AllocError>
+    ensures ended { (ended : Result AReport AFault)
+        × HasEndedWork (around (S.root hosts.old) (S.tree hosts.old) (S.left hosts.new) (S.seen hosts.new) (S.faults hosts.old < S.faults hosts.new) (S.unopened hosts.old hosts.new)) asked.root (work_of asked) ended
+        × IfOk result (λ answer. answer ≡ ended_answer ended) }
+    ensures bound { IfOk result (λ answer. answer.status ≤ 2) }
+{
+    let Configuring {
+        root,
+        names,
+        forced,
+    } = asked;
+    let work = Work::Configure(names, policy_of(forced));
+    worked(alloc, hosts, &root, &work)
+}
+
+fn removed<S: Hosts>(alloc: Global, hosts: &mut S, asked: Removing) -> Result<Answer, AllocError>
+    ensures ended { (ended : Result AReport AFault)
+        × HasEndedWork (around (S.root hosts.old) (S.tree hosts.old) (S.left hosts.new) (S.seen hosts.new) (S.faults hosts.old < S.faults hosts.new) (S.unopened hosts.old hosts.new)) asked.root (Work.Remove asked.names) ended
+        × IfOk result (λ answer. answer ≡ ended_answer ended) }
+    ensures bound { IfOk result (λ answer. answer.status ≤ 2) }
+{
+    let Removing { root, names } = asked;
+    let work = Work::Remove(names);
+    worked(alloc, hosts, &root, &work)
+}
+
+fn purged<S: Hosts>(alloc: Global, hosts: &mut S, asked: Removing) -> Result<Answer, AllocError>
+    ensures ended { (ended : Result AReport AFault)
+        × HasEndedWork (around (S.root hosts.old) (S.tree hosts.old) (S.left hosts.new) (S.seen hosts.new) (S.faults hosts.old < S.faults hosts.new) (S.unopened hosts.old hosts.new)) asked.root (Work.Purge asked.names) ended
+        × IfOk result (λ answer. answer ≡ ended_answer ended) }
+    ensures bound { IfOk result (λ answer. answer.status ≤ 2) }
+{
+    let Removing { root, names } = asked;
+    let work = Work::Purge(names);
+    worked(alloc, hosts, &root, &work)
 }
 
 fn diverted<S: Hosts>(alloc: Global, hosts: &mut S, asked: &Diverting) -> Result<Answer, AllocError>
@@ -225,7 +310,13 @@ pub(crate) fn answer_to<S: Hosts>(
         Ok(Asked::Divert(asked)) => diverted(alloc, hosts, &asked),
         Ok(Asked::Undivert(asked)) => undiverted(alloc, hosts, &asked),
         Ok(Asked::Query(query)) => queried(alloc, hosts, query),
-        Ok(Asked::Unpack(unpacking)) => unpacked(alloc, hosts, &unpacking),
+        Ok(Asked::Unpack(unpacking)) => unpacked(alloc, hosts, &unpacking, None),
+        Ok(Asked::Install(unpacking)) => {
+            unpacked(alloc, hosts, &unpacking, Some(policy_of(unpacking.forced)))
+        }
+        Ok(Asked::Configure(asked)) => configured(alloc, hosts, asked),
+        Ok(Asked::Remove(asked)) => removed(alloc, hosts, asked),
+        Ok(Asked::Purge(asked)) => purged(alloc, hosts, asked),
         Err(WordsFault::Usage(text)) => Ok(complained(alloc, text)),
         Err(WordsFault::NoMemory) => Err(AllocError),
     }

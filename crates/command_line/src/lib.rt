@@ -5,6 +5,7 @@ mod answer;
 mod changing;
 mod command;
 mod hosts;
+mod packages;
 mod questions;
 mod unpacking;
 mod writing;

@@ -1,8 +1,8 @@
-// An unpack: the root is opened, the trees are read, and the units are run.
+// Trees: the root is opened, they are read, and their packages are unpacked or installed.
 ghost use Rattle.std.specs.Prelude.{◌≡◌, ◌<◌, ◌≤◌, ◌⊎◌, IfOk, map, List, ℕ, IfErr, OnErr, false};
 ghost use Rattle.command_line.specs.Roots.{around, IsRefusedOn, IsRootFault, IsStoppedOn};
 ghost use Rattle.command_line.specs.Unpacks.{HasRunTrees, HasUnpacked, IsLabelled, IsReadFor, IsUnpackedOn};
-ghost use Rattle.dpkg_session.specs.Held.{held};
+ghost use Rattle.unit_reports.specs.Held.{held};
 ghost use Rattle.std.specs.List.{All};
 ghost use Rattle.host_core.specs.Host.{State};
 ghost use Rattle.administration.specs.declared.fault.AdministrationFault.TheVariants.{NoMemory};
@@ -10,10 +10,18 @@ ghost use Rattle.administration.specs.declared.fault.AdministrationFault.TheVari
 use crate::hosts::Hosts;
 use administration::AdministrationFault;
 use command_words::Unpacking;
-use dpkg_session::{Candidate, Command, Report, Session};
+use conffiles::ConfPolicy;
+use dpkg_session::{Candidate, Command, Installed, Report, Session, Unpack};
 use package_tree::{Package, TreeFault, read_tree};
 use std::alloc::{AllocError, Global};
 use texts::Text;
+
+/// What came of trees: a report of their unpacks, or of these and of what was configured then.
+#[derive(Drop)]
+pub(crate) enum Done {
+    Unpacked(Report),
+    Installed(Installed),
+}
 
 // What a tree gives; one that can't be opened has the host's fault.
 fn read_package<S: Hosts>(alloc: Global, hosts: &mut S, tree: &str) -> Result<Package, TreeFault>
@@ -58,32 +66,41 @@ fn run_trees<S: Hosts>(
     alloc: Global,
     hosts: &mut S,
     session: &mut Session<S::Opened>,
-    trees: &[Text],
-) -> Result<Report, AllocError>
+    unpacking: &Unpacking,
+    policy: Option<ConfPolicy>,
+) -> Result<Done, AllocError>
     requires { session.old.closed ≡ false }
-    ensures done { IfOk result (λ done. HasRunTrees (around (S.root hosts.old) (S.tree hosts.old) (S.left hosts.new) (S.seen hosts.new) (S.faults hosts.old < S.faults hosts.new) (S.unopened hosts.old hosts.new)) trees.now done (held session.old.database session.old.lists session.old.diversions) (S.Opened.state session.old.host) (S.Opened.state session.new.host)) }
+    ensures done { IfOk result (λ done. HasRunTrees (around (S.root hosts.old) (S.tree hosts.old) (S.left hosts.new) (S.seen hosts.new) (S.faults hosts.old < S.faults hosts.new) (S.unopened hosts.old hosts.new)) policy unpacking.now done (held session.old.database session.old.lists session.old.diversions) (S.Opened.state session.old.host) (S.Opened.state session.new.host)) }
     ensures unread { OnErr result (S.Opened.state session.new.host ≡ S.Opened.state session.old.host) }
     ensures seen { (s : State) → S.seen hosts.old s → S.seen hosts.new s }
     ensures faults { S.faults hosts.old ≤ S.faults hosts.new }
 {
-    let command = Command::Unpack(read_trees(alloc, hosts, trees)?);
-    Ok(session.run(command))
+    let candidates = read_trees(alloc, hosts, unpacking.trees.as_slice())?;
+    let unpack = Unpack {
+        candidates,
+        auto_deconfigure: unpacking.auto_deconfigure,
+    };
+    match policy {
+        Some(policy) => Ok(Done::Installed(session.install(unpack, policy))),
+        None => Ok(Done::Unpacked(session.run(Command::Unpack(unpack)))),
+    }
 }
 
-// An unpack on the host of the root, which is given back.
+// The units on the host of the root, which is given back.
 fn unpack_on<S: Hosts>(
     alloc: Global,
     hosts: &mut S,
     host: S::Opened,
-    trees: &[Text],
-) -> Result<Report, AdministrationFault>
-    ensures done { IfOk result (IsUnpackedOn (around (S.root hosts.old) (S.tree hosts.old) (S.left hosts.new) (S.seen hosts.new) (S.faults hosts.old < S.faults hosts.new) (S.unopened hosts.old hosts.new)) (S.Opened.state host) trees.now) }
+    unpacking: &Unpacking,
+    policy: Option<ConfPolicy>,
+) -> Result<Done, AdministrationFault>
+    ensures done { IfOk result (IsUnpackedOn (around (S.root hosts.old) (S.tree hosts.old) (S.left hosts.new) (S.seen hosts.new) (S.faults hosts.old < S.faults hosts.new) (S.unopened hosts.old hosts.new)) (S.Opened.state host) policy unpacking.now) }
     ensures refused { IfErr result (λ fault. IsRefusedOn (S.left hosts.new) (S.Opened.state host) fault ⊎ ((fault ≡ NoMemory) × IsStoppedOn (S.left hosts.new) (S.Opened.state host))) }
     ensures faults { S.faults hosts.old ≤ S.faults hosts.new }
 {
     match Session::open(alloc, host) {
         Ok(mut session) => {
-            let done = run_trees(alloc, hosts, &mut session, trees);
+            let done = run_trees(alloc, hosts, &mut session, unpacking, policy);
             hosts.close_root(session.into_host());
             Ok(done?)
         }
@@ -94,17 +111,18 @@ fn unpack_on<S: Hosts>(
     }
 }
 
-/// Unpacks the trees under the root, or tells why the root can't be opened. Want of memory outside of the units is told
-/// likewise.
+/// Unpacks the trees under the root, and configures their packages where a policy for conffiles is given; or tells why the root
+/// can't be opened. Want of memory outside of the units is told likewise.
 pub(crate) fn unpack<S: Hosts>(
     alloc: Global,
     hosts: &mut S,
     unpacking: &Unpacking,
-) -> Result<Report, AdministrationFault>
-    ensures done { IfOk result (HasUnpacked (around (S.root hosts.old) (S.tree hosts.old) (S.left hosts.new) (S.seen hosts.new) (S.faults hosts.old < S.faults hosts.new) (S.unopened hosts.old hosts.new)) unpacking.now) }
+    policy: Option<ConfPolicy>,
+) -> Result<Done, AdministrationFault>
+    ensures done { IfOk result (HasUnpacked (around (S.root hosts.old) (S.tree hosts.old) (S.left hosts.new) (S.seen hosts.new) (S.faults hosts.old < S.faults hosts.new) (S.unopened hosts.old hosts.new)) policy unpacking.now) }
     ensures refused { IfErr result (IsRootFault (around (S.root hosts.old) (S.tree hosts.old) (S.left hosts.new) (S.seen hosts.new) (S.faults hosts.old < S.faults hosts.new) (S.unopened hosts.old hosts.new)) unpacking.now.root) }
     ensures faults { S.faults hosts.old ≤ S.faults hosts.new }
 {
     let host = hosts.open_root(unpacking.root.as_str())?;
-    unpack_on(alloc, hosts, host, unpacking.trees.as_slice())
+    unpack_on(alloc, hosts, host, unpacking, policy)
 }

@@ -1,6 +1,6 @@
--- Subcommands that are added in turn.
+-- Subcommands and arguments that are added in turn.
 use Rattle.std.proofs.Common.{◌≡◌, ap, [], ◌∷◌}
-use Rattle.clap.specs.Words.{App, Shape, with_subcommand}
+use Rattle.clap.specs.Words.{App, Rule, Shape, with_rule, with_subcommand}
 use Rattle.command_words.specs.CommandLine.{with_all}
 
 added : (f : App → Shape → App) (old one two new : App) (a b c x y z : Shape) → one ≡ f old a → a ≡ x → two ≡ f one b → b ≡ y → new ≡ f two c → c ≡ z
@@ -17,9 +17,11 @@ pub three_added : (old one two new a b c x y z : App)
 three_added old one two new a b c x y z e is_x e2 is_y e3 is_z =
     added with_subcommand old one two new a.top b.top c.top x.top y.top z.top e (top a x is_x) e2 (top b y is_y) e3 (top c z is_z)
 
-two : (f : App → Shape → App) (old one new : App) (a b x y : Shape) → one ≡ f old a → a ≡ x → new ≡ f one b → b ≡ y → new ≡ f (f old x) y
-two f old one new a b x y e is_x e2 is_y = cc
+ruled : (f : App → Rule → App) (old one two new : App) (a b c x y z : Rule) → one ≡ f old a → a ≡ x → two ≡ f one b → b ≡ y → new ≡ f two c → c ≡ z
+    → new ≡ f (f (f old x) y) z
+ruled f old one two new a b c x y z e is_x e2 is_y e3 is_z = cc
 
--- two subcommands more
-pub two_added : (old one new a b x y : App) → one ≡ with_subcommand old a.top → a ≡ x → new ≡ with_subcommand one b.top → b ≡ y → new ≡ with_all old (x ∷ y ∷ [])
-two_added old one new a b x y e is_x e2 is_y = two with_subcommand old one new a.top b.top x.top y.top e (top a x is_x) e2 (top b y is_y)
+-- three arguments more
+pub three_ruled : (old one two new : App) (a b c x y z : Rule) → one ≡ with_rule old a → a ≡ x → two ≡ with_rule one b → b ≡ y → new ≡ with_rule two c → c ≡ z
+    → new ≡ with_rule (with_rule (with_rule old x) y) z
+three_ruled old one two new a b c x y z e is_x e2 is_y e3 is_z = ruled with_rule old one two new a b c x y z e is_x e2 is_y e3 is_z

@@ -1,5 +1,5 @@
 -- The command line, as clap's rules: the subcommands with their flags and words.
-use Rattle.std.specs.Prelude.{ℕ, Bool, true, List, [], ◌∷◌, ◌++◌, ◌&&◌, map, fold, Some, codes}
+use Rattle.std.specs.Prelude.{ℕ, Bool, true, false, List, [], ◌∷◌, ◌++◌, ◌&&◌, map, fold, Some, codes}
 use Rattle.std.specs.Cmp.Lexicographic.{slice_cmp}
 use Rattle.std.specs.List.{flat_map}
 use Rattle.std.specs.Ordering.{is_lt, nat_cmp}
@@ -22,9 +22,9 @@ option_rule id = record (new_rule id) { long = Some id; action = Some Set }
 abbrev pub flag_rule : Text → Rule
 flag_rule id = record (new_rule id) { long = Some id; action = Some SetTrue }
 
--- one or more trees
-abbrev pub trees_rule : Rule
-trees_rule = record (new_rule (codes "TREE")) { action = Some Append; required = true }
+-- words at the last places, as `TREE..`
+abbrev pub words_rule : Text → Bool → Rule
+words_rule id required = record (new_rule id) { action = Some Append; required = required }
 
 -- `compare-versions A OP B`
 abbrev pub compare_versions_app : App
@@ -58,9 +58,21 @@ divert_app = with_diverted (with_rule (with_owner (rooted_app (codes "divert")))
 abbrev pub undivert_app : App
 undivert_app = with_diverted (with_owner (rooted_app (codes "undivert")))
 
--- `unpack [--root DIR] TREE..`
-abbrev pub unpack_app : App
-unpack_app = with_rule (rooted_app (codes "unpack")) trees_rule
+-- `--force-confold`, `--force-confnew` and `--force-confmiss`
+abbrev pub with_forced : App → App
+with_forced a = with_rule (with_rule (with_rule a (flag_rule (codes "force-confold"))) (flag_rule (codes "force-confnew"))) (flag_rule (codes "force-confmiss"))
+
+-- `install [--root DIR] [--auto-deconfigure] [--force-confold | --force-confnew] [--force-confmiss] TREE..`; `unpack` likewise
+abbrev pub trees_app : Text → App
+trees_app name = with_rule (with_forced (with_rule (rooted_app name) (flag_rule (codes "auto-deconfigure")))) (words_rule (codes "TREE") true)
+
+-- `configure [--root DIR] [--force-confold | --force-confnew] [--force-confmiss] [PKG..]`
+abbrev pub configure_app : App
+configure_app = with_rule (with_forced (rooted_app (codes "configure"))) (words_rule (codes "PKG") false)
+
+-- `remove [--root DIR] PKG..`; `purge` likewise
+abbrev pub removing_app : Text → App
+removing_app name = with_rule (rooted_app name) (words_rule (codes "PKG") true)
 
 -- no flag and no subcommand asks for help
 abbrev pub without_help : App → App
@@ -72,19 +84,22 @@ with_all whole apps = fold (λ a s. with_subcommand a s.top) whole apps
 
 -- the subcommands, in the order of their names' bytes
 abbrev pub first_apps : List App
-first_apps = rooted_app (codes "audit") ∷ compare_versions_app ∷ rooted_app (codes "diversions") ∷ []
+first_apps = rooted_app (codes "audit") ∷ compare_versions_app ∷ configure_app ∷ []
 
 abbrev pub second_apps : List App
-second_apps = divert_app ∷ rooted_app (codes "list") ∷ asking_app (codes "listfiles") (codes "PKG") ∷ []
+second_apps = rooted_app (codes "diversions") ∷ divert_app ∷ trees_app (codes "install") ∷ []
 
 abbrev pub third_apps : List App
-third_apps = asking_app (codes "search") (codes "PATH") ∷ asking_app (codes "status") (codes "PKG") ∷ truename_app ∷ []
+third_apps = rooted_app (codes "list") ∷ asking_app (codes "listfiles") (codes "PKG") ∷ removing_app (codes "purge") ∷ []
+
+abbrev pub fourth_apps : List App
+fourth_apps = removing_app (codes "remove") ∷ asking_app (codes "search") (codes "PATH") ∷ asking_app (codes "status") (codes "PKG") ∷ []
 
 abbrev pub last_apps : List App
-last_apps = undivert_app ∷ unpack_app ∷ []
+last_apps = truename_app ∷ undivert_app ∷ trees_app (codes "unpack") ∷ []
 
 abbrev pub whole_app : App
-whole_app = with_all (with_all (with_all (with_all (without_help (new_app (codes "dpkg_cli"))) first_apps) second_apps) third_apps) last_apps
+whole_app = with_all (with_all (with_all (with_all (with_all (without_help (new_app (codes "dpkg_cli"))) first_apps) second_apps) third_apps) fourth_apps) last_apps
 
 -- the names that clap knows the subcommands by
 abbrev pub subcommand_names : List Text

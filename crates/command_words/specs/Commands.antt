@@ -1,18 +1,17 @@
 -- What the words of a command line ask for.
-use Rattle.std.specs.Prelude.{List, [], ◌∷◌, length, map, Option, Some, None, option_and_then, option_map, codes, if◌then◌else◌, nat_le}
+use Rattle.std.specs.Prelude.{List, [], ◌∷◌, length, Option, Some, None, option_and_then, option_map, codes, if◌then◌else◌, nat_le}
 use Rattle.std.specs.Str.{bytes_eq}
-use Rattle.clap.specs.Words.{Kinds, Row, Text, all_of, fault_of, first_of, subcommand_of}
+use Rattle.clap.specs.Words.{Kinds, Row, Text, fault_of, first_of, subcommand_of}
 use Rattle.command_words.specs.CommandLine.{whole_app}
 use Rattle.command_words.specs.Comparisons.{operator_of}
 use Rattle.command_words.specs.Queries.{query_of}
 use Rattle.command_words.specs.Diversions.{diverting_of, undiverting_of}
-use Rattle.command_words.specs.Given.{is_absolute}
+use Rattle.command_words.specs.Packages.{configuring_of, removing_of}
+use Rattle.command_words.specs.Unpacks.{unpacking_of}
 use Rattle.command_words.specs.declared.comparison.Comparison.{Comparison}
 use Rattle.command_words.specs.declared.words.Asked.{Asked}
 use Rattle.command_words.specs.declared.words.Compared.{Compared}
-use Rattle.command_words.specs.declared.words.Rooted.{Rooted}
-use Rattle.command_words.specs.declared.words.Unpacking.{Unpacking}
-use Rattle.command_words.specs.declared.words.Asked.TheVariants.{Names, CompareVersions, Divert, Undivert, Unpack, Query}
+use Rattle.command_words.specs.declared.words.Asked.TheVariants.{Names, CompareVersions, Divert, Undivert, Unpack, Install, Configure, Remove, Purge, Query}
 
 -- the subcommand that the words enter, with the texts of its arguments
 abbrev pub entered : List Text → Option (Text × List Row)
@@ -31,23 +30,15 @@ comparison_from _ _ _ = None
 abbrev pub comparison_of : List Row → Option Comparison
 comparison_of rows = comparison_from (first_of (codes "A") rows) (first_of (codes "OP") rows) (first_of (codes "B") rows)
 
--- the root and the trees that clap found
-abbrev pub unpacking_in : Rooted → Unpacking
-unpacking_in r = record { root = r.root.now; trees = map (λ t. t.now) r.trees.now }
-
--- an absolute root, and trees
-abbrev pub unpacking_from : Option Text → Option (List Text) → Option Unpacking
-unpacking_from (Some root) (Some trees) = if is_absolute root then Some (record { root = root; trees = trees }) else None
-unpacking_from _ _ = None
-
-abbrev pub unpacking_of : List Row → Option Unpacking
-unpacking_of rows = unpacking_from (first_of (codes "root") rows) (all_of (codes "TREE") rows)
-
 -- what a subcommand asks for with these texts
 abbrev pub asked_by : Text → List Row → Option Asked
 asked_by name rows =
     if bytes_eq name (codes "compare-versions") then option_map CompareVersions (comparison_of rows)
+    else if bytes_eq name (codes "configure") then option_map Configure (configuring_of rows)
     else if bytes_eq name (codes "divert") then option_map Divert (diverting_of rows)
+    else if bytes_eq name (codes "install") then option_map Install (unpacking_of rows)
+    else if bytes_eq name (codes "purge") then option_map Purge (removing_of rows)
+    else if bytes_eq name (codes "remove") then option_map Remove (removing_of rows)
     else if bytes_eq name (codes "undivert") then option_map Undivert (undiverting_of rows)
     else if bytes_eq name (codes "unpack") then option_map Unpack (unpacking_of rows)
     else option_map Query (query_of name rows)

@@ -2,5 +2,8 @@ pub mod CommandLine
 pub mod Comparisons
 pub mod Given
 pub mod Queries
+pub mod Forced
+pub mod Unpacks
+pub mod Packages
 pub mod Diversions
 pub mod Commands

@@ -2,14 +2,14 @@
 ghost use Rattle.std.specs.Prelude.{◌≡◌, IfOk, codes, false, string_bytes, true};
 ghost use Rattle.clap.specs.Words.{app_of, new_app, rule_of, with_rule, with_subcommand};
 ghost use Rattle.clap.specs.declared.builder.command.Command.TheViews.{out-Command as fields_of};
-ghost use Rattle.command_words.specs.CommandLine.{are_ascending, asking_app, compare_versions_app, divert_app, first_apps, flag_rule, last_apps, lines, option_rule, root_rule, rooted_app, second_apps, subcommand_names, third_apps, trees_rule, truename_app, undivert_app, unpack_app, whole_app, with_all, with_diverted, with_owner, without_help, word_rule};
+ghost use Rattle.command_words.specs.CommandLine.{are_ascending, asking_app, compare_versions_app, configure_app, divert_app, first_apps, flag_rule, fourth_apps, last_apps, lines, option_rule, removing_app, root_rule, rooted_app, second_apps, subcommand_names, third_apps, trees_app, truename_app, undivert_app, whole_app, with_all, with_diverted, with_forced, with_owner, without_help, word_rule, words_rule};
 
 use clap::{Arg, ArgAction, Command};
 use std::alloc::{AllocError, Global};
 
 // The names of the subcommands that the command below has, one a line.
-const NAMES: &str = "audit\ncompare-versions\ndiversions\ndivert\nlist\nlistfiles\nsearch\n\
-status\ntruename\nundivert\nunpack\n";
+const NAMES: &str = "audit\ncompare-versions\nconfigure\ndiversions\ndivert\ninstall\nlist\n\
+listfiles\npurge\nremove\nsearch\nstatus\ntruename\nundivert\nunpack\n";
 
 /// The names of the subcommands, one a line, in the order of their bytes.
 pub fn subcommand_names(alloc: Global) -> Result<String, AllocError>
@@ -36,11 +36,12 @@ fn root<'a>(alloc: Global) -> Arg<'a>
         .default_value("/")
 }
 
-fn trees<'a>(alloc: Global) -> Arg<'a>
-    ensures { rule_of result ≡ trees_rule }
+// Words at the last places.
+fn words<'a>(alloc: Global, id: &'a str, required: bool) -> Arg<'a>
+    ensures { rule_of result ≡ words_rule id.entry.now required }
 {
-    Arg::new(alloc, "TREE")
-        .required(true)
+    Arg::new(alloc, id)
+        .required(required)
         .action(ArgAction::Append)
 }
 
@@ -138,11 +139,40 @@ fn undivert_command<'a>(alloc: Global) -> Result<Command<'a>, AllocError>
     with_diverted(alloc, command)
 }
 
-fn unpack_command<'a>(alloc: Global) -> Result<Command<'a>, AllocError>
-    ensures app { IfOk result (λ c. app_of c ≡ unpack_app) }
+// What is forced of conffiles.
+fn with_forced<'a>(alloc: Global, command: Command<'a>) -> Result<Command<'a>, AllocError>
+    ensures app { IfOk result (λ c. app_of c ≡ with_forced (app_of command.entry)) }
+    ensures local { IfOk result (λ c. (fields_of c).has_globals ≡ (fields_of command.entry).has_globals) }
+{
+    let command = with_arg(command, flag(alloc, "force-confold"))?;
+    let command = with_arg(command, flag(alloc, "force-confnew"))?;
+    with_arg(command, flag(alloc, "force-confmiss"))
+}
+
+// A subcommand that takes trees.
+fn taking_trees<'a>(alloc: Global, name: &'a str) -> Result<Command<'a>, AllocError>
+    ensures app { IfOk result (λ c. app_of c ≡ trees_app name.entry.now) }
     ensures local { IfOk result (λ c. (fields_of c).has_globals ≡ false) }
 {
-    with_arg(rooted(alloc, "unpack")?, trees(alloc))
+    let command = with_arg(rooted(alloc, name)?, flag(alloc, "auto-deconfigure"))?;
+    let command = with_forced(alloc, command)?;
+    with_arg(command, words(alloc, "TREE", true))
+}
+
+fn configure_command<'a>(alloc: Global) -> Result<Command<'a>, AllocError>
+    ensures app { IfOk result (λ c. app_of c ≡ configure_app) }
+    ensures local { IfOk result (λ c. (fields_of c).has_globals ≡ false) }
+{
+    let command = with_forced(alloc, rooted(alloc, "configure")?)?;
+    with_arg(command, words(alloc, "PKG", false))
+}
+
+// A subcommand that removes packages.
+fn removing<'a>(alloc: Global, name: &'a str) -> Result<Command<'a>, AllocError>
+    ensures app { IfOk result (λ c. app_of c ≡ removing_app name.entry.now) }
+    ensures local { IfOk result (λ c. (fields_of c).has_globals ≡ false) }
+{
+    with_arg(rooted(alloc, name)?, words(alloc, "PKG", true))
 }
 
 // Help is no subcommand and no flag, so a call for it is a usage fault.
@@ -166,30 +196,39 @@ fn with_first<'a>(alloc: Global, whole: Command<'a>) -> Result<Command<'a>, Allo
 {
     let whole = with(whole, rooted(alloc, "audit")?)?;
     let whole = with(whole, compare_versions_command(alloc)?)?;
-    with(whole, rooted(alloc, "diversions")?)
+    with(whole, configure_command(alloc)?)
 }
 
 fn with_second<'a>(alloc: Global, whole: Command<'a>) -> Result<Command<'a>, AllocError>
     ensures { IfOk result (λ c. app_of c ≡ with_all (app_of whole.entry) second_apps) }
 {
+    let whole = with(whole, rooted(alloc, "diversions")?)?;
     let whole = with(whole, divert_command(alloc)?)?;
-    let whole = with(whole, rooted(alloc, "list")?)?;
-    with(whole, asking(alloc, "listfiles", "PKG")?)
+    with(whole, taking_trees(alloc, "install")?)
 }
 
 fn with_third<'a>(alloc: Global, whole: Command<'a>) -> Result<Command<'a>, AllocError>
     ensures { IfOk result (λ c. app_of c ≡ with_all (app_of whole.entry) third_apps) }
 {
+    let whole = with(whole, rooted(alloc, "list")?)?;
+    let whole = with(whole, asking(alloc, "listfiles", "PKG")?)?;
+    with(whole, removing(alloc, "purge")?)
+}
+
+fn with_fourth<'a>(alloc: Global, whole: Command<'a>) -> Result<Command<'a>, AllocError>
+    ensures { IfOk result (λ c. app_of c ≡ with_all (app_of whole.entry) fourth_apps) }
+{
+    let whole = with(whole, removing(alloc, "remove")?)?;
     let whole = with(whole, asking(alloc, "search", "PATH")?)?;
-    let whole = with(whole, asking(alloc, "status", "PKG")?)?;
-    with(whole, truename_command(alloc)?)
+    with(whole, asking(alloc, "status", "PKG")?)
 }
 
 fn with_last<'a>(alloc: Global, whole: Command<'a>) -> Result<Command<'a>, AllocError>
     ensures { IfOk result (λ c. app_of c ≡ with_all (app_of whole.entry) last_apps) }
 {
+    let whole = with(whole, truename_command(alloc)?)?;
     let whole = with(whole, undivert_command(alloc)?)?;
-    with(whole, unpack_command(alloc)?)
+    with(whole, taking_trees(alloc, "unpack")?)
 }
 
 /// The program's command with its subcommands.
@@ -197,6 +236,6 @@ pub(crate) fn whole_command<'a>(alloc: Global) -> Result<Command<'a>, AllocError
     ensures { IfOk result (λ c. app_of c ≡ whole_app) }
 {
     let whole = with_first(alloc, without_help(Command::new(alloc, "dpkg_cli")))?;
-    let whole = with_second(alloc, whole)?;
-    with_last(alloc, with_third(alloc, whole)?)
+    let whole = with_third(alloc, with_second(alloc, whole)?)?;
+    with_last(alloc, with_fourth(alloc, whole)?)
 }

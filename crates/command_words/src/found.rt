@@ -5,7 +5,7 @@ ghost use Rattle.command_words.specs.Given.{is_absolute, is_package, is_set};
 
 use clap::ArgMatches;
 use std::alloc::{AllocError, Global};
-use texts::{Text, package_name};
+use texts::{Text, Texts, package_name};
 
 pub(crate) fn text_of<'a>(found: &ArgMatches<'a>, id: &str) -> Option<&'a str>
     ensures { option_map (λ s. s.now) result ≡ first_of id.now (rows_of (found_of found.now)) }
@@ -65,4 +65,14 @@ pub(crate) fn flag_of(found: &ArgMatches<'_>, id: &str) -> bool
         Some(text) => text == "true",
         None => false,
     }
+}
+
+pub(crate) fn copies(alloc: Global, texts: &[&str]) -> Result<Texts, AllocError>
+    ensures { IfOk result (λ copies. copies ≡ map (λ t. t.now) texts.now) }
+{
+    let mut all = Texts::new(alloc);
+    for text in texts {
+        all.push(Text::from_str(alloc, text)?)?;
+    }
+    Ok(all)
 }

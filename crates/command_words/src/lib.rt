@@ -4,12 +4,18 @@
 mod command;
 mod comparison;
 mod diverting;
+mod forced;
 mod found;
+mod packages;
 mod query;
+mod unpacking;
 mod words;
 
 pub use command::subcommand_names;
 pub use comparison::{Comparison, Operator, Verdict, bad_version_line};
 pub use diverting::{Diverting, Undiverting};
+pub use forced::Forced;
+pub use packages::{Configuring, Removing};
 pub use query::{Query, Question};
-pub use words::{Asked, Unpacking, WordsFault, command_of};
+pub use unpacking::Unpacking;
+pub use words::{Asked, WordsFault, command_of};

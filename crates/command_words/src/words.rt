@@ -2,20 +2,24 @@
 ghost use Rattle.std.specs.Prelude.{◌≡◌, ◌⊎◌, IfErr, IfOk, None, Some, map, option_map, string_bytes};
 ghost use Rattle.clap.specs.Words.{found_of, kind_of, rows_of, subcommand_rows_of};
 ghost use Rattle.clap.specs.declared.error.kind.ErrorKind.TheVariants.{OutOfMemory};
-ghost use Rattle.command_words.specs.Commands.{asked_by, asked_in, asked_of, comparison_from, comparison_in, comparison_of, unpacking_from, unpacking_in, unpacking_of};
+ghost use Rattle.command_words.specs.Commands.{asked_by, asked_in, asked_of, comparison_from, comparison_in, comparison_of};
 ghost use Rattle.command_words.specs.Diversions.{diverting_of, undiverting_of};
+ghost use Rattle.command_words.specs.Packages.{configuring_of, removing_of};
 ghost use Rattle.command_words.specs.Queries.{query_of};
+ghost use Rattle.command_words.specs.Unpacks.{unpacking_of};
 ghost use Rattle.command_words.specs.declared.words.WordsFault.TheVariants.{NoMemory};
 
 use crate::command::whole_command;
 use crate::comparison::{Comparison, Operator};
 use crate::diverting::{Diverting, Undiverting, diverting_of, undiverting_of};
-use crate::found::{all_texts_of, is_absolute, text_of};
+use crate::found::text_of;
+use crate::packages::{Configuring, Removing, configuring_of, removing_of};
 use crate::query::{Query, query_of};
+use crate::unpacking::{Unpacking, unpacking_of};
 use clap::ArgMatches;
 use clap::error::ErrorKind;
 use std::alloc::{AllocError, Global};
-use texts::{Text, Texts};
+use texts::Text;
 use thiserror::Error;
 
 // What follows the words that clap has no fault in, but that ask for nothing.
@@ -24,8 +28,23 @@ const SUBCOMMAND_USAGE: &str = "error: a subcommand is wanted\n\nUsage: dpkg_cli
 const COMPARE_VERSIONS_USAGE: &str =
     "error: OP is one of lt, le, eq, ne, ge, gt\n\nUsage: dpkg_cli compare-versions <A> <OP> <B>\n";
 
-const UNPACK_USAGE: &str =
-    "error: DIR is an absolute path\n\nUsage: dpkg_cli unpack [--root <DIR>] <TREE>...\n";
+const UNPACK_USAGE: &str = "error: DIR is an absolute path, and --force-confold and \
+--force-confnew exclude each other\n\nUsage: dpkg_cli unpack [--root <DIR>] \
+[--auto-deconfigure] [--force-confold | --force-confnew] [--force-confmiss] <TREE>...\n";
+
+const INSTALL_USAGE: &str = "error: DIR is an absolute path, and --force-confold and \
+--force-confnew exclude each other\n\nUsage: dpkg_cli install [--root <DIR>] \
+[--auto-deconfigure] [--force-confold | --force-confnew] [--force-confmiss] <TREE>...\n";
+
+const CONFIGURE_USAGE: &str = "error: DIR is an absolute path, and --force-confold and \
+--force-confnew exclude each other\n\nUsage: dpkg_cli configure [--root <DIR>] \
+[--force-confold | --force-confnew] [--force-confmiss] [PKG]...\n";
+
+const REMOVE_USAGE: &str =
+    "error: DIR is an absolute path\n\nUsage: dpkg_cli remove [--root <DIR>] <PKG>...\n";
+
+const PURGE_USAGE: &str =
+    "error: DIR is an absolute path\n\nUsage: dpkg_cli purge [--root <DIR>] <PKG>...\n";
 
 const DIVERT_USAGE: &str = "error: DIR is an absolute path, P the name of a package, and of \
 --package and --local one is wanted\n\nUsage: dpkg_cli divert [--root <DIR>] \
@@ -60,13 +79,6 @@ Usage: dpkg_cli truename [--root <DIR>] [--package <P>] <PATH>\n"
     }
 }
 
-/// A root directory, and trees to be unpacked under it.
-#[derive(Drop)]
-pub struct Unpacking {
-    pub root: Text,
-    pub trees: Texts,
-}
-
 /// What is asked of the program.
 #[derive(Drop)]
 pub enum Asked {
@@ -76,6 +88,11 @@ pub enum Asked {
     Divert(Diverting),
     Undivert(Undiverting),
     Unpack(Unpacking),
+    /// The trees are unpacked, and then their packages are configured.
+    Install(Unpacking),
+    Configure(Configuring),
+    Remove(Removing),
+    Purge(Removing),
     Query(Query),
 }
 
@@ -171,51 +188,6 @@ fn texts_compared<'a>(found: &ArgMatches<'a>) -> Option<Compared<'a>>
     )
 }
 
-/// The texts that clap found for an unpack.
-#[derive(Clone, Copy)]
-struct Rooted<'a> {
-    root: &'a str,
-    trees: &'a [&'a str],
-}
-
-fn read_unpacking<'a>(root: Option<&'a str>, trees: Option<&'a [&'a str]>) -> Option<Rooted<'a>>
-    ensures { option_map unpacking_in result
-        ≡ unpacking_from (option_map (λ s. s.now) root.entry) (option_map (λ s. map (λ t. t.now) s.now) trees.entry) }
-{
-    let (Some(root), Some(trees)) = (root, trees) else {
-        return None;
-    };
-    if is_absolute(root) {
-        Some(Rooted { root, trees })
-    } else {
-        None
-    }
-}
-
-fn texts_unpacked<'a>(found: &'a ArgMatches<'_>) -> Option<Rooted<'a>>
-    ensures { option_map unpacking_in result ≡ unpacking_of (rows_of (found_of found.now)) }
-{
-    read_unpacking(text_of(found, "root"), all_texts_of(found, "TREE"))
-}
-
-fn copies(alloc: Global, texts: &[&str]) -> Result<Texts, AllocError>
-    ensures { IfOk result (λ copies. copies ≡ map (λ t. t.now) texts.now) }
-{
-    let mut all = Texts::new(alloc);
-    for text in texts {
-        all.push(Text::from_str(alloc, text)?)?;
-    }
-    Ok(all)
-}
-
-fn owned_unpacking(alloc: Global, root: &str, trees: &[&str]) -> Result<Unpacking, AllocError>
-    ensures { IfOk result (λ u. (u.root ≡ root.now) × (u.trees ≡ map (λ t. t.now) trees.now)) }
-{
-    let root = Text::from_str(alloc, root)?;
-    let trees = copies(alloc, trees)?;
-    Ok(Unpacking { root, trees })
-}
-
 fn comparison_asked(alloc: Global, found: &ArgMatches<'_>) -> Result<Asked, WordsFault>
     ensures asked { IfOk result (λ asked. option_map Asked.CompareVersions (comparison_of (rows_of (found_of found.now))) ≡ Some asked) }
     ensures usage { IfErr result (λ fault. (fault ≡ NoMemory) ⊎ (comparison_of (rows_of (found_of found.now)) ≡ None)) }
@@ -232,9 +204,49 @@ fn unpack_asked(alloc: Global, found: &ArgMatches<'_>) -> Result<Asked, WordsFau
     ensures asked { IfOk result (λ asked. option_map Asked.Unpack (unpacking_of (rows_of (found_of found.now))) ≡ Some asked) }
     ensures usage { IfErr result (λ fault. (fault ≡ NoMemory) ⊎ (unpacking_of (rows_of (found_of found.now)) ≡ None)) }
 {
-    match texts_unpacked(found) {
-        Some(r) => Ok(Asked::Unpack(owned_unpacking(alloc, r.root, r.trees)?)),
+    match unpacking_of(alloc, found)? {
+        Some(asked) => Ok(Asked::Unpack(asked)),
         None => Err(usage(alloc, UNPACK_USAGE)),
+    }
+}
+
+fn install_asked(alloc: Global, found: &ArgMatches<'_>) -> Result<Asked, WordsFault>
+    ensures asked { IfOk result (λ asked. option_map Asked.Install (unpacking_of (rows_of (found_of found.now))) ≡ Some asked) }
+    ensures usage { IfErr result (λ fault. (fault ≡ NoMemory) ⊎ (unpacking_of (rows_of (found_of found.now)) ≡ None)) }
+{
+    match unpacking_of(alloc, found)? {
+        Some(asked) => Ok(Asked::Install(asked)),
+        None => Err(usage(alloc, INSTALL_USAGE)),
+    }
+}
+
+fn configure_asked(alloc: Global, found: &ArgMatches<'_>) -> Result<Asked, WordsFault>
+    ensures asked { IfOk result (λ asked. option_map Asked.Configure (configuring_of (rows_of (found_of found.now))) ≡ Some asked) }
+    ensures usage { IfErr result (λ fault. (fault ≡ NoMemory) ⊎ (configuring_of (rows_of (found_of found.now)) ≡ None)) }
+{
+    match configuring_of(alloc, found)? {
+        Some(asked) => Ok(Asked::Configure(asked)),
+        None => Err(usage(alloc, CONFIGURE_USAGE)),
+    }
+}
+
+fn remove_asked(alloc: Global, found: &ArgMatches<'_>) -> Result<Asked, WordsFault>
+    ensures asked { IfOk result (λ asked. option_map Asked.Remove (removing_of (rows_of (found_of found.now))) ≡ Some asked) }
+    ensures usage { IfErr result (λ fault. (fault ≡ NoMemory) ⊎ (removing_of (rows_of (found_of found.now)) ≡ None)) }
+{
+    match removing_of(alloc, found)? {
+        Some(asked) => Ok(Asked::Remove(asked)),
+        None => Err(usage(alloc, REMOVE_USAGE)),
+    }
+}
+
+fn purge_asked(alloc: Global, found: &ArgMatches<'_>) -> Result<Asked, WordsFault>
+    ensures asked { IfOk result (λ asked. option_map Asked.Purge (removing_of (rows_of (found_of found.now))) ≡ Some asked) }
+    ensures usage { IfErr result (λ fault. (fault ≡ NoMemory) ⊎ (removing_of (rows_of (found_of found.now)) ≡ None)) }
+{
+    match removing_of(alloc, found)? {
+        Some(asked) => Ok(Asked::Purge(asked)),
+        None => Err(usage(alloc, PURGE_USAGE)),
     }
 }
 
@@ -275,7 +287,11 @@ fn asked_by(alloc: Global, name: &str, found: &ArgMatches<'_>) -> Result<Asked, 
 {
     match name {
         "compare-versions" => comparison_asked(alloc, found),
+        "configure" => configure_asked(alloc, found),
         "divert" => divert_asked(alloc, found),
+        "install" => install_asked(alloc, found),
+        "purge" => purge_asked(alloc, found),
+        "remove" => remove_asked(alloc, found),
         "undivert" => undivert_asked(alloc, found),
         "unpack" => unpack_asked(alloc, found),
         _ => query_asked(alloc, name, found),

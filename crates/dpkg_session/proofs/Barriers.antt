@@ -106,7 +106,7 @@ running_still begins may_begin task old x quiet now none (IsRunning.running begu
 stage_still : (g : Ground) (p : Planned) (old : World) (x quiet : List Event) (now : World) → scripts_of quiet ≡ [] → IsStage g p old x now → IsStage g p old (x ++ quiet) now
 stage_still g p old x quiet now none (IsStage.running is) = IsStage.running (running_still (Begins g p) (MayBeginOne g p) (task_from g p) old x quiet now none is)
 stage_still g p old x quiet now none (IsStage.leaving ended works begun last begins are came may) =
-    IsStage.leaving ended works begun last begins are (subst (λ c. HasCome (task_from g p begun) (stage_of (kinds_of p.found []) (last_place g p ended)) works c last) (sym (quiet_changes x quiet none)) came) may
+    IsStage.leaving ended works begun last begins are (subst (λ c. HasCome (task_from g p begun) (stage_of (kinds_of p.found p.others) (last_place g p ended)) works c last) (sym (quiet_changes x quiet none)) came) may
 
 amid_still : (g : Given) (places : List Path) (old : World) (x quiet : List Event) (now : World) → scripts_of quiet ≡ [] → IsAmid g places old x now → IsAmid g places old (x ++ quiet) now
 amid_still g places old x quiet now none amid = record {

@@ -1,5 +1,5 @@
 -- What units leave as it is: the diversions, and the file that holds them.
-use Rattle.std.proofs.Common.{◌≡◌, ◌≢◌, ℕ, true, false, cond, List, [], ◌∷◌, ◌++◌, Option, Some, None, Result, Ok, Err, IsTrue, codes, get_or, arith, refl, sym, ap, subst, ◌∙◌}
+use Rattle.std.proofs.Common.{◌≡◌, ◌≢◌, ℕ, Bool, true, false, cond, List, [], ◌∷◌, ◌++◌, Option, Some, None, Result, Ok, Err, IsTrue, codes, get_or, arith, refl, ap, ◌∙◌}
 use Rattle.administration.specs.Places.{diversions_path, info_path, list_name, list_path, tmp_path, temporary, is_within}
 use Rattle.cleanup_stack.specs.Transcripts.{Ended, Committed, Unwound}
 use Rattle.control_members.specs.Stored.{stored_member_path}
@@ -24,29 +24,30 @@ use Rattle.unwind_stack.specs.declared.rows.Called.{Called}
 use Rattle.diversions.specs.declared.entry.Diversion.{Diversion}
 use Rattle.package_tree.specs.declared.package.Package.{Package}
 use Rattle.package_tree.specs.declared.fault.TreeFault.{TreeFault}
-use Rattle.dpkg_session.specs.declared.refusal.Rule.{Rule}
+use Rattle.unpack_relations.specs.declared.checking.Checked.{Checked}
+use Rattle.unpack_relations.specs.declared.checking.Checked.TheVariants.{Planned, Refused}
 use Rattle.dpkg_session.specs.declared.report.Candidate.{Candidate}
-use Rattle.dpkg_session.specs.declared.report.Unit.{Unit as AUnit}
-use Rattle.dpkg_session.specs.Held.{Held}
+use Rattle.unit_reports.specs.declared.report.Unit.{Unit as AUnit}
+use Rattle.unit_reports.specs.Held.{Held}
 use Rattle.dpkg_session.specs.Run.{IsRun}
-use Rattle.dpkg_session.specs.Units.{IsUnitByRule, IsUnitOf, rule_for}
+use Rattle.dpkg_session.specs.Units.{IsUnitBy, IsUnitOf}
 use Rattle.dpkg_session.proofs.Runs.{falls_run}
 
 -- the diversions of a run
 
-entries_by_rule : (p : Package) (rule : Option Rule) (before after : Held) (u : AUnit) (s t : State) → IsUnitByRule p rule before after u s t → after.entries ≡ before.entries
-entries_by_rule p (Some rule) before after u s t is = ap (λ (h : Held). h.entries) is.held
-entries_by_rule p None before after u s t is = is.entries
+entries_by : (p : Package) (decision : Checked) (before after : Held) (u : AUnit) (s t : State) → IsUnitBy p decision before after u s t → after.entries ≡ before.entries
+entries_by p (Refused rule) before after u s t is = ap (λ (h : Held). h.entries) is.held
+entries_by p (Planned beside) before after u s t is = is.entries
 
-entries_unit : (label : List ℕ) (tree : Result Package TreeFault) (before after : Held) (u : AUnit) (s t : State) → IsUnitOf label tree before after u s t → after.entries ≡ before.entries
-entries_unit label (Err fault) before after u s t is = ap (λ (h : Held). h.entries) is.held
-entries_unit label (Ok p) before after u s t is = entries_by_rule p (rule_for p before) before after u s t is
+entries_unit : (auto : Bool) (label : List ℕ) (tree : Result Package TreeFault) (before after : Held) (u : AUnit) (s t : State) → IsUnitOf auto label tree before after u s t → after.entries ≡ before.entries
+entries_unit auto label (Err fault) before after u s t is = ap (λ (h : Held). h.entries) is.held
+entries_unit auto label (Ok p) before after u s t is = entries_by p is.0 before after u s t is.2
 
-pub entries_run : (cs : List Candidate) (us : List AUnit) (before after : Held) (s t : State) → IsRun cs us before after s t → after.entries ≡ before.entries
-entries_run [] [] before after s t run = ap (λ (h : Held). h.entries) run.1
-entries_run [] (u ∷ us) before after s t run = absurd run
-entries_run (c ∷ cs) [] before after s t run = absurd run
-entries_run (c ∷ cs) (u ∷ us) before after s t run = entries_run cs us run.1 after run.0 t run.3 ∙ entries_unit c.label c.tree before run.1 u s run.0 run.2.is
+pub entries_run : (auto : Bool) (cs : List Candidate) (us : List AUnit) (before after : Held) (s t : State) → IsRun auto cs us before after s t → after.entries ≡ before.entries
+entries_run auto [] [] before after s t run = ap (λ (h : Held). h.entries) run.1
+entries_run auto [] (u ∷ us) before after s t run = absurd run
+entries_run auto (c ∷ cs) [] before after s t run = absurd run
+entries_run auto (c ∷ cs) (u ∷ us) before after s t run = entries_run auto cs us run.1 after run.0 t run.3 ∙ entries_unit auto c.label c.tree before run.1 u s run.0 run.2.is
 
 -- a path of the program's own that is neither in `info` nor in `tmp.ci`, and at which no record is written
 record IsFar (q : Path) : Type 0 where
@@ -111,23 +112,23 @@ module _ (q : Path) (far : IsFar q) where
       ∙ come_same task q (beside_list (name task)) planned.works_are.named (last_place ground p ended) _ out.mid.works out.ran.rows_end.works _ out.last.world (out.ran.rows_end.world honest).came
       ∙ begun_stays p.found (package_name ground p) p.members s.world begun.world (out.ran.begins_so honest)
 
-stays_by_rule : (q : Path) → IsFar q → (p : Package) (rule : Option Rule) (before after : Held) (u : AUnit) (s t : State) → IsUnitByRule p rule before after u s t → IsTrue t.honest → t.world q ≡ s.world q
-stays_by_rule q far p (Some rule) before after u s t is h = ap (λ w. w q) (is.world h)
-stays_by_rule q far p None before after u s t is h = unpacked_stays q far _ _ _ _ _ s t _ _ is.unpacked h
+stays_by : (q : Path) → IsFar q → (p : Package) (decision : Checked) (before after : Held) (u : AUnit) (s t : State) → IsUnitBy p decision before after u s t → IsTrue t.honest → t.world q ≡ s.world q
+stays_by q far p (Refused rule) before after u s t is h = ap (λ w. w q) (is.world h)
+stays_by q far p (Planned beside) before after u s t is h = unpacked_stays q far _ _ _ _ _ s t _ _ is.unpacked.unpacked h
 
-stays_unit : (q : Path) → IsFar q → (label : List ℕ) (tree : Result Package TreeFault) (before after : Held) (u : AUnit) (s t : State) → IsUnitOf label tree before after u s t → IsTrue t.honest → t.world q ≡ s.world q
-stays_unit q far label (Err fault) before after u s t is h = ap (λ w. w q) (is.world h)
-stays_unit q far label (Ok p) before after u s t is h = stays_by_rule q far p (rule_for p before) before after u s t is h
+stays_unit : (auto : Bool) (q : Path) → IsFar q → (label : List ℕ) (tree : Result Package TreeFault) (before after : Held) (u : AUnit) (s t : State) → IsUnitOf auto label tree before after u s t → IsTrue t.honest → t.world q ≡ s.world q
+stays_unit auto q far label (Err fault) before after u s t is h = ap (λ w. w q) (is.world h)
+stays_unit auto q far label (Ok p) before after u s t is h = stays_by q far p is.0 before after u s t is.2 h
 
-stays_run : (q : Path) → IsFar q → (cs : List Candidate) (us : List AUnit) (before after : Held) (s t : State) → IsRun cs us before after s t → IsTrue t.honest → t.world q ≡ s.world q
-stays_run q far [] [] before after s t run h = ap (λ (x : State). x.world q) run.0
-stays_run q far [] (u ∷ us) before after s t run h = absurd run
-stays_run q far (c ∷ cs) [] before after s t run h = absurd run
-stays_run q far (c ∷ cs) (u ∷ us) before after s t run h =
-    stays_run q far cs us run.1 after run.0 t run.3 h ∙ stays_unit q far c.label c.tree before run.1 u s run.0 run.2.is (falls_run cs us run.1 after run.0 t run.3 h)
+stays_run : (auto : Bool) (q : Path) → IsFar q → (cs : List Candidate) (us : List AUnit) (before after : Held) (s t : State) → IsRun auto cs us before after s t → IsTrue t.honest → t.world q ≡ s.world q
+stays_run auto q far [] [] before after s t run h = ap (λ (x : State). x.world q) run.0
+stays_run auto q far [] (u ∷ us) before after s t run h = absurd run
+stays_run auto q far (c ∷ cs) [] before after s t run h = absurd run
+stays_run auto q far (c ∷ cs) (u ∷ us) before after s t run h =
+    stays_run auto q far cs us run.1 after run.0 t run.3 h ∙ stays_unit auto q far c.label c.tree before run.1 u s run.0 run.2.is (falls_run auto cs us run.1 after run.0 t run.3 h)
 
-pub diverted_run : (cs : List Candidate) (us : List AUnit) (before after : Held) (s t : State) → IsRun cs us before after s t → IsTrue t.honest → t.world diversions_path ≡ s.world diversions_path
-diverted_run cs us before after s t run h = stays_run diversions_path diversions_far cs us before after s t run h
+pub diverted_run : (auto : Bool) (cs : List Candidate) (us : List AUnit) (before after : Held) (s t : State) → IsRun auto cs us before after s t → IsTrue t.honest → t.world diversions_path ≡ s.world diversions_path
+diverted_run auto cs us before after s t run h = stays_run auto diversions_path diversions_far cs us before after s t run h
 
-pub diverted_spare_run : (cs : List Candidate) (us : List AUnit) (before after : Held) (s t : State) → IsRun cs us before after s t → IsTrue t.honest → t.world (temporary diversions_path) ≡ s.world (temporary diversions_path)
-diverted_spare_run cs us before after s t run h = stays_run (temporary diversions_path) diversions_spare_far cs us before after s t run h
+pub diverted_spare_run : (auto : Bool) (cs : List Candidate) (us : List AUnit) (before after : Held) (s t : State) → IsRun auto cs us before after s t → IsTrue t.honest → t.world (temporary diversions_path) ≡ s.world (temporary diversions_path)
+diverted_spare_run auto cs us before after s t run h = stays_run auto (temporary diversions_path) diversions_spare_far cs us before after s t run h

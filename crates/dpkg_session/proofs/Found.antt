@@ -1,5 +1,5 @@
 -- What a run leaves is what a further command can open.
-use Rattle.std.proofs.Common.{◌≡◌, inr, ℕ, true, List, [], ◌∷◌, Option, Some, None, Result, Ok, Err, IsTrue, Contains, refl, sym, ap, subst, ◌∙◌}
+use Rattle.std.proofs.Common.{◌≡◌, inr, ℕ, Bool, true, List, [], ◌∷◌, Option, Some, None, Result, Ok, Err, IsTrue, Contains, refl, sym, ap, subst, ◌∙◌}
 use Rattle.std.specs.List.{AllByRecursion}
 use Rattle.texts.specs.PackageNames.{is_package_name}
 use Rattle.host_core.specs.World.{World}
@@ -23,32 +23,36 @@ use Rattle.status_db.specs.Records.{AreStanding, record_in}
 use Rattle.status_db.specs.Words.{is_not_installed}
 use Rattle.status_db.specs.declared.record.Record.{Record}
 use Rattle.unpack_commit.specs.Takeover.{taken_places}
-use Rattle.unpack_engine.proofs.EndRecords.{IsKnown, all_known, committed_known, found_known, has_name, known_name, known_standing, rows_known}
+use Rattle.unpack_engine.proofs.EndRecords.{IsKnown, all_known, committed_known, found_known, has_name, known_name, known_standing, recorded_known, rows_known}
 use Rattle.unpack_engine.proofs.InfoSound.{sound_left, text_left}
 use Rattle.unpack_engine.proofs.Order.{directory_there}
 use Rattle.unpack_engine.specs.Order.{IsInOrder, record_names}
 use Rattle.unpack_engine.specs.Units.{Ground, end_table, ground_of, last_place, package_name, table_after, unit_losers}
 use Rattle.unpack_plan.specs.Planned.{IsPlanned, Job, Planned, name_of}
-use Rattle.dpkg_session.specs.declared.refusal.Rule.{Rule}
+use Rattle.unpack_rows.specs.EndStates.{AreRecorded}
+use Rattle.unpack_rows.specs.ForwardRows.{records_of}
+use Rattle.unpack_relations.specs.declared.checking.Checked.{Checked}
+use Rattle.unpack_relations.specs.declared.checking.Checked.TheVariants.{Planned as Unpacks, Refused}
+use Rattle.unpack_relations.specs.declared.beside.Beside.{Beside}
 use Rattle.dpkg_session.specs.declared.report.Candidate.{Candidate}
-use Rattle.dpkg_session.specs.declared.report.Unit.{Unit as AUnit}
-use Rattle.dpkg_session.specs.Held.{Held, places_of}
+use Rattle.unit_reports.specs.declared.report.Unit.{Unit as AUnit}
+use Rattle.unit_reports.specs.Held.{Held, places_of}
 use Rattle.dpkg_session.specs.History.{Stands}
 use Rattle.dpkg_session.specs.Run.{IsRun}
-use Rattle.dpkg_session.specs.Units.{IsUnitByRule, IsUnitOf, IsUnpacked, given_by, rule_for}
+use Rattle.dpkg_session.specs.Units.{IsUnitBy, IsUnitOf, IsUnpacked, given_by, yielding}
 use Rattle.dpkg_session.proofs.Beside.{diverted_run, diverted_spare_run, entries_run}
 use Rattle.dpkg_session.proofs.Certain.{lists_had}
 use Rattle.dpkg_session.proofs.Runs.{falls_run}
 
 -- what is in `info` has no fault, and no record is of a package that is gone
-record HasInfo (h : Held) (w : World) : Type 0 where
-  text : HasBadName w info_path → ⊥
-  standing : AreStanding h.records.records
-  sound : AreSound w (names_of h.records.records)
+pub record HasInfo (h : Held) (w : World) : Type 0 where
+  pub text : HasBadName w info_path → ⊥
+  pub standing : AreStanding h.records.records
+  pub sound : AreSound w (names_of h.records.records)
 
 -- the records of a unit
 
-module _ (j : Job) (g : Ground) (p : Planned) (planned : IsPlanned j p) (same : g.records ≡ j.records) (standing : AreStanding g.records) where
+module _ (j : Job) (g : Ground) (p : Planned) (planned : IsPlanned j p) (same : g.records ≡ j.records) (standing : AreStanding g.records) (recorded : AreRecorded g.records (records_of j.others)) where
   own_is : package_name g p ≡ name_of j
   own_is = planned.records_are.own
 
@@ -64,9 +68,14 @@ module _ (j : Job) (g : Ground) (p : Planned) (planned : IsPlanned j p) (same : 
   before_known : AllByRecursion (IsKnown (record_names g.records) (package_name g p)) g.records
   before_known = all_known (package_name g p) g.records standing
 
+  others_known : AllByRecursion (IsKnown (record_names g.records) (package_name g p)) p.others
+  others_known =
+      subst (AllByRecursion (IsKnown (record_names g.records) (package_name g p))) (sym planned.rows_are.others_are)
+      (recorded_known (record_names g.records) (package_name g p) g.records (records_of j.others) recorded before_known)
+
   rows_end : (place : Place) → AllByRecursion (IsKnown (record_names g.records) (package_name g p)) (table_after g p place)
   rows_end place =
-      rows_known (record_names g.records) (package_name g p) p.found p.incoming refl (λ r is. found_known (record_names g.records) (package_name g p) g.records before_known (package_name g p) r (found_in r is)) g.records place before_known
+      rows_known (record_names g.records) (package_name g p) p.found p.incoming refl (λ r is. found_known (record_names g.records) (package_name g p) g.records before_known (package_name g p) r (found_in r is)) p.others g.records place others_known before_known
 
   fresh_known : IsKnown (record_names g.records) (package_name g p) p.fresh
   fresh_known = record { stands = ap is_not_installed planned.records_are.fresh_is.is.state_is; named = inr (planned.records_are.fresh_is.is.name_is ∙ sym own_is) }
@@ -77,58 +86,59 @@ module _ (j : Job) (g : Ground) (p : Planned) (planned : IsPlanned j p) (same : 
 
 -- a unit
 
-unpacked_info : (p : Package) (before after : Held) (u : AUnit) (s t : State) → IsUnpacked p before after u s t → IsTrue t.honest → HasInfo before s.world → HasInfo after t.world
-unpacked_info p before after u s t is h info =
-    let g = ground_of (given_by p before) (places_of before) in
-    let out = is.unpacked.carried_out in
-    let plan = is.unpacked.plan in
-    let planned = is.unpacked.plan_for.planned in
+unpacked_info : (p : Package) (beside : Beside) (before after : Held) (u : AUnit) (s t : State) → IsUnpacked p beside before after u s t → IsTrue t.honest → HasInfo before s.world → HasInfo after t.world
+unpacked_info p beside before after u s t is h info =
+    let g = ground_of (given_by p before is.unpacked.others (yielding beside)) (places_of before) in
+    let out = is.unpacked.unpacked.carried_out in
+    let plan = is.unpacked.unpacked.plan in
+    let planned = is.unpacked.unpacked.plan_for.planned in
+    let recorded = is.unpacked.have_rows.apart.recorded in
     let ended = ended_as is.unwinding in
     let honest = out.since.honest h in
     let order = is.order h in
     let at = out.ran.rows_end in
-    let named = own_named _ g plan planned refl info.standing in
-    let mid_known = subst (λ (rs : List Record). AllByRecursion (IsKnown (record_names g.records) (package_name g plan)) rs) (sym at.records) (rows_end _ g plan planned refl info.standing (last_place g plan ended)) in
-    let known = subst (λ (rs : List Record). AllByRecursion (IsKnown (record_names g.records) (package_name g plan)) rs) (sym out.records) (end_known _ g plan planned refl info.standing ended out.mid.works out.mid.lists out.mid.database.records mid_known) in
+    let named = own_named _ g plan planned refl info.standing recorded in
+    let mid_known = subst (λ (rs : List Record). AllByRecursion (IsKnown (record_names g.records) (package_name g plan)) rs) (sym at.records) (rows_end _ g plan planned refl info.standing recorded (last_place g plan ended)) in
+    let known = subst (λ (rs : List Record). AllByRecursion (IsKnown (record_names g.records) (package_name g plan)) rs) (sym out.records) (end_known _ g plan planned refl info.standing recorded ended out.mid.works out.mid.lists out.mid.database.records mid_known) in
     record {
       text = text_left g plan named planned.works_are.named planned.lists_are.spares planned.names_are.elsewhere ended out.mid s.world out.ran.begun out.last (out.ran.begins_so honest) at honest t.world (out.leaves h) info.text;
       standing = known_standing (record_names g.records) (package_name g plan) after.records.records known;
       sound = sound_left g plan named planned.works_are.named planned.lists_are.spares planned.names_are.elsewhere ended out.mid s.world out.ran.begun out.last (out.ran.begins_so honest) at honest t.world (out.leaves h)
-          (record_names g.records) (record_names after.records.records) (found_among _ g plan planned refl info.standing)
+          (record_names g.records) (record_names after.records.records) (found_among _ g plan planned refl info.standing recorded)
           (known_name (record_names g.records) (package_name g plan) after.records.records known) info.sound order.loose after.lists (lists_had t.world (record_names after.records.records) after.lists order.listed);
     }
 
 same_info : (before after : Held) (v w : World) → after ≡ before → w ≡ v → HasInfo before v → HasInfo after w
 same_info before after v w held world info = subst (λ (h : Held). HasInfo h w) (sym held) (subst (HasInfo before) (sym world) info)
 
-info_by_rule : (p : Package) (rule : Option Rule) (before after : Held) (u : AUnit) (s t : State) → IsUnitByRule p rule before after u s t → IsTrue t.honest → HasInfo before s.world → HasInfo after t.world
-info_by_rule p (Some rule) before after u s t is h info = same_info before after s.world t.world is.held (is.world h) info
-info_by_rule p None before after u s t is h info = unpacked_info p before after u s t is h info
+info_by : (p : Package) (decision : Checked) (before after : Held) (u : AUnit) (s t : State) → IsUnitBy p decision before after u s t → IsTrue t.honest → HasInfo before s.world → HasInfo after t.world
+info_by p (Refused rule) before after u s t is h info = same_info before after s.world t.world is.held (is.world h) info
+info_by p (Unpacks beside) before after u s t is h info = unpacked_info p beside before after u s t is h info
 
-info_unit : (label : List ℕ) (tree : Result Package TreeFault) (before after : Held) (u : AUnit) (s t : State) → IsUnitOf label tree before after u s t → IsTrue t.honest → HasInfo before s.world → HasInfo after t.world
-info_unit label (Err fault) before after u s t is h info = same_info before after s.world t.world is.held (is.world h) info
-info_unit label (Ok p) before after u s t is h info = info_by_rule p (rule_for p before) before after u s t is h info
+info_unit : (auto : Bool) (label : List ℕ) (tree : Result Package TreeFault) (before after : Held) (u : AUnit) (s t : State) → IsUnitOf auto label tree before after u s t → IsTrue t.honest → HasInfo before s.world → HasInfo after t.world
+info_unit auto label (Err fault) before after u s t is h info = same_info before after s.world t.world is.held (is.world h) info
+info_unit auto label (Ok p) before after u s t is h info = info_by p is.0 before after u s t is.2 h info
 
 -- and a run of them
 
-info_run : (cs : List Candidate) (us : List AUnit) (before after : Held) (s t : State) → IsRun cs us before after s t → IsTrue t.honest → HasInfo before s.world → HasInfo after t.world
-info_run [] [] before after s t run h info = same_info before after s.world t.world run.1 (ap (λ (x : State). x.world) run.0) info
-info_run [] (u ∷ us) before after s t run h info = absurd run
-info_run (c ∷ cs) [] before after s t run h info = absurd run
-info_run (c ∷ cs) (u ∷ us) before after s t run h info =
-    info_run cs us run.1 after run.0 t run.3 h (info_unit c.label c.tree before run.1 u s run.0 run.2.is (falls_run cs us run.1 after run.0 t run.3 h) info)
+info_run : (auto : Bool) (cs : List Candidate) (us : List AUnit) (before after : Held) (s t : State) → IsRun auto cs us before after s t → IsTrue t.honest → HasInfo before s.world → HasInfo after t.world
+info_run auto [] [] before after s t run h info = same_info before after s.world t.world run.1 (ap (λ (x : State). x.world) run.0) info
+info_run auto [] (u ∷ us) before after s t run h info = absurd run
+info_run auto (c ∷ cs) [] before after s t run h info = absurd run
+info_run auto (c ∷ cs) (u ∷ us) before after s t run h info =
+    info_run auto cs us run.1 after run.0 t run.3 h (info_unit auto c.label c.tree before run.1 u s run.0 run.2.is (falls_run auto cs us run.1 after run.0 t run.3 h) info)
 
-pub found_run : (cs : List Candidate) (us : List AUnit) (before after : Held) (s t : State) → IsRun cs us before after s t → IsTrue t.honest → IsInOrder after.records after.lists t.world → Stands before s.world → Stands after t.world
-found_run cs us before after s t run h order found =
-    let info = info_run cs us before after s t run h (record { text = found.text; standing = same_standing before.records.records found.standing; sound = found.listed.sound }) in
+pub found_run : (auto : Bool) (cs : List Candidate) (us : List AUnit) (before after : Held) (s t : State) → IsRun auto cs us before after s t → IsTrue t.honest → IsInOrder after.records after.lists t.world → Stands before s.world → Stands after t.world
+found_run auto cs us before after s t run h order found =
+    let info = info_run auto cs us before after s t run h (record { text = found.text; standing = same_standing before.records.records found.standing; sound = found.listed.sound }) in
     record {
       home = order.kept.unblocked.home;
       info = directory_there (t.world info_path) order.info;
       updates = order.kept.unblocked.updates;
       text = info.text;
-      diversions = subst (λ (l : List Diversion). HasEntries (t.world diversions_path) l) (sym (entries_run cs us before after s t run))
-          (subst (λ n. HasEntries n before.entries) (sym (diverted_run cs us before after s t run h)) found.diversions);
-      diversions_spare = no_directory_at (t.world (temporary diversions_path)) (s.world (temporary diversions_path)) (diverted_spare_run cs us before after s t run h) found.diversions_spare;
+      diversions = subst (λ (l : List Diversion). HasEntries (t.world diversions_path) l) (sym (entries_run auto cs us before after s t run))
+          (subst (λ n. HasEntries n before.entries) (sym (diverted_run auto cs us before after s t run h)) found.diversions);
+      diversions_spare = no_directory_at (t.world (temporary diversions_path)) (s.world (temporary diversions_path)) (diverted_spare_run auto cs us before after s t run h) found.diversions_spare;
       tmp = order.tmp;
       records = order.kept;
       standing = standing_same after.records.records info.standing;

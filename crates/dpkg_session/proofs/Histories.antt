@@ -18,14 +18,15 @@ use Rattle.status_db.specs.Held.{AreKept}
 use Rattle.status_db.specs.Notes.{note_path}
 use Rattle.status_db.specs.Recorded.{Recorded}
 use Rattle.status_db.specs.declared.record.Record.{Record}
-use Rattle.dpkg_session.specs.declared.report.Candidate.{Candidate}
-use Rattle.dpkg_session.specs.declared.report.Unit.{Unit as AUnit}
-use Rattle.dpkg_session.specs.Held.{Held}
-use Rattle.dpkg_session.specs.History.{Diverted, HasDone, IsCommand, IsHistory, KeepsRest, Ran, Stands, Undiverted, Unpacked}
-use Rattle.dpkg_session.specs.Run.{IsRun}
+use Rattle.unit_reports.specs.Held.{Held}
+use Rattle.dpkg_session.specs.History.{Configured, Diverted, HasDone, Installed, IsCommand, IsHistory, KeepsRest, Ran, Removed, Stands, Undiverted, Unpacked}
+use Rattle.dpkg_session.proofs.Carries.{carries_found}
+use Rattle.dpkg_session.proofs.Configures.{configure_carries}
 use Rattle.dpkg_session.proofs.Found.{found_run}
+use Rattle.dpkg_session.proofs.InstallStandings.{install_found}
+use Rattle.dpkg_session.proofs.Removes.{removal_carries}
 use Rattle.dpkg_session.proofs.Retabled.{found_diverted, found_undiverted}
-use Rattle.dpkg_session.proofs.Runs.{Ready, ready_after}
+use Rattle.dpkg_session.proofs.Runs.{ready_run}
 use Rattle.dpkg_session.proofs.Standings.{order_standing, standing_found}
 
 -- the administration is read from its own paths alone
@@ -65,24 +66,21 @@ stands_outside h old new same found = found_outside h.records.records h.records.
 
 -- one command
 
-ready_run : (cs : List Candidate) (us : List AUnit) (before after : Held) (s t : State) → IsRun cs us before after s t → Ready before s → Ready after t
-ready_run [] [] before after s t run ready = subst (λ (x : Held). Ready x t) (sym run.1) (subst (Ready before) (sym run.0) ready)
-ready_run [] (u ∷ us) before after s t run ready = absurd run
-ready_run (c ∷ cs) [] before after s t run ready = absurd run
-ready_run (c ∷ cs) (u ∷ us) before after s t run ready = ready_run cs us run.1 after run.0 t run.3 (ready_after c before run.1 u s run.0 ready run.2.is)
-
 kept_rest : (before after : Held) (w : World) → KeepsRest before after → Stands (record { records = before.records; lists = before.lists; entries = after.entries }) w → Stands after w
 kept_rest before after w keeps found =
     subst (λ (d : Recorded). Stands (record { records = d; lists = after.lists; entries = after.entries }) w) (sym keeps.records)
     (subst (λ (l : List PackageList). Stands (record { records = before.records; lists = l; entries = after.entries }) w) (sym keeps.lists) found)
 
 done_stands : (ran : Ran) (before after : Held) (s t : State) → HasDone ran before after s t → IsTrue t.honest → Stands before s.world → Stands after t.world
-done_stands (Unpacked candidates units) before after s t done h found =
-    found_run candidates units before after s t done h (ready_run candidates units before after s t done (λ honest. order_standing before s.world (standing_found before s.world found)) h) found
+done_stands (Unpacked auto candidates units) before after s t done h found =
+    found_run auto candidates units before after s t done h (ready_run auto candidates units before after s t done (λ honest. order_standing before s.world (standing_found before s.world found)) h) found
 done_stands (Diverted asked unit) before after s t done h found =
     kept_rest before after t.world done.1 (found_diverted before.records before.lists asked _ before.entries after.entries unit s t done.0 h found)
 done_stands (Undiverted asked unit) before after s t done h found =
     kept_rest before after t.world done.1 (found_undiverted before.records before.lists asked before.entries after.entries unit s t done.0 h found)
+done_stands (Configured names policy units) before after s t done h found = carries_found before after s t (configure_carries names policy units before after s t done) h found
+done_stands (Removed names purge units) before after s t done h found = carries_found before after s t (removal_carries names purge units before after s t done) h found
+done_stands (Installed auto candidates policy unpacked configured) before after s t done h found = install_found auto candidates policy unpacked configured before after s t done h found
 
 stands_command : (ran : Ran) (before after : Held) (old new : World) → IsCommand ran before after old new → Stands after new
 stands_command ran before after old new command =

@@ -11,42 +11,46 @@ use Rattle.package_tree.specs.declared.package.Package.{Package}
 use Rattle.package_tree.specs.declared.fault.TreeFault.{TreeFault}
 use Rattle.stack_run.specs.declared.unwinding.Unwinding.{Unwinding}
 use Rattle.status_db.specs.declared.record.Record.{Record}
-use Rattle.stack_run.specs.Ended.{ended_as}
 use Rattle.unpack_engine.specs.Order.{IsInOrder}
-use Rattle.unpack_engine.specs.Units.{HasFailedFor, HasUnpacked, IsTouched}
+use Rattle.unpack_engine.specs.Units.{IsTouched}
+use Rattle.unpack_relations.specs.declared.beside.Beside.{Beside}
+use Rattle.unpack_relations.specs.declared.checking.Checked.{Checked}
+use Rattle.unpack_relations.specs.declared.checking.Checked.TheVariants as checked
 use Rattle.unwind_stack.specs.declared.rows.Called.{Called}
-use Rattle.dpkg_session.specs.declared.refusal.Rule.{Rule}
-use Rattle.dpkg_session.specs.declared.refusal.Rule.TheVariants.{Tree}
-use Rattle.dpkg_session.specs.declared.report.Breakage.{Breakage}
-use Rattle.dpkg_session.specs.declared.report.Breakage.TheVariants.{Device, NoMemory, Closed}
+use Rattle.unit_reports.specs.declared.refusal.Rule.{Rule}
+use Rattle.unit_reports.specs.declared.refusal.Rule.TheVariants.{Tree}
+use Rattle.unit_reports.specs.declared.report.Breakage.{Breakage}
+use Rattle.unit_reports.specs.declared.report.Breakage.TheVariants.{Device, NoMemory, Closed}
 use Rattle.dpkg_session.specs.declared.report.Candidate.{Candidate}
-use Rattle.dpkg_session.specs.declared.report.Reply.{Reply}
-use Rattle.dpkg_session.specs.declared.report.Reply.TheVariants.{Done, Refused, Failed, Broken}
-use Rattle.dpkg_session.specs.declared.report.Unit.{Unit as AUnit}
-use Rattle.dpkg_session.specs.Held.{Held, places_of}
+use Rattle.unit_reports.specs.declared.report.Reply.{Reply}
+use Rattle.unit_reports.specs.declared.report.Reply.TheVariants.{Done, Refused, Failed, Broken}
+use Rattle.unit_reports.specs.declared.report.Unit.{Unit as AUnit}
+use Rattle.unit_reports.specs.Held.{Held, places_of}
 use Rattle.dpkg_session.specs.Run.{HasRun, IsAmidNext, IsBrokenNext, IsRun, RunsUnit}
-use Rattle.dpkg_session.specs.Units.{AnswersUnpack, CountsReply, IsUnit, IsUnpacked, IsUnitOf, IsUnitByRule, IsRefused, IsRefusedUnit, IsBroken, IsBrokenBy, breakage_of, given_by, reply_to, rule_for}
+use Rattle.unit_reports.specs.Units.{CountsReply, IsRefused, IsRefusedUnit, IsBroken, IsBrokenBy, breakage_of}
+use Rattle.dpkg_session.specs.Refusals.{IsDecisionFor}
+use Rattle.dpkg_session.specs.Units.{AnswersUnpack, HasUnpackedBeside, IsPackageUnit, IsUnit, IsUnitBy, IsUnitOf, IsUnpacked, reply_to}
 
-pub run_more : (cs : List Candidate) (us : List AUnit) (c : Candidate) (u : AUnit) (before mid after : Held) (s m t : State) → IsRun cs us before mid s m → RunsUnit c mid after u m t → IsRun (cs ++ c ∷ []) (us ++ u ∷ []) before after s t
-run_more [] [] c u before mid after s m t so_far unit =
-    (t, after, subst (λ x. RunsUnit c x after u s t) so_far.1 (subst (λ x. RunsUnit c mid after u x t) so_far.0 unit), (refl, refl))
-run_more [] (v ∷ us) c u before mid after s m t so_far unit = absurd so_far
-run_more (q ∷ cs) [] c u before mid after s m t so_far unit = absurd so_far
-run_more (q ∷ cs) (v ∷ us) c u before mid after s m t so_far unit = (so_far.0, so_far.1, so_far.2, run_more cs us c u so_far.1 mid after so_far.0 m t so_far.3 unit)
+pub run_more : (auto : Bool) (cs : List Candidate) (us : List AUnit) (c : Candidate) (u : AUnit) (before mid after : Held) (s m t : State) → IsRun auto cs us before mid s m → RunsUnit auto c mid after u m t → IsRun auto (cs ++ c ∷ []) (us ++ u ∷ []) before after s t
+run_more auto [] [] c u before mid after s m t so_far unit =
+    (t, after, subst (λ x. RunsUnit auto c x after u s t) so_far.1 (subst (λ x. RunsUnit auto c mid after u x t) so_far.0 unit), (refl, refl))
+run_more auto [] (v ∷ us) c u before mid after s m t so_far unit = absurd so_far
+run_more auto (q ∷ cs) [] c u before mid after s m t so_far unit = absurd so_far
+run_more auto (q ∷ cs) (v ∷ us) c u before mid after s m t so_far unit = (so_far.0, so_far.1, so_far.2, run_more auto cs us c u so_far.1 mid after so_far.0 m t so_far.3 unit)
 
 pub none_left : (cs : List Candidate) → length cs ≡ 0 → cs ≡ []
 none_left [] none = refl
 none_left (c ∷ cs) none = absurd (omega (arith, none))
 
 -- the run of the first candidates, and what holds of the rest
-pub has_run : (cs done rest : List Candidate) (us : List AUnit) (last : Option AUnit) (before mid : Held) (s m t : State) → cs ≡ done ++ rest → length us ≡ length done → IsRun done us before mid s m
-    → Since (IsAmidNext rest mid m.world) m t → IfSome last (IsBrokenNext rest mid m t) → HasRun cs us last before s t
-has_run cs done rest us last before mid s m t split count run since broken = record {
+pub has_run : (auto : Bool) (cs done rest : List Candidate) (us : List AUnit) (last : Option AUnit) (before mid : Held) (s m t : State) → cs ≡ done ++ rest → length us ≡ length done → IsRun auto done us before mid s m
+    → Since (IsAmidNext auto rest mid m.world) m t → IfSome last (IsBrokenNext auto rest mid m t) → HasRun auto cs us last before s t
+has_run auto cs done rest us last before mid s m t split count run since broken = record {
   after = mid;
   end = m;
-  run = subst (λ l. IsRun l us before mid s m) (sym fronts) run;
-  since = subst (λ l. Since (IsAmidNext l mid m.world) m t) (sym rests) since;
-  broken = subst (λ l. IfSome last (IsBrokenNext l mid m t)) (sym rests) broken;
+  run = subst (λ l. IsRun auto l us before mid s m) (sym fronts) run;
+  since = subst (λ l. Since (IsAmidNext auto l mid m.world) m t) (sym rests) since;
+  broken = subst (λ l. IfSome last (IsBrokenNext auto l mid m t)) (sym rests) broken;
 }
   where
     fronts : take (length us) cs ≡ done
@@ -56,11 +60,11 @@ has_run cs done rest us last before mid s m t split count run since broken = rec
     rests = ap (λ n. drop n cs) count ∙ ap (drop (length done)) split ∙ drop-append_seam done rest
 
 -- no lie is forgotten over a run
-pub falls_run : (cs : List Candidate) (us : List AUnit) (before after : Held) (s t : State) → IsRun cs us before after s t → IsTrue t.honest → IsTrue s.honest
-falls_run [] [] before after s t run h = subst (λ (x : State). IsTrue x.honest) run.0 h
-falls_run [] (u ∷ us) before after s t run h = absurd run
-falls_run (c ∷ cs) [] before after s t run h = absurd run
-falls_run (c ∷ cs) (u ∷ us) before after s t run h = run.2.moments.honest (falls_run cs us run.1 after run.0 t run.3 h)
+pub falls_run : (auto : Bool) (cs : List Candidate) (us : List AUnit) (before after : Held) (s t : State) → IsRun auto cs us before after s t → IsTrue t.honest → IsTrue s.honest
+falls_run auto [] [] before after s t run h = subst (λ (x : State). IsTrue x.honest) run.0 h
+falls_run auto [] (u ∷ us) before after s t run h = absurd run
+falls_run auto (c ∷ cs) [] before after s t run h = absurd run
+falls_run auto (c ∷ cs) (u ∷ us) before after s t run h = run.2.moments.honest (falls_run auto cs us run.1 after run.0 t run.3 h)
 
 -- what the next unit needs
 abbrev pub Ready : Held → State → Type 0
@@ -70,33 +74,41 @@ ready_refused : (rule : Rule) (name : List ℕ) (before after : Held) (u : AUnit
 ready_refused rule name before after u s t ready is = λ honest.
     subst (λ (h : Held). IsInOrder h.records h.lists t.world) (sym is.held) (subst (IsInOrder before.records before.lists) (sym (is.world honest)) (ready (is.silent.honest honest)))
 
-ready_by_rule : (p : Package) (rule : Option Rule) (before after : Held) (u : AUnit) (s t : State) → Ready before s → IsUnitByRule p rule before after u s t → Ready after t
-ready_by_rule p (Some rule) before after u s t ready is = ready_refused rule p.name before after u s t ready is
-ready_by_rule p None before after u s t ready is = is.order
+ready_by : (p : Package) (decision : Checked) (before after : Held) (u : AUnit) (s t : State) → Ready before s → IsUnitBy p decision before after u s t → Ready after t
+ready_by p (checked.Refused rule) before after u s t ready is = ready_refused rule p.name before after u s t ready is
+ready_by p (checked.Planned beside) before after u s t ready is = is.order
 
-ready_of : (label : List ℕ) (tree : Result Package TreeFault) (before after : Held) (u : AUnit) (s t : State) → Ready before s → IsUnitOf label tree before after u s t → Ready after t
-ready_of label (Err fault) before after u s t ready is = ready_refused _ label before after u s t ready is
-ready_of label (Ok p) before after u s t ready is = ready_by_rule p (rule_for p before) before after u s t ready is
+ready_of : (auto : Bool) (label : List ℕ) (tree : Result Package TreeFault) (before after : Held) (u : AUnit) (s t : State) → Ready before s → IsUnitOf auto label tree before after u s t → Ready after t
+ready_of auto label (Err fault) before after u s t ready is = ready_refused _ label before after u s t ready is
+ready_of auto label (Ok p) before after u s t ready is = ready_by p is.0 before after u s t ready is.2
 
-pub ready_after : (c : Candidate) (before after : Held) (u : AUnit) (s t : State) → Ready before s → IsUnit c before after u s t → Ready after t
-ready_after c before after u s t ready is = ready_of c.label c.tree before after u s t ready is
+pub ready_after : (auto : Bool) (c : Candidate) (before after : Held) (u : AUnit) (s t : State) → Ready before s → IsUnit auto c before after u s t → Ready after t
+ready_after auto c before after u s t ready is = ready_of auto c.label c.tree before after u s t ready is
+
+pub ready_run : (auto : Bool) (cs : List Candidate) (us : List AUnit) (before after : Held) (s t : State) → IsRun auto cs us before after s t → Ready before s → Ready after t
+ready_run auto [] [] before after s t run ready = subst (λ (x : Held). Ready x t) (sym run.1) (subst (Ready before) (sym run.0) ready)
+ready_run auto [] (u ∷ us) before after s t run ready = absurd run
+ready_run auto (c ∷ cs) [] before after s t run ready = absurd run
+ready_run auto (c ∷ cs) (u ∷ us) before after s t run ready = ready_run auto cs us run.1 after run.0 t run.3 (ready_after auto c before run.1 u s run.0 ready run.2.is)
 
 -- by what is refused, and what isn't
 
 refused_here : (rule : Rule) (name : List ℕ) (h : Held) (u : AUnit) (s : State) → IsRefusedUnit rule name u → IsRefused rule name h h u s s
 refused_here rule name h u s refused = record { refused = refused; held = refl; silent = record { honest = λ honest. honest; scripts = refl }; world = λ honest. refl }
 
-pub by_refused : (p : Package) (rule : Rule) (asked : Option Rule) (h : Held) (u : AUnit) (s : State) → asked ≡ Some rule → IsRefusedUnit rule p.name u → IsUnitByRule p asked h h u s s
-by_refused p rule asked h u s is refused = subst (λ o. IsUnitByRule p o h h u s s) (sym is) (refused_here rule p.name h u s refused)
+pub by_refused : (auto : Bool) (p : Package) (rule : Rule) (decision : Checked) (h : Held) (u : AUnit) (s : State) → IsDecisionFor p auto h decision → decision ≡ checked.Refused rule → IsRefusedUnit rule p.name u → IsPackageUnit auto p h h u s s
+by_refused auto p rule decision h u s decided is refused = (decision, decided, subst (λ d. IsUnitBy p d h h u s s) (sym is) (refused_here rule p.name h u s refused))
 
-pub by_unpacked : (p : Package) (asked : Option Rule) (before after : Held) (u : AUnit) (s t : State) → asked ≡ None → IsBroken u.reply ⊎ IsUnpacked p before after u s t → IsBroken u.reply ⊎ IsUnitByRule p asked before after u s t
-by_unpacked p asked before after u s t is either = subst (λ o. IsBroken u.reply ⊎ IsUnitByRule p o before after u s t) (sym is) either
+pub by_unpacked : (auto : Bool) (p : Package) (beside : Beside) (decision : Checked) (before after : Held) (u : AUnit) (s t : State) → IsDecisionFor p auto before decision → decision ≡ checked.Planned beside
+    → IsBroken u.reply ⊎ IsUnpacked p beside before after u s t → IsBroken u.reply ⊎ IsPackageUnit auto p before after u s t
+by_unpacked auto p beside decision before after u s t decided is (inl broken) = inl broken
+by_unpacked auto p beside decision before after u s t decided is (inr unpacked) = inr (decision, decided, subst (λ d. IsUnitBy p d before after u s t) (sym is) unpacked)
 
-pub of_read : (c : Candidate) (p : Package) (before after : Held) (u : AUnit) (s t : State) → c.tree ≡ Ok p → IsBroken u.reply ⊎ IsUnitByRule p (rule_for p before) before after u s t → IsBroken u.reply ⊎ IsUnit c before after u s t
-of_read c p before after u s t is either = subst (λ r. IsBroken u.reply ⊎ IsUnitOf c.label r before after u s t) (sym is) either
+pub of_read : (auto : Bool) (c : Candidate) (p : Package) (before after : Held) (u : AUnit) (s t : State) → c.tree ≡ Ok p → IsBroken u.reply ⊎ IsPackageUnit auto p before after u s t → IsBroken u.reply ⊎ IsUnit auto c before after u s t
+of_read auto c p before after u s t is either = subst (λ r. IsBroken u.reply ⊎ IsUnitOf auto c.label r before after u s t) (sym is) either
 
-pub of_unread : (c : Candidate) (fault : TreeFault) (h : Held) (u : AUnit) (s : State) → c.tree ≡ Err fault → IsRefusedUnit (Tree fault) c.label u → IsUnit c h h u s s
-of_unread c fault h u s is refused = subst (λ r. IsUnitOf c.label r h h u s s) (sym is) (refused_here (Tree fault) c.label h u s refused)
+pub of_unread : (auto : Bool) (c : Candidate) (fault : TreeFault) (h : Held) (u : AUnit) (s : State) → c.tree ≡ Err fault → IsRefusedUnit (Tree fault) c.label u → IsUnit auto c h h u s s
+of_unread auto c fault h u s is refused = subst (λ r. IsUnitOf auto c.label r h h u s s) (sym is) (refused_here (Tree fault) c.label h u s refused)
 
 -- a unit that wasn't broken off is as the tables say
 pub not_broken : {Q : Type 0} (reply : Reply) (b : Bool) → b ≡ false → MatchBool b (IsBroken reply) (IsBroken reply → ⊥) → IsBroken reply ⊎ Q → Q
@@ -122,17 +134,16 @@ broken_or breakage reply so (inl broken) = inl (broken_by breakage reply broken)
 broken_or breakage reply so (inr holds) = inr (so holds)
 
 -- the unit of a package that was unpacked, as it tells it
-pub is_unpacked : (p : Package) (before after : Held) (u : AUnit) (unwinding : Option Unwinding) (names : List (List ℕ)) (places : List Path) (s t : State) (name : List ℕ) (told now : List Called) → name ≡ p.name → places ≡ places_of before → told ≡ [] → u.calls.items ≡ now
-    → HasUnpacked (given_by p before) places (ended_as unwinding) after.records after.lists s t told now → HasFailedFor (given_by p before) s t unwinding → Ready after t → after.entries ≡ before.entries
-    → IsTouched p.name before.records.records after.records.records names → IsBrokenBy NoMemory u.reply ⊎ AnswersUnpack name after.records.records unwinding names u → IsBroken u.reply ⊎ IsUnpacked p before after u s t
-is_unpacked p before after u unwinding names places s t name told now named are none same unpacked cause order entries changed either =
+pub is_unpacked : (p : Package) (beside : Beside) (before after : Held) (u : AUnit) (unwinding : Option Unwinding) (names : List (List ℕ)) (places : List Path) (s t : State) (name : List ℕ) (told now : List Called) → name ≡ p.name → places ≡ places_of before → told ≡ [] → u.calls.items ≡ now
+    → HasUnpackedBeside p beside before places unwinding after.records after.lists s t told now → Ready after t → after.entries ≡ before.entries
+    → IsTouched p.name before.records.records after.records.records names → IsBrokenBy NoMemory u.reply ⊎ AnswersUnpack name after.records.records unwinding names u → IsBroken u.reply ⊎ IsUnpacked p beside before after u s t
+is_unpacked p beside before after u unwinding names places s t name told now named are none same unpacked order entries changed either =
     broken_or NoMemory u.reply (λ answers. record {
       unwinding = unwinding;
       names = names;
-      unpacked = subst (λ l. HasUnpacked (given_by p before) (places_of before) (ended_as unwinding) after.records after.lists s t [] l) (sym same)
-          (subst (λ l. HasUnpacked (given_by p before) (places_of before) (ended_as unwinding) after.records after.lists s t l now) none
-          (subst (λ ps. HasUnpacked (given_by p before) ps (ended_as unwinding) after.records after.lists s t told now) are unpacked));
-      cause = cause;
+      unpacked = subst (λ l. HasUnpackedBeside p beside before (places_of before) unwinding after.records after.lists s t [] l) (sym same)
+          (subst (λ l. HasUnpackedBeside p beside before (places_of before) unwinding after.records after.lists s t l now) none
+          (subst (λ ps. HasUnpackedBeside p beside before ps unwinding after.records after.lists s t told now) are unpacked));
       order = order;
       entries = entries;
       changed = changed;

@@ -1,5 +1,5 @@
 -- What a session knows of its host's administration, at the opening and after a run.
-use Rattle.std.proofs.Common.{◌≡◌, List, Option, Some, None, IsTrue, refl, subst, sym}
+use Rattle.std.proofs.Common.{◌≡◌, Bool, List, Option, Some, None, IsTrue, refl, subst, sym}
 use Rattle.std.specs.Prelude.{true}
 use Rattle.std.proofs.Math.Logic.{∥∥₁_map}
 use Rattle.host_core.proofs.Nodes.{directory_is}
@@ -19,8 +19,8 @@ use Rattle.status_db.specs.Held.{IsKept}
 use Rattle.status_db.specs.Recorded.{Recorded}
 use Rattle.unpack_engine.specs.Order.{IsInOrder}
 use Rattle.dpkg_session.specs.declared.report.Candidate.{Candidate}
-use Rattle.dpkg_session.specs.declared.report.Unit.{Unit as AUnit}
-use Rattle.dpkg_session.specs.Held.{Held, held}
+use Rattle.unit_reports.specs.declared.report.Unit.{Unit as AUnit}
+use Rattle.unit_reports.specs.Held.{Held, held}
 use Rattle.dpkg_session.specs.Run.{IsRun}
 use Rattle.dpkg_session.specs.Standing.{AreRecorded, IsStanding}
 use Rattle.dpkg_session.proofs.Beside.{diverted_run, diverted_spare_run, entries_run}
@@ -39,7 +39,7 @@ entries_no_directory (Some (Link target)) entries has is = absurd has
 
 -- open records, part by part
 
-recorded : (d : Recorded) (w : World) → IsKept d w → AreRecorded d w
+pub recorded : (d : Recorded) (w : World) → IsKept d w → AreRecorded d w
 recorded d w kept = (
   directory_is (w home_path) kept.unblocked.home,
   directory_is (w updates_path) kept.unblocked.updates,
@@ -90,14 +90,14 @@ standing_found h w found = (
 pub standing_opened : (d : Recorded) (f : Filed) (v : Diverted) (w : World) → d.notes ≡ 0 → IsOpened d.records f.lists v.entries w → IsStanding (held d f v) w
 standing_opened d f v w none opened = standing_found (held d f v) w (subst (λ n. IsFound d.records n f.lists v.entries w) (sym none) opened)
 
-pub standing_run : (cs : List Candidate) (us : List AUnit) (before after : Held) (s t : State) → IsRun cs us before after s t → IsTrue t.honest → IsInOrder after.records after.lists t.world → IsStanding before s.world → IsStanding after t.world
-standing_run cs us before after s t run h order standing = (
+pub standing_run : (auto : Bool) (cs : List Candidate) (us : List AUnit) (before after : Held) (s t : State) → IsRun auto cs us before after s t → IsTrue t.honest → IsInOrder after.records after.lists t.world → IsStanding before s.world → IsStanding after t.world
+standing_run auto cs us before after s t run h order standing = (
   recorded after.records t.world order.kept,
   order.info,
   order.loose,
-  no_directory_at (t.world diversions_path) (s.world diversions_path) (diverted_run cs us before after s t run h) standing.3,
-  no_directory_at (t.world (temporary diversions_path)) (s.world (temporary diversions_path)) (diverted_spare_run cs us before after s t run h) standing.4,
+  no_directory_at (t.world diversions_path) (s.world diversions_path) (diverted_run auto cs us before after s t run h) standing.3,
+  no_directory_at (t.world (temporary diversions_path)) (s.world (temporary diversions_path)) (diverted_spare_run auto cs us before after s t run h) standing.4,
   order.tmp,
   order.listed,
-  ∥∥₁_map standing.7 (λ has. subst (λ (l : List Diversion). HasEntries (t.world diversions_path) l) (sym (entries_run cs us before after s t run)) (subst (λ n. HasEntries n before.entries) (sym (diverted_run cs us before after s t run h)) has)),
+  ∥∥₁_map standing.7 (λ has. subst (λ (l : List Diversion). HasEntries (t.world diversions_path) l) (sym (entries_run auto cs us before after s t run)) (subst (λ n. HasEntries n before.entries) (sym (diverted_run auto cs us before after s t run h)) has)),
 )

@@ -14,10 +14,10 @@ use Rattle.host_core.specs.Moments.{since_now, since_then, since_weaker_if}
 use Rattle.diversions.specs.Entries.{IsTable, entry_of}
 use Rattle.diversions.specs.Places.{target_of, truename}
 use Rattle.diversions.specs.declared.entry.Diversion.{Diversion}
-use Rattle.dpkg_session.specs.declared.report.Report.{Report}
-use Rattle.dpkg_session.specs.declared.report.Unit.{Unit as AUnit}
+use Rattle.unit_reports.specs.declared.report.Report.{Report}
+use Rattle.unit_reports.specs.declared.report.Unit.{Unit as AUnit}
 use Rattle.dpkg_session.specs.Diversions.{IsFlushed, IsOneUnit, IsReportOf}
-use Rattle.dpkg_session.specs.Units.{IsBroken}
+use Rattle.unit_reports.specs.Units.{IsBroken}
 
 -- what holds at each moment goes on to hold while nothing changes
 pub since_still : (P : World → Type 0) (a b c : State) → Since (λ so_far. P) a b → Since (λ so_far now. now ≡ b.world) b c → Since (λ so_far. P) a c

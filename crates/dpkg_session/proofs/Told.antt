@@ -1,5 +1,5 @@
 -- The calls that units tell are those of the host's own list.
-use Rattle.std.proofs.Common.{◌≡◌, List, [], ◌∷◌, ◌++◌, Option, Some, None, Result, Ok, Err, append_assoc, ap, refl, subst, sym, ◌∙◌}
+use Rattle.std.proofs.Common.{◌≡◌, inl, inr, Bool, List, [], ◌∷◌, ◌++◌, Option, Some, None, Result, Ok, Err, append_assoc, ap, refl, subst, sym, ◌∙◌}
 use Rattle.std.proofs.lemmas.List.{append-nil}
 use Rattle.cleanup_stack.proofs.Tellings.{begun_calls}
 use Rattle.host_core.specs.Events.{calls_of as calls_in}
@@ -13,10 +13,14 @@ use Rattle.unwind_stack.specs.declared.rows.Row.{Row}
 use Rattle.unwind_stack.specs.Transcript.{TellsAll}
 use Rattle.unwind_stack.proofs.Makes.{tells_none, tells_then}
 use Rattle.unwind_stack.specs.declared.rows.Called.{Called}
-use Rattle.dpkg_session.specs.Held.{Held}
-use Rattle.dpkg_session.specs.declared.refusal.Rule.{Rule}
-use Rattle.dpkg_session.specs.declared.report.Unit.{Unit as AUnit}
-use Rattle.dpkg_session.specs.Units.{HasNoCalls, HasCalledByRule, HasCalledOf, calls_of, given_by, rule_for}
+use Rattle.unit_reports.specs.Held.{Held}
+use Rattle.unpack_relations.specs.declared.beside.Beside.{Beside}
+use Rattle.unpack_relations.specs.declared.checking.Checked.{Checked}
+use Rattle.unpack_relations.specs.declared.checking.Checked.TheVariants.{Planned, Refused}
+use Rattle.unit_reports.specs.declared.report.Unit.{Unit as AUnit}
+use Rattle.unit_reports.specs.Units.{HasNoCalls, calls_of}
+use Rattle.dpkg_session.specs.Refusals.{IsDecisionFor}
+use Rattle.dpkg_session.specs.Units.{HasCalledBeside, HasCalledBy, HasCalledOf, HasCalledPackage, given_by, yielding}
 
 -- nothing was done
 pub silent_here : (s : State) → Silent s s
@@ -59,37 +63,45 @@ has_called_tells : (g : Given) (s t : State) (told now : List Called) → HasCal
 has_called_tells g s t told now (HasCalled.unplanned silent same) = tells_none s t told now (silent_calls s t silent) same
 has_called_tells g s t told now (HasCalled.planned plan is rows) = rows_tell plan.rows s t told now rows
 
-by_rule_tells : (p : Package) (rule : Option Rule) (before : Held) (u : AUnit) (s t : State) → HasCalledByRule p rule before u s t → TellsAll s t [] u.calls.items
-by_rule_tells p (Some rule) before u s t none = no_calls_tell u s t none
-by_rule_tells p None before u s t called = has_called_tells (given_by p before) s t [] u.calls.items called
+beside_tells : (p : Package) (beside : Beside) (before : Held) (s t : State) (told now : List Called) → HasCalledBeside p beside before s t told now → TellsAll s t told now
+beside_tells p beside before s t told now (HasCalledBeside.looking silent same) = tells_none s t told now (silent_calls s t silent) same
+beside_tells p beside before s t told now (HasCalledBeside.calling others rows called) = has_called_tells (given_by p before others (yielding beside)) s t told now called
 
-pub called_tells : (tree : Result Package TreeFault) (before : Held) (u : AUnit) (s t : State) → HasCalledOf tree before u s t → TellsAll s t [] u.calls.items
-called_tells (Err fault) before u s t none = no_calls_tell u s t none
-called_tells (Ok p) before u s t called = by_rule_tells p (rule_for p before) before u s t called
+called_by_tells : (p : Package) (decision : Checked) (before : Held) (u : AUnit) (s t : State) → HasCalledBy p decision before u s t → TellsAll s t [] u.calls.items
+called_by_tells p (Refused rule) before u s t none = no_calls_tell u s t none
+called_by_tells p (Planned beside) before u s t called = beside_tells p beside before s t [] u.calls.items called
+
+package_tells : (auto : Bool) (p : Package) (before : Held) (u : AUnit) (s t : State) → HasCalledPackage auto p before u s t → TellsAll s t [] u.calls.items
+package_tells auto p before u s t (inl none) = no_calls_tell u s t none
+package_tells auto p before u s t (inr called) = called_by_tells p called.0 before u s t called.2
+
+pub called_tells : (auto : Bool) (tree : Result Package TreeFault) (before : Held) (u : AUnit) (s t : State) → HasCalledOf auto tree before u s t → TellsAll s t [] u.calls.items
+called_tells auto (Err fault) before u s t none = no_calls_tell u s t none
+called_tells auto (Ok p) before u s t called = package_tells auto p before u s t called
 
 -- by what is refused, and what isn't
 
-pub called_nothing : (g : Given) (s : State) (told : List Called) → told ≡ [] → HasCalled g s s [] told
-called_nothing g s told none = HasCalled.unplanned (silent_here s) none
+pub called_nothing : (p : Package) (beside : Beside) (before : Held) (s : State) (told : List Called) → told ≡ [] → HasCalledBeside p beside before s s [] told
+called_nothing p beside before s told none = HasCalledBeside.looking (silent_here s) none
 
 pub no_calls : (u : AUnit) (s : State) → u.calls.items ≡ [] → HasNoCalls u s s
 no_calls u s none = record { silent = silent_here s; told = none }
 
-pub not_begun_by : (p : Package) (rule : Option Rule) (before : Held) (u : AUnit) (s : State) → u.calls.items ≡ [] → HasCalledByRule p rule before u s s
-not_begun_by p (Some rule) before u s none = no_calls u s none
-not_begun_by p None before u s none = called_nothing (given_by p before) s u.calls.items none
+pub not_begun_package : (auto : Bool) (p : Package) (before : Held) (u : AUnit) (s : State) → u.calls.items ≡ [] → HasCalledPackage auto p before u s s
+not_begun_package auto p before u s none = inl (no_calls u s none)
 
-pub called_by_rule : (p : Package) (rule : Option Rule) (before : Held) (u : AUnit) (s t : State) → rule ≡ None → HasCalled (given_by p before) s t [] u.calls.items → HasCalledByRule p rule before u s t
-called_by_rule p rule before u s t is called = subst (λ r. HasCalledByRule p r before u s t) (sym is) called
+pub called_decided : (auto : Bool) (p : Package) (beside : Beside) (decision : Checked) (before : Held) (u : AUnit) (s t : State) → IsDecisionFor p auto before decision → decision ≡ Planned beside
+    → HasCalledBeside p beside before s t [] u.calls.items → HasCalledPackage auto p before u s t
+called_decided auto p beside decision before u s t decided is called = inr (decision, decided, subst (λ d. HasCalledBy p d before u s t) (sym is) called)
 
-pub called_read : (p : Package) (tree : Result Package TreeFault) (before : Held) (u : AUnit) (s t : State) → tree ≡ Ok p → HasCalledByRule p (rule_for p before) before u s t → HasCalledOf tree before u s t
-called_read p tree before u s t is called = subst (λ r. HasCalledOf r before u s t) (sym is) called
+pub called_read : (auto : Bool) (p : Package) (tree : Result Package TreeFault) (before : Held) (u : AUnit) (s t : State) → tree ≡ Ok p → HasCalledPackage auto p before u s t → HasCalledOf auto tree before u s t
+called_read auto p tree before u s t is called = subst (λ r. HasCalledOf auto r before u s t) (sym is) called
 
 -- from the list that a unit began with, and as it tells it
-pub called_as : (g : Given) (s t : State) (old now told : List Called) → old ≡ [] → told ≡ now → HasCalled g s t old now → HasCalled g s t [] told
-called_as g s t old now told empty is called = subst (λ l. HasCalled g s t l told) empty (subst (HasCalled g s t old) (sym is) called)
+pub called_as : (p : Package) (beside : Beside) (before : Held) (s t : State) (old now told : List Called) → old ≡ [] → told ≡ now → HasCalledBeside p beside before s t old now → HasCalledBeside p beside before s t [] told
+called_as p beside before s t old now told empty is called = subst (λ l. HasCalledBeside p beside before s t l told) empty (subst (HasCalledBeside p beside before s t old) (sym is) called)
 
 -- a unit that wasn't begun
-pub not_begun : (tree : Result Package TreeFault) (before : Held) (u : AUnit) (s : State) → u.calls.items ≡ [] → HasCalledOf tree before u s s
-not_begun (Err fault) before u s none = no_calls u s none
-not_begun (Ok p) before u s none = not_begun_by p (rule_for p before) before u s none
+pub not_begun : (auto : Bool) (tree : Result Package TreeFault) (before : Held) (u : AUnit) (s : State) → u.calls.items ≡ [] → HasCalledOf auto tree before u s s
+not_begun auto (Err fault) before u s none = no_calls u s none
+not_begun auto (Ok p) before u s none = not_begun_package auto p before u s none

@@ -24,14 +24,14 @@ use Rattle.status_db.specs.Conffiles.{has_conffile}
 use Rattle.status_db.specs.declared.record.Record.{Record}
 use Rattle.dpkg_session.specs.declared.asked.Diverting.{Diverting}
 use Rattle.dpkg_session.specs.declared.asked.Undiverting.{Undiverting}
-use Rattle.dpkg_session.specs.declared.refusal.Rule.TheVariants.{Divert}
-use Rattle.dpkg_session.specs.declared.report.Breakage.{Breakage}
-use Rattle.dpkg_session.specs.declared.report.Breakage.TheVariants.{Device, NoMemory, Closed}
-use Rattle.dpkg_session.specs.declared.report.Reply.{Reply}
-use Rattle.dpkg_session.specs.declared.report.Reply.TheVariants.{Done, Refused}
-use Rattle.dpkg_session.specs.declared.report.Report.{Report}
-use Rattle.dpkg_session.specs.declared.report.Unit.{Unit as AUnit}
-use Rattle.dpkg_session.specs.Units.{IsBroken}
+use Rattle.unit_reports.specs.declared.refusal.Rule.TheVariants.{Divert}
+use Rattle.unit_reports.specs.declared.report.Breakage.{Breakage}
+use Rattle.unit_reports.specs.declared.report.Breakage.TheVariants.{Device, NoMemory, Closed}
+use Rattle.unit_reports.specs.declared.report.Reply.{Reply}
+use Rattle.unit_reports.specs.declared.report.Reply.TheVariants.{Done, Refused}
+use Rattle.unit_reports.specs.declared.report.Report.{Report}
+use Rattle.unit_reports.specs.declared.report.Unit.{Unit as AUnit}
+use Rattle.unit_reports.specs.Units.{IsBroken}
 
 -- the owner's list has the path; the administrator has no list
 abbrev pub is_listed : List PackageList → Owner → Path → Bool

@@ -1,24 +1,34 @@
 -- Commands given one after another.
-use Rattle.std.specs.Prelude.{◌≡◌, IsTrue, List, [], ◌∷◌, None, false}
+use Rattle.std.specs.Prelude.{◌≡◌, ℕ, Bool, IsTrue, List, [], ◌∷◌, None, false}
+use Rattle.conffiles.specs.declared.decisions.ConfPolicy.{ConfPolicy}
+use Rattle.configure_run.specs.Run.{IsConfigureRun}
 use Rattle.host_core.specs.Paths.{is_own}
 use Rattle.host_core.specs.World.{World, SameOn}
 use Rattle.host_core.specs.Host.{State}
 use Rattle.opening.specs.Opened.{IsFound}
 use Rattle.opening.specs.Parts.{OpensAndMerges}
+use Rattle.removal_run.specs.Run.{IsRemovalRun}
 use Rattle.dpkg_session.specs.declared.asked.Diverting.{Diverting}
 use Rattle.dpkg_session.specs.declared.asked.Undiverting.{Undiverting}
 use Rattle.dpkg_session.specs.declared.report.Candidate.{Candidate}
-use Rattle.dpkg_session.specs.declared.report.Unit.{Unit as AUnit}
+use Rattle.unit_reports.specs.declared.report.Unit.{Unit as AUnit}
 use Rattle.dpkg_session.specs.Diversions.{IsDiverted, IsUndiverted, seen_of}
-use Rattle.dpkg_session.specs.Held.{Held}
+use Rattle.unit_reports.specs.Held.{Held}
+use Rattle.dpkg_session.specs.Installs.{IsInstall}
 use Rattle.dpkg_session.specs.Run.{IsRun}
 
 -- a command with the units that were reported
 pub data Ran : Type 0 where
-  -- the trees that were to be unpacked
-  Unpacked : (candidates : List Candidate) (units : List AUnit) → Ran
+  -- the trees that were to be unpacked, and whether other packages might be deconfigured
+  Unpacked : (auto_deconfigure : Bool) (candidates : List Candidate) (units : List AUnit) → Ran
   Diverted : (asked : Diverting) (unit : AUnit) → Ran
   Undiverted : (asked : Undiverting) (unit : AUnit) → Ran
+  -- the names of the packages that were to be configured
+  Configured : (names : List (List ℕ)) (policy : ConfPolicy) (units : List AUnit) → Ran
+  -- of those that were to be removed, or purged
+  Removed : (names : List (List ℕ)) (purge : Bool) (units : List AUnit) → Ran
+  -- trees that were to be unpacked and configured, with the units of both
+  Installed : (auto_deconfigure : Bool) (candidates : List Candidate) (policy : ConfPolicy) (unpacked configured : List AUnit) → Ran
 
 -- only the diversions may be others
 pub record KeepsRest (before after : Held) : Type 0 where
@@ -27,10 +37,13 @@ pub record KeepsRest (before after : Held) : Type 0 where
 
 -- the units of a command
 abbrev pub HasDone : Ran → Held → Held → State → State → Type 0
-HasDone (Unpacked candidates units) before after s t = IsRun candidates units before after s t
+HasDone (Unpacked auto_deconfigure candidates units) before after s t = IsRun auto_deconfigure candidates units before after s t
 HasDone (Diverted asked unit) before after s t =
     IsDiverted asked (seen_of before.records.records before.lists asked.owner asked.path) before.entries after.entries unit s t × KeepsRest before after
 HasDone (Undiverted asked unit) before after s t = IsUndiverted asked before.entries after.entries unit s t × KeepsRest before after
+HasDone (Configured names policy units) before after s t = IsConfigureRun names policy units before after s t
+HasDone (Removed names purge units) before after s t = IsRemovalRun names purge units before after s t
+HasDone (Installed auto_deconfigure candidates policy unpacked configured) before after s t = IsInstall auto_deconfigure candidates policy unpacked configured before after s t
 
 -- the administration stands for these records, lists and diversions, and all parts of it can be read
 abbrev pub Stands : Held → World → Type 0

@@ -1,4 +1,3 @@
-pub mod Held
 pub mod Standing
 pub mod Refusals
 pub mod Units
@@ -8,3 +7,5 @@ pub mod History
 pub mod PowerLoss
 pub mod Queries
 pub mod Diversions
+pub mod Asked
+pub mod Installs

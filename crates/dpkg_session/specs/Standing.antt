@@ -14,7 +14,7 @@ use Rattle.opening.specs.Parts.{names_of, OpensAndMerges}
 use Rattle.status_db.specs.Held.{HasRecords, IsFree}
 use Rattle.status_db.specs.Notes.{limit, note_path}
 use Rattle.status_db.specs.Recorded.{Recorded}
-use Rattle.dpkg_session.specs.Held.{Held}
+use Rattle.unit_reports.specs.Held.{Held}
 
 -- the records are those that stand there, nothing is in the way of a note or of the status file, and no note has the number
 -- of the next one or a greater

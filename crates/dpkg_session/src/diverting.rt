@@ -11,19 +11,18 @@ ghost use Rattle.diversions.specs.declared.fault.DiversionFault.TheVariants as f
 ghost use Rattle.file_lists.specs.Owners.{places_in};
 ghost use Rattle.dpkg_session.specs.Diversions.{HasBroken, IsDiverted, IsFlushed, IsOneUnit, LeavesAnswer, asked_entry, by_answer, is_listed, seen_of};
 ghost use Rattle.dpkg_session.specs.PowerLoss.{LosesLikeAStop, StandsOnceAnswered};
-ghost use Rattle.dpkg_session.specs.Units.{CountsLast, CountsReply, IsBroken, IsBrokenBy, IsClosedReport, TellsCalls, calls_told};
-ghost use Rattle.dpkg_session.specs.declared.report.Breakage.TheVariants.{Closed};
+ghost use Rattle.unit_reports.specs.Units.{CountsLast, CountsReply, IsBroken, IsBrokenBy, IsClosedReport, TellsCalls, calls_told};
+ghost use Rattle.unit_reports.specs.declared.report.Breakage.TheVariants.{Closed};
 
 use crate::asked::Diverting;
-use crate::report::{Report, Unit};
 use crate::session::{Session, closed_report};
 use crate::table_units::{breakage_of, flush_done, no_memory, report_of, unit_of};
-use crate::units::broken;
 use diversions::{Answer, DiversionFault, Diversions, Owner, Seen};
 use file_lists::FileLists;
 use host_core::{Host, Places, RootPath, ShipPath};
 use status_db::NotedDatabase;
 use std::alloc::Global;
+use unit_reports::{Report, Unit, broken};
 
 fn has_path(paths: &[RootPath], path: &ShipPath) -> bool
     ensures { result ≡ list_any (bytes_eq path.now) paths.now }

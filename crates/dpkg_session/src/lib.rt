@@ -2,10 +2,14 @@
 #![tactic(auto)]
 
 mod asked;
+mod configuring;
 mod diverting;
+mod done;
+mod installing;
 mod laws;
 mod questions;
 mod refusal;
+mod removing;
 mod report;
 mod session;
 mod table_units;
@@ -13,8 +17,9 @@ mod undiverting;
 mod units;
 
 pub use asked::{Diverting, Undiverting};
+pub use installing::Installed;
 pub use laws::history_stands;
 pub use questions::QueryFault;
-pub use refusal::{Refusal, Rule};
-pub use report::{Breakage, Candidate, Failure, Reply, Report, Touched, Unit};
+pub use report::{Candidate, Unpack};
 pub use session::{Command, Session};
+pub use unit_reports::{Breakage, Failure, Refusal, Reply, Report, Rule, Touched, Unit};

@@ -1,70 +1,17 @@
-// Why a unit is refused.
-ghost use Rattle.std.specs.Prelude.{◌≡◌, ◌||◌, IfOk, option_copied};
-ghost use Rattle.dpkg_session.specs.Refusals.{any_has, conffile_away, first_away, first_of, has_relation, is_away, relation_of, rule_of};
+// What refuses the unpack of a package, or what it does to other packages.
+ghost use Rattle.std.specs.Prelude.{◌≡◌, IfOk, option_copied};
+ghost use Rattle.unpack_relations.specs.Checks.{AreBesideApart};
+ghost use Rattle.dpkg_session.specs.Refusals.{IsDecisionOf, conffile_away, decision_by, first_away, first_of, is_away, not_yet};
 
 use diversions::Diversions;
 use host_core::ShipPath;
-use package_tree::{Package, TreeFault};
+use package_tree::Package;
 use relation_fields::RelationField;
-use status_db::{NotedDatabase, Record};
-use std::alloc::AllocError;
+use status_db::NotedDatabase;
+use std::alloc::{AllocError, Global};
 use texts::Text;
-
-/// The rule that refuses a unit: a fault of its tree; a relation field, which isn't carried out yet;
-/// a conffile whose place for the package is another path; or a rule of diversions.
-#[derive(Drop)]
-pub enum Rule {
-    Tree(TreeFault),
-    NotYet(RelationField),
-    ConffileDiverted(ShipPath),
-    Divert(diversions::Refusal),
-}
-
-/// A refused unit: the rule, and the package; for a tree's fault the word that named the tree, and for a diversion its path.
-#[derive(Drop)]
-pub struct Refusal {
-    pub rule: Rule,
-    pub package: Text,
-}
-
-fn any_has(records: &[Record], name: &str) -> bool
-    ensures { result ≡ any_has records.now name.now }
-{
-    records
-        .iter()
-        .any(|entry| entry.fields.has(name.as_bytes()))
-}
-
-fn has_relation(incoming: &Package, records: &[Record], field: RelationField) -> bool
-    ensures { result ≡ has_relation incoming.now records.now field }
-{
-    incoming.control.has(field.name().as_bytes()) || any_has(records, field.name())
-}
-
-// The first relation field that the tree or a record has.
-fn relation_of(incoming: &Package, records: &[Record]) -> Option<RelationField>
-    ensures { result ≡ relation_of incoming.now records.now }
-{
-    if has_relation(incoming, records, RelationField::Depends) {
-        return Some(RelationField::Depends);
-    }
-    if has_relation(incoming, records, RelationField::PreDepends) {
-        return Some(RelationField::PreDepends);
-    }
-    if has_relation(incoming, records, RelationField::Breaks) {
-        return Some(RelationField::Breaks);
-    }
-    if has_relation(incoming, records, RelationField::Conflicts) {
-        return Some(RelationField::Conflicts);
-    }
-    if has_relation(incoming, records, RelationField::Provides) {
-        return Some(RelationField::Provides);
-    }
-    if has_relation(incoming, records, RelationField::Replaces) {
-        return Some(RelationField::Replaces);
-    }
-    None
-}
+use unit_reports::Rule;
+use unpack_relations::{Beside, Checked, check};
 
 // Whether the file of a path lies at another path for the package.
 fn is_away(diversions: &Diversions, name: &Text, path: &ShipPath) -> bool
@@ -105,19 +52,46 @@ fn conffile_away<'a>(diversions: &Diversions, incoming: &'a Package) -> Option<&
     first_of(shipped, flagged)
 }
 
-// The first rule that refuses a package, if one does.
-pub(crate) fn rule_of(
+// The first field by which an unpack would do something to other packages that isn't carried out yet.
+fn not_yet(beside: &Beside) -> Option<RelationField>
+    ensures { result ≡ not_yet beside.now }
+{
+    if !beside.conflicting.as_slice().is_empty() {
+        return Some(RelationField::Conflicts);
+    }
+    if !beside.replaced.as_slice().is_empty() {
+        return Some(RelationField::Replaces);
+    }
+    None
+}
+
+fn decision_by(checked: Checked) -> Checked
+    ensures { result ≡ decision_by checked }
+{
+    match checked {
+        Checked::Refused(rule) => Checked::Refused(rule),
+        Checked::Planned(beside) => match not_yet(&beside) {
+            Some(field) => Checked::Refused(Rule::NotYet(field)),
+            None => Checked::Planned(beside),
+        },
+    }
+}
+
+// The first rule that refuses a package, a diverted conffile or else one of relations between packages; or what its
+// unpack does to other packages.
+pub(crate) fn decision_of(
+    alloc: Global,
     incoming: &Package,
     database: &NotedDatabase,
     diversions: &Diversions,
-) -> Result<Option<Rule>, AllocError>
-    ensures { IfOk result (λ rule. rule ≡ rule_of incoming.now database.now.records diversions.now.entries) }
+    auto_deconfigure: bool,
+) -> Result<Checked, AllocError>
+    ensures decided { IfOk result (IsDecisionOf incoming.now auto_deconfigure database.now.records diversions.now.entries) }
+    ensures apart { IfOk result (AreBesideApart incoming.now.name database.now.records) }
 {
-    if let Some(field) = relation_of(incoming, database.records()) {
-        return Ok(Some(Rule::NotYet(field)));
+    if let Some(path) = conffile_away(diversions, incoming) {
+        return Ok(Checked::Refused(Rule::ConffileDiverted(path.copy()?)));
     }
-    match conffile_away(diversions, incoming) {
-        Some(path) => Ok(Some(Rule::ConffileDiverted(path.copy()?))),
-        None => Ok(None),
-    }
+    let checked = check(alloc, database, incoming, auto_deconfigure)?;
+    Ok(decision_by(checked))
 }

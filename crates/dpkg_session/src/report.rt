@@ -1,10 +1,6 @@
-// What a command reports.
-use crate::refusal::Refusal;
+// What a command is given.
 use package_tree::{Package, TreeFault};
-use stack_run::Failure as Cause;
-use status_db::Record;
 use texts::Text;
-use unwind_stack::Called;
 
 /// A tree to be unpacked: the word that named it, and what was read of it.
 #[derive(Drop)]
@@ -13,51 +9,9 @@ pub struct Candidate {
     pub tree: Result<Package, TreeFault>,
 }
 
-/// A package of a unit, and its record at the unit's end.
+/// The trees to be unpacked, in this order, and whether other packages may be deconfigured for them.
 #[derive(Drop)]
-pub struct Touched {
-    pub package: Text,
-    pub entry: Option<Record>,
-}
-
-/// For what the unit of a package failed: the forward call of the row that failed, or the step fault
-/// of its files.
-#[derive(Drop)]
-pub struct Failure {
-    pub package: Text,
-    pub cause: Cause,
-}
-
-/// Why a unit was broken off: a device fault, want of memory, or a session that is closed since
-/// one of these.
-#[derive(Clone, Copy)]
-pub enum Breakage {
-    Device,
-    NoMemory,
-    Closed,
-}
-
-#[derive(Drop)]
-pub enum Reply {
-    Done,
-    Refused(Refusal),
-    Failed(Failure),
-    Broken(Breakage),
-}
-
-/// The work on one package: the script calls with their outcomes, the package that was named and
-/// those whose records differ since, and the reply. Where the unit was broken off or refused no
-/// package is told.
-#[derive(Drop)]
-pub struct Unit {
-    pub calls: Vec<Called>,
-    pub touched: Vec<Touched>,
-    pub reply: Reply,
-}
-
-/// The units of a command in order; `last` is the one that was broken off.
-#[derive(Drop)]
-pub struct Report {
-    pub units: Vec<Unit>,
-    pub last: Option<Unit>,
+pub struct Unpack {
+    pub candidates: Vec<Candidate>,
+    pub auto_deconfigure: bool,
 }

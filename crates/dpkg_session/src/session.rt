@@ -7,15 +7,15 @@ ghost use Rattle.file_lists.specs.Owners.{places_in};
 ghost use Rattle.opening.specs.Leaving.{IsOpeningOrMerging};
 ghost use Rattle.opening.specs.Opened.{IsOpened};
 ghost use Rattle.opening.specs.Parts.{OpensAndMerges, fault_in};
-ghost use Rattle.dpkg_session.specs.Held.{held};
-ghost use Rattle.dpkg_session.specs.declared.report.Breakage.TheVariants.{Closed};
+ghost use Rattle.unit_reports.specs.Held.{held};
+ghost use Rattle.unit_reports.specs.declared.report.Breakage.TheVariants.{Closed};
 ghost use Rattle.dpkg_session.specs.PowerLoss.{LosesLikeAStop, StandsOnceAnswered};
 ghost use Rattle.dpkg_session.specs.Run.{IsAmidRun, IsRun, HasRun};
 ghost use Rattle.dpkg_session.specs.Standing.{CountsRefusal, IsStanding, OpensAll};
-ghost use Rattle.dpkg_session.specs.Units.{CountsLast, IsBrokenBy, IsClosedReport, TellsCalls};
+ghost use Rattle.unit_reports.specs.Units.{CountsLast, IsBrokenBy, IsClosedReport, TellsCalls};
 
-use crate::report::{Breakage, Candidate, Report};
-use crate::units::{broken, run_units};
+use crate::report::Unpack;
+use crate::units::run_units;
 use administration::AdministrationFault;
 use diversions::Diversions;
 use file_lists::FileLists;
@@ -23,21 +23,22 @@ use host_core::{Host, Places};
 use opening::{Opened, open_administration};
 use status_db::NotedDatabase;
 use std::alloc::Global;
+use unit_reports::{Breakage, Report, broken};
 
-/// A command: the trees to be unpacked, in this order.
+/// A command: trees to be unpacked.
 #[derive(Drop)]
 pub enum Command {
-    Unpack(Vec<Candidate>),
+    Unpack(Unpack),
 }
 
 impl Command {
-    ghost use Rattle.dpkg_session.specs.Commands.{candidates_of};
+    ghost use Rattle.dpkg_session.specs.Commands.{unpack_of};
 
-    fn candidates(self) -> Vec<Candidate>
-        ensures { result.items ≡ candidates_of self }
+    fn into_unpack(self) -> Unpack
+        ensures { result ≡ unpack_of self }
     {
         match self {
-            Command::Unpack(candidates) => candidates,
+            Command::Unpack(unpack) => unpack,
         }
     }
 }
@@ -93,7 +94,7 @@ pub(crate) fn closed_report(alloc: Global) -> Report
 }
 
 impl<H: Host> Session<H> {
-    ghost use Rattle.dpkg_session.specs.Commands.{candidates_of};
+    ghost use Rattle.dpkg_session.specs.Commands.{candidates_of, may_deconfigure};
 
     /// Opens the administration of a host. A refusal hands the host back; it and what was changed
     /// then are told by `refused`.
@@ -138,11 +139,11 @@ impl<H: Host> Session<H> {
 
     /// Runs a command: its units in order, up to one that is broken off, which closes the session.
     pub fn run(&mut self, command: Command) -> Report
-        ensures whole { self.old.closed ≡ false → IsNone result.last → IsRun (candidates_of command) result.units.items (held self.old.database self.old.lists self.old.diversions) (held self.new.database self.new.lists self.new.diversions) (H.state self.old.host) (H.state self.new.host) }
-        ensures part { self.old.closed ≡ false → HasRun (candidates_of command) result.units.items result.last (held self.old.database self.old.lists self.old.diversions) (H.state self.old.host) (H.state self.new.host) }
+        ensures whole { self.old.closed ≡ false → IsNone result.last → IsRun (may_deconfigure command) (candidates_of command) result.units.items (held self.old.database self.old.lists self.old.diversions) (held self.new.database self.new.lists self.new.diversions) (H.state self.old.host) (H.state self.new.host) }
+        ensures part { self.old.closed ≡ false → HasRun (may_deconfigure command) (candidates_of command) result.units.items result.last (held self.old.database self.old.lists self.old.diversions) (H.state self.old.host) (H.state self.new.host) }
         ensures told { TellsCalls (H.state self.old.host) (H.state self.new.host) result }
-        ensures any_moment { self.old.closed ≡ false → Since (IsAmidRun (candidates_of command) (held self.old.database self.old.lists self.old.diversions) (H.state self.old.host)) (H.state self.old.host) (H.state self.new.host) }
-        ensures loss { self.old.closed ≡ false → LosesLikeAStop (IsAmidRun (candidates_of command) (held self.old.database self.old.lists self.old.diversions) (H.state self.old.host)) (H.state self.old.host) (H.state self.new.host) }
+        ensures any_moment { self.old.closed ≡ false → Since (IsAmidRun (may_deconfigure command) (candidates_of command) (held self.old.database self.old.lists self.old.diversions) (H.state self.old.host)) (H.state self.old.host) (H.state self.new.host) }
+        ensures loss { self.old.closed ≡ false → LosesLikeAStop (IsAmidRun (may_deconfigure command) (candidates_of command) (held self.old.database self.old.lists self.old.diversions) (H.state self.old.host)) (H.state self.old.host) (H.state self.new.host) }
         ensures stands { self.old.closed ≡ false → IsNone result.last → StandsOnceAnswered (H.state self.old.host) (H.state self.new.host) }
         ensures closes { self.new.closed ≡ is_some result.last }
         ensures refused { self.old.closed ≡ true → IsClosedReport result }
@@ -164,7 +165,7 @@ impl<H: Host> Session<H> {
             &mut self.lists,
             &mut self.places,
             &self.diversions,
-            command.candidates(),
+            command.into_unpack(),
         );
         self.closed = report.last.is_some();
         report

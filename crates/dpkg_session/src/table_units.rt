@@ -5,17 +5,15 @@ ghost use Rattle.host_core.specs.Loss.{IsOnDisk};
 ghost use Rattle.diversions.specs.declared.refusal.Answer.TheVariants as answered;
 ghost use Rattle.file_lists.specs.Owners.{places_in};
 ghost use Rattle.dpkg_session.specs.Diversions.{AnswersDiversion, HasBroken, IsReportOf, by_answer, table_breakage};
-ghost use Rattle.dpkg_session.specs.Units.{IsBrokenBy, calls_told};
-ghost use Rattle.dpkg_session.specs.declared.report.Breakage.TheVariants.{NoMemory};
+ghost use Rattle.unit_reports.specs.Units.{IsBrokenBy, calls_told};
+ghost use Rattle.unit_reports.specs.declared.report.Breakage.TheVariants.{NoMemory};
 
-use crate::refusal::{Refusal, Rule};
-use crate::report::{Breakage, Reply, Report, Unit};
-use crate::units::{broken, is_broken};
 use diversions::{Answer, DiversionFault, Diversions};
 use file_lists::FileLists;
 use host_core::{Host, HostFault, Places, ShipPath};
-use std::alloc::{AllocError, Global};
+use std::alloc::Global;
 use texts::Text;
+use unit_reports::{Breakage, Refusal, Reply, Report, Rule, Unit, broken, is_broken, refresh};
 
 pub(crate) fn breakage_of(fault: DiversionFault) -> Breakage
     ensures { result ≡ table_breakage fault }
@@ -44,19 +42,6 @@ fn refused(alloc: Global, path: &ShipPath, refusal: diversions::Refusal) -> Unit
         },
         Err(_) => broken(alloc, Vec::new(alloc), Breakage::NoMemory),
     }
-}
-
-// Computes the places anew.
-pub(crate) fn refresh(
-    alloc: Global,
-    lists: &FileLists,
-    diversions: &Diversions,
-    places: &mut Places,
-) -> Result<(), AllocError>
-    ensures { OnOk result (places.new ≡ places_in diversions.now.entries lists.now.lists) }
-{
-    *places = lists.places(alloc, diversions)?;
-    Ok(())
 }
 
 // The unit of a change that is done, once the kept places are those of the table that it left.

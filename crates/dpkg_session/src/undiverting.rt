@@ -10,18 +10,17 @@ ghost use Rattle.diversions.specs.declared.fault.DiversionFault.TheVariants as f
 ghost use Rattle.file_lists.specs.Owners.{places_in};
 ghost use Rattle.dpkg_session.specs.Diversions.{HasBroken, IsFlushed, IsOneUnit, IsUndiverted, LeavesAnswer, by_answer};
 ghost use Rattle.dpkg_session.specs.PowerLoss.{LosesLikeAStop, StandsOnceAnswered};
-ghost use Rattle.dpkg_session.specs.Units.{CountsLast, CountsReply, IsBroken, IsBrokenBy, IsClosedReport, TellsCalls, calls_told};
-ghost use Rattle.dpkg_session.specs.declared.report.Breakage.TheVariants.{Closed};
+ghost use Rattle.unit_reports.specs.Units.{CountsLast, CountsReply, IsBroken, IsBrokenBy, IsClosedReport, TellsCalls, calls_told};
+ghost use Rattle.unit_reports.specs.declared.report.Breakage.TheVariants.{Closed};
 
 use crate::asked::Undiverting;
-use crate::report::{Report, Unit};
 use crate::session::{Session, closed_report};
 use crate::table_units::{breakage_of, flush_done, no_memory, report_of, unit_of};
-use crate::units::broken;
 use diversions::{Answer, DiversionFault, Diversions};
 use file_lists::FileLists;
 use host_core::{Host, Places};
 use std::alloc::Global;
+use unit_reports::{Report, Unit, broken};
 
 // Takes a diversion away, and brings that to the disk.
 fn remove_to_disk<H: Host>(

@@ -1,65 +1,40 @@
 // The units of a command, one after another.
 ghost use Rattle.std.specs.Prelude.{◌≡◌, ◌⊎◌, false, None, IfOk, [], IfErr, OnOk, OnErr, IfSome, IsNone, MatchBool, map};
-ghost use Rattle.host_core.specs.Host.{AtEachMomentOf, Counts, Needs, Since, faults};
+ghost use Rattle.host_core.specs.Host.{AtEachMomentOf, Counts, Needs, Reads, Silent, Since, faults};
 ghost use Rattle.host_core.specs.Loss.{IsAnswered, IsOnDisk};
 ghost use Rattle.file_lists.specs.Owners.{places_in};
 ghost use Rattle.status_db.specs.Records.{record_in};
 ghost use Rattle.stack_run.specs.Ended.{ended_as};
 ghost use Rattle.unwind_stack.specs.Transcript.{TellsAll};
 ghost use Rattle.unpack_engine.specs.Order.{IsInOrder};
+ghost use Rattle.unpack_engine.specs.Others.{AreOthers};
 ghost use Rattle.unpack_engine.specs.Units.{HasCalled, HasFailedFor, HasUnpacked, IsAmidUnit, IsTouched};
-ghost use Rattle.dpkg_session.specs.declared.refusal.Rule.TheVariants.{Tree};
-ghost use Rattle.dpkg_session.specs.declared.report.Breakage.TheVariants.{NoMemory, Closed};
-ghost use Rattle.dpkg_session.specs.Held.{held};
-ghost use Rattle.dpkg_session.specs.Run.{AddsUnit, IsAmidByRule, IsAmidRun, IsAmidUnitOf, IsAmidUnpack, IsRun, HasRun};
-ghost use Rattle.dpkg_session.specs.Units.{CountsLast, AnswersUnpack, CountsReply, IsBroken, IsBrokenBy, IsBrokenOff, HasCalledByRule, HasCalledOf, IsUnit, IsUnpacked, breakage_of, given_by, reply_to, rule_for, touched_at, IsRefusedUnit, IsUnitByRule, TellsCalls, calls_of};
+ghost use Rattle.unpack_relations.specs.Checks.{AreApart};
+ghost use Rattle.unit_reports.specs.declared.refusal.Rule.TheVariants.{Tree};
+ghost use Rattle.unit_reports.specs.declared.report.Breakage.TheVariants.{NoMemory, Closed};
+ghost use Rattle.unit_reports.specs.Held.{held};
+ghost use Rattle.dpkg_session.specs.Run.{AddsUnit, IsAmidBeside, IsAmidPackage, IsAmidRun, IsAmidUnitOf, IsAmidUnpack, IsRun, HasRun};
+ghost use Rattle.unit_reports.specs.Units.{CountsLast, CountsReply, IsBroken, IsBrokenBy, breakage_of, touched_at, IsRefusedUnit, TellsCalls, calls_of};
+ghost use Rattle.dpkg_session.specs.Units.{AnswersUnpack, HasCalledBeside, HasCalledOf, HasCalledPackage, HasUnpackedBeside, HaveRows, IsBrokenOff, IsPackageUnit, IsUnit, IsUnpacked, given_by, reply_to, yielding};
 
-use crate::refusal::{Refusal, Rule, rule_of};
-use crate::report::{Breakage, Candidate, Failure, Reply, Report, Touched, Unit};
-use crate::table_units::refresh;
+use crate::refusal::decision_of;
+use crate::report::{Candidate, Unpack};
 use diversions::Diversions;
 use file_lists::FileLists;
 use host_core::{Host, HostFault, Places};
+use other_rows::{rows_beside, yields_beside};
 use package_tree::Package;
 use stack_run::Unwinding;
-use status_db::{NotedDatabase, Record};
-use std::alloc::{AllocError, Global};
+use status_db::NotedDatabase;
+use std::alloc::Global;
 use texts::{Text, Texts};
-use unpack_engine::{Unpacked, unpack};
+use unit_reports::{
+    Breakage, Failure, Reply, Report, Rule, Unit, breakage_of, broken, is_broken, refresh, refused,
+    touched_of,
+};
+use unpack_engine::{Others, Unpacked, unpack};
+use unpack_relations::{Beside, Checked};
 use unwind_stack::Called;
-
-fn record_of(database: &NotedDatabase, name: &Text) -> Result<Option<Record>, AllocError>
-    ensures { IfOk result (λ entry. entry ≡ record_in database.now.records name.now) }
-{
-    match database.get(name) {
-        Some(entry) => Ok(Some(entry.copy()?)),
-        None => Ok(None),
-    }
-}
-
-// A package with its record.
-fn touched_at(database: &NotedDatabase, name: &Text) -> Result<Touched, AllocError>
-    ensures { IfOk result (λ touched. touched ≡ touched_at database.now.records name.now) }
-{
-    Ok(Touched {
-        package: name.copy()?,
-        entry: record_of(database, name)?,
-    })
-}
-
-fn touched_of(
-    alloc: Global,
-    database: &NotedDatabase,
-    names: &[Text],
-) -> Result<Vec<Touched>, AllocError>
-    ensures { IfOk result (λ touched. touched.items ≡ map (touched_at database.now.records) names.now) }
-{
-    let mut touched = Vec::new(alloc);
-    for name in names {
-        touched.push(touched_at(database, name)?)?;
-    }
-    Ok(touched)
-}
 
 // The reply to a unit of a package, by how its rows were unwound.
 fn reply_to(package: Text, unwinding: Option<Unwinding>) -> Reply
@@ -75,18 +50,6 @@ fn reply_to(package: Text, unwinding: Option<Unwinding>) -> Reply
             } = unwinding;
             Reply::Failed(Failure { package, cause })
         }
-    }
-}
-
-pub(crate) fn broken(alloc: Global, calls: Vec<Called>, breakage: Breakage) -> Unit
-    ensures reply { IsBrokenBy breakage result.reply }
-    ensures told { result.calls.items ≡ calls.items }
-    ensures touched { result.touched.items ≡ [] }
-{
-    Unit {
-        calls,
-        touched: Vec::new(alloc),
-        reply: Reply::Broken(breakage),
     }
 }
 
@@ -113,16 +76,31 @@ fn answered(
     }
 }
 
-fn breakage_of(fault: HostFault) -> Breakage
-    ensures { result ≡ breakage_of fault }
+// The other packages that have rows, and those that let the package take paths of theirs.
+fn others_beside<H: Host>(
+    alloc: Global,
+    host: &mut H,
+    database: &NotedDatabase,
+    incoming: &Package,
+    beside: &Beside,
+) -> Result<Others, HostFault>
+    requires { AreApart incoming.now.name database.now.records beside.now }
+    ensures rows { IfOk result (λ others. HaveRows incoming.now beside.now database.now.records (H.state host.old).world (H.state host.new).honest others.packages.items) }
+    ensures yields { IfOk result (λ others. others.yields ≡ yielding beside.now) }
+    ensures reads { Reads (H.state host.old) (H.state host.new) }
+    ensures silent { Silent (H.state host.old) (H.state host.new) }
+    ensures counts { Counts (H.state host.old) (H.state host.new) result }
 {
-    match fault {
-        HostFault::Device => Breakage::Device,
-        HostFault::NoMemory => Breakage::NoMemory,
+    match yields_beside(alloc, beside) {
+        Ok(yields) => match rows_beside(alloc, host, database, incoming, beside) {
+            Ok(packages) => Ok(Others { packages, yields }),
+            Err(fault) => Err(fault),
+        },
+        Err(_) => Err(HostFault::NoMemory),
     }
 }
 
-// Unpacks a package that isn't refused, and brings all that was done to the disk.
+// Unpacks a package with the rows of others, and brings all that was done to the disk.
 fn unpack_to_disk<H: Host>(
     alloc: Global,
     host: &mut H,
@@ -131,29 +109,65 @@ fn unpack_to_disk<H: Host>(
     places: &mut Places,
     diversions: &Diversions,
     incoming: Package,
+    others: Others,
     told: &mut Vec<Called>,
 ) -> Result<Unpacked, HostFault>
+    requires others { AreOthers incoming.name database.old.records others.packages.items }
     requires order { Needs (H.state host.old) (IsInOrder database.old lists.old.lists) }
     requires noting { database.old.closed ≡ false }
     requires listing { lists.old.closed ≡ false }
-    ensures unit { IfOk result (λ u. HasUnpacked (given_by incoming (held database.old lists.old diversions.now)) places.old (ended_as u.unwinding) database.new lists.new.lists (H.state host.old) (H.state host.new) told.old.items told.new.items) }
-    ensures cause { IfOk result (λ u. HasFailedFor (given_by incoming (held database.old lists.old diversions.now)) (H.state host.old) (H.state host.new) u.unwinding) }
+    ensures unit { IfOk result (λ u. HasUnpacked (given_by incoming (held database.old lists.old diversions.now) others.packages.items others.yields) places.old (ended_as u.unwinding) database.new lists.new.lists (H.state host.old) (H.state host.new) told.old.items told.new.items) }
+    ensures cause { IfOk result (λ u. HasFailedFor (given_by incoming (held database.old lists.old diversions.now) others.packages.items others.yields) (H.state host.old) (H.state host.new) u.unwinding) }
     ensures touched { IfOk result (λ u. IsTouched incoming.name database.old.records database.new.records u.touched) }
     ensures order { IfOk result (λ u. Needs (H.state host.new) (IsInOrder database.new lists.new.lists)) }
     ensures noting { OnOk result (database.new.closed ≡ false) }
     ensures listing { OnOk result (lists.new.closed ≡ false) }
     ensures on_disk { OnOk result (IsOnDisk (H.state host.new).events) }
-    ensures told { HasCalled (given_by incoming (held database.old lists.old diversions.now)) (H.state host.old) (H.state host.new) told.old.items told.new.items }
-    ensures any_moment { AtEachMomentOf (IsAmidUnit (given_by incoming (held database.old lists.old diversions.now)) places.old) (H.state host.old) (H.state host.new) }
+    ensures told { HasCalled (given_by incoming (held database.old lists.old diversions.now) others.packages.items others.yields) (H.state host.old) (H.state host.new) told.old.items told.new.items }
+    ensures any_moment { AtEachMomentOf (IsAmidUnit (given_by incoming (held database.old lists.old diversions.now) others.packages.items others.yields) places.old) (H.state host.old) (H.state host.new) }
     ensures counts { Counts (H.state host.old) (H.state host.new) result }
 {
     match unpack(
-        alloc, host, database, lists, places, diversions, incoming, told,
+        alloc, host, database, lists, places, diversions, incoming, others, told,
     ) {
         Ok(unpacked) => match host.barrier() {
             Ok(()) => Ok(unpacked),
             Err(fault) => Err(fault),
         },
+        Err(fault) => Err(fault),
+    }
+}
+
+// Unpacks a package that isn't refused.
+fn unpack_beside<H: Host>(
+    alloc: Global,
+    host: &mut H,
+    database: &mut NotedDatabase,
+    lists: &mut FileLists,
+    places: &mut Places,
+    diversions: &Diversions,
+    incoming: Package,
+    beside: &Beside,
+    told: &mut Vec<Called>,
+) -> Result<Unpacked, HostFault>
+    requires apart { AreApart incoming.name database.old.records beside.now }
+    requires order { Needs (H.state host.old) (IsInOrder database.old lists.old.lists) }
+    requires noting { database.old.closed ≡ false }
+    requires listing { lists.old.closed ≡ false }
+    ensures unit { IfOk result (λ u. HasUnpackedBeside incoming beside.now (held database.old lists.old diversions.now) places.old u.unwinding database.new lists.new.lists (H.state host.old) (H.state host.new) told.old.items told.new.items) }
+    ensures touched { IfOk result (λ u. IsTouched incoming.name database.old.records database.new.records u.touched) }
+    ensures order { IfOk result (λ u. Needs (H.state host.new) (IsInOrder database.new lists.new.lists)) }
+    ensures noting { OnOk result (database.new.closed ≡ false) }
+    ensures listing { OnOk result (lists.new.closed ≡ false) }
+    ensures on_disk { OnOk result (IsOnDisk (H.state host.new).events) }
+    ensures told { HasCalledBeside incoming beside.now (held database.old lists.old diversions.now) (H.state host.old) (H.state host.new) told.old.items told.new.items }
+    ensures any_moment { AtEachMomentOf (IsAmidBeside incoming beside.now (held database.old lists.old diversions.now) places.old) (H.state host.old) (H.state host.new) }
+    ensures counts { Counts (H.state host.old) (H.state host.new) result }
+{
+    match others_beside(alloc, host, database, &incoming, beside) {
+        Ok(others) => unpack_to_disk(
+            alloc, host, database, lists, places, diversions, incoming, others, told,
+        ),
         Err(fault) => Err(fault),
     }
 }
@@ -190,26 +204,28 @@ fn unpack_named<H: Host>(
     diversions: &Diversions,
     package: Text,
     incoming: Package,
+    beside: &Beside,
 ) -> Unit
     requires name { «package» ≡ incoming.name }
+    requires apart { AreApart incoming.name database.old.records beside.now }
     requires order { Needs (H.state host.old) (IsInOrder database.old lists.old.lists) }
     requires noting { database.old.closed ≡ false }
     requires listing { lists.old.closed ≡ false }
     requires kept { places.old ≡ places_in diversions.now.entries lists.old.lists }
-    ensures unit { IsBroken result.reply ⊎ IsUnpacked incoming (held database.old lists.old diversions.now) (held database.new lists.new diversions.now) result (H.state host.old) (H.state host.new) }
+    ensures unit { IsBroken result.reply ⊎ IsUnpacked incoming beside.now (held database.old lists.old diversions.now) (held database.new lists.new diversions.now) result (H.state host.old) (H.state host.new) }
     ensures noting { IsBroken result.reply ⊎ (database.new.closed ≡ false) }
     ensures listing { IsBroken result.reply ⊎ (lists.new.closed ≡ false) }
     ensures kept { IsBroken result.reply ⊎ (places.new ≡ places_in diversions.now.entries lists.new.lists) }
     ensures on_disk { IsBroken result.reply ⊎ IsOnDisk (H.state host.new).events }
     ensures untouched { IsBroken result.reply → result.touched.items ≡ [] }
-    ensures told { HasCalled (given_by incoming (held database.old lists.old diversions.now)) (H.state host.old) (H.state host.new) [] result.calls.items }
-    ensures any_moment { AtEachMomentOf (IsAmidUnpack incoming (held database.old lists.old diversions.now)) (H.state host.old) (H.state host.new) }
+    ensures told { HasCalledBeside incoming beside.now (held database.old lists.old diversions.now) (H.state host.old) (H.state host.new) [] result.calls.items }
+    ensures any_moment { AtEachMomentOf (IsAmidUnpack incoming beside.now (held database.old lists.old diversions.now)) (H.state host.old) (H.state host.new) }
     ensures counts { CountsReply (H.state host.old) (H.state host.new) result.reply }
     ensures not_closed { IsBrokenBy Closed result.reply → ⊥ }
 {
     let mut calls = Vec::new(alloc);
-    match unpack_to_disk(
-        alloc, host, database, lists, places, diversions, incoming, &mut calls,
+    match unpack_beside(
+        alloc, host, database, lists, places, diversions, incoming, beside, &mut calls,
     ) {
         Ok(unpacked) => settled(
             alloc, database, lists, places, diversions, package, unpacked, calls,
@@ -227,42 +243,33 @@ fn unpack_unit<H: Host>(
     places: &mut Places,
     diversions: &Diversions,
     incoming: Package,
+    beside: &Beside,
 ) -> Unit
+    requires apart { AreApart incoming.name database.old.records beside.now }
     requires order { Needs (H.state host.old) (IsInOrder database.old lists.old.lists) }
     requires noting { database.old.closed ≡ false }
     requires listing { lists.old.closed ≡ false }
     requires kept { places.old ≡ places_in diversions.now.entries lists.old.lists }
-    ensures unit { IsBroken result.reply ⊎ IsUnpacked incoming (held database.old lists.old diversions.now) (held database.new lists.new diversions.now) result (H.state host.old) (H.state host.new) }
+    ensures unit { IsBroken result.reply ⊎ IsUnpacked incoming beside.now (held database.old lists.old diversions.now) (held database.new lists.new diversions.now) result (H.state host.old) (H.state host.new) }
     ensures noting { IsBroken result.reply ⊎ (database.new.closed ≡ false) }
     ensures listing { IsBroken result.reply ⊎ (lists.new.closed ≡ false) }
     ensures kept { IsBroken result.reply ⊎ (places.new ≡ places_in diversions.now.entries lists.new.lists) }
     ensures on_disk { IsBroken result.reply ⊎ IsOnDisk (H.state host.new).events }
     ensures untouched { IsBroken result.reply → result.touched.items ≡ [] }
-    ensures told { HasCalled (given_by incoming (held database.old lists.old diversions.now)) (H.state host.old) (H.state host.new) [] result.calls.items }
-    ensures any_moment { AtEachMomentOf (IsAmidUnpack incoming (held database.old lists.old diversions.now)) (H.state host.old) (H.state host.new) }
+    ensures told { HasCalledBeside incoming beside.now (held database.old lists.old diversions.now) (H.state host.old) (H.state host.new) [] result.calls.items }
+    ensures any_moment { AtEachMomentOf (IsAmidUnpack incoming beside.now (held database.old lists.old diversions.now)) (H.state host.old) (H.state host.new) }
     ensures counts { CountsReply (H.state host.old) (H.state host.new) result.reply }
     ensures not_closed { IsBrokenBy Closed result.reply → ⊥ }
 {
     match incoming.name.copy() {
         Ok(package) => {
             return unpack_named(
-                alloc, host, database, lists, places, diversions, package, incoming,
+                alloc, host, database, lists, places, diversions, package, incoming, beside,
             );
         }
         Err(_) => {
             return broken(alloc, Vec::new(alloc), Breakage::NoMemory);
         }
-    }
-}
-
-// The unit that is refused by a rule.
-fn refused(alloc: Global, rule: Rule, package: Text) -> Unit
-    ensures { IsRefusedUnit rule «package» result }
-{
-    Unit {
-        calls: Vec::new(alloc),
-        touched: Vec::new(alloc),
-        reply: Reply::Refused(Refusal { rule, package }),
     }
 }
 
@@ -275,28 +282,31 @@ fn unit_of_package<H: Host>(
     places: &mut Places,
     diversions: &Diversions,
     incoming: Package,
+    auto_deconfigure: bool,
 ) -> Unit
     requires order { Needs (H.state host.old) (IsInOrder database.old lists.old.lists) }
     requires noting { database.old.closed ≡ false }
     requires listing { lists.old.closed ≡ false }
     requires kept { places.old ≡ places_in diversions.now.entries lists.old.lists }
-    ensures unit { IsBroken result.reply ⊎ IsUnitByRule incoming (rule_for incoming (held database.old lists.old diversions.now)) (held database.old lists.old diversions.now) (held database.new lists.new diversions.now) result (H.state host.old) (H.state host.new) }
+    ensures unit { IsBroken result.reply ⊎ IsPackageUnit auto_deconfigure incoming (held database.old lists.old diversions.now) (held database.new lists.new diversions.now) result (H.state host.old) (H.state host.new) }
     ensures noting { IsBroken result.reply ⊎ (database.new.closed ≡ false) }
     ensures listing { IsBroken result.reply ⊎ (lists.new.closed ≡ false) }
     ensures kept { IsBroken result.reply ⊎ (places.new ≡ places_in diversions.now.entries lists.new.lists) }
     ensures answered { IsBroken result.reply ⊎ IsAnswered (H.state host.old) (H.state host.new) }
     ensures untouched { IsBroken result.reply → result.touched.items ≡ [] }
-    ensures told { HasCalledByRule incoming (rule_for incoming (held database.old lists.old diversions.now)) (held database.old lists.old diversions.now) result (H.state host.old) (H.state host.new) }
-    ensures any_moment { AtEachMomentOf (IsAmidByRule incoming (rule_for incoming (held database.old lists.old diversions.now)) (held database.old lists.old diversions.now)) (H.state host.old) (H.state host.new) }
+    ensures told { HasCalledPackage auto_deconfigure incoming (held database.old lists.old diversions.now) result (H.state host.old) (H.state host.new) }
+    ensures any_moment { AtEachMomentOf (IsAmidPackage auto_deconfigure incoming (held database.old lists.old diversions.now)) (H.state host.old) (H.state host.new) }
     ensures counts { CountsReply (H.state host.old) (H.state host.new) result.reply }
     ensures not_closed { IsBrokenBy Closed result.reply → ⊥ }
 {
-    match rule_of(&incoming, database, diversions) {
-        Ok(Some(rule)) => {
+    match decision_of(alloc, &incoming, database, diversions, auto_deconfigure) {
+        Ok(Checked::Refused(rule)) => {
             return refused(alloc, rule, incoming.name);
         }
-        Ok(None) => {
-            return unpack_unit(alloc, host, database, lists, places, diversions, incoming);
+        Ok(Checked::Planned(beside)) => {
+            return unpack_unit(
+                alloc, host, database, lists, places, diversions, incoming, &beside,
+            );
         }
         Err(_) => {
             return broken(alloc, Vec::new(alloc), Breakage::NoMemory);
@@ -313,41 +323,40 @@ fn unit_of<H: Host>(
     places: &mut Places,
     diversions: &Diversions,
     candidate: Candidate,
+    auto_deconfigure: bool,
 ) -> Unit
     requires order { Needs (H.state host.old) (IsInOrder database.old lists.old.lists) }
     requires noting { database.old.closed ≡ false }
     requires listing { lists.old.closed ≡ false }
     requires kept { places.old ≡ places_in diversions.now.entries lists.old.lists }
-    ensures unit { IsBroken result.reply ⊎ IsUnit candidate (held database.old lists.old diversions.now) (held database.new lists.new diversions.now) result (H.state host.old) (H.state host.new) }
+    ensures unit { IsBroken result.reply ⊎ IsUnit auto_deconfigure candidate (held database.old lists.old diversions.now) (held database.new lists.new diversions.now) result (H.state host.old) (H.state host.new) }
     ensures noting { IsBroken result.reply ⊎ (database.new.closed ≡ false) }
     ensures listing { IsBroken result.reply ⊎ (lists.new.closed ≡ false) }
     ensures kept { IsBroken result.reply ⊎ (places.new ≡ places_in diversions.now.entries lists.new.lists) }
     ensures answered { IsBroken result.reply ⊎ IsAnswered (H.state host.old) (H.state host.new) }
     ensures untouched { IsBroken result.reply → result.touched.items ≡ [] }
-    ensures told { HasCalledOf candidate.tree (held database.old lists.old diversions.now) result (H.state host.old) (H.state host.new) }
-    ensures any_moment { AtEachMomentOf (IsAmidUnitOf candidate.tree (held database.old lists.old diversions.now)) (H.state host.old) (H.state host.new) }
+    ensures told { HasCalledOf auto_deconfigure candidate.tree (held database.old lists.old diversions.now) result (H.state host.old) (H.state host.new) }
+    ensures any_moment { AtEachMomentOf (IsAmidUnitOf auto_deconfigure candidate.tree (held database.old lists.old diversions.now)) (H.state host.old) (H.state host.new) }
     ensures counts { CountsReply (H.state host.old) (H.state host.new) result.reply }
     ensures not_closed { IsBrokenBy Closed result.reply → ⊥ }
 {
     let Candidate { label, tree } = candidate;
     match tree {
         Ok(incoming) => {
-            return unit_of_package(alloc, host, database, lists, places, diversions, incoming);
+            return unit_of_package(
+                alloc,
+                host,
+                database,
+                lists,
+                places,
+                diversions,
+                incoming,
+                auto_deconfigure,
+            );
         }
         Err(fault) => {
             return refused(alloc, Rule::Tree(fault), label);
         }
-    }
-}
-
-pub(crate) fn is_broken(unit: &Unit) -> bool
-    ensures { MatchBool result (IsBroken unit.now.reply) (IsBroken unit.now.reply → ⊥) }
-{
-    match &unit.reply {
-        Reply::Broken(_) => true,
-        Reply::Done => false,
-        Reply::Refused(_) => false,
-        Reply::Failed(_) => false,
     }
 }
 
@@ -360,21 +369,22 @@ fn run_one<H: Host>(
     places: &mut Places,
     diversions: &Diversions,
     candidate: Candidate,
+    auto_deconfigure: bool,
     units: &mut Vec<Unit>,
 ) -> Result<(), Unit>
     requires order { Needs (H.state host.old) (IsInOrder database.old lists.old.lists) }
     requires noting { database.old.closed ≡ false }
     requires listing { lists.old.closed ≡ false }
     requires kept { places.old ≡ places_in diversions.now.entries lists.old.lists }
-    ensures ok { OnOk result (AddsUnit candidate (held database.old lists.old diversions.now) (held database.new lists.new diversions.now) (H.state host.old) (H.state host.new) units.old.items units.new.items) }
+    ensures ok { OnOk result (AddsUnit auto_deconfigure candidate (held database.old lists.old diversions.now) (held database.new lists.new diversions.now) (H.state host.old) (H.state host.new) units.old.items units.new.items) }
     ensures noting { OnOk result (database.new.closed ≡ false) }
     ensures listing { OnOk result (lists.new.closed ≡ false) }
     ensures kept { OnOk result (places.new ≡ places_in diversions.now.entries lists.new.lists) }
     ensures answered { OnOk result (IsAnswered (H.state host.old) (H.state host.new)) }
     ensures err { OnErr result (units.new.items ≡ units.old.items) }
-    ensures broken_off { IfErr result (λ unit. IsBrokenOff candidate (held database.old lists.old diversions.now) unit (H.state host.old) (H.state host.new)) }
+    ensures broken_off { IfErr result (λ unit. IsBrokenOff auto_deconfigure candidate (held database.old lists.old diversions.now) unit (H.state host.old) (H.state host.new)) }
     ensures told { OnOk result (TellsAll (H.state host.old) (H.state host.new) (calls_of units.old.items) (calls_of units.new.items)) }
-    ensures any_moment { AtEachMomentOf (IsAmidUnitOf candidate.tree (held database.old lists.old diversions.now)) (H.state host.old) (H.state host.new) }
+    ensures any_moment { AtEachMomentOf (IsAmidUnitOf auto_deconfigure candidate.tree (held database.old lists.old diversions.now)) (H.state host.old) (H.state host.new) }
     ensures no_fault { OnOk result (faults (H.state host.new) ≡ faults (H.state host.old)) }
     ensures counts { IfErr result (λ unit. CountsReply (H.state host.old) (H.state host.new) unit.reply) }
     ensures not_closed { IfErr result (λ unit. IsBrokenBy Closed unit.reply → ⊥) }
@@ -382,7 +392,16 @@ fn run_one<H: Host>(
     if units.reserve(1).is_err() {
         return Err(broken(alloc, Vec::new(alloc), Breakage::NoMemory));
     }
-    let unit = unit_of(alloc, host, database, lists, places, diversions, candidate);
+    let unit = unit_of(
+        alloc,
+        host,
+        database,
+        lists,
+        places,
+        diversions,
+        candidate,
+        auto_deconfigure,
+    );
     if is_broken(&unit) {
         return Err(unit);
     }
@@ -398,16 +417,16 @@ pub(crate) fn run_units<H: Host>(
     lists: &mut FileLists,
     places: &mut Places,
     diversions: &Diversions,
-    candidates: Vec<Candidate>,
+    unpack: Unpack,
 ) -> Report
     requires order { Needs (H.state host.old) (IsInOrder database.old lists.old.lists) }
     requires noting { database.old.closed ≡ false }
     requires listing { lists.old.closed ≡ false }
     requires kept { places.old ≡ places_in diversions.now.entries lists.old.lists }
-    ensures whole { IsNone result.last → IsRun candidates.items result.units.items (held database.old lists.old diversions.now) (held database.new lists.new diversions.now) (H.state host.old) (H.state host.new) }
-    ensures part { HasRun candidates.items result.units.items result.last (held database.old lists.old diversions.now) (H.state host.old) (H.state host.new) }
+    ensures whole { IsNone result.last → IsRun unpack.auto_deconfigure unpack.candidates.items result.units.items (held database.old lists.old diversions.now) (held database.new lists.new diversions.now) (H.state host.old) (H.state host.new) }
+    ensures part { HasRun unpack.auto_deconfigure unpack.candidates.items result.units.items result.last (held database.old lists.old diversions.now) (H.state host.old) (H.state host.new) }
     ensures told { TellsCalls (H.state host.old) (H.state host.new) result }
-    ensures any_moment { Since (IsAmidRun candidates.items (held database.old lists.old diversions.now) (H.state host.old)) (H.state host.old) (H.state host.new) }
+    ensures any_moment { Since (IsAmidRun unpack.auto_deconfigure unpack.candidates.items (held database.old lists.old diversions.now) (H.state host.old)) (H.state host.old) (H.state host.new) }
     ensures counts { CountsLast (H.state host.old) (H.state host.new) result.last }
     ensures not_closed { IfSome result.last (λ unit. IsBrokenBy Closed unit.reply → ⊥) }
     ensures order { IsNone result.last → Needs (H.state host.new) (IsInOrder database.new lists.new.lists) }
@@ -415,10 +434,22 @@ pub(crate) fn run_units<H: Host>(
     ensures listing { IsNone result.last → lists.new.closed ≡ false }
     ensures kept { IsNone result.last → places.new ≡ places_in diversions.now.entries lists.new.lists }
 {
+    let Unpack {
+        candidates,
+        auto_deconfigure,
+    } = unpack;
     let mut units = Vec::new(alloc);
     for candidate in candidates {
         match run_one(
-            alloc, host, database, lists, places, diversions, candidate, &mut units,
+            alloc,
+            host,
+            database,
+            lists,
+            places,
+            diversions,
+            candidate,
+            auto_deconfigure,
+            &mut units,
         ) {
             Ok(()) => {}
             Err(unit) => {

@@ -10,11 +10,12 @@ use Rattle.package_tree.specs.declared.fault.LineName.{LineName}
 use Rattle.package_tree.specs.declared.fault.LineName.TheVariants as named
 use Rattle.package_tree.specs.declared.fault.TreeFault.{TreeFault}
 use Rattle.package_tree.specs.declared.fault.TreeFault.TheVariants.{NoControl, Control, FieldMissing, FieldBad, PathBad, Reserved, ConffileNotShipped, ConffileShipped, ConffileFlag, TooLarge, Device, NoMemory}
+use Rattle.relation_fields.specs.Printing.{print_clause}
 use Rattle.relation_fields.specs.RelationFields.{relation_name}
 use Rattle.diversions.specs.declared.refusal.Refusal.{Refusal as ItsRefusal}
 use Rattle.diversions.specs.declared.refusal.Refusal.TheVariants as diverted
-use Rattle.dpkg_session.specs.declared.refusal.Rule.{Rule}
-use Rattle.dpkg_session.specs.declared.refusal.Rule.TheVariants.{Tree, NotYet, ConffileDiverted, Divert}
+use Rattle.unit_reports.specs.declared.refusal.Rule.{Rule}
+use Rattle.unit_reports.specs.declared.refusal.Rule.TheVariants.{Tree, NotYet, ConffileDiverted, PreDepends, Conflicts, ConflictEssential, Dependents, Breaks, Divert, Unknown, WrongState, Reinstreq, NothingToRemove, Essential, Depends, BrokenBy, ConffileKind, DependedOn}
 use Rattle.unwind_stack.specs.declared.fall.StepFault.{StepFault}
 use Rattle.unwind_stack.specs.declared.fall.StepFault.TheVariants as step
 
@@ -70,12 +71,27 @@ divert_word diverted.OtherOwner = codes "OtherOwner"
 divert_word diverted.TargetExists = codes "TargetExists"
 divert_word diverted.NoParent = codes "NoParent"
 
--- the rule of a refusal with its detail; of a tree's fault the fault is the rule
+-- the rule of a refusal with its detail: a path, a clause of relations (Policy 7.1) or another package; of a tree's fault the
+-- fault is the rule
 abbrev pub rule_text : Rule → List ℕ
 rule_text (Tree fault) = tree_text fault
 rule_text (NotYet field) = codes "NotYet " ++ relation_name field
 rule_text (ConffileDiverted path) = codes "ConffileDiverted " ++ path
+rule_text (PreDepends clause) = codes "PreDepends " ++ print_clause clause
+rule_text (Conflicts other) = codes "Conflicts " ++ other
+rule_text (ConflictEssential other) = codes "ConflictEssential " ++ other
+rule_text (Dependents other) = codes "Dependents " ++ other
+rule_text (Breaks other) = codes "Breaks " ++ other
 rule_text (Divert refusal) = divert_word refusal
+rule_text Unknown = codes "Unknown"
+rule_text WrongState = codes "WrongState"
+rule_text Reinstreq = codes "Reinstreq"
+rule_text NothingToRemove = codes "NothingToRemove"
+rule_text Essential = codes "Essential"
+rule_text (Depends clause) = codes "Depends " ++ print_clause clause
+rule_text (BrokenBy other) = codes "BrokenBy " ++ other
+rule_text (ConffileKind path) = codes "ConffileKind " ++ path_text path
+rule_text (DependedOn other) = codes "DependedOn " ++ other
 
 -- the step fault of the files with its path, and the package with which the path clashes
 abbrev pub step_text : StepFault → List ℕ

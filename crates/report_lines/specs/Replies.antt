@@ -1,9 +1,9 @@
 -- The last line of a unit: its reply.
 use Rattle.std.specs.Prelude.{ℕ, Bool, true, false, List, ◌++◌, codes}
-use Rattle.dpkg_session.specs.declared.report.Breakage.{Breakage}
-use Rattle.dpkg_session.specs.declared.report.Breakage.TheVariants.{Device, NoMemory, Closed}
-use Rattle.dpkg_session.specs.declared.report.Reply.{Reply}
-use Rattle.dpkg_session.specs.declared.report.Reply.TheVariants.{Done, Refused, Failed, Broken}
+use Rattle.unit_reports.specs.declared.report.Breakage.{Breakage}
+use Rattle.unit_reports.specs.declared.report.Breakage.TheVariants.{Device, NoMemory, Closed}
+use Rattle.unit_reports.specs.declared.report.Reply.{Reply}
+use Rattle.unit_reports.specs.declared.report.Reply.TheVariants.{Done, Refused, Failed, Broken}
 use Rattle.report_lines.specs.Calls.{call_text}
 use Rattle.report_lines.specs.Faults.{rule_text, step_text}
 use Rattle.stack_run.specs.declared.failure.Failure.{Failure as Cause}

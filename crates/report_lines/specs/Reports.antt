@@ -1,8 +1,8 @@
 -- The lines of a report, and the status that it ends with.
 use Rattle.std.specs.Prelude.{ℕ, List, [], ◌∷◌, ◌++◌, max, option_to_list, if◌then◌else◌}
 use Rattle.std.specs.List.{flat_map}
-use Rattle.dpkg_session.specs.declared.report.Report.{Report}
-use Rattle.dpkg_session.specs.declared.report.Unit.{Unit as AUnit}
+use Rattle.unit_reports.specs.declared.report.Report.{Report}
+use Rattle.unit_reports.specs.declared.report.Unit.{Unit as AUnit}
 use Rattle.report_lines.specs.Calls.{call_line}
 use Rattle.report_lines.specs.Replies.{reply_line, reply_status, tells_states}
 use Rattle.report_lines.specs.States.{state_line}

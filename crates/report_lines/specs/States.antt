@@ -2,7 +2,7 @@
 use Rattle.std.specs.Prelude.{ℕ, List, ◌++◌, Option, Some, None, codes}
 use Rattle.status_db.specs.Words.{want_word, flag_word, state_word}
 use Rattle.status_db.specs.declared.record.Record.{Record}
-use Rattle.dpkg_session.specs.declared.report.Touched.{Touched}
+use Rattle.unit_reports.specs.declared.report.Touched.{Touched}
 
 -- version, want, flag and state of a record, or that there is none
 abbrev pub state_text : Option Record → List ℕ

@@ -1,14 +1,17 @@
 // Faults and refusals in the program's own words.
 ghost use Rattle.std.specs.Prelude.{◌≡◌, ◌++◌, IfOk, codes, string_bytes};
+ghost use Rattle.relation_fields.specs.Printing.{print_clause};
 ghost use Rattle.report_lines.specs.Faults.{control_text, divert_word, field_word, line_text, path_text, rule_text, step_text, tree_text};
 ghost use Rattle.report_lines.specs.Openings.{opening_line};
 
 use administration::AdministrationFault;
 use control_fields::ControlFault;
-use dpkg_session::Rule;
 use host_core::RootPath;
 use package_tree::{FieldName, LineName, TreeFault};
+use relation_fields::Clause;
 use std::alloc::{AllocError, Global};
+use texts::Text;
+use unit_reports::Rule;
 use unwind_stack::StepFault;
 
 fn control_text(alloc: Global, fault: ControlFault) -> Result<String, AllocError>
@@ -114,6 +117,22 @@ fn divert_word(refusal: diversions::Refusal) -> &'static str
     }
 }
 
+// A rule that names a clause of a package's relations.
+fn of_clause(alloc: Global, name: &str, clause: &Clause) -> Result<String, AllocError>
+    ensures { IfOk result (λ text. string_bytes text ≡ name.now ++ (codes " " ++ print_clause clause.now)) }
+{
+    let clause = clause.printed()?;
+    format!(in alloc; "{name} {clause}")
+}
+
+// A rule that names another package.
+fn of_package(alloc: Global, name: &str, other: &Text) -> Result<String, AllocError>
+    ensures { IfOk result (λ text. string_bytes text ≡ name.now ++ (codes " " ++ other.now)) }
+{
+    let other = other.as_str();
+    format!(in alloc; "{name} {other}")
+}
+
 /// The rule of a refusal with its detail.
 pub(crate) fn rule_text(alloc: Global, rule: &Rule) -> Result<String, AllocError>
     ensures { IfOk result (λ text. string_bytes text ≡ rule_text rule.now) }
@@ -128,7 +147,21 @@ pub(crate) fn rule_text(alloc: Global, rule: &Rule) -> Result<String, AllocError
             let path = path.as_str();
             format!(in alloc; "ConffileDiverted {path}")
         }
+        Rule::PreDepends(clause) => of_clause(alloc, "PreDepends", clause),
+        Rule::Conflicts(other) => of_package(alloc, "Conflicts", other),
+        Rule::ConflictEssential(other) => of_package(alloc, "ConflictEssential", other),
+        Rule::Dependents(other) => of_package(alloc, "Dependents", other),
+        Rule::Breaks(other) => of_package(alloc, "Breaks", other),
         Rule::Divert(refusal) => String::from_str(alloc, divert_word(*refusal)),
+        Rule::Unknown => String::from_str(alloc, "Unknown"),
+        Rule::WrongState => String::from_str(alloc, "WrongState"),
+        Rule::Reinstreq => String::from_str(alloc, "Reinstreq"),
+        Rule::NothingToRemove => String::from_str(alloc, "NothingToRemove"),
+        Rule::Essential => String::from_str(alloc, "Essential"),
+        Rule::Depends(clause) => of_clause(alloc, "Depends", clause),
+        Rule::BrokenBy(other) => of_package(alloc, "BrokenBy", other),
+        Rule::ConffileKind(path) => at_path(alloc, "ConffileKind", path),
+        Rule::DependedOn(other) => of_package(alloc, "DependedOn", other),
     }
 }
 

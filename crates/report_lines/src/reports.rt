@@ -7,12 +7,12 @@ ghost use Rattle.report_lines.specs.Reports.{report_lines, report_status, states
 ghost use Rattle.report_lines.specs.States.{state_line, state_text};
 
 use crate::faults::{rule_text, step_text};
-use dpkg_session::{Breakage, Failure, Refusal, Reply, Report, Touched, Unit};
 use host_core::{Call, Outcome, Side};
 use stack_run::Failure as Cause;
 use status_db::Record;
 use std::alloc::{AllocError, Global};
 use texts::Text;
+use unit_reports::{Breakage, Failure, Refusal, Reply, Report, Touched, Unit};
 use unwind_stack::{Called, StepFault};
 
 fn side_word(side: Side) -> &'static str

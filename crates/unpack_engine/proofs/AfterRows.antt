@@ -35,7 +35,7 @@ module _ (g : Ground) (p : Planned) (named : is_package_name (package_name g p) 
     (mid : Holding) (begun last : State) (begins : Begins g p old begun.world) (h : IsTrue last.honest) where
   module _ (ended : Ended) (at : At (task_from g p begun) mid last (last_place g p ended)) where
     last_same : (q : Path) → IsBeside (list_path (package_name g p)) q → last.world q ≡ begun.world q
-    last_same q beside = come_same (task_from g p begun) q beside works_named (last_place g p ended) (stage_of (kinds_of p.found []) (last_place g p ended)) mid.works at.works (changes_of at.since) last.world (at.world h).came
+    last_same q beside = come_same (task_from g p begun) q beside works_named (last_place g p ended) (stage_of (kinds_of p.found p.others) (last_place g p ended)) mid.works at.works (changes_of at.since) last.world (at.world h).came
 
     pub last_laid : AreLaidOut p.members last.world
     last_laid = still_laid g p named works_named old list members loose incoming begun begins last.world last_same
@@ -47,7 +47,7 @@ module _ (g : Ground) (p : Planned) (named : is_package_name (package_name g p) 
         → MayLeave (changes g p mid.works mid.lists) (commit_records g p mid.works mid.lists mid.database.records) g.entries mid.lists mid.database.records ended last.world now → IsStage g p old so_far now
     leaving_stage so_far now same may =
         IsStage.leaving ended mid.works begun last.world begins at.works
-        (subst (λ c. HasCome (task_from g p begun) (stage_of (kinds_of p.found []) (last_place g p ended)) mid.works c last.world) (sym same) (at.world h).came)
+        (subst (λ c. HasCome (task_from g p begun) (stage_of (kinds_of p.found p.others) (last_place g p ended)) mid.works c last.world) (sym same) (at.world h).came)
         (subst (λ l. MayLeave (changes g p mid.works l) (commit_records g p mid.works l (table_after g p (last_place g p ended))) g.entries l (table_after g p (last_place g p ended)) ended last.world now) at.lists
         (subst (λ r. MayLeave (changes g p mid.works mid.lists) (commit_records g p mid.works mid.lists r) g.entries mid.lists r ended last.world now) at.records may))
 

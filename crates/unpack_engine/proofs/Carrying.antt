@@ -15,42 +15,19 @@ use Rattle.unwind_stack.specs.declared.rows.Called.{Called}
 use Rattle.unwind_stack.specs.declared.rows.Row.{Row}
 use Rattle.diversions.specs.declared.entry.Diversion.{Diversion}
 use Rattle.unpack_rows.specs.EndStates.{end_of, own_name}
-use Rattle.unpack_rows.specs.ForwardRows.{records_of}
-use Rattle.unpack_rows.specs.declared.rows.OtherPackage.{OtherPackage}
-use Rattle.unpack_commit.specs.Takeover.{yields_of}
-use Rattle.unpack_run.specs.Task.{Task, task_of}
+use Rattle.unpack_run.specs.Task.{task_of}
 use Rattle.unpack_run.specs.At.{At, Holding, holding}
 use Rattle.unpack_run.specs.declared.plan.Rows.{Rows}
 use Rattle.unpack_engine.specs.declared.course.Rest.{Rest}
 use Rattle.unpack_engine.specs.Courses.{changes_from, ended_lists, ended_table, planned_from, records_from}
-use Rattle.unpack_engine.specs.Units.{Begins, HasBegun, HasCarriedOut, HasLeft, HasRunRows, MayLeave, end_lists, end_table, ground, task_from}
+use Rattle.unpack_engine.specs.Units.{HasBegun, HasCarriedOut, HasLeft, HasRunRows, MayLeave, end_lists, end_table, ground}
 use Rattle.unpack_engine.proofs.Sequel.{later}
 
 pub same_end : (n : ℕ) (u : Option Unwinding) → end_place n u ≡ end_of n (ended_as u)
 same_end n None = refl
 same_end n (Some u) = refl
 
-module _ (database : Recorded) (lists : Filed) (entries : List Diversion) (places : List Path) (rows : Rows) (works : List Work) (calls : List Row) (rest : Rest)
-    (alone : rows.others.items ≡ []) (yielding : rows.yields ≡ yields_of database.records) where
-  abbrev with_others : List OtherPackage → List (List ℕ) → State → Task
-  with_others others yields start = record {
-    start = start;
-    records = database.records;
-    lists = lists.lists;
-    entries = entries;
-    places = places;
-    found = rows.found;
-    incoming = rows.incoming;
-    others = records_of others;
-    yields = yields;
-    works = works;
-    listed = rows.listed;
-    union = rows.union;
-  }
-
-  pub same_task : (λ (s : State). task_of s database lists entries places works rows) ≡ task_from (ground database.records lists.lists entries places) (planned_from rows works calls rest)
-  same_task = ap (λ others. with_others others rows.yields) alone ∙ ap (λ yields. with_others [] yields) yielding
-
+module _ (database : Recorded) (lists : Filed) (entries : List Diversion) (places : List Path) (rows : Rows) (works : List Work) (calls : List Row) (rest : Rest) where
   pub carried_out : (ended end : Ended) (mid : Holding) (after : Recorded) (end_of_lists : Filed) (old last new : State) (told now : List Called) → ended ≡ end
       → HasRunRows (HasBegun rows.found (own_name rows.found rows.incoming) rest.members) (λ s. task_of s database lists entries places works rows) calls ended mid old last told now
       → Silent last new
@@ -58,27 +35,27 @@ module _ (database : Recorded) (lists : Filed) (entries : List Diversion) (place
       → (IsTrue new.honest → HasLeft (changes_from (own_name rows.found rows.incoming) rows.yields entries mid.lists mid.works rest) (records_from (own_name rows.found rows.incoming) rows.yields entries mid.lists mid.works rest mid.database.records) entries mid.lists mid.database.records ended last.world new.world)
       → after.records ≡ ended_table ended (records_from (own_name rows.found rows.incoming) rows.yields entries mid.lists mid.works rest mid.database.records) mid.database.records
       → end_of_lists.lists ≡ ended_lists ended (changes_from (own_name rows.found rows.incoming) rows.yields entries mid.lists mid.works rest) entries mid.lists
-      → HasCarriedOut (ground database.records lists.lists entries places) (planned_from rows works calls rest) end after end_of_lists.lists old new told now
+      → HasCarriedOut (ground database.records lists.lists entries places rows.yields) (planned_from rows works calls rest) end after end_of_lists.lists old new told now
   carried_out ended end mid after end_of_lists old last new told now same ran silent may left table lists_are =
-      let g = ground database.records lists.lists entries places in
+      let g = ground database.records lists.lists entries places rows.yields in
       let p = planned_from rows works calls rest in
       subst (λ e. HasCarriedOut g p e after end_of_lists.lists old new told now) same (record {
         mid = mid;
         last = last;
-        ran = subst (λ task. HasRunRows (Begins g p) task calls ended mid old last told now) same_task ran;
+        ran = ran;
         since = silent;
         later = later _ last new may;
-        leaves = λ h. subst (λ y. HasLeft (changes_from (own_name rows.found rows.incoming) y entries mid.lists mid.works rest) (records_from (own_name rows.found rows.incoming) y entries mid.lists mid.works rest mid.database.records) entries mid.lists mid.database.records ended last.world new.world) yielding (left h);
-        records = table ∙ by_table ended yielding;
-        lists_are = lists_are ∙ by_lists ended yielding;
+        leaves = left;
+        records = table ∙ by_table ended;
+        lists_are = lists_are ∙ by_lists ended;
       })
     where
-      by_table : (e : Ended) → rows.yields ≡ yields_of database.records → ended_table e (records_from (own_name rows.found rows.incoming) rows.yields entries mid.lists mid.works rest mid.database.records) mid.database.records
-          ≡ end_table (ground database.records lists.lists entries places) (planned_from rows works calls rest) e mid.works mid.lists mid.database.records
-      by_table Committed y = ap (λ yields. ended_table Committed (records_from (own_name rows.found rows.incoming) yields entries mid.lists mid.works rest mid.database.records) mid.database.records) y
-      by_table (Unwound fall failed) y = refl
+      by_table : (e : Ended) → ended_table e (records_from (own_name rows.found rows.incoming) rows.yields entries mid.lists mid.works rest mid.database.records) mid.database.records
+          ≡ end_table (ground database.records lists.lists entries places rows.yields) (planned_from rows works calls rest) e mid.works mid.lists mid.database.records
+      by_table Committed = refl
+      by_table (Unwound fall failed) = refl
 
-      by_lists : (e : Ended) → rows.yields ≡ yields_of database.records → ended_lists e (changes_from (own_name rows.found rows.incoming) rows.yields entries mid.lists mid.works rest) entries mid.lists
-          ≡ end_lists (ground database.records lists.lists entries places) (planned_from rows works calls rest) e mid.works mid.lists
-      by_lists Committed y = ap (λ yields. ended_lists Committed (changes_from (own_name rows.found rows.incoming) yields entries mid.lists mid.works rest) entries mid.lists) y
-      by_lists (Unwound fall failed) y = refl
+      by_lists : (e : Ended) → ended_lists e (changes_from (own_name rows.found rows.incoming) rows.yields entries mid.lists mid.works rest) entries mid.lists
+          ≡ end_lists (ground database.records lists.lists entries places rows.yields) (planned_from rows works calls rest) e mid.works mid.lists
+      by_lists Committed = refl
+      by_lists (Unwound fall failed) = refl

@@ -19,8 +19,6 @@ use Rattle.unwind_stack.specs.declared.fall.Fall.{Fall}
 use Rattle.unwind_stack.specs.declared.rows.Called.{Called}
 use Rattle.cleanup_stack.specs.declared.failed.Failed.{Failed}
 use Rattle.cleanup_stack.specs.Transcripts.{Ended, Committed, Unwound}
-use Rattle.diversions.specs.declared.entry.Diversion.{Diversion}
-use Rattle.package_tree.specs.declared.package.Package.{Package}
 use Rattle.control_members.proofs.Apart.{no_list, no_list_temporary}
 use Rattle.file_lists.specs.Lists.{HasLists}
 use Rattle.file_lists.specs.Owners.{IsListable, paths_of}
@@ -41,17 +39,18 @@ use Rattle.unpack_rows.proofs.Matching.{as_many}
 use Rattle.unpack_run.specs.At.{At, Holding}
 use Rattle.unpack_run.specs.Task.{Task, lists_at}
 use Rattle.unpack_run.specs.Trail.{HasCome}
-use Rattle.unpack_commit.specs.Takeover.{losing_records, put_records, taken_places}
+use Rattle.unpack_commit.specs.Takeover.{losing_records, put_records, taken_places, yields_of}
 use Rattle.unpack_commit.proofs.Left.{loser_list, other_list, own_list, same_list}
 use Rattle.unpack_plan.specs.Planned.{IsPlanned, Planned}
 use Rattle.unpack_plan.specs.Members.{scripts_in}
-use Rattle.unpack_engine.specs.Order.{IsInOrder, record_names}
-use Rattle.unpack_engine.specs.Units.{Given, HasBegun, HasCarriedOut, HasCleared, HasDropped, HasLeft, changes, commit_records, given, ground, ground_of, job_of, last_place, package_name, task_from, unit_losers}
+use Rattle.unpack_engine.specs.Order.{record_names}
+use Rattle.unpack_engine.specs.Units.{Given, HasBegun, HasCarriedOut, HasCleared, HasDropped, HasLeft, changes, commit_records, ground_of, job_of, last_place, package_name, task_from, unit_losers}
 use Rattle.unpack_engine.proofs.Begun.{dropped_same}
-use Rattle.unpack_engine.proofs.EndNames.{has_record, is_recorded, loser_other, loser_recorded, losing_named, puts_keep, puts_last, puts_named, same_recorded}
+use Rattle.unpack_engine.proofs.EndNames.{both_recorded, has_record, is_recorded, losing_named, puts_keep, puts_last, puts_named}
+use Rattle.unpack_engine.proofs.EndOthers.{end_for, recorded_still}
 use Rattle.unpack_engine.proofs.Frames.{IsBeside, come_same}
 use Rattle.unpack_engine.proofs.ListEnds.{IsListEnd, among, has_lists_end, listed_can, listed_texts, paths_spared, paths_taken, unlisted}
-use Rattle.unpack_engine.proofs.Losing.{among_kept}
+use Rattle.unpack_engine.proofs.Losing.{among_kept, loser_lists, loser_other}
 
 -- the list of another package is none of the paths that a unit begins with, or that rows write
 module _ (name own : List ℕ) (ne : name ≢ own) where
@@ -75,8 +74,8 @@ module _ (G : Given) (stored : Present) (p : Planned) (plan : IsPlanned (job_of 
   abbrev names : List (List ℕ)
   names = record_names G.records
 
-  rows_many : length p.rows ≡ length (kinds_of p.found [])
-  rows_many = ap length plan.rows_are.rows_are ∙ as_many p.found p.incoming stored (scripts_in G.«package».scripts) []
+  rows_many : length p.rows ≡ length (kinds_of p.found p.others)
+  rows_many = ap length plan.rows_are.rows_are ∙ as_many p.found p.incoming stored (scripts_in G.«package».scripts) G.others ∙ ap (λ os. length (kinds_of p.found os)) (sym plan.rows_are.others_are)
 
   found_is : p.found ≡ record_in G.records own
   found_is = plan.records_are.found_is ∙ ap (record_in G.records) (sym plan.records_are.own)
@@ -95,22 +94,19 @@ module _ (G : Given) (stored : Present) (p : Planned) (plan : IsPlanned (job_of 
     abbrev task : Task
     task = task_from (ground_of G places) p begun
 
-    mid_record : (q : List ℕ) → record_in mid.database.records q ≡ end_record p.found p.incoming [] G.records ended q
+    mid_record : (q : List ℕ) → record_in mid.database.records q ≡ end_record p.found p.incoming p.others G.records ended q
     mid_record q =
         ap (λ t. record_in t q) at.records
-        ∙ ap (λ n. record_in (noted G.records (notes_at p.found p.incoming (kinds_of p.found []) (end_of n ended))) q) rows_many
-        ∙ end_table p.found p.incoming [] G.records at.sound.concerned ended q
+        ∙ ap (λ n. record_in (noted G.records (notes_at p.found p.incoming (kinds_of p.found p.others) (end_of n ended))) q) rows_many
+        ∙ end_table p.found p.incoming p.others G.records at.sound.concerned ended q
 
-    mid_other : (q : List ℕ) → q ≢ own → record_in mid.database.records q ≡ record_in G.records q
-    mid_other q ne = mid_record q ∙ by ended
-      where
-        by : (e : Ended) → end_record p.found p.incoming [] G.records e q ≡ record_in G.records q
-        by Committed = cond-false (bytes_eq own q) _ (record_in G.records q) (not_name q own ne)
-        by (Unwound fall failed) = cond-false (bytes_eq own q) _ (record_in G.records q) (not_name q own ne)
+    -- whether another package is recorded stays
+    mid_other : (q : List ℕ) → q ≢ own → is_some (record_in mid.database.records q) ≡ is_some (record_in G.records q)
+    mid_other q ne = ap is_some (mid_record q) ∙ recorded_still G.records q p.others _ (end_for p.found p.incoming p.others G.records at.sound.concerned.recorded ended q ne)
 
     -- the lists of other packages, as the rows left them
     paths_mid : (q : List ℕ) → q ≢ own → paths_of mid.lists q ≡ paths_of G.lists q
-    paths_mid q ne = ap (λ l. paths_of l q) at.lists ∙ by (stage_of (kinds_of p.found []) (last_place (ground_of G places) p ended))
+    paths_mid q ne = ap (λ l. paths_of l q) at.lists ∙ by (stage_of (kinds_of p.found p.others) (last_place (ground_of G places) p ended))
       where
         wrote : (paths : List Path) (lists : List PackageList) → paths_of lists q ≡ paths_of G.lists q → paths_of (with_list own paths lists) q ≡ paths_of G.lists q
         wrote paths lists same = paths_with lists own q paths ∙ cond-false (bytes_eq q own) paths (paths_of lists q) (not_own q own ne) ∙ same
@@ -124,7 +120,7 @@ module _ (G : Given) (stored : Present) (p : Planned) (plan : IsPlanned (job_of 
     module _ (old : State) (begins : HasBegun p.found own p.members old.world begun.world) (h : IsTrue last.honest) where
       list_kept : (q : List ℕ) → q ≢ own → last.world (list_path q) ≡ old.world (list_path q)
       list_kept q ne =
-          come_same task (list_path q) (list_beside q own ne) plan.works_are.named (last_place (ground_of G places) p ended) (stage_of (kinds_of p.found []) (last_place (ground_of G places) p ended)) mid.works at.works (changes_of at.since) last.world (at.world h).came
+          come_same task (list_path q) (list_beside q own ne) plan.works_are.named (last_place (ground_of G places) p ended) (stage_of (kinds_of p.found p.others) (last_place (ground_of G places) p ended)) mid.works at.works (changes_of at.since) last.world (at.world h).came
           ∙ begins.lays (list_path q) refl ∙ list_cleared q own ne p.found old.world begins.cleared begins.clears
 
   -- a unit that has committed
@@ -138,6 +134,9 @@ module _ (G : Given) (stored : Present) (p : Planned) (plan : IsPlanned (job_of 
 
     abbrev taken : List Path
     taken = taken_places mid.works
+
+    abbrev yields : List (List ℕ)
+    yields = yields_of G.records ++ G.yields
 
     abbrev lost : List (List ℕ)
     lost = unit_losers (ground_of G places) p mid.works mid.lists
@@ -154,32 +153,34 @@ module _ (G : Given) (stored : Present) (p : Planned) (plan : IsPlanned (job_of 
     one_of x q (zero, lt, same) = sym same
     one_of x q (suc k, lt, same) = absurd (omega (arith, lt))
 
-    other_mid : (q : List ℕ) → q ≢ own → record_in mid.database.records q ≡ record_in G.records q
+    other_mid : (q : List ℕ) → q ≢ own → is_some (record_in mid.database.records q) ≡ is_some (record_in G.records q)
     other_mid q ne = mid_other out.ran.begun last mid Committed out.ran.rows_end q ne
 
     recorded_before : (q : List ℕ) → q ≢ own → Contains (record_names after.records) q → Contains names q
     recorded_before q ne is = elim (puts_named (losing ++ p.fresh ∷ []) mid.database.records q (subst (λ rs. Contains (record_names rs) q) out.records is)) [
       | inl noted_now ↦ elim (Contains-append_cases (record_names losing) (p.fresh.name ∷ []) q (subst (λ (l : List (List ℕ)). Contains l q) (map-append (λ (r : Record). r.name) losing (p.fresh ∷ [])) noted_now)) [
-        | inl loses ↦ same_recorded mid.database.records G.records q (other_mid q ne) (losing_named G.entries taken lost mid.database.records q loses)
+        | inl loses ↦ both_recorded mid.database.records G.records q (other_mid q ne) (losing_named G.entries taken lost mid.database.records q loses)
         | inr fresh ↦ absurd (ne (one_of p.fresh.name q fresh ∙ fresh_own))
       ]
-      | inr there ↦ same_recorded mid.database.records G.records q (other_mid q ne) there
+      | inr there ↦ both_recorded mid.database.records G.records q (other_mid q ne) there
     ]
 
     recorded_then : (q : List ℕ) → q ≢ own → Contains names q → Contains (record_names after.records) q
     recorded_then q ne is = subst (λ rs. Contains (record_names rs) q) (sym out.records)
-        (puts_keep (losing ++ p.fresh ∷ []) mid.database.records q (same_recorded G.records mid.database.records q (sym (other_mid q ne)) is))
+        (puts_keep (losing ++ p.fresh ∷ []) mid.database.records q (both_recorded G.records mid.database.records q (sym (other_mid q ne)) is))
 
     own_then : Contains (record_names after.records) own
     own_then = subst (λ rs. Contains (record_names rs) own) (sym out.records) (subst (Contains (record_names (put_records (losing ++ p.fresh ∷ []) mid.database.records))) fresh_own (puts_last losing p.fresh mid.database.records))
 
     -- the lists
 
-    lost_recorded : (q : List ℕ) → Contains lost q → Contains names q
-    lost_recorded q loses = loser_recorded G.entries taken mid.lists own G.records q loses
-
     lost_other : (q : List ℕ) → Contains lost q → q ≢ own
-    lost_other q loses = loser_other G.entries taken mid.lists own G.records q loses
+    lost_other q loses = loser_other G.entries taken mid.lists own yields q loses
+
+    lost_recorded : (q : List ℕ) → Contains lost q → Contains names q
+    lost_recorded q loses =
+        let one = loser_lists G.entries taken mid.lists own yields q loses in
+        (has.sound q one.0 (subst (λ (l : List Path). Contains l one.0) (paths_mid out.ran.begun last mid Committed out.ran.rows_end q (lost_other q loses)) one.1)).0
 
     own_keeps : Contains lost own → ⊥
     own_keeps loses = lost_other own loses refl
@@ -274,8 +275,8 @@ module _ (G : Given) (stored : Present) (p : Planned) (plan : IsPlanned (job_of 
 
     -- the names
 
-    other_back : (q : List ℕ) → q ≢ own → record_in after.records q ≡ record_in G.records q
-    other_back q ne = ap (λ rs. record_in rs q) out.records ∙ mid_other begun back back_mid (Unwound fall failed) rows_end q ne
+    other_back : (q : List ℕ) → q ≢ own → is_some (record_in after.records q) ≡ is_some (record_in G.records q)
+    other_back q ne = ap (λ rs. is_some (record_in rs q)) out.records ∙ mid_other begun back back_mid (Unwound fall failed) rows_end q ne
 
     own_stays : Contains names own → Contains (record_names back_mid.database.records) own
     own_stays is = is_recorded back_mid.database.records own
@@ -323,7 +324,7 @@ module _ (G : Given) (stored : Present) (p : Planned) (plan : IsPlanned (job_of 
         }
 
     own_back : IsOwnBack back.world lists
-    own_back = subst (IsOwnBack back.world) (sym (out.lists_are ∙ rows_end.lists)) (own_back_at (has_files (take fall.row (kinds_of p.found []))) (has_files (take 0 (kinds_of p.found []))) refl (rows_end.world hb).came)
+    own_back = subst (IsOwnBack back.world) (sym (out.lists_are ∙ rows_end.lists)) (own_back_at (has_files (take fall.row (kinds_of p.found p.others))) (has_files (take 0 (kinds_of p.found p.others))) refl (rows_end.world hb).came)
 
     -- each list
 
@@ -341,14 +342,14 @@ module _ (G : Given) (stored : Present) (p : Planned) (plan : IsPlanned (job_of 
     back_each q is = elim (decide q own) [
       | inl same ↦ subst (IsListEnd old.world new.world names (record_names after.records) G.lists lists) (sym same)
           (back_own (subst (λ rs. Contains (record_names rs) own) out.records (subst (Contains (record_names after.records)) same is)))
-      | inr ne ↦ back_other q ne (same_recorded after.records G.records q (other_back q ne) is)
+      | inr ne ↦ back_other q ne (both_recorded after.records G.records q (other_back q ne) is)
     ]
 
     back_none : (q : List ℕ) → (Contains (record_names after.records) q → ⊥) → paths_of lists q ≡ []
     back_none q isnt = elim (decide q own) [
       | inl same ↦ ap (paths_of lists) same ∙ own_back.paths_are ∙ unlisted old.world new.world names (record_names after.records) G.lists lists has own (λ is. own_unnamed same is)
       | inr ne ↦ ap (λ l. paths_of l q) out.lists_are ∙ paths_mid begun back back_mid (Unwound fall failed) rows_end q ne
-          ∙ unlisted old.world new.world names (record_names after.records) G.lists lists has q (λ is. isnt (same_recorded G.records after.records q (sym (other_back q ne)) is))
+          ∙ unlisted old.world new.world names (record_names after.records) G.lists lists has q (λ is. isnt (both_recorded G.records after.records q (sym (other_back q ne)) is))
     ]
       where
         own_unnamed : q ≡ own → Contains names own → ⊥
@@ -364,11 +365,11 @@ module _ (G : Given) (stored : Present) (p : Planned) (plan : IsPlanned (job_of 
   lists_carried old new told now (Unwound fall failed) after lists out h has texts = lists_unwound old new told now fall failed after lists out h has
 
 -- and so says its answer
-pub listed_if_ok : {T E : Type 0} (result : Result T E) («package» : Package) (stored : Present) (p : Planned) (entries : List Diversion) (places : List Path) (before after : Recorded) (lists_before lists : List PackageList)
-    → IsPlanned (job_of (given «package» before.records lists_before entries) stored) p → (ended : T → Ended) (old new : State) (told now : List Called) → Needs old (IsInOrder before lists_before) → AllByRecursion IsUtf8 p.new_list
-    → IfOk result (λ u. HasCarriedOut (ground before.records lists_before entries places) p (ended u) after lists old new told now)
+pub listed_if_ok : {T E : Type 0} (result : Result T E) (G : Given) (stored : Present) (p : Planned) (places : List Path) (after : Recorded) (lists : List PackageList)
+    → IsPlanned (job_of G stored) p → (ended : T → Ended) (old new : State) (told now : List Called) → Needs old (λ w. ∥ HasLists w (record_names G.records) G.lists ∥₁) → AllByRecursion IsUtf8 p.new_list
+    → IfOk result (λ u. HasCarriedOut (ground_of G places) p (ended u) after lists old new told now)
     → IfOk result (λ u. Needs new (λ w. ∥ HasLists w (record_names after.records) lists ∥₁))
-listed_if_ok (Ok u) «package» stored p entries places before after lists_before lists plan ended old new told now order texts out = λ h.
+listed_if_ok (Ok u) G stored p places after lists plan ended old new told now listed texts out = λ h.
     let at_old = out.ran.until.honest (out.ran.between.honest (out.since.honest h)) in
-    ∥∥₁_map (order at_old).listed (λ has. lists_carried (given «package» before.records lists_before entries) stored p plan places old new told now (ended u) after lists out h has texts)
-listed_if_ok (Err e) «package» stored p entries places before after lists_before lists plan ended old new told now order texts out = tt
+    ∥∥₁_map (listed at_old) (λ has. lists_carried G stored p plan places old new told now (ended u) after lists out h has texts)
+listed_if_ok (Err e) G stored p places after lists plan ended old new told now listed texts out = tt

@@ -9,14 +9,12 @@ use Rattle.std.proofs.lemmas.Slice.Eq.{bytes_eq-Decides}
 use Rattle.host_core.specs.Paths.{Path}
 use Rattle.host_core.proofs.Paths.{decide}
 use Rattle.diversions.specs.declared.entry.Diversion.{Diversion}
-use Rattle.file_lists.specs.declared.paths.PackageList.{PackageList}
 use Rattle.status_db.specs.Records.{put_record, record_in}
 use Rattle.status_db.specs.declared.record.Record.{Record}
 use Rattle.status_db.proofs.Tables.{record_in-put_record}
-use Rattle.unpack_commit.specs.Takeover.{is_config_files, losers, losing_records, loses_conffile, put_records, without_conffiles, yields_of}
+use Rattle.unpack_commit.specs.Takeover.{losing_records, loses_conffile, put_records, without_conffiles}
 use Rattle.unpack_engine.specs.Order.{record_names}
 use Rattle.unpack_engine.proofs.ListEnds.{any_has, has_any, none_has}
-use Rattle.unpack_engine.proofs.Losing.{among_kept}
 
 -- a name is among those of the records exactly where it has a record
 
@@ -34,9 +32,12 @@ has_record table n has = sym (any_named table n) ∙ has_any (record_names table
 pub is_recorded : (table : List Record) (n : List ℕ) → is_some (record_in table n) ≡ true → Contains (record_names table) n
 is_recorded table n is = any_has (record_names table) n (any_named table n ∙ is)
 
--- where the record of a name is the same, it is recorded in both tables or in neither
-pub same_recorded : (a b : List Record) (n : List ℕ) → record_in a n ≡ record_in b n → Contains (record_names a) n → Contains (record_names b) n
-same_recorded a b n same has = is_recorded b n (ap is_some (sym same) ∙ has_record a n has)
+-- where a name has a record in both tables or in neither
+pub both_recorded : (a b : List Record) (n : List ℕ) → is_some (record_in a n) ≡ is_some (record_in b n) → Contains (record_names a) n → Contains (record_names b) n
+both_recorded a b n same has = is_recorded b n (sym same ∙ has_record a n has)
+
+same_recorded : (a b : List Record) (n : List ℕ) → record_in a n ≡ record_in b n → Contains (record_names a) n → Contains (record_names b) n
+same_recorded a b n same has = both_recorded a b n (ap is_some same) has
 
 -- with the records that are noted
 
@@ -98,38 +99,3 @@ mapped_kept f keep same (r ∷ rs) q has = by (keep r) (λ h. mapped_kept f keep
 
 pub losing_named : (entries : List Diversion) (places : List Path) (names : List (List ℕ)) (records : List Record) (q : List ℕ) → Contains (record_names (losing_records entries places names records)) q → Contains (record_names records) q
 losing_named entries places names records q has = mapped_kept (without_conffiles entries places) (λ r. list_any (bytes_eq r.name) names && loses_conffile entries places r) (λ r. refl) records q has
-
-yielding_kept : (keep : Record → Bool) (rs : List Record) (q : List ℕ) → Contains (record_names (filter keep rs)) q → Contains (record_names rs) q
-yielding_kept keep [] q has = absurd (none_has q has)
-yielding_kept keep (r ∷ rs) q has = by (keep r) (λ h. yielding_kept keep rs q h) has
-  where
-    by : (b : Bool) → (Contains (record_names (filter keep rs)) q → Contains (record_names rs) q) → Contains (record_names (cond b (r ∷ filter keep rs) (filter keep rs))) q → Contains (record_names (r ∷ rs)) q
-    by true rest there = elim (Contains-append_cases (r.name ∷ []) (record_names (filter keep rs)) q there) [
-      | inl one ↦ Contains-append_left (r.name ∷ []) (record_names rs) q one
-      | inr later ↦ Contains-append_right (r.name ∷ []) (record_names rs) q (rest later)
-    ]
-    by false rest there = Contains-append_right (r.name ∷ []) (record_names rs) q (rest there)
-
-pub yielding_named : (records : List Record) (q : List ℕ) → Contains (yields_of records) q → Contains (record_names records) q
-yielding_named records q has = yielding_kept (λ r. is_config_files r.state) records q has
-
--- what a filter keeps passes it
-pub kept_passes : {X : Type 0} (keep : X → Bool) (xs : List X) (y : X) → Contains (filter keep xs) y → keep y ≡ true
-kept_passes keep [] y has = absurd (none_has y has)
-kept_passes keep (x ∷ xs) y has = by (keep x) refl (λ h. kept_passes keep xs y h) has
-  where
-    by : (b : Bool) → keep x ≡ b → (Contains (filter keep xs) y → keep y ≡ true) → Contains (cond b (x ∷ filter keep xs) (filter keep xs)) y → keep y ≡ true
-    by true is rest (zero, lt, same) = ap keep (sym same) ∙ is
-    by true is rest (suc k, lt, same) = rest (k, omega (arith, lt), same)
-    by false is rest there = rest there
-
--- who loses places isn't the package itself, and has a record
-module _ (entries : List Diversion) (places : List Path) (lists : List PackageList) (own : List ℕ) (records : List Record) (q : List ℕ) (has : Contains (losers entries places lists (filter (λ n. not (bytes_eq n own)) (yields_of records))) q) where
-  other : Contains (filter (λ n. not (bytes_eq n own)) (yields_of records)) q
-  other = among_kept _ (filter (λ n. not (bytes_eq n own)) (yields_of records)) q has
-
-  pub loser_recorded : Contains (record_names records) q
-  loser_recorded = yielding_named records q (among_kept (λ n. not (bytes_eq n own)) (yields_of records) q other)
-
-  pub loser_other : q ≢ own
-  loser_other same = absurd (true≢false (sym (kept_passes (λ n. not (bytes_eq n own)) (yields_of records) q other) ∙ ap not ((bytes_eq-Decides q own).1 same)))

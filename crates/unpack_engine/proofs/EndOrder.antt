@@ -54,7 +54,7 @@ module _ (g : Ground) (p : Planned) (named : is_package_name (package_name g p) 
     (old : World) (order : IsInOrder before lists_before old) (ended : Ended) (mid : Holding) (begun last : State) (begins : Begins g p old begun.world)
     (at : At (task_from g p begun) mid last (last_place g p ended)) (h : IsTrue last.honest) where
   pub rows_same : (q : Path) → IsBeside (list_path (package_name g p)) q → last.world q ≡ begun.world q
-  rows_same q beside = come_same (task_from g p begun) q beside works_named (last_place g p ended) (stage_of (kinds_of p.found []) (last_place g p ended)) mid.works at.works (changes_of at.since) last.world (at.world h).came
+  rows_same q beside = come_same (task_from g p begun) q beside works_named (last_place g p ended) (stage_of (kinds_of p.found p.others) (last_place g p ended)) mid.works at.works (changes_of at.since) last.world (at.world h).came
 
   pub rows_loose : AreLoose last.world
   rows_loose =

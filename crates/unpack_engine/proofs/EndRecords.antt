@@ -14,11 +14,12 @@ use Rattle.status_db.specs.Records.{AreStanding, drop_record, place_record, put_
 use Rattle.status_db.specs.Words.{is_not_installed}
 use Rattle.status_db.specs.declared.record.Record.{Record}
 use Rattle.unpack_commit.specs.Takeover.{losing_records, put_records, without_conffiles}
+use Rattle.unpack_rows.specs.EndStates.{AreRecorded}
 use Rattle.unpack_rows.specs.Failures.{has_failed}
 use Rattle.unpack_rows.specs.Kinds.{first_kinds, has_prerm, is_upgrade, kinds_of, last_kinds, own_of, owner_of, state_of}
 use Rattle.unpack_rows.specs.Notes.{as_before, listed, note_before, note_undone, noted, notes_at, notes_back, notes_forward, unpacked}
 use Rattle.unpack_rows.specs.declared.kinds.RowKind.{RowKind}
-use Rattle.unpack_rows.specs.declared.kinds.RowKind.TheVariants.{Prerm, Preinst, Files, Postrm}
+use Rattle.unpack_rows.specs.declared.kinds.RowKind.TheVariants.{Prerm, Other, Preinst, Files, Postrm}
 use Rattle.unpack_rows.specs.declared.notes.Note.{Note}
 use Rattle.unpack_rows.specs.declared.notes.Note.TheVariants.{Put, Drop}
 use Rattle.unpack_engine.specs.Order.{record_names}
@@ -189,11 +190,17 @@ module _ (names : List (List ℕ)) (own : List ℕ) (start : Option Record) (inc
   last_known true = (preinst_kind, (files_kind, (postrm_kind, tt)))
   last_known false = (preinst_kind, (files_kind, tt))
 
-  pub rows_known : (table : List Record) (place : Place) → AllByRecursion (IsKnown names own) table → AllByRecursion (IsKnown names own) (noted table (notes_at start incoming (kinds_of start []) place))
-  rows_known table place all =
-      all_noted (IsKnown names own) start incoming (notes_at start incoming (kinds_of start []) place) table
-      (all_at (IsKnown names own) start incoming (kinds_of start []) place
-      (kinds_then (IsKnown names own) start incoming (first_kinds (has_prerm (state_of start))) (last_kinds (is_upgrade (state_of start))) (first_known (has_prerm (state_of start))) (last_known (is_upgrade (state_of start)))))
+  others_known : (others : List Record) → AllByRecursion (IsKnown names own) others → AllByRecursion (IsKindOf (IsKnown names own) start incoming) (map (λ r. Other r) others)
+  others_known [] all = tt
+  others_known (r ∷ rs) all = (record { before = (record { stands = refl; named = all.0.named }, tt); undone = (all.0, tt) }, others_known rs all.1)
+
+  pub rows_known : (others table : List Record) (place : Place) → AllByRecursion (IsKnown names own) others → AllByRecursion (IsKnown names own) table → AllByRecursion (IsKnown names own) (noted table (notes_at start incoming (kinds_of start others) place))
+  rows_known others table place each all =
+      let s = state_of start in
+      all_noted (IsKnown names own) start incoming (notes_at start incoming (kinds_of start others) place) table
+      (all_at (IsKnown names own) start incoming (kinds_of start others) place
+      (kinds_then (IsKnown names own) start incoming (first_kinds (has_prerm s)) (map (λ r. Other r) others ++ last_kinds (is_upgrade s)) (first_known (has_prerm s))
+      (kinds_then (IsKnown names own) start incoming (map (λ r. Other r) others) (last_kinds (is_upgrade s)) (others_known others each) (last_known (is_upgrade s)))))
       all
 
 -- the records that lose conffiles keep their names
@@ -204,6 +211,11 @@ all_without names own entries places (r ∷ rs) all = (record { stands = all.0.s
 
 pub found_known : (names : List (List ℕ)) (own : List ℕ) (rs : List Record) → AllByRecursion (IsKnown names own) rs → (q : List ℕ) (r : Record) → record_in rs q ≡ Some r → IsKnown names own r
 found_known names own rs all q r is = all_found (IsKnown names own) rs q r all is
+
+-- so is each that the table has
+pub recorded_known : (names : List (List ℕ)) (own : List ℕ) (table others : List Record) → AreRecorded table others → AllByRecursion (IsKnown names own) table → AllByRecursion (IsKnown names own) others
+recorded_known names own table [] recorded all = tt
+recorded_known names own table (r ∷ rs) recorded all = (found_known names own table all r.name r recorded.0, recorded_known names own table rs recorded.1 all)
 
 pub committed_known : (names : List (List ℕ)) (own : List ℕ) (entries : List Diversion) (places : List Path) (losing : List (List ℕ)) (table : List Record) (fresh : Record) → AllByRecursion (IsKnown names own) table → IsKnown names own fresh
     → AllByRecursion (IsKnown names own) (put_records (losing_records entries places losing table ++ fresh ∷ []) table)

@@ -181,13 +181,13 @@ module _ (g : Ground) (p : Planned) (named : is_package_name (package_name g p) 
   c = changes g p mid.works mid.lists
 
   losers_named : (q : List ℕ) → Contains c.losers q → is_package_name q ≡ true
-  losers_named = loser_named g.entries (taken_places mid.works) mid.lists own (yields_of g.records) (yields_named g.records)
+  losers_named = loser_named g.entries (taken_places mid.works) mid.lists own g.yields
 
   -- where the rows and what follows them leave an entry as it was
 
   rows_same : (entry : Path) → entry_path entry ≢ list_path own → entry_path entry ≢ temporary (list_path own) → last.world (entry_path entry) ≡ begun.world (entry_path entry)
   rows_same entry unlisted unspared =
-      come_same (task_from g p begun) (entry_path entry) (entry_beside own entry unlisted unspared) works_named (last_place g p ended) (stage_of (kinds_of p.found []) (last_place g p ended)) mid.works at.works (changes_of at.since) last.world (at.world h).came
+      come_same (task_from g p begun) (entry_path entry) (entry_beside own entry unlisted unspared) works_named (last_place g p ended) (stage_of (kinds_of p.found p.others) (last_place g p ended)) mid.works at.works (changes_of at.since) last.world (at.world h).came
 
   cleared_same : (entry : Path) → IsAside own c.losers entry → (found : Option Record) → HasCleared found own old begins.cleared → begins.cleared (entry_path entry) ≡ old (entry_path entry)
   cleared_same entry aside None cleared = cleared.rest (entry_path entry) (record { list = (aside.lists own (zero, omega arith, refl)).0; members = λ member is. (aside.members member is).0 })

@@ -18,6 +18,7 @@ pub mod AfterRows
 pub mod ReadBack
 pub mod ListEnds
 pub mod EndNames
+pub mod EndOthers
 pub mod EndLists
 pub mod EndOrder
 pub mod Touching

@@ -58,7 +58,7 @@ module _ (g : Ground) (p : Planned) (old : World) (early : List Event) (none : s
   stage_behind so_far now (IsStage.running runs) = IsStage.running (running_behind so_far now runs)
   stage_behind so_far now (IsStage.leaving ended works begun last begins are come may) =
       IsStage.leaving ended works begun last begins are
-      (subst (λ c. HasCome (task_from g p begun) (stage_of (kinds_of p.found []) (last_place g p ended)) works c last) (sym (same_before early so_far none)) come) may
+      (subst (λ c. HasCome (task_from g p begun) (stage_of (kinds_of p.found p.others) (last_place g p ended)) works c last) (sym (same_before early so_far none)) come) may
 
   pub under_way_behind : (so_far : List Event) (now : World) → IsUnderWay g p old so_far now → IsUnderWay g p old (early ++ so_far) now
   under_way_behind so_far now is = record {

@@ -18,18 +18,16 @@ use Rattle.file_lists.specs.Filed.{Filed}
 use Rattle.file_lists.specs.declared.paths.PackageList.{PackageList}
 use Rattle.file_works.specs.declared.work.Work.{Work}
 use Rattle.status_db.specs.Recorded.{Recorded}
-use Rattle.unpack_commit.specs.Takeover.{yields_of}
 use Rattle.unpack_plan.specs.Planned.{IsPlanned, Job, Planned}
 use Rattle.unpack_rows.specs.EndStates.{own_name}
 use Rattle.unpack_run.specs.At.{Holding}
-use Rattle.unpack_run.specs.Task.{Task, task_of}
+use Rattle.unpack_run.specs.Task.{task_of}
 use Rattle.unpack_run.specs.declared.plan.Rows.{Rows}
 use Rattle.unpack_engine.specs.declared.course.Rest.{Rest}
 use Rattle.unpack_engine.specs.Courses.{changes_from, planned_from, records_from}
 use Rattle.unpack_engine.specs.Order.{IsInOrder}
 use Rattle.unpack_engine.specs.Units.{Begins, Ground, HasBegun, HasRunRows, IsRunning, IsUnderWay, MayBegin, MayBeginOne, MayLeave, changes, commit_records, ground, package_name, task_from}
 use Rattle.unpack_engine.proofs.AfterRows.{leaving_under_way}
-use Rattle.unpack_engine.proofs.Carrying.{same_task}
 use Rattle.unpack_engine.proofs.EndOrder.{plan_named}
 use Rattle.unpack_engine.proofs.Order.{own_list, own_members}
 use Rattle.unpack_engine.proofs.UnderWay.{run_under_way}
@@ -76,35 +74,23 @@ module _ (g : Ground) (j : Job) (p : Planned) (planned : IsPlanned j p) (before 
 
 -- by the parts of a plan
 module _ (database : Recorded) (lists : Filed) (entries : List Diversion) (places : List Path) (rows : Rows) (works : List Work) (calls : List Row) (rest : Rest)
-    (alone : rows.others.items ≡ []) (yielding : rows.yields ≡ yields_of database.records) (j : Job) (planned : IsPlanned j (planned_from rows works calls rest))
+    (j : Job) (planned : IsPlanned j (planned_from rows works calls rest))
     (a b : State) (order : Needs a (IsInOrder database lists.lists)) (tree : Needs a IsTree) where
   abbrev own : Path
   own = own_name rows.found rows.incoming
 
   abbrev g : Ground
-  g = ground database.records lists.lists entries places
+  g = ground database.records lists.lists entries places rows.yields
 
   abbrev p : Planned
   p = planned_from rows works calls rest
 
-  abbrev of_task : State → Task
-  of_task s = task_of s database lists entries places works rows
-
-  abbrev of_unit : (State → Task) → Type 0
-  of_unit task = AtEachMomentOf (IsRunning (HasBegun rows.found own rest.members) (MayBegin rows.found own) task) a b
-
-  same_tasks : of_task ≡ task_from g p
-  same_tasks = same_task database lists entries places rows works calls rest alone yielding
-
   pub course_begins : AtEachMomentOf (IsRunning (HasBegun rows.found own rest.members) (MayBegin rows.found own) (λ s. task_of s database lists entries places works rows)) a b → AtEachMomentOf (IsUnderWay g p) a b
-  course_begins first = run_moments g j p planned database lists.lists refl a b order tree (subst of_unit same_tasks first)
+  course_begins first = run_moments g j p planned database lists.lists refl a b order tree first
 
   pub course_moments : (c : State) (ended : Ended) (mid : Holding) (told now : List Called)
       → AtEachMomentOf (IsRunning (HasBegun rows.found own rest.members) (MayBegin rows.found own) (λ s. task_of s database lists entries places works rows)) a b
       → HasRunRows (HasBegun rows.found own rest.members) (λ s. task_of s database lists entries places works rows) calls ended mid a b told now → Silent b c
       → AtEachMoment (MayLeave (changes_from own rows.yields entries mid.lists mid.works rest) (records_from own rows.yields entries mid.lists mid.works rest mid.database.records) entries mid.lists mid.database.records ended) b c
       → AtEachMomentOf (IsUnderWay g p) a c
-  course_moments c ended mid told now first ran silent second =
-      unit_moments g j p planned database lists.lists refl a b order tree (subst of_unit same_tasks first) c ended mid told now
-      (subst (λ task. HasRunRows (Begins g p) task calls ended mid a b told now) same_tasks ran) silent
-      (subst (λ y. AtEachMoment (MayLeave (changes_from own y entries mid.lists mid.works rest) (records_from own y entries mid.lists mid.works rest mid.database.records) entries mid.lists mid.database.records ended) b c) yielding second)
+  course_moments c ended mid told now first ran silent second = unit_moments g j p planned database lists.lists refl a b order tree first c ended mid told now ran silent second

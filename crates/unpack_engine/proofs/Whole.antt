@@ -16,48 +16,53 @@ use Rattle.file_lists.specs.Filed.{Filed}
 use Rattle.file_lists.specs.Info.{AreLoose}
 use Rattle.file_lists.specs.declared.paths.PackageList.{PackageList}
 use Rattle.file_works.specs.declared.work.Work.{Work}
-use Rattle.package_tree.specs.declared.package.Package.{Package}
 use Rattle.status_db.specs.Held.{IsKept}
 use Rattle.status_db.specs.Recorded.{Recorded}
-use Rattle.status_db.specs.Records.{AreApart, AreStanding, record_in}
+use Rattle.status_db.specs.Records.{AreApart, AreStanding, IsWithout, record_in}
 use Rattle.status_db.specs.Words.{is_not_installed}
 use Rattle.status_db.specs.declared.record.Record.{Record}
 use Rattle.unwind_stack.specs.declared.rows.Called.{Called}
 use Rattle.unwind_stack.specs.declared.rows.Row.{Row}
-use Rattle.unpack_commit.specs.Takeover.{put_records, taken_places, yields_of}
-use Rattle.unpack_commit.proofs.Those.{losing_stand, yields_named}
+use Rattle.unpack_commit.specs.Takeover.{put_records, taken_places}
+use Rattle.unpack_commit.proofs.Those.{losing_stand}
 use Rattle.unpack_plan.specs.Members.{scripts_in}
 use Rattle.unpack_plan.specs.Planned.{IsPlanned, Job, Planned}
-use Rattle.unpack_rows.specs.EndStates.{end_of, own_name}
+use Rattle.unpack_rows.specs.EndStates.{AreRecorded, end_of, own_name}
 use Rattle.unpack_rows.specs.ForwardRows.{Fits, records_of}
 use Rattle.unpack_rows.specs.Kinds.{kinds_of}
 use Rattle.unpack_rows.specs.Notes.{noted, notes_at}
-use Rattle.unpack_rows.specs.declared.rows.Present.{Present}
 use Rattle.unpack_rows.proofs.Ends.{end_table}
 use Rattle.unpack_rows.proofs.Matching.{as_many, rows_fit}
 use Rattle.unpack_run.specs.At.{At, Holding}
-use Rattle.unpack_run.specs.Task.{IsSound, Task, task_of}
+use Rattle.unpack_run.specs.Task.{IsSound, task_of}
 use Rattle.unpack_run.specs.declared.plan.Rows.{Rows}
 use Rattle.unpack_engine.specs.declared.course.Rest.{Rest}
 use Rattle.unpack_engine.specs.Courses.{ended_records, ended_table, planned_from, records_from}
 use Rattle.unpack_engine.specs.Order.{IsInOrder}
-use Rattle.unpack_engine.specs.Touched.{AreTold}
-use Rattle.unpack_engine.specs.Units.{Begins, Ground, HasBegun, HasRunRows, IsTouched, commit_records, given, ground, job_of, package_name, task_from}
+use Rattle.unpack_engine.specs.Others.{AreOthers}
+use Rattle.unpack_engine.specs.Touched.{AreTold, deconfigured}
+use Rattle.unpack_engine.specs.Units.{Begins, Ground, HasBegun, HasRunRows, IsPlanBy, IsTouched, commit_records, ground, package_name, task_from}
 use Rattle.unpack_engine.proofs.AfterRows.{last_laid}
-use Rattle.unpack_engine.proofs.Carrying.{same_task}
 use Rattle.unpack_engine.proofs.EndOrder.{plan_named, rows_loose}
+use Rattle.unpack_engine.proofs.EndOthers.{EndsFor, end_for}
 use Rattle.unpack_engine.proofs.Order.{own_list, own_members}
-use Rattle.unpack_engine.proofs.Touching.{end_elsewhere, noted_changed, touched_by}
+use Rattle.unpack_engine.proofs.Touching.{noted_changed, touched_by}
 
 -- what the rows of a plan need
-module _ (g : Ground) (j : Job) (p : Planned) (records : j.records ≡ g.records) (planned : IsPlanned j p) where
+module _ (g : Ground) (j : Job) (p : Planned) (records : j.records ≡ g.records) (planned : IsPlanned j p) (others : AreOthers j.«package».name g.records j.others) where
+  same_others : p.others ≡ records_of j.others
+  same_others = planned.rows_are.others_are
+
   pub plan_sound : AreStanding g.records → (s : State) → IsSound (task_from g p s)
   plan_sound standing s = record {
     named = plan_named g j p planned;
     concerned = record {
       own = ap (record_in g.records) planned.records_are.own ∙ ap (λ rs. record_in rs j.«package».name) (sym records) ∙ sym planned.records_are.found_is;
-      recorded = tt;
-      apart = (tt, tt);
+      recorded = subst (AreRecorded g.records) (sym same_others) others.recorded;
+      apart = (
+        subst (λ n. IsWithout n p.others) (sym planned.records_are.own) (subst (IsWithout j.«package».name) (sym same_others) others.unnamed),
+        subst AreApart (sym same_others) others.apart,
+      );
     };
     standing = standing;
     union = planned.lists_are.union_is.paths;
@@ -66,11 +71,15 @@ module _ (g : Ground) (j : Job) (p : Planned) (records : j.records ≡ g.records
     fitting = planned.works_are.fitting;
   }
 
-  pub plan_fits : Fit (Fits (package_name g p) (kinds_of p.found [])) p.rows
-  plan_fits = subst (Fit (Fits (package_name g p) (kinds_of p.found []))) (sym planned.rows_are.rows_are) (rows_fit p.found p.incoming j.stored (scripts_in j.«package».scripts) [] tt)
+  pub plan_fits : Fit (Fits (package_name g p) (kinds_of p.found p.others)) p.rows
+  plan_fits =
+      subst (λ os. Fit (Fits (package_name g p) (kinds_of p.found os)) p.rows) (sym same_others)
+      (subst (Fit (Fits (package_name g p) (kinds_of p.found (records_of j.others)))) (sym planned.rows_are.rows_are) (rows_fit p.found p.incoming j.stored (scripts_in j.«package».scripts) j.others others.own))
 
-  pub plan_length : length p.rows ≡ length (kinds_of p.found [])
-  plan_length = ap (λ (l : List Row). length l) planned.rows_are.rows_are ∙ as_many p.found p.incoming j.stored (scripts_in j.«package».scripts) []
+  pub plan_length : length p.rows ≡ length (kinds_of p.found p.others)
+  plan_length =
+      ap (λ (l : List Row). length l) planned.rows_are.rows_are ∙ as_many p.found p.incoming j.stored (scripts_in j.«package».scripts) j.others
+      ∙ ap (λ os. length (kinds_of p.found os)) (sym same_others)
 
 last_stands : (rs : List Record) (r : Record) → AreStanding rs → is_not_installed r.state ≡ false → AreStanding (rs ++ r ∷ [])
 last_stands [] r all here = (here, tt)
@@ -78,7 +87,7 @@ last_stands (s ∷ rs) r all here = (all.0, last_stands rs r all.1 here)
 
 -- what the rows leave
 module _ (g : Ground) (j : Job) (p : Planned) (planned : IsPlanned j p) (d : Recorded) (lists : List PackageList) (old last : State) (order : Needs old (IsInOrder d lists)) (tree : Needs old IsTree)
-    (ended : Ended) (mid : Holding) (told now : List Called) (ran : HasRunRows (Begins g p) (task_from g p) p.rows ended mid old last told now) (many : length p.rows ≡ length (kinds_of p.found [])) where
+    (ended : Ended) (mid : Holding) (told now : List Called) (ran : HasRunRows (Begins g p) (task_from g p) p.rows ended mid old last told now) (many : length p.rows ≡ length (kinds_of p.found p.others)) where
   abbrev there : At (task_from g p ran.begun) mid last (end_of (length p.rows) ended)
   there = ran.rows_end
 
@@ -105,89 +114,80 @@ module _ (g : Ground) (j : Job) (p : Planned) (planned : IsPlanned j p) (d : Rec
   noted_stand standing = last_stands _ p.fresh (losing_stand g.entries (taken_places mid.works) _ mid.database.records standing) (ap is_not_installed planned.records_are.fresh_is.is.state_is)
 
   -- which packages are touched
-  rows_elsewhere : (q : Path) → q ≢ package_name g p → record_in mid.database.records q ≡ record_in g.records q
-  rows_elsewhere q other =
-      ap (λ rs. record_in rs q) there.records
-      ∙ ap (λ n. record_in (noted g.records (notes_at p.found p.incoming (kinds_of p.found []) (end_of n ended))) q) many
-      ∙ end_table p.found p.incoming [] g.records there.sound.concerned ended q
-      ∙ end_elsewhere p.found p.incoming g.records ended q other
+  pub rows_end_for : (q : Path) → q ≢ package_name g p → EndsFor p.others g.records q (record_in mid.database.records q)
+  rows_end_for q other =
+      subst (EndsFor p.others g.records q)
+      (sym (ap (λ rs. record_in rs q) there.records
+      ∙ ap (λ n. record_in (noted g.records (notes_at p.found p.incoming (kinds_of p.found p.others) (end_of n ended))) q) many
+      ∙ end_table p.found p.incoming p.others g.records there.sound.concerned ended q))
+      (end_for p.found p.incoming p.others g.records there.sound.concerned.recorded ended q other)
 
   pub fresh_named : p.fresh.name ≡ package_name g p
   fresh_named = planned.records_are.fresh_is.is.name_is ∙ sym planned.records_are.own
 
   pub committed_touched : AreApart mid.database.records → (after : List Record) (touched : List Path) → after ≡ put_records (commit_records g p mid.works mid.lists mid.database.records) mid.database.records
-      → AreTold (package_name g p) (commit_records g p mid.works mid.lists mid.database.records) touched → IsTouched (package_name g p) g.records after touched
+      → AreTold (package_name g p) (commit_records g p mid.works mid.lists mid.database.records ++ deconfigured after p.others) touched → IsTouched (package_name g p) g.records after touched
   committed_touched apart after touched is told =
-      touched_by (package_name g p) g.records mid.database.records after (commit_records g p mid.works mid.lists mid.database.records) rows_elsewhere
-      (λ q other. noted_changed g.entries (taken_places mid.works) _ mid.database.records q p.fresh (package_name g p) apart fresh_named other) is touched told
+      touched_by (package_name g p) p.others g.records mid.database.records after (commit_records g p mid.works mid.lists mid.database.records) there.sound.concerned.recorded rows_end_for
+      (λ q other. noted_changed g.entries (taken_places mid.works) _ p.others g.records mid.database.records q (rows_end_for q other) p.fresh (package_name g p) apart fresh_named other) is touched told
 
-  pub unwound_touched : (after : List Record) (touched : List Path) → after ≡ mid.database.records → AreTold (package_name g p) [] touched → IsTouched (package_name g p) g.records after touched
-  unwound_touched after touched is told = touched_by (package_name g p) g.records mid.database.records after [] rows_elsewhere (λ q other. tt) is touched told
+  pub unwound_touched : (after : List Record) (touched : List Path) → after ≡ mid.database.records → AreTold (package_name g p) (deconfigured after p.others) touched → IsTouched (package_name g p) g.records after touched
+  unwound_touched after touched is told =
+      touched_by (package_name g p) p.others g.records mid.database.records after [] there.sound.concerned.recorded rows_end_for (λ q other. tt) is touched told
 
   pub touched_ended : (e : Ended) → AreApart mid.database.records → (after : List Record) (touched : List Path) → after ≡ ended_table e (commit_records g p mid.works mid.lists mid.database.records) mid.database.records
-      → AreTold (package_name g p) (ended_records e (commit_records g p mid.works mid.lists mid.database.records)) touched → IsTouched (package_name g p) g.records after touched
+      → AreTold (package_name g p) (ended_records e (commit_records g p mid.works mid.lists mid.database.records) ++ deconfigured after p.others) touched → IsTouched (package_name g p) g.records after touched
   touched_ended Committed apart after touched is told = committed_touched apart after touched is told
   touched_ended (Unwound fall failed) apart after touched is told = unwound_touched after touched is told
 
 -- the same by the parts of a plan
-module _ (pkg : Package) (stored : Present) (database : Recorded) (lists : Filed) (entries : List Diversion) (places : List Path) (rows : Rows) (works : List Work) (calls : List Row) (rest : Rest)
-    (planned : IsPlanned (job_of (given pkg database.records lists.lists entries) stored) (planned_from rows works calls rest)) (alone : rows.others.items ≡ []) (yielding : rows.yields ≡ yields_of database.records) where
+module _ (database : Recorded) (lists : Filed) (entries : List Diversion) (places : List Path) (rows : Rows) (works : List Work) (calls : List Row) (rest : Rest)
+    (plan : IsPlanBy database.records (planned_from rows works calls rest)) where
   abbrev own : Path
   own = own_name rows.found rows.incoming
 
   abbrev g : Ground
-  g = ground database.records lists.lists entries places
-
-  abbrev j : Job
-  j = job_of (given pkg database.records lists.lists entries) stored
+  g = ground database.records lists.lists entries places rows.yields
 
   abbrev p : Planned
   p = planned_from rows works calls rest
 
-  abbrev noted_then : List (List ℕ) → Holding → List Record
-  noted_then yields mid = records_from own yields entries mid.lists mid.works rest mid.database.records
+  abbrev noted_then : Holding → List Record
+  noted_then mid = records_from own rows.yields entries mid.lists mid.works rest mid.database.records
 
   pub parts_sound : AreStanding database.records → (s : State) → IsSound (task_of s database lists entries places works rows)
-  parts_sound standing s = subst (λ (task : State → Task). IsSound (task s)) (sym (same_task database lists entries places rows works calls rest alone yielding)) (plan_sound g j p refl planned standing s)
+  parts_sound standing s = plan_sound g plan.job p plan.records_are plan.planned plan.others standing s
 
-  pub parts_kinds : rows.kinds.items ≡ kinds_of rows.found (records_of rows.others.items)
-  parts_kinds = planned.rows_are.kinds_are ∙ ap (λ o. kinds_of rows.found (records_of o)) (sym alone)
+  pub parts_kinds : rows.kinds.items ≡ kinds_of rows.found rows.others.items
+  parts_kinds = plan.planned.rows_are.kinds_are ∙ ap (kinds_of rows.found) (sym plan.planned.rows_are.others_are)
 
-  pub parts_rows : Fit (Fits own (kinds_of rows.found (records_of rows.others.items))) calls
-  parts_rows = subst (λ o. Fit (Fits own (kinds_of rows.found (records_of o))) calls) (sym alone) (plan_fits g j p refl planned)
+  pub parts_rows : Fit (Fits own (kinds_of rows.found rows.others.items)) calls
+  parts_rows = plan_fits g plan.job p plan.records_are plan.planned plan.others
 
-  pub parts_length : length calls ≡ length (kinds_of rows.found (records_of rows.others.items))
-  parts_length = plan_length g j p refl planned ∙ ap (λ o. length (kinds_of rows.found (records_of o))) (sym alone)
-
-  pub parts_yields : (other : Path) → Contains rows.yields other → is_package_name other ≡ true
-  parts_yields other has = yields_named database.records other (subst (λ (y : List Path). Contains y other) yielding has)
+  pub parts_length : length calls ≡ length (kinds_of rows.found rows.others.items)
+  parts_length = plan_length g plan.job p plan.records_are plan.planned plan.others
 
   module _ (ended : Ended) (mid : Holding) (old last : State) (order : Needs old (IsInOrder database lists.lists)) (tree : Needs old IsTree) (told now : List Called)
       (ran : HasRunRows (HasBegun rows.found own rest.members) (λ s. task_of s database lists entries places works rows) calls ended mid old last told now) where
-    same_ran : HasRunRows (Begins g p) (task_from g p) calls ended mid old last told now
-    same_ran = subst (λ task. HasRunRows (Begins g p) task calls ended mid old last told now) (same_task database lists entries places rows works calls rest alone yielding) ran
-
     pub parts_info : Needs last (λ w. IsDirectory (w info_path))
-    parts_info = last_info g j p planned database lists.lists old last order tree ended mid told now same_ran (plan_length g j p refl planned)
+    parts_info = last_info g plan.job p plan.planned database lists.lists old last order tree ended mid told now ran parts_length
 
     pub parts_kept : Needs last (IsKept mid.database)
-    parts_kept = last_kept g j p planned database lists.lists old last order tree ended mid told now same_ran (plan_length g j p refl planned)
+    parts_kept = last_kept g plan.job p plan.planned database lists.lists old last order tree ended mid told now ran parts_length
 
     pub parts_loose : Needs last AreLoose
-    parts_loose = loose_last g j p planned database lists.lists old last order tree ended mid told now same_ran (plan_length g j p refl planned)
+    parts_loose = loose_last g plan.job p plan.planned database lists.lists old last order tree ended mid told now ran parts_length
 
     pub parts_laid : Needs last (AreLaidOut rest.members)
-    parts_laid = laid_last g j p planned database lists.lists old last order tree ended mid told now same_ran (plan_length g j p refl planned)
+    parts_laid = laid_last g plan.job p plan.planned database lists.lists old last order tree ended mid told now ran parts_length
 
-    pub parts_stand : AreStanding mid.database.records → AreStanding (noted_then rows.yields mid)
-    parts_stand standing = subst (λ y. AreStanding (noted_then y mid)) (sym yielding)
-        (noted_stand g j p planned database lists.lists old last order tree ended mid told now same_ran (plan_length g j p refl planned) standing)
+    pub parts_stand : AreStanding mid.database.records → AreStanding (noted_then mid)
+    parts_stand standing = noted_stand g plan.job p plan.planned database lists.lists old last order tree ended mid told now ran parts_length standing
 
-    pub parts_touched : AreApart mid.database.records → (after : List Record) (touched : List Path) → after ≡ ended_table ended (noted_then rows.yields mid) mid.database.records
-        → AreTold own (ended_records ended (noted_then rows.yields mid)) touched → IsTouched own database.records after touched
+    pub parts_touched : AreApart mid.database.records → (after : List Record) (touched : List Path) → after ≡ ended_table ended (noted_then mid) mid.database.records
+        → AreTold own (ended_records ended (noted_then mid) ++ deconfigured after rows.others.items) touched → IsTouched own database.records after touched
     parts_touched apart after touched is says =
-        touched_ended g j p planned database lists.lists old last order tree ended mid told now same_ran (plan_length g j p refl planned) ended apart after touched
-        (subst (λ y. after ≡ ended_table ended (noted_then y mid) mid.database.records) yielding is) (subst (λ y. AreTold own (ended_records ended (noted_then y mid)) touched) yielding says)
+        touched_ended g plan.job p plan.planned database lists.lists old last order tree ended mid told now ran parts_length ended apart after touched is says
 
 -- of an answer three things hold, and a fourth where the host was honest
 pub if_ok_all : {T E : Type 0} (result : Result T E) (P Q : T → Type 0) (A B N L : Type 0) → ((x : T) → P x → A → B → (N → L) → Q x) → IfOk result P → OnOk result A → OnOk result B → (N → OnOk result L) → IfOk result Q

@@ -1,6 +1,5 @@
 -- A plan by the parts in which it is carried out.
-use Rattle.std.specs.Prelude.{◌++◌, ◌∷◌, [], ℕ, List, filter, not}
-use Rattle.std.specs.Str.{bytes_eq}
+use Rattle.std.specs.Prelude.{◌++◌, ◌∷◌, [], ℕ, List}
 use Rattle.diversions.specs.declared.entry.Diversion.{Diversion}
 use Rattle.file_lists.specs.declared.paths.PackageList.{PackageList}
 use Rattle.status_db.specs.declared.record.Record.{Record}
@@ -11,6 +10,7 @@ use Rattle.unpack_commit.specs.Takeover.{losers, losing_records, put_records, ta
 use Rattle.cleanup_stack.specs.Transcripts.{Ended, Committed, Unwound}
 use Rattle.unpack_plan.specs.Planned.{Planned}
 use Rattle.unpack_run.specs.declared.plan.Rows.{Rows}
+use Rattle.unpack_engine.specs.Others.{yields_beside}
 use Rattle.unpack_engine.specs.declared.course.Rest.{Rest}
 
 -- the plan of these parts
@@ -21,6 +21,7 @@ planned_from rows works calls rest = record {
   fresh = rest.fresh;
   rows = calls;
   kinds = rows.kinds.items;
+  others = rows.others.items;
   works = works;
   listed = rows.listed;
   union = rows.union;
@@ -38,7 +39,7 @@ changes_from name yields entries lists works rest = record {
   listed = rest.new_list;
   members = rest.members;
   places = taken_places works;
-  losers = losers entries (taken_places works) lists (filter (λ q. not (bytes_eq q name)) yields);
+  losers = losers entries (taken_places works) lists (yields_beside name yields);
   names = rest.names.items;
 }
 

@@ -1,9 +1,30 @@
 -- Which packages a unit has touched.
-use Rattle.std.specs.Prelude.{◌≡◌, ◌||◌, ◌↔◌, true, ℕ, Bool, List, Contains}
+use Rattle.std.specs.Prelude.{◌≡◌, ◌||◌, ◌&&◌, ◌↔◌, true, false, not, ℕ, Bool, List, Option, Some, None, Contains, filter}
 use Rattle.std.specs.List.{list_any}
 use Rattle.std.specs.Str.{bytes_eq}
 use Rattle.file_lists.specs.Increasing.{AreIncreasing}
+use Rattle.status_db.specs.Records.{record_in}
 use Rattle.status_db.specs.declared.record.Record.{Record}
+use Rattle.status_db.specs.declared.words.State.{State}
+use Rattle.status_db.specs.declared.words.State.TheVariants as state
+
+-- the package is unpacked, and its prerm was called
+abbrev pub is_half_configured : State → Bool
+is_half_configured state.NotInstalled = false
+is_half_configured state.ConfigFiles = false
+is_half_configured state.HalfInstalled = false
+is_half_configured state.Unpacked = false
+is_half_configured state.HalfConfigured = true
+is_half_configured state.Installed = false
+
+-- the package is half-configured now and wasn't before
+abbrev pub is_deconfigured : (now : Option Record) (before : Record) → Bool
+is_deconfigured None before = false
+is_deconfigured (Some now) before = is_half_configured now.state && not (is_half_configured before.state)
+
+-- those of these packages, where this is the table now
+abbrev pub deconfigured : List Record → List Record → List Record
+deconfigured table others = filter (λ r. is_deconfigured (record_in table r.name) r) others
 
 -- one of these records is of this name
 abbrev pub is_named : List Record → List ℕ → Bool

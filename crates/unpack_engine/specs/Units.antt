@@ -1,7 +1,6 @@
 -- The unit of an unpack: what it does, from the world that it finds to the one that it leaves, and what holds at each moment of it
 -- (Policy 6.6).
-use Rattle.std.specs.Prelude.{◌≡◌, ◌≢◌, ◌⊎◌, ◌↔◌, ℕ, Bool, true, false, IsTrue, List, [], ◌∷◌, ◌++◌, Option, Some, None, Contains, is_some, length, filter, not}
-use Rattle.std.specs.Str.{bytes_eq}
+use Rattle.std.specs.Prelude.{◌≡◌, ◌≢◌, ◌⊎◌, ◌↔◌, ℕ, Bool, true, false, IsTrue, List, [], ◌∷◌, ◌++◌, Option, Some, None, Contains, is_some, length}
 use Rattle.host_core.specs.Paths.{Path}
 use Rattle.host_core.specs.World.{World, KeepsBut}
 use Rattle.host_core.specs.Events.{Event, changes_of, scripts_of}
@@ -37,6 +36,7 @@ use Rattle.unpack_rows.specs.ForwardRows.{is_present}
 use Rattle.unpack_rows.specs.Kinds.{kinds_of}
 use Rattle.unpack_rows.specs.Notes.{noted, notes_at}
 use Rattle.unpack_rows.specs.Stages.{stage_of}
+use Rattle.unpack_rows.specs.declared.rows.OtherPackage.{OtherPackage}
 use Rattle.unpack_rows.specs.declared.rows.Present.{Present}
 use Rattle.unpack_run.specs.Task.{Task, lists_at}
 use Rattle.unpack_run.specs.Trail.{HasCome}
@@ -44,20 +44,30 @@ use Rattle.unpack_run.specs.At.{AreWorksAt, At, Holding, IsFileFault, IsWithin, 
 use Rattle.unpack_commit.specs.Commit.{Changes, HasCommitted, MayCommit, committed_lists}
 use Rattle.unpack_commit.specs.Takeover.{losers, losing_records, put_records, taken_places, yields_of}
 use Rattle.unpack_plan.specs.Planned.{Job, Planned, IsPlanned}
+use Rattle.unpack_engine.specs.Others.{AreOthers, yields_beside}
 
--- the tree, and what the administration says of records, lists and diversions when the unit begins
+-- the tree, and what the administration says of records, lists and diversions when the unit begins; the other packages that have
+-- rows, and packages with whose files no path clashes
 pub record Given : Type 0 where
   pub «package» : Package
   pub records : List Record
   pub lists : List PackageList
   pub entries : List Diversion
+  pub others : List OtherPackage
+  pub yields : List (List ℕ)
 
+abbrev pub given_beside : Package → List Record → List PackageList → List Diversion → List OtherPackage → List (List ℕ) → Given
+given_beside «package» records lists entries others yields =
+    record { «package» = «package»; records = records; lists = lists; entries = entries; others = others; yields = yields }
+
+-- where no other package has a row or yields
 abbrev pub given : Package → List Record → List PackageList → List Diversion → Given
-given «package» records lists entries = record { «package» = «package»; records = records; lists = lists; entries = entries }
+given «package» records lists entries = given_beside «package» records lists entries [] []
 
 -- with the scripts of the old version that are stored
 abbrev pub job_of : Given → Present → Job
-job_of g stored = record { «package» = g.«package»; records = g.records; lists = g.lists; entries = g.entries; stored = stored }
+job_of g stored =
+    record { «package» = g.«package»; records = g.records; lists = g.lists; entries = g.entries; stored = stored; others = g.others }
 
 -- which scripts are stored with a package, by its record: without one none is looked for
 abbrev pub IsSeen : Option Record → List ℕ → World → Present → Type 0
@@ -156,27 +166,26 @@ pub data IsRunning (begins may_begin : World → World → Type 0) (task : State
   running : (begun : State) (before more : List Event) → so_far ≡ before ++ more → scripts_of before ≡ [] → begins old begun.world
       → Stops (task begun) (begun.events ++ more) now → IsRunning begins may_begin task old so_far now
 
--- what the unit finds and what doesn't change while it runs: the records, lists and diversions, and the places that scripts leave
--- alone
+-- what the unit finds and what doesn't change while it runs: the records, lists and diversions, the places that scripts leave
+-- alone, and the packages with which no path clashes
 pub record Ground : Type 0 where
   pub records : List Record
   pub lists : List PackageList
   pub entries : List Diversion
   pub places : List Path
+  pub yields : List (List ℕ)
 
-abbrev pub ground : List Record → List PackageList → List Diversion → List Path → Ground
-ground records lists entries places = record { records = records; lists = lists; entries = entries; places = places }
+abbrev pub ground : List Record → List PackageList → List Diversion → List Path → List (List ℕ) → Ground
+ground records lists entries places yields =
+    record { records = records; lists = lists; entries = entries; places = places; yields = yields }
 
 module _ (g : Ground) (p : Planned) where
   abbrev pub package_name : List ℕ
   package_name = own_name p.found p.incoming
 
-  -- the packages with which no path clashes, and of these the others
-  abbrev pub yields : List (List ℕ)
-  yields = yields_of g.records
-
+  -- of the packages with which no path clashes the others
   abbrev pub other_yields : List (List ℕ)
-  other_yields = filter (λ name. not (bytes_eq name package_name)) yields
+  other_yields = yields_beside package_name g.yields
 
   -- what stays the same while the rows run, from the host where they begin
   abbrev pub task_from : State → Task
@@ -188,8 +197,8 @@ module _ (g : Ground) (p : Planned) where
     places = g.places;
     found = p.found;
     incoming = p.incoming;
-    others = [];
-    yields = yields;
+    others = p.others;
+    yields = g.yields;
     works = p.works;
     listed = p.listed;
     union = p.union;
@@ -231,11 +240,11 @@ module _ (g : Ground) (p : Planned) where
 
   -- the records at a place of the rows
   abbrev pub table_after : Place → List Record
-  table_after place = noted g.records (notes_at p.found p.incoming (kinds_of p.found []) place)
+  table_after place = noted g.records (notes_at p.found p.incoming (kinds_of p.found p.others) place)
 
   -- the lists where the rows end
   abbrev pub lists_after : Ended → State → List PackageList
-  lists_after ended begun = lists_at (task_from begun) (stage_of (kinds_of p.found []) (last_place ended))
+  lists_after ended begun = lists_at (task_from begun) (stage_of (kinds_of p.found p.others) (last_place ended))
 
   -- how it begins, and each moment of that
   abbrev pub Begins : World → World → Type 0
@@ -248,15 +257,15 @@ module _ (g : Ground) (p : Planned) where
   pub data IsStage (old : World) (so_far : List Event) (now : World) : Type 0 where
     running : IsRunning Begins MayBeginOne task_from old so_far now → IsStage old so_far now
     leaving : (ended : Ended) (works : List Work) (begun : State) (last : World) → Begins old begun.world
-        → AreWorksAt (task_from begun) (last_place ended) (stage_of (kinds_of p.found []) (last_place ended)) works
-        → HasCome (task_from begun) (stage_of (kinds_of p.found []) (last_place ended)) works (changes_of so_far) last
+        → AreWorksAt (task_from begun) (last_place ended) (stage_of (kinds_of p.found p.others) (last_place ended)) works
+        → HasCome (task_from begun) (stage_of (kinds_of p.found p.others) (last_place ended)) works (changes_of so_far) last
         → MayLeave (changes works (lists_after ended begun)) (commit_records works (lists_after ended begun) (table_after (last_place ended))) g.entries (lists_after ended begun) (table_after (last_place ended)) ended last now
         → IsStage old so_far now
 
   -- The records at a moment: those of before with the notes up to a place of the rows; where all rows succeeded, also with the
   -- first records of the commit.
   pub data IsTableAmid (table : List Record) : Type 0 where
-    noting : (place : Place) → IsWithin (length (kinds_of p.found [])) place → table ≡ table_after place → IsTableAmid table
+    noting : (place : Place) → IsWithin (length (kinds_of p.found p.others)) place → table ≡ table_after place → IsTableAmid table
     committing : (works : List Work) (lists : List PackageList) (front back : List Record) → commit_records works lists (table_after (last_place Committed)) ≡ front ++ back
         → table ≡ put_records front (table_after (last_place Committed)) → IsTableAmid table
 
@@ -283,8 +292,16 @@ module _ (g : Ground) (p : Planned) where
     pub incoming : IsIncoming now
     pub loose : AreLoose now
 
+-- no path clashes with packages of which only conffiles are left, nor with those that are given
 abbrev pub ground_of : Given → List Path → Ground
-ground_of g places = ground g.records g.lists g.entries places
+ground_of g places = ground g.records g.lists g.entries places (yields_of g.records ++ g.yields)
+
+-- a plan by these records, of some package and other packages that have rows beside it
+pub record IsPlanBy (records : List Record) (plan : Planned) : Type 0 where
+  pub job : Job
+  pub records_are : job.records ≡ records
+  pub others : AreOthers job.«package».name records job.others
+  pub planned : IsPlanned job plan
 
 -- a plan for what is given, by the scripts that are stored in this world
 pub record IsPlanFor (g : Given) (w : World) (honest : Bool) (plan : Planned) : Type 0 where

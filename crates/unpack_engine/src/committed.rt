@@ -1,6 +1,5 @@
 // What follows rows that all succeeded.
-ghost use Rattle.std.specs.Prelude.{◌≡◌, not, true, false, ℕ, List, IfOk, OnOk, Contains, filter};
-ghost use Rattle.std.specs.Str.{bytes_eq};
+ghost use Rattle.std.specs.Prelude.{◌≡◌, true, false, ℕ, List, IfOk, OnOk, Contains};
 ghost use Rattle.texts.specs.PackageNames.{is_package_name};
 ghost use Rattle.host_core.specs.Host.{AtEachMoment, Counts, Leaves, Needs, Silent};
 ghost use Rattle.control_members.specs.LaidOut.{AreLaidOut};
@@ -14,6 +13,7 @@ ghost use Rattle.unpack_commit.specs.Takeover.{put_records};
 ghost use Rattle.unpack_moves.specs.Closing.{SparesAdministration};
 ghost use Rattle.unpack_moves.specs.Concluding.{AreElsewhere};
 ghost use Rattle.unpack_engine.specs.Courses.{changes_from, records_from};
+ghost use Rattle.unpack_engine.specs.Others.{is_other_package, yields_beside};
 ghost use Rattle.unpack_engine.specs.Units.{HasLeftBy, MayLeaveBy};
 
 use crate::course::Rest;
@@ -24,7 +24,7 @@ use file_works::Work;
 use host_core::{Host, HostFault};
 use status_db::{NotedDatabase, Record};
 use std::alloc::{AllocError, Global};
-use texts::{Text, Texts};
+use texts::{Text, Texts, package_name};
 use unpack_commit::{Change, commit, takeover_of};
 
 /// A commit that is ready to be made: what changes, the new list, and the records that are noted.
@@ -35,13 +35,20 @@ pub(crate) struct Committing {
     pub(crate) records: Vec<Record>,
 }
 
-// All of these names but one.
-fn names_beside(alloc: Global, names: &[Text], name: &Text) -> Result<Texts, AllocError>
-    ensures { IfOk result (λ others. others ≡ filter (λ q. not (bytes_eq q name.now)) names.now) }
+// Whether a name is that of a package, and not this one.
+fn is_other_package(own: &Text, name: &Text) -> bool
+    ensures { result ≡ is_other_package own.now name.now }
+{
+    package_name(name.as_str().as_bytes()).is_some() && name.as_str() != own.as_str()
+}
+
+// Of these names those of other packages.
+fn yields_beside(alloc: Global, own: &Text, names: &[Text]) -> Result<Texts, AllocError>
+    ensures { IfOk result (λ others. others ≡ yields_beside own.now names.now) }
 {
     let mut others = Texts::new(alloc);
     for other in names {
-        if other.as_str() != name.as_str() {
+        if is_other_package(own, other) {
             others.push(other.copy()?)?;
         }
     }
@@ -63,7 +70,7 @@ pub(crate) fn committing_of(
     ensures members { IfOk result (λ c. c.change.members ≡ rest.members) }
     ensures records { IfOk result (λ c. c.records.items ≡ records_from name.now yields.now diversions.now.entries lists.now.lists works.now rest database.now.records) }
 {
-    let others = names_beside(alloc, yields, name)?;
+    let others = yields_beside(alloc, name, yields)?;
     let takeover = takeover_of(alloc, works, database, lists, diversions, others.as_slice())?;
     let mut records = takeover.records;
     records.push(rest.fresh)?;

@@ -1,5 +1,5 @@
 // A plan by the parts in which it is carried out.
-ghost use Rattle.std.specs.Prelude.{◌≡◌, [], IfOk};
+ghost use Rattle.std.specs.Prelude.{◌≡◌, ◌++◌, IfOk};
 ghost use Rattle.unpack_commit.specs.Takeover.{yields_of as names_of_yields};
 ghost use Rattle.unpack_plan.specs.Planned.{planned};
 ghost use Rattle.unpack_engine.specs.Courses.{planned_from};
@@ -11,6 +11,7 @@ use file_works::Work;
 use host_core::RootPath;
 use status_db::{NotedDatabase, Record};
 use std::alloc::{AllocError, Global};
+use texts::{Text, Texts};
 use unpack_commit::yields_of;
 use unpack_plan::Plan;
 use unpack_run::Rows;
@@ -35,23 +36,35 @@ pub(crate) struct Course {
     pub(crate) rest: Rest,
 }
 
-/// The parts of a plan; no other package has rows.
+// The packages of which only conffiles are left, and then these.
+fn all_yields(alloc: Global, database: &NotedDatabase, others: &[Text]) -> Result<Texts, AllocError>
+    ensures { IfOk result (λ names. names ≡ names_of_yields database.now.records ++ others.now) }
+{
+    let mut names = yields_of(alloc, database.records())?;
+    for other in others {
+        names.push(other.copy()?)?;
+    }
+    Ok(names)
+}
+
+/// The parts of a plan. No path clashes with the packages of these names, beside those of which
+/// only conffiles are left.
 pub(crate) fn course_of(
     alloc: Global,
     plan: Plan,
     database: &NotedDatabase,
+    yields: Texts,
 ) -> Result<Course, AllocError>
     ensures parts { IfOk result (λ c. planned_from c.rows c.works.items c.calls.items c.rest ≡ planned plan) }
-    ensures others { IfOk result (λ c. c.rows.others.items ≡ []) }
-    ensures yields { IfOk result (λ c. c.rows.yields ≡ names_of_yields database.now.records) }
+    ensures yields { IfOk result (λ c. c.rows.yields ≡ names_of_yields database.now.records ++ yields) }
 {
-    let yields = yields_of(alloc, database.records())?;
+    let yields = all_yields(alloc, database, yields.as_slice())?;
     Ok(Course {
         rows: Rows {
             found: plan.found,
             incoming: plan.incoming,
             kinds: plan.kinds,
-            others: Vec::new(alloc),
+            others: plan.others,
             yields,
             listed: plan.listed,
             union: plan.union,

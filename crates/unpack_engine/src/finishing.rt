@@ -1,5 +1,5 @@
 // What follows the rows of a unit, however they ended.
-ghost use Rattle.std.specs.Prelude.{◌≡◌, [], true, false, ℕ, List, IfOk, OnOk, Contains};
+ghost use Rattle.std.specs.Prelude.{◌≡◌, ◌++◌, true, false, ℕ, List, IfOk, OnOk, Contains};
 ghost use Rattle.texts.specs.PackageNames.{is_package_name};
 ghost use Rattle.host_core.specs.World.{IsDirectory};
 ghost use Rattle.host_core.specs.Host.{AtEachMoment, Counts, Leaves, Needs, Silent};
@@ -19,7 +19,7 @@ ghost use Rattle.unpack_moves.specs.Closing.{SparesAdministration};
 ghost use Rattle.unpack_moves.specs.Concluding.{AreElsewhere};
 ghost use Rattle.unpack_rows.specs.EndStates.{own_name};
 ghost use Rattle.unpack_engine.specs.Courses.{changes_from, ended_lists, ended_records, ended_table, records_from};
-ghost use Rattle.unpack_engine.specs.Touched.{AreTold};
+ghost use Rattle.unpack_engine.specs.Touched.{AreTold, deconfigured};
 ghost use Rattle.unpack_engine.specs.Units.{HasDropped, HasLeft, HasLeftBy, MayDrop, MayLeave, MayLeaveBy};
 
 use crate::committed::{Committing, committing_of, end_committed};
@@ -32,7 +32,7 @@ use file_lists::FileLists;
 use file_works::Work;
 use host_core::{Host, HostFault};
 use stack_run::Unwinding;
-use status_db::NotedDatabase;
+use status_db::{NotedDatabase, Record};
 use std::alloc::Global;
 use texts::{Text, Texts};
 use unpack_run::Rows;
@@ -51,20 +51,21 @@ fn finish_unwound<H: Host>(
     host: &mut H,
     database: &NotedDatabase,
     name: &Text,
+    others: &[Record],
     members: &Members,
 ) -> Result<Texts, HostFault>
     requires named { is_package_name name.now ≡ true }
     requires ready { Needs (H.state host.old) (IsListReady name.now) }
     requires laid { Needs (H.state host.old) (AreLaidOut members.now) }
     requires kept { Needs (H.state host.old) (IsKept database.now) }
-    ensures told { IfOk result (AreTold name.now []) }
+    ensures told { IfOk result (AreTold name.now (deconfigured database.now.records others.now)) }
     ensures left { Leaves result (HasLeftBy (HasDropped (record_in database.now.records name.now) name.now)) (H.state host.old) (H.state host.new) }
     ensures any_moment { AtEachMoment (MayLeaveBy (HasDropped (record_in database.now.records name.now) name.now) (MayDrop (record_in database.now.records name.now) name.now)) (H.state host.old) (H.state host.new) }
     ensures silent { Silent (H.state host.old) (H.state host.new) }
     ensures counts { Counts (H.state host.old) (H.state host.new) result }
 {
     end_unwound(alloc, host, database, name, members)?;
-    Ok(touched_of(alloc, name, &[])?)
+    Ok(touched_of(alloc, database, name, &[], others)?)
 }
 
 // Makes a commit that is ready.
@@ -75,6 +76,7 @@ fn finish_ready<H: Host>(
     lists: &mut FileLists,
     diversions: &Diversions,
     committing: Committing,
+    others: &[Record],
 ) -> Result<Texts, HostFault>
     requires noting { database.old.closed ≡ false }
     requires opened { lists.old.closed ≡ false }
@@ -89,7 +91,7 @@ fn finish_ready<H: Host>(
     requires members { Needs (H.state host.old) (IsMembersReady committing.change.name) }
     requires kept { Needs (H.state host.old) (IsKept database.old) }
     requires laid { Needs (H.state host.old) (AreLaidOut committing.change.members) }
-    ensures told { IfOk result (AreTold committing.change.name committing.records.items) }
+    ensures told { IfOk result (AreTold committing.change.name (committing.records.items ++ deconfigured database.new.records others.now)) }
     ensures lists { OnOk result (lists.new ≡ record lists.old { lists = committed_lists (changes_of committing.change committing.new_list) diversions.now.entries lists.old.lists }) }
     ensures records { OnOk result (database.new.records ≡ put_records committing.records.items database.old.records) }
     ensures opened { OnOk result (database.new.closed ≡ false) }
@@ -108,7 +110,7 @@ fn finish_ready<H: Host>(
     match end_committed(
         alloc, host, database, lists, diversions, &change, new_list, noted,
     ) {
-        Ok(()) => Ok(touched_of(alloc, &change.name, noted)?),
+        Ok(()) => Ok(touched_of(alloc, database, &change.name, noted, others)?),
         Err(fault) => Err(fault),
     }
 }
@@ -124,11 +126,11 @@ fn finish_committed<H: Host>(
     yields: &[Text],
     works: &[Work],
     rest: Rest,
+    others: &[Record],
 ) -> Result<Texts, HostFault>
     requires noting { database.old.closed ≡ false }
     requires opened { lists.old.closed ≡ false }
     requires named { is_package_name name.now ≡ true }
-    requires yields { (other : List ℕ) → Contains yields.now other → is_package_name other ≡ true }
     requires spared { SparesAdministration rest.leaving.items }
     requires paths { AreListPaths rest.new_list }
     requires elsewhere { AreElsewhere rest.names.items }
@@ -137,7 +139,7 @@ fn finish_committed<H: Host>(
     requires loose { Needs (H.state host.old) AreLoose }
     requires kept { Needs (H.state host.old) (IsKept database.old) }
     requires laid { Needs (H.state host.old) (AreLaidOut rest.members) }
-    ensures told { IfOk result (AreTold name.now (records_from name.now yields.now diversions.now.entries lists.old.lists works.now rest database.old.records)) }
+    ensures told { IfOk result (AreTold name.now (records_from name.now yields.now diversions.now.entries lists.old.lists works.now rest database.old.records ++ deconfigured database.new.records others.now)) }
     ensures lists { OnOk result (lists.new ≡ record lists.old { lists = committed_lists (changes_from name.now yields.now diversions.now.entries lists.old.lists works.now rest) diversions.now.entries lists.old.lists }) }
     ensures records { OnOk result (database.new.records ≡ put_records (records_from name.now yields.now diversions.now.entries lists.old.lists works.now rest database.old.records) database.old.records) }
     ensures opened { OnOk result (database.new.closed ≡ false) }
@@ -150,7 +152,9 @@ fn finish_committed<H: Host>(
     match committing_of(
         alloc, database, lists, diversions, name, yields, works, rest,
     ) {
-        Ok(committing) => finish_ready(alloc, host, database, lists, diversions, committing),
+        Ok(committing) => finish_ready(
+            alloc, host, database, lists, diversions, committing, others,
+        ),
         Err(_) => Err(HostFault::NoMemory),
     }
 }
@@ -170,7 +174,6 @@ pub(crate) fn finish<H: Host>(
     requires noting { database.old.closed ≡ false }
     requires opened { lists.old.closed ≡ false }
     requires named { is_package_name (own_name rows.now.found rows.now.incoming) ≡ true }
-    requires yields { (other : List ℕ) → Contains rows.now.yields other → is_package_name other ≡ true }
     requires spared { SparesAdministration rest.leaving.items }
     requires paths { AreListPaths rest.new_list }
     requires elsewhere { AreElsewhere rest.names.items }
@@ -180,7 +183,7 @@ pub(crate) fn finish<H: Host>(
     requires kept { Needs (H.state host.old) (IsKept database.old) }
     requires laid { Needs (H.state host.old) (AreLaidOut rest.members) }
     ensures unwinding { IfOk result (λ u. u.unwinding ≡ unwinding) }
-    ensures told { IfOk result (λ u. AreTold (own_name rows.now.found rows.now.incoming) (ended_records (ended_as unwinding) (records_from (own_name rows.now.found rows.now.incoming) rows.now.yields diversions.now.entries lists.old.lists works.now rest database.old.records)) u.touched) }
+    ensures told { IfOk result (λ u. AreTold (own_name rows.now.found rows.now.incoming) (ended_records (ended_as unwinding) (records_from (own_name rows.now.found rows.now.incoming) rows.now.yields diversions.now.entries lists.old.lists works.now rest database.old.records) ++ deconfigured database.new.records rows.now.others.items) u.touched) }
     ensures lists { OnOk result (lists.new ≡ record lists.old { lists = ended_lists (ended_as unwinding) (changes_from (own_name rows.now.found rows.now.incoming) rows.now.yields diversions.now.entries lists.old.lists works.now rest) diversions.now.entries lists.old.lists }) }
     ensures records { OnOk result (database.new.records ≡ ended_table (ended_as unwinding) (records_from (own_name rows.now.found rows.now.incoming) rows.now.yields diversions.now.entries lists.old.lists works.now rest database.old.records) database.old.records) }
     ensures opened { OnOk result (database.new.closed ≡ false) }
@@ -191,11 +194,12 @@ pub(crate) fn finish<H: Host>(
     ensures counts { Counts (H.state host.old) (H.state host.new) result }
 {
     let name = rows.name();
+    let others = rows.others.as_slice();
     match unwinding {
         None => {
             let yields = rows.yields.as_slice();
             match finish_committed(
-                alloc, host, database, lists, diversions, name, yields, works, rest,
+                alloc, host, database, lists, diversions, name, yields, works, rest, others,
             ) {
                 Ok(touched) => Ok(Unpacked {
                     unwinding: None,
@@ -204,12 +208,15 @@ pub(crate) fn finish<H: Host>(
                 Err(fault) => Err(fault),
             }
         }
-        Some(unwinding) => match finish_unwound(alloc, host, database, name, &rest.members) {
-            Ok(touched) => Ok(Unpacked {
-                unwinding: Some(unwinding),
-                touched,
-            }),
-            Err(fault) => Err(fault),
-        },
+        Some(unwinding) => {
+            let members = &rest.members;
+            match finish_unwound(alloc, host, database, name, others, members) {
+                Ok(touched) => Ok(Unpacked {
+                    unwinding: Some(unwinding),
+                    touched,
+                }),
+                Err(fault) => Err(fault),
+            }
+        }
     }
 }

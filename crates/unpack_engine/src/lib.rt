@@ -6,6 +6,7 @@ mod committed;
 mod course;
 mod finishing;
 mod looks;
+mod others;
 mod path_texts;
 mod running;
 mod touched;
@@ -13,4 +14,5 @@ mod unit;
 mod unwound;
 
 pub use finishing::Unpacked;
+pub use others::Others;
 pub use unit::unpack;

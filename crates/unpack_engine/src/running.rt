@@ -4,7 +4,7 @@ ghost use Rattle.host_core.specs.Host.{AtEachMomentOf, Counts, Needs};
 ghost use Rattle.cleanup_stack.specs.Place.{Fit};
 ghost use Rattle.stack_run.specs.Ended.{IsCauseOf, ended_as};
 ghost use Rattle.unpack_rows.specs.EndStates.{own_name};
-ghost use Rattle.unpack_rows.specs.ForwardRows.{Fits, records_of};
+ghost use Rattle.unpack_rows.specs.ForwardRows.{Fits};
 ghost use Rattle.unpack_rows.specs.Kinds.{kinds_of};
 ghost use Rattle.unpack_run.specs.At.{holding};
 ghost use Rattle.unpack_run.specs.Task.{IsSound, task_of};
@@ -40,9 +40,9 @@ pub(crate) fn begin_and_run<H: Host>(
     requires noting { database.old.closed ≡ false }
     requires listing { lists.old.closed ≡ false }
     requires sound { IsSound (task_of (H.state host.old) database.old lists.old diversions.now.entries places.old works.old.items rows.now) }
-    requires kinds { rows.now.kinds.items ≡ (kinds_of rows.now.found (records_of rows.now.others.items)) }
-    requires rows { Fit (Fits (own_name rows.now.found rows.now.incoming) (kinds_of rows.now.found (records_of rows.now.others.items))) calls.items }
-    requires length { length calls.items ≡ length (kinds_of rows.now.found (records_of rows.now.others.items)) }
+    requires kinds { rows.now.kinds.items ≡ (kinds_of rows.now.found rows.now.others.items) }
+    requires rows { Fit (Fits (own_name rows.now.found rows.now.incoming) (kinds_of rows.now.found rows.now.others.items)) calls.items }
+    requires length { length calls.items ≡ length (kinds_of rows.now.found rows.now.others.items) }
     requires order { Needs (H.state host.old) (IsInOrder database.old lists.old.lists) }
     ensures ran { IfOk result (λ u. HasRunRows (HasBegun rows.now.found (own_name rows.now.found rows.now.incoming) members.now) (λ s. task_of s database.old lists.old diversions.now.entries places.old works.old.items rows.now) calls.items (ended_as u) (holding database.new lists.new places.new works.new.items) (H.state host.old) (H.state host.new) told.old.items told.new.items) }
     ensures cause { IfOk result (IsCauseOf calls.items) }

@@ -1,20 +1,20 @@
 // The unit of an unpack.
-ghost use Rattle.std.specs.Prelude.{◌≡◌, [], false, IfOk, OnOk};
+ghost use Rattle.std.specs.Prelude.{◌≡◌, ◌++◌, ℕ, List, false, IfOk, OnOk};
 ghost use Rattle.host_core.specs.Host.{AtEachMomentOf, Counts, Leaves, Needs, Reads, Silent};
-ghost use Rattle.package_tree.specs.declared.package.Package.{Package as APackage};
 ghost use Rattle.stack_run.specs.Ended.{IsCauseOf, ended_as};
 ghost use Rattle.status_db.specs.Held.{IsKept};
 ghost use Rattle.unpack_commit.specs.Takeover.{yields_of};
-ghost use Rattle.unpack_plan.specs.Planned.{IsPlanned, planned};
+ghost use Rattle.unpack_plan.specs.Planned.{planned};
 ghost use Rattle.unpack_rows.specs.EndStates.{own_name};
-ghost use Rattle.unpack_rows.specs.declared.rows.Present.{Present};
 ghost use Rattle.unpack_engine.specs.Courses.{planned_from};
 ghost use Rattle.unpack_engine.specs.Order.{IsInOrder};
-ghost use Rattle.unpack_engine.specs.Units.{HasCalled, HasCalledRows, HasCarriedOut, HasFailedFor, HasUnpacked, IsAmidUnit, IsPlanFor, IsTouched, IsUnderWay, given, ground, job_of};
+ghost use Rattle.unpack_engine.specs.Others.{AreOthers};
+ghost use Rattle.unpack_engine.specs.Units.{HasCalled, HasCalledRows, HasCarriedOut, HasFailedFor, HasUnpacked, IsAmidUnit, IsPlanBy, IsPlanFor, IsTouched, IsUnderWay, given_beside, ground};
 
 use crate::course::{Course, Rest, course_of};
 use crate::finishing::{Unpacked, finish};
 use crate::looks::stored_scripts;
+use crate::others::Others;
 use crate::path_texts::are_texts;
 use crate::running::begin_and_run;
 use diversions::Diversions;
@@ -24,7 +24,9 @@ use host_core::{Host, HostFault, Places};
 use package_tree::Package;
 use status_db::NotedDatabase;
 use std::alloc::Global;
+use texts::Texts;
 use unpack_plan::{Plan, plan_of};
+use unpack_rows::OtherPackage;
 use unpack_run::Rows;
 use unwind_stack::{Called, Row};
 
@@ -44,18 +46,16 @@ fn run_parts<H: Host>(
 ) -> Result<Unpacked, HostFault>
     requires noting { database.old.closed ≡ false }
     requires listing { lists.old.closed ≡ false }
-    requires plan { (p : APackage) × (stored : Present) × IsPlanned (job_of (given p database.old.records lists.old.lists diversions.now.entries) stored) (planned_from rows.now works.old.items calls.items rest) }
-    requires others { rows.now.others.items ≡ [] }
-    requires yields { rows.now.yields ≡ yields_of database.old.records }
+    requires plan { IsPlanBy database.old.records (planned_from rows.now works.old.items calls.items rest) }
     requires order { Needs (H.state host.old) (IsInOrder database.old lists.old.lists) }
-    ensures unit { IfOk result (λ u. HasCarriedOut (ground database.old.records lists.old.lists diversions.now.entries places.old) (planned_from rows.now works.old.items calls.items rest) (ended_as u.unwinding) database.new lists.new.lists (H.state host.old) (H.state host.new) told.old.items told.new.items) }
+    ensures unit { IfOk result (λ u. HasCarriedOut (ground database.old.records lists.old.lists diversions.now.entries places.old rows.now.yields) (planned_from rows.now works.old.items calls.items rest) (ended_as u.unwinding) database.new lists.new.lists (H.state host.old) (H.state host.new) told.old.items told.new.items) }
     ensures cause { IfOk result (λ u. IsCauseOf calls.items u.unwinding) }
     ensures touched { IfOk result (λ u. IsTouched (own_name rows.now.found rows.now.incoming) database.old.records database.new.records u.touched) }
     ensures told { HasCalledRows calls.items (H.state host.old) (H.state host.new) told.old.items told.new.items }
     ensures kept { Leaves result (λ old new. IsKept database.new new) (H.state host.old) (H.state host.new) }
     ensures noting { OnOk result (database.new.closed ≡ false) }
     ensures listing { OnOk result (lists.new.closed ≡ false) }
-    ensures any_moment { AtEachMomentOf (IsUnderWay (ground database.old.records lists.old.lists diversions.now.entries places.old) (planned_from rows.now works.old.items calls.items rest)) (H.state host.old) (H.state host.new) }
+    ensures any_moment { AtEachMomentOf (IsUnderWay (ground database.old.records lists.old.lists diversions.now.entries places.old rows.now.yields) (planned_from rows.now works.old.items calls.items rest)) (H.state host.old) (H.state host.new) }
     ensures counts { Counts (H.state host.old) (H.state host.new) result }
 {
     database.law();
@@ -96,18 +96,16 @@ fn run_course<H: Host>(
 ) -> Result<Unpacked, HostFault>
     requires noting { database.old.closed ≡ false }
     requires listing { lists.old.closed ≡ false }
-    requires plan { (p : APackage) × (stored : Present) × IsPlanned (job_of (given p database.old.records lists.old.lists diversions.now.entries) stored) (planned_from course.rows course.works.items course.calls.items course.rest) }
-    requires others { course.rows.others.items ≡ [] }
-    requires yields { course.rows.yields ≡ yields_of database.old.records }
+    requires plan { IsPlanBy database.old.records (planned_from course.rows course.works.items course.calls.items course.rest) }
     requires order { Needs (H.state host.old) (IsInOrder database.old lists.old.lists) }
-    ensures unit { IfOk result (λ u. HasCarriedOut (ground database.old.records lists.old.lists diversions.now.entries places.old) (planned_from course.rows course.works.items course.calls.items course.rest) (ended_as u.unwinding) database.new lists.new.lists (H.state host.old) (H.state host.new) told.old.items told.new.items) }
+    ensures unit { IfOk result (λ u. HasCarriedOut (ground database.old.records lists.old.lists diversions.now.entries places.old course.rows.yields) (planned_from course.rows course.works.items course.calls.items course.rest) (ended_as u.unwinding) database.new lists.new.lists (H.state host.old) (H.state host.new) told.old.items told.new.items) }
     ensures cause { IfOk result (λ u. IsCauseOf course.calls.items u.unwinding) }
     ensures touched { IfOk result (λ u. IsTouched (own_name course.rows.found course.rows.incoming) database.old.records database.new.records u.touched) }
     ensures told { HasCalledRows course.calls.items (H.state host.old) (H.state host.new) told.old.items told.new.items }
     ensures kept { Leaves result (λ old new. IsKept database.new new) (H.state host.old) (H.state host.new) }
     ensures noting { OnOk result (database.new.closed ≡ false) }
     ensures listing { OnOk result (lists.new.closed ≡ false) }
-    ensures any_moment { AtEachMomentOf (IsUnderWay (ground database.old.records lists.old.lists diversions.now.entries places.old) (planned_from course.rows course.works.items course.calls.items course.rest)) (H.state host.old) (H.state host.new) }
+    ensures any_moment { AtEachMomentOf (IsUnderWay (ground database.old.records lists.old.lists diversions.now.entries places.old course.rows.yields) (planned_from course.rows course.works.items course.calls.items course.rest)) (H.state host.old) (H.state host.new) }
     ensures counts { Counts (H.state host.old) (H.state host.new) result }
 {
     let Course {
@@ -129,15 +127,16 @@ fn plan_unit<H: Host>(
     lists: &FileLists,
     diversions: &Diversions,
     incoming: Package,
+    others: Vec<OtherPackage>,
 ) -> Result<Plan, HostFault>
-    ensures planned { IfOk result (λ plan. IsPlanFor (given incoming database.now.records lists.now.lists diversions.now.entries) (H.state host.old).world (H.state host.new).honest (planned plan)) }
+    ensures planned { IfOk result (λ plan. (yields : List (List ℕ)) → IsPlanFor (given_beside incoming database.now.records lists.now.lists diversions.now.entries others.items yields) (H.state host.old).world (H.state host.new).honest (planned plan)) }
     ensures reads { Reads (H.state host.old) (H.state host.new) }
     ensures silent { Silent (H.state host.old) (H.state host.new) }
     ensures counts { Counts (H.state host.old) (H.state host.new) result }
 {
     let found = database.get(&incoming.name);
     match stored_scripts(alloc, host, &incoming.name, found) {
-        Ok(stored) => match plan_of(alloc, incoming, database, lists, diversions, stored) {
+        Ok(stored) => match plan_of(alloc, incoming, database, lists, diversions, stored, others) {
             Ok(plan) => Ok(plan),
             Err(_) => Err(HostFault::NoMemory),
         },
@@ -154,23 +153,24 @@ fn carry_out<H: Host>(
     places: &mut Places,
     diversions: &Diversions,
     plan: Plan,
+    yields: Texts,
     told: &mut Vec<Called>,
 ) -> Result<Unpacked, HostFault>
     requires noting { database.old.closed ≡ false }
     requires listing { lists.old.closed ≡ false }
-    requires plan { (p : APackage) × (stored : Present) × IsPlanned (job_of (given p database.old.records lists.old.lists diversions.now.entries) stored) (planned plan) }
+    requires plan { IsPlanBy database.old.records (planned plan) }
     requires order { Needs (H.state host.old) (IsInOrder database.old lists.old.lists) }
-    ensures unit { IfOk result (λ u. HasCarriedOut (ground database.old.records lists.old.lists diversions.now.entries places.old) (planned plan) (ended_as u.unwinding) database.new lists.new.lists (H.state host.old) (H.state host.new) told.old.items told.new.items) }
+    ensures unit { IfOk result (λ u. HasCarriedOut (ground database.old.records lists.old.lists diversions.now.entries places.old (yields_of database.old.records ++ yields)) (planned plan) (ended_as u.unwinding) database.new lists.new.lists (H.state host.old) (H.state host.new) told.old.items told.new.items) }
     ensures cause { IfOk result (λ u. IsCauseOf plan.rows.items u.unwinding) }
     ensures touched { IfOk result (λ u. IsTouched (own_name plan.found plan.incoming) database.old.records database.new.records u.touched) }
     ensures told { HasCalledRows plan.rows.items (H.state host.old) (H.state host.new) told.old.items told.new.items }
     ensures kept { Leaves result (λ old new. IsKept database.new new) (H.state host.old) (H.state host.new) }
     ensures noting { OnOk result (database.new.closed ≡ false) }
     ensures listing { OnOk result (lists.new.closed ≡ false) }
-    ensures any_moment { AtEachMomentOf (IsUnderWay (ground database.old.records lists.old.lists diversions.now.entries places.old) (planned plan)) (H.state host.old) (H.state host.new) }
+    ensures any_moment { AtEachMomentOf (IsUnderWay (ground database.old.records lists.old.lists diversions.now.entries places.old (yields_of database.old.records ++ yields)) (planned plan)) (H.state host.old) (H.state host.new) }
     ensures counts { Counts (H.state host.old) (H.state host.new) result }
 {
-    match course_of(alloc, plan, database) {
+    match course_of(alloc, plan, database, yields) {
         Ok(course) => run_course(
             alloc, host, database, lists, places, diversions, course, told,
         ),
@@ -178,8 +178,8 @@ fn carry_out<H: Host>(
     }
 }
 
-/// Unpacks a package that was checked. The places that scripts leave alone are left in no particular order: the caller
-/// computes them anew.
+/// Unpacks a package that was checked, with the rows of other packages. The places that scripts leave alone are left in no
+/// particular order: the caller computes them anew.
 pub fn unpack<H: Host>(
     alloc: Global,
     host: &mut H,
@@ -188,25 +188,30 @@ pub fn unpack<H: Host>(
     places: &mut Places,
     diversions: &Diversions,
     incoming: Package,
+    others: Others,
     told: &mut Vec<Called>,
 ) -> Result<Unpacked, HostFault>
     requires noting { database.old.closed ≡ false }
     requires listing { lists.old.closed ≡ false }
     requires order { Needs (H.state host.old) (IsInOrder database.old lists.old.lists) }
-    ensures unit { IfOk result (λ u. HasUnpacked (given incoming database.old.records lists.old.lists diversions.now.entries) places.old (ended_as u.unwinding) database.new lists.new.lists (H.state host.old) (H.state host.new) told.old.items told.new.items) }
-    ensures cause { IfOk result (λ u. HasFailedFor (given incoming database.old.records lists.old.lists diversions.now.entries) (H.state host.old) (H.state host.new) u.unwinding) }
+    requires others { AreOthers incoming.name database.old.records others.packages.items }
+    ensures unit { IfOk result (λ u. HasUnpacked (given_beside incoming database.old.records lists.old.lists diversions.now.entries others.packages.items others.yields) places.old (ended_as u.unwinding) database.new lists.new.lists (H.state host.old) (H.state host.new) told.old.items told.new.items) }
+    ensures cause { IfOk result (λ u. HasFailedFor (given_beside incoming database.old.records lists.old.lists diversions.now.entries others.packages.items others.yields) (H.state host.old) (H.state host.new) u.unwinding) }
     ensures touched { IfOk result (λ u. IsTouched incoming.name database.old.records database.new.records u.touched) }
-    ensures told { HasCalled (given incoming database.old.records lists.old.lists diversions.now.entries) (H.state host.old) (H.state host.new) told.old.items told.new.items }
+    ensures told { HasCalled (given_beside incoming database.old.records lists.old.lists diversions.now.entries others.packages.items others.yields) (H.state host.old) (H.state host.new) told.old.items told.new.items }
     ensures order { IfOk result (λ u. Needs (H.state host.new) (IsInOrder database.new lists.new.lists)) }
     ensures noting { OnOk result (database.new.closed ≡ false) }
     ensures listing { OnOk result (lists.new.closed ≡ false) }
-    ensures any_moment { AtEachMomentOf (IsAmidUnit (given incoming database.old.records lists.old.lists diversions.now.entries) places.old) (H.state host.old) (H.state host.new) }
+    ensures any_moment { AtEachMomentOf (IsAmidUnit (given_beside incoming database.old.records lists.old.lists diversions.now.entries others.packages.items others.yields) places.old) (H.state host.old) (H.state host.new) }
     ensures counts { Counts (H.state host.old) (H.state host.new) result }
 {
-    match plan_unit(alloc, host, database, lists, diversions, incoming) {
+    let Others { packages, yields } = others;
+    match plan_unit(alloc, host, database, lists, diversions, incoming, packages) {
         Ok(plan) => {
             are_texts(plan.new_list.as_slice());
-            carry_out(alloc, host, database, lists, places, diversions, plan, told)
+            carry_out(
+                alloc, host, database, lists, places, diversions, plan, yields, told,
+            )
         }
         Err(fault) => Err(fault),
     }

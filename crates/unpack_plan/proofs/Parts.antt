@@ -1,5 +1,5 @@
 -- The parts of a plan, told of the record found.
-use Rattle.std.proofs.Common.{◌≡◌, true, [], Option, sym, ap, subst, ◌∙◌}
+use Rattle.std.proofs.Common.{◌≡◌, true, Option, sym, ap, subst, ◌∙◌}
 use Rattle.texts.specs.PackageNames.{is_package_name}
 use Rattle.file_lists.specs.Owners.{AreListPaths, paths_of}
 use Rattle.package_tree.specs.ShipMap.{paths_of as shipped_paths}
@@ -7,7 +7,7 @@ use Rattle.status_db.specs.Records.{record_in}
 use Rattle.status_db.specs.declared.record.Record.{Record}
 use Rattle.unpack_moves.specs.Closing.{SparesAdministration}
 use Rattle.unpack_moves.specs.Concluding.{AreElsewhere}
-use Rattle.unpack_rows.specs.ForwardRows.{rows_of}
+use Rattle.unpack_rows.specs.ForwardRows.{others_rows, records_of, rows_of}
 use Rattle.unpack_rows.specs.Kinds.{kinds_of}
 use Rattle.unpack_plan.specs.Lists.{IsAfter, IsUnion, old_leaving}
 use Rattle.unpack_plan.specs.Members.{scripts_in}
@@ -26,10 +26,11 @@ module _ (j : Job) (p : Planned) (found : Option Record) (same : p.found ≡ fou
     own = own_named j.records (name_of j) p.found p.incoming (same ∙ is) incoming.name_is;
   }
 
-  pub rows_planned : p.rows ≡ rows_of found p.incoming j.stored (scripts_in j.«package».scripts) [] → p.kinds ≡ kinds_of found [] → ArePlannedRows j p
-  rows_planned rows kinds = record {
-    rows_are = rows ∙ ap (λ (f : Option Record). rows_of f p.incoming j.stored (scripts_in j.«package».scripts) []) (sym same);
-    kinds_are = kinds ∙ ap (λ (f : Option Record). kinds_of f []) (sym same);
+  pub rows_planned : p.rows ≡ rows_of found p.incoming j.stored (scripts_in j.«package».scripts) (others_rows j.others) → p.kinds ≡ kinds_of found (records_of j.others) → p.others ≡ records_of j.others → ArePlannedRows j p
+  rows_planned rows kinds others = record {
+    rows_are = rows ∙ ap (λ (f : Option Record). rows_of f p.incoming j.stored (scripts_in j.«package».scripts) (others_rows j.others)) (sym same);
+    kinds_are = kinds ∙ ap (λ (f : Option Record). kinds_of f (records_of j.others)) (sym same);
+    others_are = others;
   }
 
   pub lists_planned : p.listed ≡ paths_of j.lists (name_of j) → AreListPaths p.listed → IsUnion p.listed (shipped_paths j.«package».files) p.union → IsAfter j.«package».files p.fresh p.new_list → p.leaving ≡ old_leaving j.entries j.lists (name_of j) found p.new_list p.listed → SparesAdministration p.leaving → ArePlannedLists j p

@@ -1,5 +1,5 @@
 -- What an unpack is going to do, told before anything is done: by the tree and by what the administration says (Policy 6.6).
-use Rattle.std.specs.Prelude.{◌≡◌, ℕ, true, List, [], Option, map}
+use Rattle.std.specs.Prelude.{◌≡◌, ℕ, true, List, Option, map}
 use Rattle.host_core.specs.Paths.{Path}
 use Rattle.host_core.specs.declared.node.Node.{Node}
 use Rattle.texts.specs.PackageNames.{is_package_name}
@@ -21,9 +21,10 @@ use Rattle.status_db.specs.Records.{record_in}
 use Rattle.status_db.specs.declared.record.Record.{Record}
 use Rattle.unpack_moves.specs.Closing.{SparesAdministration}
 use Rattle.unpack_moves.specs.Concluding.{AreElsewhere}
-use Rattle.unpack_rows.specs.ForwardRows.{rows_of}
+use Rattle.unpack_rows.specs.ForwardRows.{others_rows, records_of, rows_of}
 use Rattle.unpack_rows.specs.Kinds.{kinds_of, own_of}
 use Rattle.unpack_rows.specs.declared.kinds.RowKind.{RowKind}
+use Rattle.unpack_rows.specs.declared.rows.OtherPackage.{OtherPackage}
 use Rattle.unpack_rows.specs.declared.rows.Present.{Present}
 use Rattle.unpack_plan.specs.Lists.{IsAfter, IsUnion, old_leaving}
 use Rattle.unpack_plan.specs.Members.{AreMembersOf, scripts_in}
@@ -31,13 +32,14 @@ use Rattle.unpack_plan.specs.Names.{cleared_names}
 use Rattle.unpack_plan.specs.Records.{IsFresh, IsIncoming}
 use Rattle.unpack_plan.specs.declared.plan.Plan.{Plan}
 
--- the tree, what the administration says, and which scripts of the old version are stored
+-- the tree, what the administration says, which scripts of the old version are stored, and the other packages that have rows
 pub record Job : Type 0 where
   pub «package» : Package
   pub records : List Record
   pub lists : List PackageList
   pub entries : List Diversion
   pub stored : Present
+  pub others : List OtherPackage
 
 pub record Planned : Type 0 where
   -- the record that the package has, the one that is noted where it has none, and that of the unpacked package
@@ -46,6 +48,8 @@ pub record Planned : Type 0 where
   pub fresh : Record
   pub rows : List Row
   pub kinds : List RowKind
+  -- the records of other packages that have rows
+  pub others : List Record
   -- what is shipped, in path order
   pub works : List Work
   -- the list of before, that with both, and the new one
@@ -66,6 +70,7 @@ planned p = record {
   fresh = p.fresh;
   rows = p.rows.items;
   kinds = p.kinds.items;
+  others = p.others.items;
   works = p.works.items;
   listed = p.listed;
   union = p.union;
@@ -90,10 +95,11 @@ pub record ArePlannedRecords (j : Job) (p : Planned) : Type 0 where
   pub named : is_package_name (name_of j) ≡ true
   pub own : (own_of p.found p.incoming).name ≡ name_of j
 
--- the rows of script calls and of the files (Policy 6.6); no other package has one
+-- the rows of script calls and of the files, those of other packages among them (Policy 6.6)
 pub record ArePlannedRows (j : Job) (p : Planned) : Type 0 where
-  pub rows_are : p.rows ≡ rows_of p.found p.incoming j.stored (scripts_in j.«package».scripts) []
-  pub kinds_are : p.kinds ≡ kinds_of p.found []
+  pub rows_are : p.rows ≡ rows_of p.found p.incoming j.stored (scripts_in j.«package».scripts) (others_rows j.others)
+  pub kinds_are : p.kinds ≡ kinds_of p.found (records_of j.others)
+  pub others_are : p.others ≡ records_of j.others
 
 -- what is shipped, each path at its place; a conffile beside it (Policy 10.7)
 pub record ArePlannedWorks (j : Job) (p : Planned) : Type 0 where

@@ -15,10 +15,10 @@ use host_core::RootPath;
 use package_tree::Package;
 use status_db::{NotedDatabase, Record};
 use std::alloc::{AllocError, Global};
-use unpack_rows::{Present, RowKind};
+use unpack_rows::{OtherPackage, Present, RowKind};
 use unwind_stack::Row;
 
-/// What an unpack is going to do, beside which no other package has a row.
+/// What an unpack is going to do.
 #[derive(Drop)]
 pub struct Plan {
     /// The record that the package has, if it has one.
@@ -29,6 +29,8 @@ pub struct Plan {
     pub fresh: Record,
     pub rows: Vec<Row>,
     pub kinds: Vec<RowKind>,
+    /// The records of other packages that have rows.
+    pub others: Vec<Record>,
     /// What is shipped, in path order.
     pub works: Vec<Work>,
     /// The paths that the package lists before, while its files are written, and then.
@@ -44,8 +46,9 @@ pub struct Plan {
 }
 
 /// What an unpack of a tree is going to do, by the records, the lists and the diversions; `stored`
-/// are the scripts of the old version. The tree is used up, and none of its files is copied. Where
-/// the package lists many paths, the lists' index is to be built before.
+/// are the scripts of the old version, `others` the packages that have rows beside it. The tree is
+/// used up, and none of its files is copied. Where the package lists many paths, the lists' index is
+/// to be built before.
 pub fn plan_of(
     alloc: Global,
     incoming: Package,
@@ -53,12 +56,20 @@ pub fn plan_of(
     lists: &FileLists,
     diversions: &Diversions,
     stored: Present,
+    others: Vec<OtherPackage>,
 ) -> Result<Plan, AllocError>
-    ensures { IfOk result (λ p. IsPlanned (record { «package» = incoming; records = database.now.records; lists = lists.now.lists; entries = diversions.now.entries; stored = stored }) (planned p)) }
+    ensures { IfOk result (λ p. IsPlanned (record { «package» = incoming; records = database.now.records; lists = lists.now.lists; entries = diversions.now.entries; stored = stored; others = others.items }) (planned p)) }
 {
     let found = database.get(&incoming.name);
     let records = own_records(alloc, &incoming, found)?;
-    let rows = own_rows(alloc, found, &records.incoming, stored, &incoming.scripts)?;
+    let rows = own_rows(
+        alloc,
+        found,
+        &records.incoming,
+        stored,
+        &incoming.scripts,
+        others,
+    )?;
     let changes = own_changes(alloc, lists, diversions, &incoming, found, &records.fresh)?;
     let contents = contents_of(alloc, diversions, incoming, found)?;
     Ok(Plan {
@@ -67,6 +78,7 @@ pub fn plan_of(
         fresh: records.fresh,
         rows: rows.rows,
         kinds: rows.kinds,
+        others: rows.others,
         works: contents.works,
         listed: changes.listed,
         union: changes.union,

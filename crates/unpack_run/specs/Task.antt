@@ -16,7 +16,6 @@ use Rattle.status_db.specs.Recorded.{Recorded}
 use Rattle.status_db.specs.Records.{AreStanding}
 use Rattle.status_db.specs.declared.record.Record.{Record}
 use Rattle.unpack_rows.specs.EndStates.{AreConcerned, own_name}
-use Rattle.unpack_rows.specs.ForwardRows.{records_of}
 use Rattle.unpack_rows.specs.Kinds.{kinds_of}
 use Rattle.unpack_rows.specs.Stages.{Stage, Unwritten, Wrote, Restored}
 use Rattle.unpack_rows.specs.declared.kinds.RowKind.{RowKind}
@@ -54,7 +53,7 @@ task_of start database lists entries places works plan = record {
   places = places;
   found = plan.found;
   incoming = plan.incoming;
-  others = records_of plan.others.items;
+  others = plan.others.items;
   yields = plan.yields;
   works = works;
   listed = plan.listed;

@@ -1,6 +1,6 @@
 // What is done beside the calls of an unpack's rows.
 ghost use Rattle.std.specs.Prelude.{◌≡◌, ◌∷◌, []};
-ghost use Rattle.unpack_rows.specs.ForwardRows.{Fits, records_of};
+ghost use Rattle.unpack_rows.specs.ForwardRows.{Fits};
 ghost use Rattle.unpack_rows.specs.Kinds.{kinds_of};
 ghost use Rattle.unpack_run.specs.At.{At, IsFileFault, Stops, holding};
 ghost use Rattle.unpack_run.specs.Stays.{holds_at, stays_at};
@@ -41,7 +41,7 @@ pub(crate) struct Unpacking<'a, 's, H: Host> {
     pub(crate) diversions: &'a Diversions,
     pub(crate) plan: &'a Rows,
     pub(crate) start: &'s Start<H>,
-    pub(crate) ghost kinds_are: { plan.now.kinds.items ≡ kinds_of plan.now.found (records_of plan.now.others.items) },
+    pub(crate) ghost kinds_are: { plan.now.kinds.items ≡ kinds_of plan.now.found plan.now.others.items },
 }
 
 impl<'a, 's, H: Host> Around<H> for Unpacking<'a, 's, H> {

@@ -5,7 +5,7 @@ ghost use Rattle.unpack_rows.specs.EndStates.{own_name};
 use file_lists::Paths;
 use status_db::Record;
 use texts::{Text, Texts};
-use unpack_rows::{OtherPackage, RowKind};
+use unpack_rows::RowKind;
 
 /// The rows of an unpack: what is found, what comes, and which rows there are.
 #[derive(Drop)]
@@ -15,8 +15,8 @@ pub struct Rows {
     /// The record that is noted where it has none.
     pub incoming: Record,
     pub kinds: Vec<RowKind>,
-    /// Other packages that have rows.
-    pub others: Vec<OtherPackage>,
+    /// The records of other packages that have rows.
+    pub others: Vec<Record>,
     /// The packages with which no path clashes.
     pub yields: Texts,
     /// The package's list, and that with the paths to come beside the old ones.

@@ -2,11 +2,15 @@
 ghost use Rattle.std.specs.Prelude.{◌≡◌, ⊤, IsTrue, Some, option_map};
 ghost use Rattle.host_memory.specs.Memory.{memory_state};
 
+mod configure_rows;
+mod deconfiguring_rows;
 mod diversion_rows;
 mod memory_rows;
 mod query_rows;
+mod removal_rows;
 mod script_rows;
 mod tree_rows;
+mod unpack_relation_rows;
 mod upgrade_rows;
 mod word_rows;
 

@@ -4,6 +4,7 @@ ghost use Rattle.std.specs.Prelude.{⊤};
 
 mod device_rows;
 mod link_rows;
+mod package_rows;
 
 use super::{answer, is_refusing, is_want, text_of};
 use command_line::Hosts;

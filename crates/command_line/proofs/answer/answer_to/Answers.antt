@@ -1,8 +1,11 @@
-use Rattle.std.proofs.Common.{rules, ◌≡◌, map, string_bytes, Some, refl, inl, inr}
+use Rattle.std.proofs.Common.{rules, ◌≡◌, ◌<◌, map, string_bytes, Some, refl, inl, inr}
 use Rattle.command_words.specs.Commands.{asked_of}
-use Rattle.command_words.specs.declared.words.Asked.TheVariants.{CompareVersions, Divert, Names, Query, Undivert, Unpack}
-use Rattle.command_line.specs.Reports.{comparison_answer, memory_answer, names_answer, unpack_answer}
+use Rattle.command_words.specs.declared.words.Asked.TheVariants.{CompareVersions, Configure, Divert, Install, Names, Purge, Query, Remove, Undivert, Unpack}
+use Rattle.command_line.specs.Reports.{comparison_answer, ended_answer, memory_answer, names_answer, trees_answer}
+use Rattle.command_line.specs.Packages.{policy_of}
+use Rattle.command_line.specs.Roots.{Around, around}
 use Rattle.command_line.proofs.Named.{divert_owner}
+use Rattle.command_line.proofs.Trees.{with_policy}
 use Rattle.command_line.proofs.answer.answer_to.Goals as goal
 
 pub returns-in-Ok-Names-clause-answered : goal.returns-in-Ok-Names-clause-answered
@@ -42,7 +45,36 @@ pub returns-in-Ok-Unpack-clause-answered : goal.returns-in-Ok-Unpack-clause-answ
 returns-in-Ok-Unpack-clause-answered g c =
     let asked : asked_of (map string_bytes c.args.words.now) ≡ Some (Unpack c.in-Ok-Unpack.unpacking) = search rules in
     let ended = c.unpacked.ensures.ended in
-    (unpack_answer ended.0, rw asked (inl (ended.0, ended.1, refl)), ended.2)
+    (trees_answer ended.0, rw asked (inl (ended.0, ended.1, refl)), ended.2)
+
+pub returns-in-Ok-Install-clause-answered : goal.returns-in-Ok-Install-clause-answered
+returns-in-Ok-Install-clause-answered g c =
+    let unpacking = c.in-Ok-Install.unpacking in
+    let asked : asked_of (map string_bytes c.args.words.now) ≡ Some (Install unpacking) = search rules in
+    let old = c.args.hosts.now in
+    let new = c.unpacked-in-Ok-Install.new.hosts in
+    let a : Around = around (g.S.Hosts.root old) (g.S.Hosts.tree old) (g.S.Hosts.left new) (g.S.Hosts.seen new) (g.S.Hosts.faults old < g.S.Hosts.faults new) (g.S.Hosts.unopened old new) in
+    let ended = c.unpacked-in-Ok-Install.ensures.ended in
+    let as_forced = with_policy a c.policy_of.result (policy_of unpacking.forced) unpacking ended.0 c.policy_of.ensures ended.1 in
+    (trees_answer ended.0, rw asked (inl (ended.0, as_forced, refl)), ended.2)
+
+pub returns-in-Ok-Configure-clause-answered : goal.returns-in-Ok-Configure-clause-answered
+returns-in-Ok-Configure-clause-answered g c =
+    let asked : asked_of (map string_bytes c.args.words.now) ≡ Some (Configure c.in-Ok-Configure.asked) = search rules in
+    let ended = c.configured.ensures.ended in
+    (ended_answer ended.0, rw asked (inl (ended.0, ended.1, refl)), ended.2)
+
+pub returns-in-Ok-Remove-clause-answered : goal.returns-in-Ok-Remove-clause-answered
+returns-in-Ok-Remove-clause-answered g c =
+    let asked : asked_of (map string_bytes c.args.words.now) ≡ Some (Remove c.in-Ok-Remove.asked) = search rules in
+    let ended = c.removed.ensures.ended in
+    (ended_answer ended.0, rw asked (inl (ended.0, ended.1, refl)), ended.2)
+
+pub returns-in-Ok-Purge-clause-answered : goal.returns-in-Ok-Purge-clause-answered
+returns-in-Ok-Purge-clause-answered g c =
+    let asked : asked_of (map string_bytes c.args.words.now) ≡ Some (Purge c.in-Ok-Purge.asked) = search rules in
+    let ended = c.purged.ensures.ended in
+    (ended_answer ended.0, rw asked (inl (ended.0, ended.1, refl)), ended.2)
 
 pub returns-in-Err-NoMemory-clause-answered : goal.returns-in-Err-NoMemory-clause-answered
 returns-in-Err-NoMemory-clause-answered g c = (memory_answer, inr (refl, refl), tt)

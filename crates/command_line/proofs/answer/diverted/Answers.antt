@@ -1,7 +1,7 @@
 use Rattle.std.proofs.Common.{◌<◌, Ok, Err, inl, inr, refl, subst}
 use Rattle.command_line.specs.Changes.{IsDivertOf, IsRead, bad_of_divert}
 use Rattle.command_line.specs.Queries.{bad_path_answer}
-use Rattle.command_line.specs.Reports.{memory_answer, unpack_answer}
+use Rattle.command_line.specs.Reports.{memory_answer, ended_answer}
 use Rattle.command_line.specs.Roots.{Around, around}
 use Rattle.command_line.proofs.Changed.{read_bad, read_change}
 use Rattle.command_line.proofs.answer.diverted.Goals as goal
@@ -14,7 +14,7 @@ returns-in-Ok-Ok-clause-answered g c =
     let a : Around = around (g.S.Hosts.root old) (g.S.Hosts.tree old) (g.S.Hosts.left new) (g.S.Hosts.seen new) (g.S.Hosts.faults old < g.S.Hosts.faults new) (g.S.Hosts.unopened old new) in
     let ended = c.changed.ensures.ended in
     let read : IsRead (bad_of_divert asked) (IsDivertOf asked) (Ok c.in-Ok-Ok.change) = subst (IsRead (bad_of_divert asked) (IsDivertOf asked)) c.in-Ok-Ok.field-0-is c.in-Ok-Ok.ensures in
-    (unpack_answer ended.0, inl (read_change a asked.root (bad_of_divert asked) (IsDivertOf asked) c.in-Ok-Ok.change (unpack_answer ended.0) read (ended.0, ended.1, refl)), ended.2)
+    (ended_answer ended.0, inl (read_change a asked.root (bad_of_divert asked) (IsDivertOf asked) c.in-Ok-Ok.change (ended_answer ended.0) read (ended.0, ended.1, refl)), ended.2)
 
 pub returns-in-Ok-Err-clause-answered : goal.returns-in-Ok-Err-clause-answered
 returns-in-Ok-Err-clause-answered g c =

@@ -14,9 +14,8 @@ returns-clause-done g c =
     let new = c.unpack_on.new.hosts in
     let outer : Around = around (g.S.Hosts.root old) (g.S.Hosts.tree old) (g.S.Hosts.left new) (g.S.Hosts.seen new) (g.S.Hosts.faults old < g.S.Hosts.faults new) (g.S.Hosts.unopened old new) in
     let inner : Around = around (g.S.Hosts.root mid) (g.S.Hosts.tree mid) (g.S.Hosts.left new) (g.S.Hosts.seen new) (g.S.Hosts.faults mid < g.S.Hosts.faults new) (g.S.Hosts.unopened mid new) in
-    IfOk-weaker c.unpack_on.result (IsUnpackedOn inner begun c.as_slice.result.now) (HasUnpacked outer c.args.unpacking.now) (λ done h. (
+    IfOk-weaker c.unpack_on.result (IsUnpackedOn inner begun c.args.policy c.args.unpacking.now) (HasUnpacked outer c.args.policy c.args.unpacking.now) (λ done h. (
       begun,
       behind,
-      subst (λ trees. IsUnpackedOn outer begun trees done) c.as_slice.ensures
-          (unpacked_within outer inner (record { tree = c.open_root.ensures.trees; seen = λ s h. h; failed = λ h. omega arith }) (λ s h. h) begun c.as_slice.result.now done h),
+      unpacked_within outer inner (record { tree = c.open_root.ensures.trees; seen = λ s h. h; failed = λ h. omega arith }) (λ s h. h) begun c.args.policy c.args.unpacking.now done h,
     )) c.unpack_on.ensures.done

@@ -1,7 +1,7 @@
 use Rattle.std.proofs.Common.{◌≡◌, ◌<◌, arith, subst, sym}
-use Rattle.command_line.specs.Roots.{Around, around}
-use Rattle.dpkg_session.specs.Held.{Held, held}
-use Rattle.command_line.specs.Unpacks.{HasRunTrees, held_anew}
+use Rattle.command_line.specs.Roots.{Around, around, held_anew}
+use Rattle.unit_reports.specs.Held.{Held, held}
+use Rattle.command_line.specs.Unpacks.{HasRunTrees}
 use Rattle.command_line.proofs.Trees.{opened_anew, run_within}
 use Rattle.command_line.proofs.unpacking.unpack_on.Goals as goal
 
@@ -31,7 +31,7 @@ returns-in_ok-done-in-Ok-clause-done g c =
       };
       end = g.S.Opened.Host.state c.into_host.result;
       given = c.close_root.ensures.given;
-      ran = subst (λ host. HasRunTrees outer c.args.trees.now done anew begun (g.S.Opened.Host.state host)) (sym c.into_host.ensures)
-          (run_within outer inner (record { tree = λ word s h. h; seen = c.close_root.ensures.seen; failed = λ h. omega arith }) c.args.trees.now done anew begun (g.S.Opened.Host.state c.run_trees-done.new.session.host)
-          (subst (λ (h : Held). HasRunTrees inner c.args.trees.now done h begun (g.S.Opened.Host.state c.run_trees-done.new.session.host)) same c.in_ok-done-in-Ok.ensures.done));
+      ran = subst (λ host. HasRunTrees outer c.args.policy c.args.unpacking.now done anew begun (g.S.Opened.Host.state host)) (sym c.into_host.ensures)
+          (run_within outer inner (record { tree = λ word s h. h; seen = c.close_root.ensures.seen; failed = λ h. omega arith }) c.args.policy c.args.unpacking.now done anew begun (g.S.Opened.Host.state c.run_trees-done.new.session.host)
+          (subst (λ (h : Held). HasRunTrees inner c.args.policy c.args.unpacking.now done h begun (g.S.Opened.Host.state c.run_trees-done.new.session.host)) same c.in_ok-done-in-Ok.ensures.done));
     }

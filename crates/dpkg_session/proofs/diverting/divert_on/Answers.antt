@@ -1,7 +1,7 @@
 use Rattle.std.proofs.Common.{◌⊎◌, subst}
 use Rattle.diversions.specs.declared.refusal.Seen.{Seen}
 use Rattle.dpkg_session.specs.Diversions.{IsDiverted}
-use Rattle.dpkg_session.specs.Units.{IsBroken}
+use Rattle.unit_reports.specs.Units.{IsBroken}
 use Rattle.dpkg_session.proofs.TableUnits.{one_unit}
 use Rattle.dpkg_session.proofs.diverting.divert_on.Goals as goal
 

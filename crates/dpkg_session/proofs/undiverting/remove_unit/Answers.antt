@@ -1,6 +1,6 @@
 use Rattle.std.proofs.Common.{inl, inr, ap}
 use Rattle.diversions.specs.Diverted.{Diverted}
-use Rattle.dpkg_session.specs.declared.report.Breakage.TheVariants.{NoMemory}
+use Rattle.unit_reports.specs.declared.report.Breakage.TheVariants.{NoMemory}
 use Rattle.dpkg_session.proofs.TableUnits.{truename_shipped}
 use Rattle.dpkg_session.proofs.Runs.{broken_by}
 use Rattle.dpkg_session.proofs.undiverting.remove_unit.Goals as goal

@@ -1,5 +1,5 @@
 use Rattle.std.proofs.Common.{◌≡◌, [], ◌∷◌, ◌++◌, ◌∙◌, rules}
-use Rattle.dpkg_session.specs.Held.{held}
+use Rattle.unit_reports.specs.Held.{held}
 use Rattle.dpkg_session.proofs.Amid.{since_unit_start}
 use Rattle.dpkg_session.proofs.Runs.{broken_by, counts_no_memory, counts_whole, is_broken_off, is_whole, not_broken}
 use Rattle.dpkg_session.proofs.Told.{called_tells, not_begun, tells_unit}
@@ -25,16 +25,16 @@ returns-clause-told g c =
     let unit = c.unit_of-unit.result in
     let grown : c.push.new.self.items ≡ c.args.units.now.items ++ unit ∷ [] = search rules in
     tells_unit (g.H.Host.state c.args.host.now) (g.H.Host.state c.unit_of-unit.new.host) c.args.units.now.items c.push.new.self.items unit grown
-    (called_tells c.args.candidate.tree (held c.args.database.now c.args.lists.now c.args.diversions.now) unit (g.H.Host.state c.args.host.now) (g.H.Host.state c.unit_of-unit.new.host) c.unit_of-unit.ensures.told)
+    (called_tells c.args.auto_deconfigure c.args.candidate.tree (held c.args.database.now c.args.lists.now c.args.diversions.now) unit (g.H.Host.state c.args.host.now) (g.H.Host.state c.unit_of-unit.new.host) c.unit_of-unit.ensures.told)
 
 pub returns-then-is_err-clause-any_moment : goal.returns-then-is_err-clause-any_moment
-returns-then-is_err-clause-any_moment g c = since_unit_start c.args.candidate.tree (held c.args.database.now c.args.lists.now c.args.diversions.now) (g.H.Host.state c.args.host.now)
+returns-then-is_err-clause-any_moment g c = since_unit_start c.args.auto_deconfigure c.args.candidate.tree (held c.args.database.now c.args.lists.now c.args.diversions.now) (g.H.Host.state c.args.host.now)
 
 pub returns-then-is_err-clause-broken_off : goal.returns-then-is_err-clause-broken_off
 returns-then-is_err-clause-broken_off g c = record {
   broken = broken_by _ c.broken.result.reply c.broken.ensures.reply;
   untouched = c.broken.ensures.touched;
-  called = not_begun c.args.candidate.tree (held c.args.database.now c.args.lists.now c.args.diversions.now) c.broken.result (g.H.Host.state c.args.host.now) (c.broken.ensures.told ∙ c.new.ensures.items);
+  called = not_begun c.args.auto_deconfigure c.args.candidate.tree (held c.args.database.now c.args.lists.now c.args.diversions.now) c.broken.result (g.H.Host.state c.args.host.now) (c.broken.ensures.told ∙ c.new.ensures.items);
 }
 
 pub returns-then-is_broken-clause-broken_off : goal.returns-then-is_broken-clause-broken_off

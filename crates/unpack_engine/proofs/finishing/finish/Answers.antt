@@ -1,4 +1,4 @@
-use Rattle.std.proofs.Common.{◌≡◌, List, Option, None, sym, subst}
+use Rattle.std.proofs.Common.{◌≡◌, ◌++◌, List, Option, None, sym, subst}
 use Rattle.host_core.specs.Paths.{Path}
 use Rattle.host_core.specs.Host.{AtEachMoment}
 use Rattle.file_lists.specs.Writing.{IsListReady}
@@ -7,7 +7,7 @@ use Rattle.stack_run.specs.declared.unwinding.Unwinding.{Unwinding}
 use Rattle.status_db.specs.Records.{record_in}
 use Rattle.unpack_rows.specs.EndStates.{own_name}
 use Rattle.unpack_engine.specs.Courses.{changes_from, ended_lists, ended_records, ended_table, records_from}
-use Rattle.unpack_engine.specs.Touched.{AreTold}
+use Rattle.unpack_engine.specs.Touched.{AreTold, deconfigured}
 use Rattle.unpack_engine.specs.Units.{HasDropped, HasLeft, MayDrop, MayLeave, MayLeaveBy}
 use Rattle.unpack_engine.proofs.Dropping.{dropped_kept, laying_kept}
 use Rattle.unpack_engine.proofs.Ready.{list_ready}
@@ -19,8 +19,10 @@ moved P n own y ys u same_name same_yields none has = subst (P own ys) (sym none
 
 pub returns-in-Ok-clause-told : goal.returns-in-Ok-clause-told
 returns-in-Ok-clause-told g c =
-    moved (λ n y u. AreTold n (ended_records (ended_as u) (records_from n y c.args.diversions.now.entries c.args.lists.now.lists c.args.works.now c.args.rest c.args.database.now.records)) c.in-Ok.touched)
-    c.name-name.result.now _ c.as_slice-yields.result.now _ c.args.unwinding c.name-name.ensures c.as_slice-yields.ensures c.in-None.is c.in-Ok.ensures.told
+    moved (λ n y u. AreTold n (ended_records (ended_as u) (records_from n y c.args.diversions.now.entries c.args.lists.now.lists c.args.works.now c.args.rest c.args.database.now.records) ++ deconfigured c.finish_committed.new.database.records c.args.rows.now.others.items) c.in-Ok.touched)
+    c.name-name.result.now _ c.as_slice-yields.result.now _ c.args.unwinding c.name-name.ensures c.as_slice-yields.ensures c.in-None.is
+    (subst (λ os. AreTold c.name-name.result.now (records_from c.name-name.result.now c.as_slice-yields.result.now c.args.diversions.now.entries c.args.lists.now.lists c.args.works.now c.args.rest c.args.database.now.records ++ deconfigured c.finish_committed.new.database.records os) c.in-Ok.touched)
+    c.as_slice-others.ensures.value c.in-Ok.ensures.told)
 
 pub returns-in-Ok-clause-lists : goal.returns-in-Ok-clause-lists
 returns-in-Ok-clause-lists g c =

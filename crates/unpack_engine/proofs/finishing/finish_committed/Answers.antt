@@ -21,7 +21,7 @@ finish_ready-requires-clause-named g c = ap (λ (x : Changes). is_package_name x
 
 pub finish_ready-requires-clause-losers : goal.finish_ready-requires-clause-losers
 finish_ready-requires-clause-losers g c = λ name has.
-    loser_named c.args.diversions.now.entries _ c.args.lists.now.lists c.args.name.now c.args.yields.now c.requires.yields name (subst (λ (x : Changes). Contains x.losers name) c.in-Ok.ensures.change has)
+    loser_named c.args.diversions.now.entries _ c.args.lists.now.lists c.args.name.now c.args.yields.now name (subst (λ (x : Changes). Contains x.losers name) c.in-Ok.ensures.change has)
 
 pub finish_ready-requires-clause-spared : goal.finish_ready-requires-clause-spared
 finish_ready-requires-clause-spared g c = subst (λ (x : Changes). SparesAdministration x.leaving) (sym c.in-Ok.ensures.change) c.requires.spared
@@ -42,7 +42,7 @@ finish_ready-requires-clause-ready g c = λ h.
 pub finish_ready-requires-clause-losers_ready : goal.finish_ready-requires-clause-losers_ready
 finish_ready-requires-clause-losers_ready g c = λ h name has.
     list_ready (g.H.Host.state c.args.host.now).world (c.requires.info h) (c.requires.loose h) name
-    (loser_named c.args.diversions.now.entries _ c.args.lists.now.lists c.args.name.now c.args.yields.now c.requires.yields name (subst (λ (x : Changes). Contains x.losers name) c.in-Ok.ensures.change has))
+    (loser_named c.args.diversions.now.entries _ c.args.lists.now.lists c.args.name.now c.args.yields.now name (subst (λ (x : Changes). Contains x.losers name) c.in-Ok.ensures.change has))
 
 pub finish_ready-requires-clause-members : goal.finish_ready-requires-clause-members
 finish_ready-requires-clause-members g c = λ h.

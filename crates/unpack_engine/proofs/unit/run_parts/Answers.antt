@@ -1,4 +1,4 @@
-use Rattle.std.proofs.Common.{◌≡◌, List, sym, ap, subst, ◌∙◌}
+use Rattle.std.proofs.Common.{◌≡◌, ◌++◌, List, sym, ap, subst, ◌∙◌}
 use Rattle.std.specs.Prelude.{IfOk}
 use Rattle.host_core.specs.Host.{AtEachMoment}
 use Rattle.stack_run.specs.Ended.{IsCauseOf, ended_as}
@@ -8,25 +8,25 @@ use Rattle.file_works.specs.declared.work.Work.{Work}
 use Rattle.unpack_rows.specs.EndStates.{own_name}
 use Rattle.unpack_run.specs.At.{holding}
 use Rattle.unpack_engine.specs.Courses.{changes_from, ended_lists, ended_records, ended_table, planned_from, records_from}
-use Rattle.unpack_engine.specs.Touched.{AreTold}
-use Rattle.unpack_engine.specs.Units.{HasCarriedOut, HasLeft, IsTouched, MayLeave, given, ground, job_of}
+use Rattle.unpack_engine.specs.Touched.{AreTold, deconfigured}
+use Rattle.unpack_engine.specs.Units.{HasCarriedOut, HasLeft, IsTouched, MayLeave, ground}
 use Rattle.unpack_engine.proofs.Carrying.{carried_out}
 use Rattle.unpack_engine.proofs.Sequel.{called_then, if_ok_one}
 use Rattle.unpack_engine.proofs.UnitMoments.{course_begins, course_moments}
-use Rattle.unpack_engine.proofs.Whole.{if_ok_all, if_ok_with, parts_info, parts_kept, parts_kinds, parts_laid, parts_length, parts_loose, parts_rows, parts_sound, parts_stand, parts_touched, parts_yields}
+use Rattle.unpack_engine.proofs.Whole.{if_ok_all, if_ok_with, parts_info, parts_kept, parts_kinds, parts_laid, parts_length, parts_loose, parts_rows, parts_sound, parts_stand, parts_touched}
 use Rattle.unpack_engine.proofs.unit.run_parts.Goals as goal
 
 pub begin_and_run-requires-clause-sound : goal.begin_and_run-requires-clause-sound
-begin_and_run-requires-clause-sound g c = parts_sound c.requires.plan.0 c.requires.plan.1 c.args.database.now c.args.lists.now c.args.diversions.now.entries c.args.places.now c.args.rows.now c.args.works.now.items c.args.calls.items c.args.rest c.requires.plan.2 c.requires.others c.requires.yields (same_standing c.args.database.now.records c.law.ensures.standing) (g.H.Host.state c.args.host.now)
+begin_and_run-requires-clause-sound g c = parts_sound c.args.database.now c.args.lists.now c.args.diversions.now.entries c.args.places.now c.args.rows.now c.args.works.now.items c.args.calls.items c.args.rest c.requires.plan (same_standing c.args.database.now.records c.law.ensures.standing) (g.H.Host.state c.args.host.now)
 
 pub begin_and_run-requires-clause-kinds : goal.begin_and_run-requires-clause-kinds
-begin_and_run-requires-clause-kinds g c = parts_kinds c.requires.plan.0 c.requires.plan.1 c.args.database.now c.args.lists.now c.args.diversions.now.entries c.args.places.now c.args.rows.now c.args.works.now.items c.args.calls.items c.args.rest c.requires.plan.2 c.requires.others c.requires.yields
+begin_and_run-requires-clause-kinds g c = parts_kinds c.args.database.now c.args.lists.now c.args.diversions.now.entries c.args.places.now c.args.rows.now c.args.works.now.items c.args.calls.items c.args.rest c.requires.plan
 
 pub begin_and_run-requires-clause-rows : goal.begin_and_run-requires-clause-rows
-begin_and_run-requires-clause-rows g c = parts_rows c.requires.plan.0 c.requires.plan.1 c.args.database.now c.args.lists.now c.args.diversions.now.entries c.args.places.now c.args.rows.now c.args.works.now.items c.args.calls.items c.args.rest c.requires.plan.2 c.requires.others c.requires.yields
+begin_and_run-requires-clause-rows g c = parts_rows c.args.database.now c.args.lists.now c.args.diversions.now.entries c.args.places.now c.args.rows.now c.args.works.now.items c.args.calls.items c.args.rest c.requires.plan
 
 pub begin_and_run-requires-clause-length : goal.begin_and_run-requires-clause-length
-begin_and_run-requires-clause-length g c = parts_length c.requires.plan.0 c.requires.plan.1 c.args.database.now c.args.lists.now c.args.diversions.now.entries c.args.places.now c.args.rows.now c.args.works.now.items c.args.calls.items c.args.rest c.requires.plan.2 c.requires.others c.requires.yields
+begin_and_run-requires-clause-length g c = parts_length c.args.database.now c.args.lists.now c.args.diversions.now.entries c.args.places.now c.args.rows.now c.args.works.now.items c.args.calls.items c.args.rest c.requires.plan
 
 pub finish-requires-clause-noting : goal.finish-requires-clause-noting
 finish-requires-clause-noting g c = c.in-Ok.ensures.ran.rows_end.opened
@@ -37,40 +37,37 @@ finish-requires-clause-opened g c = c.in-Ok.ensures.ran.rows_end.lists_open
 pub finish-requires-clause-named : goal.finish-requires-clause-named
 finish-requires-clause-named g c = c.in-Ok.ensures.ran.rows_end.sound.named
 
-pub finish-requires-clause-yields : goal.finish-requires-clause-yields
-finish-requires-clause-yields g c = parts_yields c.requires.plan.0 c.requires.plan.1 c.args.database.now c.args.lists.now c.args.diversions.now.entries c.args.places.now c.args.rows.now c.args.works.now.items c.args.calls.items c.args.rest c.requires.plan.2 c.requires.others c.requires.yields
-
 pub finish-requires-clause-spared : goal.finish-requires-clause-spared
-finish-requires-clause-spared g c = c.requires.plan.2.lists_are.spares
+finish-requires-clause-spared g c = c.requires.plan.planned.lists_are.spares
 
 pub finish-requires-clause-paths : goal.finish-requires-clause-paths
-finish-requires-clause-paths g c = c.requires.plan.2.lists_are.new_is.paths_are
+finish-requires-clause-paths g c = c.requires.plan.planned.lists_are.new_is.paths_are
 
 pub finish-requires-clause-elsewhere : goal.finish-requires-clause-elsewhere
-finish-requires-clause-elsewhere g c = c.requires.plan.2.names_are.elsewhere
+finish-requires-clause-elsewhere g c = c.requires.plan.planned.names_are.elsewhere
 
 pub finish-requires-clause-stands : goal.finish-requires-clause-stands
 finish-requires-clause-stands g c =
     subst (λ (x : List Work). AreStanding (records_from (own_name c.args.rows.now.found c.args.rows.now.incoming) c.args.rows.now.yields c.args.diversions.now.entries c.begin_and_run.new.lists.lists x c.args.rest c.begin_and_run.new.database.records)) (sym c.as_slice-shipped.ensures.value)
-    (parts_stand c.requires.plan.0 c.requires.plan.1 c.args.database.now c.args.lists.now c.args.diversions.now.entries c.args.places.now c.args.rows.now c.args.works.now.items c.args.calls.items c.args.rest c.requires.plan.2 c.requires.others c.requires.yields (ended_as c.in-Ok.unwinding) (holding c.begin_and_run.new.database c.begin_and_run.new.lists c.begin_and_run.new.places c.begin_and_run.new.works.items) (g.H.Host.state c.args.host.now) (g.H.Host.state c.begin_and_run.new.host) c.requires.order (g.H.Host.tree c.args.host.now) c.args.told.now.items c.begin_and_run.new.told.items c.in-Ok.ensures.ran (same_standing c.begin_and_run.new.database.records c.law-in-Ok.ensures.standing))
+    (parts_stand c.args.database.now c.args.lists.now c.args.diversions.now.entries c.args.places.now c.args.rows.now c.args.works.now.items c.args.calls.items c.args.rest c.requires.plan (ended_as c.in-Ok.unwinding) (holding c.begin_and_run.new.database c.begin_and_run.new.lists c.begin_and_run.new.places c.begin_and_run.new.works.items) (g.H.Host.state c.args.host.now) (g.H.Host.state c.begin_and_run.new.host) c.requires.order (g.H.Host.tree c.args.host.now) c.args.told.now.items c.begin_and_run.new.told.items c.in-Ok.ensures.ran (same_standing c.begin_and_run.new.database.records c.law-in-Ok.ensures.standing))
 
 pub finish-requires-clause-info : goal.finish-requires-clause-info
-finish-requires-clause-info g c = parts_info c.requires.plan.0 c.requires.plan.1 c.args.database.now c.args.lists.now c.args.diversions.now.entries c.args.places.now c.args.rows.now c.args.works.now.items c.args.calls.items c.args.rest c.requires.plan.2 c.requires.others c.requires.yields (ended_as c.in-Ok.unwinding) (holding c.begin_and_run.new.database c.begin_and_run.new.lists c.begin_and_run.new.places c.begin_and_run.new.works.items) (g.H.Host.state c.args.host.now) (g.H.Host.state c.begin_and_run.new.host) c.requires.order (g.H.Host.tree c.args.host.now) c.args.told.now.items c.begin_and_run.new.told.items c.in-Ok.ensures.ran
+finish-requires-clause-info g c = parts_info c.args.database.now c.args.lists.now c.args.diversions.now.entries c.args.places.now c.args.rows.now c.args.works.now.items c.args.calls.items c.args.rest c.requires.plan (ended_as c.in-Ok.unwinding) (holding c.begin_and_run.new.database c.begin_and_run.new.lists c.begin_and_run.new.places c.begin_and_run.new.works.items) (g.H.Host.state c.args.host.now) (g.H.Host.state c.begin_and_run.new.host) c.requires.order (g.H.Host.tree c.args.host.now) c.args.told.now.items c.begin_and_run.new.told.items c.in-Ok.ensures.ran
 
 pub finish-requires-clause-loose : goal.finish-requires-clause-loose
-finish-requires-clause-loose g c = parts_loose c.requires.plan.0 c.requires.plan.1 c.args.database.now c.args.lists.now c.args.diversions.now.entries c.args.places.now c.args.rows.now c.args.works.now.items c.args.calls.items c.args.rest c.requires.plan.2 c.requires.others c.requires.yields (ended_as c.in-Ok.unwinding) (holding c.begin_and_run.new.database c.begin_and_run.new.lists c.begin_and_run.new.places c.begin_and_run.new.works.items) (g.H.Host.state c.args.host.now) (g.H.Host.state c.begin_and_run.new.host) c.requires.order (g.H.Host.tree c.args.host.now) c.args.told.now.items c.begin_and_run.new.told.items c.in-Ok.ensures.ran
+finish-requires-clause-loose g c = parts_loose c.args.database.now c.args.lists.now c.args.diversions.now.entries c.args.places.now c.args.rows.now c.args.works.now.items c.args.calls.items c.args.rest c.requires.plan (ended_as c.in-Ok.unwinding) (holding c.begin_and_run.new.database c.begin_and_run.new.lists c.begin_and_run.new.places c.begin_and_run.new.works.items) (g.H.Host.state c.args.host.now) (g.H.Host.state c.begin_and_run.new.host) c.requires.order (g.H.Host.tree c.args.host.now) c.args.told.now.items c.begin_and_run.new.told.items c.in-Ok.ensures.ran
 
 pub finish-requires-clause-kept : goal.finish-requires-clause-kept
-finish-requires-clause-kept g c = parts_kept c.requires.plan.0 c.requires.plan.1 c.args.database.now c.args.lists.now c.args.diversions.now.entries c.args.places.now c.args.rows.now c.args.works.now.items c.args.calls.items c.args.rest c.requires.plan.2 c.requires.others c.requires.yields (ended_as c.in-Ok.unwinding) (holding c.begin_and_run.new.database c.begin_and_run.new.lists c.begin_and_run.new.places c.begin_and_run.new.works.items) (g.H.Host.state c.args.host.now) (g.H.Host.state c.begin_and_run.new.host) c.requires.order (g.H.Host.tree c.args.host.now) c.args.told.now.items c.begin_and_run.new.told.items c.in-Ok.ensures.ran
+finish-requires-clause-kept g c = parts_kept c.args.database.now c.args.lists.now c.args.diversions.now.entries c.args.places.now c.args.rows.now c.args.works.now.items c.args.calls.items c.args.rest c.requires.plan (ended_as c.in-Ok.unwinding) (holding c.begin_and_run.new.database c.begin_and_run.new.lists c.begin_and_run.new.places c.begin_and_run.new.works.items) (g.H.Host.state c.args.host.now) (g.H.Host.state c.begin_and_run.new.host) c.requires.order (g.H.Host.tree c.args.host.now) c.args.told.now.items c.begin_and_run.new.told.items c.in-Ok.ensures.ran
 
 pub finish-requires-clause-laid : goal.finish-requires-clause-laid
-finish-requires-clause-laid g c = parts_laid c.requires.plan.0 c.requires.plan.1 c.args.database.now c.args.lists.now c.args.diversions.now.entries c.args.places.now c.args.rows.now c.args.works.now.items c.args.calls.items c.args.rest c.requires.plan.2 c.requires.others c.requires.yields (ended_as c.in-Ok.unwinding) (holding c.begin_and_run.new.database c.begin_and_run.new.lists c.begin_and_run.new.places c.begin_and_run.new.works.items) (g.H.Host.state c.args.host.now) (g.H.Host.state c.begin_and_run.new.host) c.requires.order (g.H.Host.tree c.args.host.now) c.args.told.now.items c.begin_and_run.new.told.items c.in-Ok.ensures.ran
+finish-requires-clause-laid g c = parts_laid c.args.database.now c.args.lists.now c.args.diversions.now.entries c.args.places.now c.args.rows.now c.args.works.now.items c.args.calls.items c.args.rest c.requires.plan (ended_as c.in-Ok.unwinding) (holding c.begin_and_run.new.database c.begin_and_run.new.lists c.begin_and_run.new.places c.begin_and_run.new.works.items) (g.H.Host.state c.args.host.now) (g.H.Host.state c.begin_and_run.new.host) c.requires.order (g.H.Host.tree c.args.host.now) c.args.told.now.items c.begin_and_run.new.told.items c.in-Ok.ensures.ran
 
 pub returns-in-Ok-clause-unit : goal.returns-in-Ok-clause-unit
 returns-in-Ok-clause-unit g c =
-    if_ok_all c.finish.result (λ u. u.unwinding ≡ c.in-Ok.unwinding) (λ u. HasCarriedOut (ground c.args.database.now.records c.args.lists.now.lists c.args.diversions.now.entries c.args.places.now) (planned_from c.args.rows.now c.args.works.now.items c.args.calls.items c.args.rest) (ended_as u.unwinding) c.finish.new.database c.finish.new.lists.lists (g.H.Host.state c.args.host.now) (g.H.Host.state c.finish.new.host) c.args.told.now.items c.begin_and_run.new.told.items)
+    if_ok_all c.finish.result (λ u. u.unwinding ≡ c.in-Ok.unwinding) (λ u. HasCarriedOut (ground c.args.database.now.records c.args.lists.now.lists c.args.diversions.now.entries c.args.places.now c.args.rows.now.yields) (planned_from c.args.rows.now c.args.works.now.items c.args.calls.items c.args.rest) (ended_as u.unwinding) c.finish.new.database c.finish.new.lists.lists (g.H.Host.state c.args.host.now) (g.H.Host.state c.finish.new.host) c.args.told.now.items c.begin_and_run.new.told.items)
     _ _ _ _ (λ u same table lists_are left.
-    carried_out c.args.database.now c.args.lists.now c.args.diversions.now.entries c.args.places.now c.args.rows.now c.args.works.now.items c.args.calls.items c.args.rest c.requires.others c.requires.yields (ended_as c.in-Ok.unwinding) (ended_as u.unwinding) (holding c.begin_and_run.new.database c.begin_and_run.new.lists c.begin_and_run.new.places c.begin_and_run.new.works.items) c.finish.new.database c.finish.new.lists (g.H.Host.state c.args.host.now) (g.H.Host.state c.begin_and_run.new.host) (g.H.Host.state c.finish.new.host) c.args.told.now.items c.begin_and_run.new.told.items
+    carried_out c.args.database.now c.args.lists.now c.args.diversions.now.entries c.args.places.now c.args.rows.now c.args.works.now.items c.args.calls.items c.args.rest (ended_as c.in-Ok.unwinding) (ended_as u.unwinding) (holding c.begin_and_run.new.database c.begin_and_run.new.lists c.begin_and_run.new.places c.begin_and_run.new.works.items) c.finish.new.database c.finish.new.lists (g.H.Host.state c.args.host.now) (g.H.Host.state c.begin_and_run.new.host) (g.H.Host.state c.finish.new.host) c.args.told.now.items c.begin_and_run.new.told.items
     (ap ended_as (sym same)) c.in-Ok.ensures.ran c.finish.ensures.silent (subst (λ (x : List Work). AtEachMoment (MayLeave (changes_from (own_name c.args.rows.now.found c.args.rows.now.incoming) c.args.rows.now.yields c.args.diversions.now.entries c.begin_and_run.new.lists.lists x c.args.rest) (records_from (own_name c.args.rows.now.found c.args.rows.now.incoming) c.args.rows.now.yields c.args.diversions.now.entries c.begin_and_run.new.lists.lists x c.args.rest c.begin_and_run.new.database.records) c.args.diversions.now.entries c.begin_and_run.new.lists.lists c.begin_and_run.new.database.records (ended_as c.in-Ok.unwinding)) (g.H.Host.state c.begin_and_run.new.host) (g.H.Host.state c.finish.new.host)) c.as_slice-shipped.ensures.value c.finish.ensures.any_moment)
     (λ h. subst (λ (x : List Work). HasLeft (changes_from (own_name c.args.rows.now.found c.args.rows.now.incoming) c.args.rows.now.yields c.args.diversions.now.entries c.begin_and_run.new.lists.lists x c.args.rest) (records_from (own_name c.args.rows.now.found c.args.rows.now.incoming) c.args.rows.now.yields c.args.diversions.now.entries c.begin_and_run.new.lists.lists x c.args.rest c.begin_and_run.new.database.records) c.args.diversions.now.entries c.begin_and_run.new.lists.lists c.begin_and_run.new.database.records (ended_as c.in-Ok.unwinding) (g.H.Host.state c.begin_and_run.new.host).world (g.H.Host.state c.finish.new.host).world) c.as_slice-shipped.ensures.value (left h))
     (table ∙ ap (λ (x : List Work). ended_table (ended_as c.in-Ok.unwinding) (records_from (own_name c.args.rows.now.found c.args.rows.now.incoming) c.args.rows.now.yields c.args.diversions.now.entries c.begin_and_run.new.lists.lists x c.args.rest c.begin_and_run.new.database.records) c.begin_and_run.new.database.records) c.as_slice-shipped.ensures.value)
@@ -82,10 +79,10 @@ returns-in-Ok-clause-cause g c = if_ok_one c.finish.result (λ u. u.unwinding �
 
 pub returns-in-Ok-clause-touched : goal.returns-in-Ok-clause-touched
 returns-in-Ok-clause-touched g c =
-    if_ok_with c.finish.result (λ u. AreTold (own_name c.args.rows.now.found c.args.rows.now.incoming) (ended_records (ended_as c.in-Ok.unwinding) (records_from (own_name c.args.rows.now.found c.args.rows.now.incoming) c.args.rows.now.yields c.args.diversions.now.entries c.begin_and_run.new.lists.lists c.as_slice-shipped.result.now c.args.rest c.begin_and_run.new.database.records)) u.touched) (λ u. IsTouched (own_name c.args.rows.now.found c.args.rows.now.incoming) c.args.database.now.records c.finish.new.database.records u.touched) _
-    (λ u told table. parts_touched c.requires.plan.0 c.requires.plan.1 c.args.database.now c.args.lists.now c.args.diversions.now.entries c.args.places.now c.args.rows.now c.args.works.now.items c.args.calls.items c.args.rest c.requires.plan.2 c.requires.others c.requires.yields (ended_as c.in-Ok.unwinding) (holding c.begin_and_run.new.database c.begin_and_run.new.lists c.begin_and_run.new.places c.begin_and_run.new.works.items) (g.H.Host.state c.args.host.now) (g.H.Host.state c.begin_and_run.new.host) c.requires.order (g.H.Host.tree c.args.host.now) c.args.told.now.items c.begin_and_run.new.told.items c.in-Ok.ensures.ran (order_apart c.begin_and_run.new.database.records c.law-in-Ok.ensures.order) c.finish.new.database.records u.touched
+    if_ok_with c.finish.result (λ u. AreTold (own_name c.args.rows.now.found c.args.rows.now.incoming) (ended_records (ended_as c.in-Ok.unwinding) (records_from (own_name c.args.rows.now.found c.args.rows.now.incoming) c.args.rows.now.yields c.args.diversions.now.entries c.begin_and_run.new.lists.lists c.as_slice-shipped.result.now c.args.rest c.begin_and_run.new.database.records) ++ deconfigured c.finish.new.database.records c.args.rows.now.others.items) u.touched) (λ u. IsTouched (own_name c.args.rows.now.found c.args.rows.now.incoming) c.args.database.now.records c.finish.new.database.records u.touched) _
+    (λ u told table. parts_touched c.args.database.now c.args.lists.now c.args.diversions.now.entries c.args.places.now c.args.rows.now c.args.works.now.items c.args.calls.items c.args.rest c.requires.plan (ended_as c.in-Ok.unwinding) (holding c.begin_and_run.new.database c.begin_and_run.new.lists c.begin_and_run.new.places c.begin_and_run.new.works.items) (g.H.Host.state c.args.host.now) (g.H.Host.state c.begin_and_run.new.host) c.requires.order (g.H.Host.tree c.args.host.now) c.args.told.now.items c.begin_and_run.new.told.items c.in-Ok.ensures.ran (order_apart c.begin_and_run.new.database.records c.law-in-Ok.ensures.order) c.finish.new.database.records u.touched
     (table ∙ ap (λ (x : List Work). ended_table (ended_as c.in-Ok.unwinding) (records_from (own_name c.args.rows.now.found c.args.rows.now.incoming) c.args.rows.now.yields c.args.diversions.now.entries c.begin_and_run.new.lists.lists x c.args.rest c.begin_and_run.new.database.records) c.begin_and_run.new.database.records) c.as_slice-shipped.ensures.value)
-    (subst (λ (x : List Work). AreTold (own_name c.args.rows.now.found c.args.rows.now.incoming) (ended_records (ended_as c.in-Ok.unwinding) (records_from (own_name c.args.rows.now.found c.args.rows.now.incoming) c.args.rows.now.yields c.args.diversions.now.entries c.begin_and_run.new.lists.lists x c.args.rest c.begin_and_run.new.database.records)) u.touched) c.as_slice-shipped.ensures.value told))
+    (subst (λ (x : List Work). AreTold (own_name c.args.rows.now.found c.args.rows.now.incoming) (ended_records (ended_as c.in-Ok.unwinding) (records_from (own_name c.args.rows.now.found c.args.rows.now.incoming) c.args.rows.now.yields c.args.diversions.now.entries c.begin_and_run.new.lists.lists x c.args.rest c.begin_and_run.new.database.records) ++ deconfigured c.finish.new.database.records c.args.rows.now.others.items) u.touched) c.as_slice-shipped.ensures.value told))
     c.finish.ensures.told c.finish.ensures.records
 
 pub returns-in-Ok-clause-told : goal.returns-in-Ok-clause-told
@@ -93,8 +90,8 @@ returns-in-Ok-clause-told g c = called_then c.args.calls.items (g.H.Host.state c
 
 pub returns-in-Ok-clause-any_moment : goal.returns-in-Ok-clause-any_moment
 returns-in-Ok-clause-any_moment g c =
-    course_moments c.args.database.now c.args.lists.now c.args.diversions.now.entries c.args.places.now c.args.rows.now c.args.works.now.items c.args.calls.items c.args.rest c.requires.others c.requires.yields (job_of (given c.requires.plan.0 c.args.database.now.records c.args.lists.now.lists c.args.diversions.now.entries) c.requires.plan.1) c.requires.plan.2 (g.H.Host.state c.args.host.now) (g.H.Host.state c.begin_and_run.new.host) c.requires.order (g.H.Host.tree c.args.host.now) (g.H.Host.state c.finish.new.host) (ended_as c.in-Ok.unwinding) (holding c.begin_and_run.new.database c.begin_and_run.new.lists c.begin_and_run.new.places c.begin_and_run.new.works.items) c.args.told.now.items c.begin_and_run.new.told.items c.begin_and_run.ensures.any_moment c.in-Ok.ensures.ran c.finish.ensures.silent
+    course_moments c.args.database.now c.args.lists.now c.args.diversions.now.entries c.args.places.now c.args.rows.now c.args.works.now.items c.args.calls.items c.args.rest c.requires.plan.job c.requires.plan.planned (g.H.Host.state c.args.host.now) (g.H.Host.state c.begin_and_run.new.host) c.requires.order (g.H.Host.tree c.args.host.now) (g.H.Host.state c.finish.new.host) (ended_as c.in-Ok.unwinding) (holding c.begin_and_run.new.database c.begin_and_run.new.lists c.begin_and_run.new.places c.begin_and_run.new.works.items) c.args.told.now.items c.begin_and_run.new.told.items c.begin_and_run.ensures.any_moment c.in-Ok.ensures.ran c.finish.ensures.silent
     (subst (λ (x : List Work). AtEachMoment (MayLeave (changes_from (own_name c.args.rows.now.found c.args.rows.now.incoming) c.args.rows.now.yields c.args.diversions.now.entries c.begin_and_run.new.lists.lists x c.args.rest) (records_from (own_name c.args.rows.now.found c.args.rows.now.incoming) c.args.rows.now.yields c.args.diversions.now.entries c.begin_and_run.new.lists.lists x c.args.rest c.begin_and_run.new.database.records) c.args.diversions.now.entries c.begin_and_run.new.lists.lists c.begin_and_run.new.database.records (ended_as c.in-Ok.unwinding)) (g.H.Host.state c.begin_and_run.new.host) (g.H.Host.state c.finish.new.host)) c.as_slice-shipped.ensures.value c.finish.ensures.any_moment)
 
 pub returns-in-Err-clause-any_moment : goal.returns-in-Err-clause-any_moment
-returns-in-Err-clause-any_moment g c = course_begins c.args.database.now c.args.lists.now c.args.diversions.now.entries c.args.places.now c.args.rows.now c.args.works.now.items c.args.calls.items c.args.rest c.requires.others c.requires.yields (job_of (given c.requires.plan.0 c.args.database.now.records c.args.lists.now.lists c.args.diversions.now.entries) c.requires.plan.1) c.requires.plan.2 (g.H.Host.state c.args.host.now) (g.H.Host.state c.begin_and_run.new.host) c.requires.order (g.H.Host.tree c.args.host.now) c.begin_and_run.ensures.any_moment
+returns-in-Err-clause-any_moment g c = course_begins c.args.database.now c.args.lists.now c.args.diversions.now.entries c.args.places.now c.args.rows.now c.args.works.now.items c.args.calls.items c.args.rest c.requires.plan.job c.requires.plan.planned (g.H.Host.state c.args.host.now) (g.H.Host.state c.begin_and_run.new.host) c.requires.order (g.H.Host.tree c.args.host.now) c.begin_and_run.ensures.any_moment

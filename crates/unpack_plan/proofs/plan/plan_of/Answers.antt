@@ -9,7 +9,7 @@ returns c =
     let contents = c.in_ok-contents.ensures in
     record {
       records_are = records_planned _ _ _ same p.named c.get-found.ensures c.in_ok-records.ensures.incoming c.in_ok-records.ensures.fresh;
-      rows_are = rows_planned _ _ _ same c.in_ok-rows.ensures.rows c.in_ok-rows.ensures.kinds;
+      rows_are = rows_planned _ _ _ same c.in_ok-rows.ensures.rows c.in_ok-rows.ensures.kinds c.in_ok-rows.ensures.others;
       works_are = record { works_are = contents.works; named = contents.named; fitting = contents.fitting };
       lists_are = lists_planned _ _ _ same changes.listed changes.listed_paths changes.union changes.new_list changes.leaving changes.spares;
       names_are = names_planned _ _ _ same contents.names contents.elsewhere;

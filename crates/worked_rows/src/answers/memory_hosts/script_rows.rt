@@ -51,16 +51,16 @@ pub(crate) const TREES: &[TreeFile] = &[
         "Package: alpha\nVersion: 1.0\nBreaks: bravo,\n charlie (>= )\n",
     ),
     (
-        "depends",
+        "needs",
         CONTROL,
-        "Package: alpha\nVersion: 1.0\nDepends: bravo\n",
+        "Package: alpha\nVersion: 1.0\nPre-Depends: bravo | charlie\n",
     ),
     ("conffile", CONTROL, ALPHA),
     ("conffile", "/DEBIAN/conffiles", "/etc/x\n"),
     (
         "both",
         CONTROL,
-        "Package: alpha\nVersion: 1.0\nDepends: bravo\n",
+        "Package: alpha\nVersion: 1.0\nPre-Depends: bravo\n",
     ),
     ("both", "/DEBIAN/conffiles", "/etc/x\n"),
     ("both", "/etc/x", "x"),
@@ -202,8 +202,8 @@ pub(crate) const REFUSALS: &[(&str, &str)] = &[
         "refused folded FieldBad Breaks\n||1\n",
     ),
     (
-        "dpkg_cli unpack depends",
-        "refused alpha NotYet Depends\n||1\n",
+        "dpkg_cli unpack needs",
+        "refused alpha PreDepends bravo | charlie\n||1\n",
     ),
     (
         "dpkg_cli unpack conffile",
@@ -211,7 +211,7 @@ pub(crate) const REFUSALS: &[(&str, &str)] = &[
     ),
     (
         "dpkg_cli unpack both",
-        "refused alpha NotYet Depends\n||1\n",
+        "refused alpha PreDepends bravo\n||1\n",
     ),
     (
         "dpkg_cli unpack inside",
@@ -347,12 +347,27 @@ fn values_that_cannot_be_read_are_damage(rt: HostRuntime) -> Result<(), Fail> {
 }
 
 #[test]
-fn relations_of_a_record_are_not_carried_out(rt: HostRuntime) -> Result<(), Fail> {
+fn relations_among_records_are_no_obstacle(rt: HostRuntime) -> Result<(), Fail> {
     let lines = [
         "write /var/lib/dpkg/status Package: charlie\nStatus: install ok unpacked\nVersion: 1\nDepends: bravo,\n delta (>= 1)\nEssential: no\n",
         "dpkg_cli unpack a",
     ];
-    let row =
-        "refused alpha NotYet Depends\n||1\n|Package: charlie\nStatus: install ok unpacked\nVersion: 1\nDepends: bravo,\n delta (>= 1)\nEssential: no\n|||||";
+    let row = "call new alpha preinst install: exit 0
+state alpha 1.0 install ok unpacked
+done
+||0
+ alpha.list alpha.preinst|Package: alpha
+Status: install ok unpacked
+Version: 1.0
+
+Package: charlie
+Status: install ok unpacked
+Version: 1
+Depends: bravo,
+ delta (>= 1)
+Essential: no
+|/.
+|#!/bin/sh
+|||";
     check(&rt, TREES, &[], &lines, row)
 }

@@ -16,6 +16,17 @@ pub(crate) const FAULTS: &[&str] = &[
     "dpkg_cli fetch",
     "dpkg_cli unpack",
     "dpkg_cli unpack --root rel t",
+    "dpkg_cli unpack --force-confold --force-confnew t",
+    "dpkg_cli install",
+    "dpkg_cli install --root rel t",
+    "dpkg_cli install --force-confnew --force-confold t",
+    "dpkg_cli configure --root rel alpha",
+    "dpkg_cli configure --force-confold --force-confnew alpha",
+    "dpkg_cli configure --force-confnew=yes alpha",
+    "dpkg_cli remove",
+    "dpkg_cli remove --force-confnew alpha",
+    "dpkg_cli purge",
+    "dpkg_cli purge --root rel alpha",
     "dpkg_cli compare-versions 1 is 1",
     "dpkg_cli list --root rel",
     "dpkg_cli status",
@@ -28,10 +39,14 @@ pub(crate) const FAULTS: &[&str] = &[
 /// The names of the subcommands, and nothing on standard error.
 pub(crate) const NAMES: &str = "audit
 compare-versions
+configure
 diversions
 divert
+install
 list
 listfiles
+purge
+remove
 search
 status
 truename

@@ -1,6 +1,6 @@
 use Rattle.std.proofs.Common.{sym, ◌∙◌}
 use Rattle.dpkg_session.proofs.Standings.{order_standing, standing_run}
-use Rattle.dpkg_session.specs.Commands.{candidates_of}
+use Rattle.dpkg_session.specs.Commands.{unpack_of}
 use Rattle.dpkg_session.proofs.Outlasting.{run_answered, run_loses, run_stands}
 use Rattle.dpkg_session.proofs.Runs.{falls_run}
 use Rattle.dpkg_session.proofs.session.Session.run.Goals as goal
@@ -15,7 +15,7 @@ invariant_of-self g c =
       ready = λ open_still h.
           let left = sym c.is_some-self.ensures ∙ open_still in
           let run = report.whole left in
-          standing_run _ _ _ _ _ _ run h (report.order left h) (c.args.self.now.ready c.if-self.false (falls_run _ _ _ _ _ _ run h));
+          standing_run _ _ _ _ _ _ _ run h (report.order left h) (c.args.self.now.ready c.if-self.false (falls_run _ _ _ _ _ _ _ run h));
       kept = λ open_still. report.kept (sym c.is_some-self.ensures ∙ open_still);
       writable = λ open_still. c.args.self.now.writable c.if-self.false;
       noting = λ open_still. report.noting (sym c.is_some-self.ensures ∙ open_still);
@@ -23,10 +23,10 @@ invariant_of-self g c =
     }
 
 pub returns-clause-loss : goal.returns-clause-loss
-returns-clause-loss g c = λ open_before. run_loses _ (candidates_of c.args.command) _ _ _ c.candidates.ensures (g.H.Host.settled c.run_units-report.new.host) c.run_units-report.ensures.any_moment
+returns-clause-loss g c = λ open_before. run_loses _ (unpack_of c.args.command) _ _ _ c.into_unpack.ensures (g.H.Host.settled c.run_units-report.new.host) c.run_units-report.ensures.any_moment
 
 pub returns-clause-stands : goal.returns-clause-stands
-returns-clause-stands g c = λ open_before whole. run_stands _ _ _ _ _ _ _ c.run_units-report.ensures.any_moment (c.run_units-report.ensures.whole whole)
+returns-clause-stands g c = λ open_before whole. run_stands _ _ _ _ _ _ _ _ c.run_units-report.ensures.any_moment (c.run_units-report.ensures.whole whole)
 
 pub returns-clause-answered : goal.returns-clause-answered
-returns-clause-answered g c = λ open_before whole. run_answered _ _ _ _ _ _ (c.run_units-report.ensures.whole whole)
+returns-clause-answered g c = λ open_before whole. run_answered _ _ _ _ _ _ _ (c.run_units-report.ensures.whole whole)

@@ -1,0 +1,32 @@
+use Rattle.std.proofs.Common.{◌≡◌, subst, sym}
+use Rattle.command_line.specs.Packages.{HasWorked}
+use Rattle.command_line.specs.Roots.{held_anew}
+use Rattle.unit_reports.specs.Held.{Held, held}
+use Rattle.command_line.proofs.Trees.{opened_anew}
+use Rattle.command_line.proofs.packages.work_on.Goals as goal
+
+pub returns-in_ok-done-in-Ok-clause-done : goal.returns-in_ok-done-in-Ok-clause-done
+returns-in_ok-done-in-Ok-clause-done g c =
+    let session = c.in-Ok.session in
+    let asked = c.args.asked.now in
+    let begun = g.S.Opened.Host.state session.host in
+    let done = c.in_ok-done-in-Ok.field-0 in
+    let before = held session.database session.lists session.diversions in
+    let anew = held_anew session.database.records session.lists.lists session.diversions.entries in
+    let same : before ≡ anew = opened_anew session.database session.lists session.diversions c.in-Ok.ensures.number (session.noting c.in-Ok.ensures.closed) in
+    record {
+      table = session.database.records;
+      lists = session.lists.lists;
+      entries = session.diversions.entries;
+      state = begun;
+      opened = record {
+        silent = c.in-Ok.ensures.silent;
+        opens = c.in-Ok.ensures.opens;
+        opening = c.in-Ok.ensures.any_moment;
+        opened = c.in-Ok.ensures.opened;
+      };
+      end = g.S.Opened.Host.state c.into_host.result;
+      given = c.close_root.ensures.given;
+      worked = subst (λ host. HasWorked asked done anew begun (g.S.Opened.Host.state host)) (sym c.into_host.ensures)
+          (subst (λ (h : Held). HasWorked asked done h begun (g.S.Opened.Host.state c.carry_out-done.new.session.host)) same c.in_ok-done-in-Ok.ensures.done);
+    }

@@ -1,0 +1,87 @@
+-- What is asked of packages by their names, and what came of it.
+use Rattle.std.specs.Prelude.{ℕ, Bool, true, false, IsNone, List, Option, Result, Ok, Err, if◌then◌else◌}
+use Rattle.host_core.specs.Events.{Event}
+use Rattle.host_core.specs.Host.{Since, State}
+use Rattle.host_core.specs.World.{World}
+use Rattle.administration.specs.declared.fault.AdministrationFault.{AdministrationFault}
+use Rattle.diversions.specs.declared.entry.Diversion.{Diversion}
+use Rattle.file_lists.specs.declared.paths.PackageList.{PackageList}
+use Rattle.status_db.specs.declared.record.Record.{Record}
+use Rattle.conffiles.specs.declared.decisions.Changed.{Changed}
+use Rattle.conffiles.specs.declared.decisions.Changed.TheVariants.{Keep, Install}
+use Rattle.conffiles.specs.declared.decisions.ConfPolicy.{ConfPolicy}
+use Rattle.unit_reports.specs.Held.{Held}
+use Rattle.unit_reports.specs.Units.{CountsLast, TellsCalls}
+use Rattle.unit_reports.specs.declared.report.Report.{Report}
+use Rattle.unit_reports.specs.declared.report.Unit.{Unit as AUnit}
+use Rattle.configure_run.specs.Run as configuring
+use Rattle.removal_run.specs.Run as removing
+use Rattle.dpkg_session.specs.Asked.{names_asked}
+use Rattle.command_words.specs.declared.forced.Forced.{Forced}
+use Rattle.command_words.specs.declared.packages.Configuring.{Configuring}
+use Rattle.command_line.specs.Roots.{Around, Given, IsOpenedOn, IsRootFault, held_anew}
+use Rattle.command_line.specs.declared.packages.Work.{Work}
+use Rattle.command_line.specs.declared.packages.Work.TheVariants as work
+
+-- who wins where both changed a conffile
+abbrev pub changed_of : Bool → Changed
+changed_of confnew = if confnew then Install else Keep
+
+-- how conffiles are settled
+abbrev pub policy_of : Forced → ConfPolicy
+policy_of f = record { changed = changed_of f.confnew; missing = f.confmiss }
+
+abbrev pub work_of : Configuring → Work
+work_of c = work.Configure c.names (policy_of c.forced)
+
+-- all units of it, as a session carries them out
+abbrev pub IsWorkedBy : Work → List AUnit → Held → Held → State → State → Type 0
+IsWorkedBy (work.Configure names policy) us before after s t = configuring.IsConfigureRun (names_asked names before.records.records) policy us before after s t
+IsWorkedBy (work.Remove names) us before after s t = removing.IsRemovalRun names false us before after s t
+IsWorkedBy (work.Purge names) us before after s t = removing.IsRemovalRun names true us before after s t
+
+-- its first units, up to one that may have been broken off
+abbrev pub IsWorkedUpTo : Work → List AUnit → Option AUnit → Held → State → State → Type 0
+IsWorkedUpTo (work.Configure names policy) us last before s t = configuring.HasRun (names_asked names before.records.records) policy us last before s t
+IsWorkedUpTo (work.Remove names) us last before s t = removing.HasRun names false us last before s t
+IsWorkedUpTo (work.Purge names) us last before s t = removing.HasRun names true us last before s t
+
+-- at each moment of it
+abbrev pub IsWorking : Work → Held → State → List Event → World → Type 0
+IsWorking (work.Configure names policy) before s so_far now = configuring.IsAmidRun (names_asked names before.records.records) policy before s so_far now
+IsWorking (work.Remove names) before s so_far now = removing.IsAmidRun names false before s so_far now
+IsWorking (work.Purge names) before s so_far now = removing.IsAmidRun names true before s so_far now
+
+-- all units were run, and this is held and the host left so
+pub record IsWorkedWhole (asked : Work) (us : List AUnit) (before : Held) (s end : State) : Type 0 where
+  pub after : Held
+  pub run : IsWorkedBy asked us before after s end
+
+-- The units are those of the work, from what was held before; all of them, unless one was broken off. In any case the calls
+-- that are told are the host's own list, and each world since is one of a moment of the work.
+pub record HasWorked (asked : Work) (done : Report) (before : Held) (s end : State) : Type 0 where
+  pub part : IsWorkedUpTo asked done.units.items done.last before s end
+  pub whole : IsNone done.last → IsWorkedWhole asked done.units.items before s end
+  pub counts : CountsLast s end done.last
+  pub told : TellsCalls s end done
+  pub any_moment : Since (IsWorking asked before s) s end
+
+-- the same, from what the administration that was opened on a host holds, to the state in which this host was given back
+pub record IsWorkedOn (left : Given) (begun : State) (asked : Work) (done : Report) : Type 0 where
+  pub table : List Record
+  pub lists : List PackageList
+  pub entries : List Diversion
+  pub state : State
+  pub opened : IsOpenedOn begun state table lists entries
+  pub end : State
+  pub given : left end
+  pub worked : HasWorked asked done (held_anew table lists entries) state end
+
+-- the same, on a host behind the root's word
+abbrev pub HasWorkedUnder : Around → List ℕ → Work → Report → Type 0
+HasWorkedUnder a word asked done = (begun : State) × a.root word begun × IsWorkedOn a.left begun asked done
+
+-- what came of it: its report, or why the root couldn't be opened
+abbrev pub HasEndedWork : Around → List ℕ → Work → Result Report AdministrationFault → Type 0
+HasEndedWork a word asked (Ok done) = HasWorkedUnder a word asked done
+HasEndedWork a word asked (Err fault) = IsRootFault a word fault

@@ -1,0 +1,127 @@
+// Packages are configured, removed or purged by their names: the root is opened to do it.
+ghost use Rattle.std.specs.Prelude.{◌≡◌, ◌<◌, ◌≤◌, ◌⊎◌, false, IfErr, IfOk, OnErr, option_map};
+ghost use Rattle.administration.specs.declared.fault.AdministrationFault.TheVariants.{NoMemory};
+ghost use Rattle.unit_reports.specs.Held.{held};
+ghost use Rattle.command_line.specs.Packages.{HasWorked, HasWorkedUnder, IsWorkedOn, changed_of, policy_of};
+ghost use Rattle.command_line.specs.Roots.{IsRefusedOn, IsRootFault, IsStoppedOn, around};
+
+use crate::hosts::Hosts;
+use administration::AdministrationFault;
+use command_words::Forced;
+use conffiles::{Changed, ConfPolicy};
+use dpkg_session::{Report, Session};
+use host_core::Host;
+use std::alloc::{AllocError, Global};
+use texts::{Text, Texts};
+
+/// What is to be done with packages; all that wait are configured where none is named.
+#[derive(Drop)]
+pub(crate) enum Work {
+    Configure(Option<Texts>, ConfPolicy),
+    Remove(Texts),
+    Purge(Texts),
+}
+
+fn changed_of(confnew: bool) -> Changed
+    ensures { result ≡ changed_of confnew }
+{
+    if confnew {
+        Changed::Install
+    } else {
+        Changed::Keep
+    }
+}
+
+/// How conffiles are settled.
+pub(crate) fn policy_of(forced: Forced) -> ConfPolicy
+    ensures { result ≡ policy_of forced }
+{
+    ConfPolicy {
+        changed: changed_of(forced.confnew),
+        missing: forced.confmiss,
+    }
+}
+
+fn listed(alloc: Global, names: &[Text]) -> Result<Vec<Text>, AllocError>
+    ensures { IfOk result (λ copies. copies.items ≡ names.now) }
+{
+    let mut copies = Vec::new(alloc);
+    for name in names {
+        copies.push(name.copy()?)?;
+    }
+    Ok(copies)
+}
+
+fn listed_if_named(alloc: Global, names: &Option<Texts>) -> Result<Option<Vec<Text>>, AllocError>
+    ensures { IfOk result (λ copies. option_map (λ v. v.items) copies ≡ names.now) }
+{
+    match names {
+        Some(names) => Ok(Some(listed(alloc, names.as_slice())?)),
+        None => Ok(None),
+    }
+}
+
+// The report of an open session.
+fn carry_out<H: Host>(
+    alloc: Global,
+    session: &mut Session<H>,
+    asked: &Work,
+) -> Result<Report, AllocError>
+    requires { session.old.closed ≡ false }
+    ensures done { IfOk result (λ done. HasWorked asked.now done (held session.old.database session.old.lists session.old.diversions) (H.state session.old.host) (H.state session.new.host)) }
+    ensures unmoved { OnErr result (H.state session.new.host ≡ H.state session.old.host) }
+{
+    match asked {
+        Work::Configure(names, policy) => {
+            let names = listed_if_named(alloc, names)?;
+            Ok(session.configure(names, *policy))
+        }
+        Work::Remove(names) => {
+            let names = listed(alloc, names.as_slice())?;
+            Ok(session.remove(names))
+        }
+        Work::Purge(names) => {
+            let names = listed(alloc, names.as_slice())?;
+            Ok(session.purge(names))
+        }
+    }
+}
+
+// The work on the host of the root, which is given back.
+fn work_on<S: Hosts>(
+    alloc: Global,
+    hosts: &mut S,
+    host: S::Opened,
+    asked: &Work,
+) -> Result<Report, AdministrationFault>
+    ensures done { IfOk result (IsWorkedOn (S.left hosts.new) (S.Opened.state host) asked.now) }
+    ensures refused { IfErr result (λ fault. IsRefusedOn (S.left hosts.new) (S.Opened.state host) fault ⊎ ((fault ≡ NoMemory) × IsStoppedOn (S.left hosts.new) (S.Opened.state host))) }
+    ensures faults { S.faults hosts.old ≤ S.faults hosts.new }
+{
+    match Session::open(alloc, host) {
+        Ok(mut session) => {
+            let done = carry_out(alloc, &mut session, asked);
+            hosts.close_root(session.into_host());
+            Ok(done?)
+        }
+        Err((host, fault)) => {
+            hosts.close_root(host);
+            Err(fault)
+        }
+    }
+}
+
+/// Does the work under the root, or tells why the root can't be opened. Want of memory outside of the units is told
+/// likewise.
+pub(crate) fn work_under<S: Hosts>(
+    alloc: Global,
+    hosts: &mut S,
+    root: &Text,
+    asked: &Work,
+) -> Result<Report, AdministrationFault>
+    ensures done { IfOk result (HasWorkedUnder (around (S.root hosts.old) (S.tree hosts.old) (S.left hosts.new) (S.seen hosts.new) (S.faults hosts.old < S.faults hosts.new) (S.unopened hosts.old hosts.new)) root.now asked.now) }
+    ensures refused { IfErr result (IsRootFault (around (S.root hosts.old) (S.tree hosts.old) (S.left hosts.new) (S.seen hosts.new) (S.faults hosts.old < S.faults hosts.new) (S.unopened hosts.old hosts.new)) root.now) }
+{
+    let host = hosts.open_root(root.as_str())?;
+    work_on(alloc, hosts, host, asked)
+}

@@ -1,0 +1,37 @@
+// What is forced of conffiles.
+ghost use Rattle.std.specs.Prelude.{◌≡◌};
+ghost use Rattle.clap.specs.Words.{found_of, rows_of};
+ghost use Rattle.command_words.specs.Forced.{forced_from, forced_of};
+
+use crate::found::flag_of;
+use clap::ArgMatches;
+
+/// What is forced where a conffile can be settled in more than one way.
+#[derive(Clone, Copy)]
+pub struct Forced {
+    /// Where the administrator and the package changed it, the package's is installed; else the
+    /// administrator's stays.
+    pub confnew: bool,
+    /// A conffile that the administrator deleted is installed again.
+    pub confmiss: bool,
+}
+
+fn forced_from(confold: bool, confnew: bool, confmiss: bool) -> Option<Forced>
+    ensures { result ≡ forced_from confold confnew confmiss }
+{
+    if confold && confnew {
+        return None;
+    }
+    Some(Forced { confnew, confmiss })
+}
+
+/// What the flags force, unless two of them are at odds.
+pub(crate) fn forced_of(found: &ArgMatches<'_>) -> Option<Forced>
+    ensures { result ≡ forced_of (rows_of (found_of found.now)) }
+{
+    forced_from(
+        flag_of(found, "force-confold"),
+        flag_of(found, "force-confnew"),
+        flag_of(found, "force-confmiss"),
+    )
+}

@@ -1,0 +1,96 @@
+// What is asked of packages by their names.
+ghost use Rattle.std.specs.Prelude.{◌≡◌, IfOk, option_map};
+ghost use Rattle.clap.specs.Words.{found_of, rows_of};
+ghost use Rattle.command_words.specs.Packages.{configuring_from, configuring_of, names_of, removing_from, removing_of};
+
+use crate::forced::{Forced, forced_of};
+use crate::found::{all_texts_of, copies, is_absolute, text_of};
+use clap::ArgMatches;
+use std::alloc::{AllocError, Global};
+use texts::{Text, Texts};
+
+/// Packages that are to be configured under a root, all that wait for it where none is named, and
+/// what is forced of their conffiles.
+#[derive(Drop)]
+pub struct Configuring {
+    pub root: Text,
+    pub names: Option<Texts>,
+    pub forced: Forced,
+}
+
+/// Packages that are to be removed or purged under a root.
+#[derive(Drop)]
+pub struct Removing {
+    pub root: Text,
+    pub names: Texts,
+}
+
+fn names_of(alloc: Global, found: &ArgMatches<'_>) -> Result<Option<Texts>, AllocError>
+    ensures { IfOk result (λ names. names ≡ names_of (rows_of (found_of found.now))) }
+{
+    match all_texts_of(found, "PKG") {
+        Some(names) => Ok(Some(copies(alloc, names)?)),
+        None => Ok(None),
+    }
+}
+
+fn configuring_from(
+    alloc: Global,
+    root: Option<&str>,
+    names: Option<Texts>,
+    forced: Option<Forced>,
+) -> Result<Option<Configuring>, AllocError>
+    ensures { IfOk result (λ asked. asked ≡ configuring_from (option_map (λ s. s.now) root.entry) names forced) }
+{
+    let (Some(root), Some(forced)) = (root, forced) else {
+        return Ok(None);
+    };
+    if !is_absolute(root) {
+        return Ok(None);
+    }
+    let root = Text::from_str(alloc, root)?;
+    Ok(Some(Configuring {
+        root,
+        names,
+        forced,
+    }))
+}
+
+/// The packages that are to be configured, unless the words have a fault.
+pub(crate) fn configuring_of(
+    alloc: Global,
+    found: &ArgMatches<'_>,
+) -> Result<Option<Configuring>, AllocError>
+    ensures { IfOk result (λ asked. asked ≡ configuring_of (rows_of (found_of found.now))) }
+{
+    let names = names_of(alloc, found)?;
+    configuring_from(alloc, text_of(found, "root"), names, forced_of(found))
+}
+
+fn removing_from(
+    alloc: Global,
+    root: Option<&str>,
+    names: Option<Texts>,
+) -> Result<Option<Removing>, AllocError>
+    ensures { IfOk result (λ asked. asked ≡ removing_from (option_map (λ s. s.now) root.entry) names) }
+{
+    let (Some(root), Some(names)) = (root, names) else {
+        return Ok(None);
+    };
+    if !is_absolute(root) {
+        return Ok(None);
+    }
+    let root = Text::from_str(alloc, root)?;
+    Ok(Some(Removing { root, names }))
+}
+
+/// The packages that are to be removed or purged, unless the words have a fault.
+pub(crate) fn removing_of(
+    alloc: Global,
+    found: &ArgMatches<'_>,
+) -> Result<Option<Removing>, AllocError>
+    ensures { IfOk result (λ asked. asked ≡ removing_of (rows_of (found_of found.now))) }
+{
+    let names = names_of(alloc, found)?;
+    removing_from(alloc, text_of(found, "root"), names)
+}

@@ -1,0 +1,10 @@
+mod Least
+mod Staying
+mod PathLists
+mod Tables
+mod NothingSettled
+mod SettledLaws
+mod Fits
+mod Made
+mod Planned
+mod Looking

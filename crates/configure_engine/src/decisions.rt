@@ -1,0 +1,122 @@
+// What becomes of the conffiles of a record.
+ghost use Rattle.std.specs.Prelude.{◌≡◌, [], IfOk, OnOk, map};
+ghost use Rattle.std.specs.List.{All};
+ghost use Rattle.host_core.specs.Host.{Counts, Reads, Silent, Tells};
+ghost use Rattle.conffiles.specs.Settling.{digest_at};
+ghost use Rattle.status_db.specs.Conffiles.{recorded_digest};
+ghost use Rattle.configure_engine.specs.Decided.{decided_paths, AreDecided, IsDecidedOf};
+ghost use Rattle.configure_engine.specs.Waiting.{pending_digest, settling_paths};
+
+use crate::waiting::settling_paths;
+use conffiles::{ConfPolicy, Digest, Settled, decide};
+use host_core::{Host, HostFault, Node, ShipPath};
+use status_db::{ConffileEntry, PendingDigest, Record};
+use std::alloc::Global;
+
+fn recorded_digest(entries: &[ConffileEntry], path: &ShipPath) -> Option<Digest>
+    ensures { result ≡ recorded_digest entries.now path.now }
+{
+    for entry in entries {
+        if path.as_str() == entry.path.as_str() {
+            return entry.digest;
+        }
+    }
+    None
+}
+
+fn pending_digest(pending: &[PendingDigest], path: &ShipPath) -> Option<Digest>
+    ensures { result ≡ pending_digest pending.now path.now }
+{
+    for shipped in pending {
+        if path.as_str() == shipped.path.as_str() {
+            return Some(shipped.digest);
+        }
+    }
+    None
+}
+
+fn digest_of(node: &Option<Node>) -> Option<Digest>
+    ensures { result ≡ digest_at node.now }
+{
+    match node {
+        Some(Node::File { bytes, .. }) => Some(Digest::of(bytes.as_slice())),
+        Some(Node::Dir { .. }) => None,
+        Some(Node::Link { .. }) => None,
+        None => None,
+    }
+}
+
+// The digest of the file that is there now.
+#[tactic(auto, using(host_core::specs::Moments::reads_then))]
+fn digest_now<H: Host>(host: &mut H, path: &ShipPath) -> Result<Option<Digest>, HostFault>
+    ensures found { Tells result (λ digest w. digest ≡ digest_at (w path.now)) (H.state host.old) (H.state host.new) }
+    ensures reads { Reads (H.state host.old) (H.state host.new) }
+    ensures silent { Silent (H.state host.old) (H.state host.new) }
+    ensures counts { Counts (H.state host.old) (H.state host.new) result }
+{
+    let home = path.at()?;
+    let node = host.node(&home)?;
+    Ok(digest_of(&node))
+}
+
+// What becomes of one of them.
+fn decide_one<H: Host>(
+    host: &mut H,
+    entry: &Record,
+    policy: ConfPolicy,
+    path: &ShipPath,
+) -> Result<Settled, HostFault>
+    ensures path { IfOk result (λ e. e.path ≡ path.now) }
+    ensures decided { Tells result (λ e w. IsDecidedOf entry.now policy w e) (H.state host.old) (H.state host.new) }
+    ensures reads { Reads (H.state host.old) (H.state host.new) }
+    ensures silent { Silent (H.state host.old) (H.state host.new) }
+    ensures counts { Counts (H.state host.old) (H.state host.new) result }
+{
+    let current = digest_now(host, path)?;
+    let recorded = recorded_digest(entry.conffiles.as_slice(), path);
+    let shipped = pending_digest(entry.pending.as_slice(), path);
+    let decision = decide(recorded, current, shipped, policy);
+    Ok(Settled::new(path.copy()?, decision))
+}
+
+// What becomes of each.
+fn decide_each<H: Host>(
+    host: &mut H,
+    entry: &Record,
+    policy: ConfPolicy,
+    paths: &[ShipPath],
+    list: &mut Vec<Settled>,
+) -> Result<(), HostFault>
+    requires { list.old.items ≡ [] }
+    ensures paths { OnOk result (decided_paths list.new.items ≡ paths.now) }
+    ensures decided { Tells result (λ done w. All (IsDecidedOf entry.now policy w) list.new.items) (H.state host.old) (H.state host.new) }
+    ensures reads { Reads (H.state host.old) (H.state host.new) }
+    ensures silent { Silent (H.state host.old) (H.state host.new) }
+    ensures counts { Counts (H.state host.old) (H.state host.new) result }
+{
+    for path in paths {
+        list.push(decide_one(host, entry, policy, path)?)?;
+    }
+    Ok(())
+}
+
+/// What becomes of the conffiles of a record that are to be settled, by the files that are there now.
+pub(crate) fn decisions<H: Host>(
+    alloc: Global,
+    host: &mut H,
+    entry: &Record,
+    policy: ConfPolicy,
+) -> Result<Vec<Settled>, HostFault>
+    ensures paths { IfOk result (λ list. decided_paths list.items ≡ settling_paths entry.now) }
+    ensures decided { Tells result (λ list w. AreDecided entry.now policy w list.items) (H.state host.old) (H.state host.new) }
+    ensures reads { Reads (H.state host.old) (H.state host.new) }
+    ensures silent { Silent (H.state host.old) (H.state host.new) }
+    ensures counts { Counts (H.state host.old) (H.state host.new) result }
+{
+    let paths = settling_paths(alloc, entry)?;
+    let mut list = Vec::new(alloc);
+    match decide_each(host, entry, policy, paths.as_slice(), &mut list) {
+        Ok(()) => Ok(list),
+        Err(fault) => Err(fault),
+    }
+}

@@ -1,0 +1,106 @@
+// The unit that configures a package.
+ghost use Rattle.std.specs.Prelude.{◌≡◌, true, false, IfOk, OnOk, is_some};
+ghost use Rattle.texts.specs.PackageNames.{is_package_name};
+ghost use Rattle.host_core.specs.Host.{AtEachMomentOf, Counts, Needs, Reads, Silent, Tells};
+ghost use Rattle.host_core.specs.declared.call.Script.TheVariants.{Postinst};
+ghost use Rattle.administration.specs.Places.{script_path as stored_path};
+ghost use Rattle.file_lists.specs.Owners.{places_in};
+ghost use Rattle.status_db.specs.ConffilePaths.{AreInOrder};
+ghost use Rattle.unit_parts.specs.Order.{IsInOrder};
+ghost use Rattle.unit_stages.specs.Holding.{holding};
+ghost use Rattle.configure_engine.specs.Units.{CanConfigure, HasCalled, HasConfigured, HasEnded, IsAmidUnit, IsPlanFor, IsWaiting, given};
+ghost use Rattle.configure_engine.specs.Waiting.{settling_paths};
+
+use crate::decisions::decisions;
+use crate::stages::stages_of;
+use administration::script_path;
+use conffiles::ConfPolicy;
+use diversions::Diversions;
+use file_lists::FileLists;
+use host_core::{Call, Host, HostFault, Places, RootPath, Script};
+use status_db::{NotedDatabase, Record};
+use std::alloc::Global;
+use texts::Text;
+use unit_stages::{Stage, run_stages};
+use unwind_stack::Called;
+
+#[tactic(auto, using(host_core::specs::Moments::reads_then))]
+fn has_postinst<H: Host>(alloc: Global, host: &mut H, name: &Text) -> Result<bool, HostFault>
+    requires named { is_package_name name.now ≡ true }
+    ensures found { Tells result (λ is w. is ≡ is_some (w (stored_path name.now Postinst))) (H.state host.old) (H.state host.new) }
+    ensures reads { Reads (H.state host.old) (H.state host.new) }
+    ensures silent { Silent (H.state host.old) (H.state host.new) }
+    ensures counts { Counts (H.state host.old) (H.state host.new) result }
+{
+    let path = script_path(alloc, name, Script::Postinst)?;
+    Ok(host.kind(&path)?.is_some())
+}
+
+// The conffiles of a record that are to be settled stand in order.
+fn settling_order(entry: &Record)
+    ensures { AreInOrder (settling_paths entry.now) }
+{
+    entry.conffiles.law();
+    entry.pending.law();
+}
+
+// Plans: nothing but looking.
+fn plan<H: Host>(
+    alloc: Global,
+    host: &mut H,
+    entry: &Record,
+    policy: ConfPolicy,
+    listed: &[RootPath],
+) -> Result<Vec<Stage>, HostFault>
+    requires named { is_package_name entry.now.name ≡ true }
+    ensures planned { IfOk result (λ stages. IsPlanFor entry.now policy listed.now (H.state host.old).world (H.state host.new).honest stages.items) }
+    ensures reads { Reads (H.state host.old) (H.state host.new) }
+    ensures silent { Silent (H.state host.old) (H.state host.new) }
+    ensures counts { Counts (H.state host.old) (H.state host.new) result }
+{
+    let stored = has_postinst(alloc, host, &entry.name)?;
+    match decisions(alloc, host, entry, policy) {
+        Ok(list) => Ok(stages_of(alloc, entry, listed, list, stored)?),
+        Err(fault) => Err(fault),
+    }
+}
+
+/// Configures a package that waits for it: its conffiles are settled, and its postinst is called. The answer is the call that
+/// failed, if one did; then the package stays half-configured, and nothing is undone.
+pub fn configure<H: Host>(
+    alloc: Global,
+    host: &mut H,
+    database: &mut NotedDatabase,
+    lists: &mut FileLists,
+    places: &mut Places,
+    diversions: &Diversions,
+    name: &Text,
+    policy: ConfPolicy,
+    told: &mut Vec<Called>,
+) -> Result<Option<Call>, HostFault>
+    requires noting { database.old.closed ≡ false }
+    requires listing { lists.old.closed ≡ false }
+    requires waits { IsWaiting database.old.records name.now }
+    requires kept { places.old ≡ places_in diversions.now.entries lists.old.lists }
+    requires order { Needs (H.state host.old) (IsInOrder database.old lists.old.lists) }
+    requires clear { Needs (H.state host.old) (CanConfigure database.old.records name.now) }
+    ensures unit { IfOk result (λ failed. HasConfigured (given name.now policy diversions.now.entries (holding database.old lists.old)) failed (holding database.new lists.new) (H.state host.old) (H.state host.new) told.old.items told.new.items) }
+    ensures end { IfOk result (λ failed. HasEnded name.now failed database.old.records database.new.records) }
+    ensures order { IfOk result (λ failed. Needs (H.state host.new) (IsInOrder database.new lists.new.lists)) }
+    ensures kept { OnOk result (places.new ≡ places_in diversions.now.entries lists.new.lists) }
+    ensures noting { OnOk result (database.new.closed ≡ false) }
+    ensures listing { OnOk result (lists.new.closed ≡ false) }
+    ensures told { HasCalled (given name.now policy diversions.now.entries (holding database.old lists.old)) (H.state host.old) (H.state host.new) told.old.items told.new.items }
+    ensures any_moment { AtEachMomentOf (IsAmidUnit (given name.now policy diversions.now.entries (holding database.old lists.old))) (H.state host.old) (H.state host.new) }
+    ensures counts { Counts (H.state host.old) (H.state host.new) result }
+{
+    lists.law();
+    let entry = database.get(name).unwrap();
+    settling_order(entry);
+    match plan(alloc, host, entry, policy, lists.list_of(name)) {
+        Ok(stages) => run_stages(
+            alloc, host, database, lists, places, diversions, name, stages, told,
+        ),
+        Err(fault) => Err(fault),
+    }
+}

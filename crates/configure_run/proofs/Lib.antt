@@ -1,0 +1,12 @@
+pub mod Members
+pub mod Numbers
+pub mod Refusals
+pub mod LeftLaws
+pub mod Moments
+pub mod Told
+pub mod Replies
+pub mod Progress
+pub mod Silence
+pub mod Units
+pub mod Taking
+pub mod Runs

@@ -1,0 +1,37 @@
+-- A whole run.
+use Rattle.std.proofs.Common.{ℕ, Bool, List, [], ◌++◌, None, refl, sym}
+use Rattle.std.proofs.lemmas.List.{append-nil}
+use Rattle.conffiles.specs.declared.decisions.ConfPolicy.{ConfPolicy}
+use Rattle.dependency_check.specs.Waiting.{Waiting}
+use Rattle.host_core.specs.Host.{State, Reads, Since}
+use Rattle.host_core.specs.Moments.{since_start, since_then, since_weaker}
+use Rattle.unit_reports.specs.Held.{Held}
+use Rattle.unit_reports.specs.declared.report.Unit.{Unit as AUnit}
+use Rattle.configure_run.specs.Run.{Begins, HasRun, IsAmidRun, IsConfigureRun}
+use Rattle.configure_run.specs.Turns.{EndTurns, IsAmidTurns, IsStill, StopTurns}
+use Rattle.configure_run.proofs.LeftLaws.{left_some}
+use Rattle.configure_run.proofs.Moments.{since_still, still_here}
+
+pub reads_here : (s : State) → Reads s s
+reads_here s = record { honest = λ h. h; world = refl; added = []; failed = tt; events = sym (append-nil s.events) }
+
+module _ (names : List (List ℕ)) (policy : ConfPolicy) (before : Held) where
+  pub since_run_start : (s : State) → Since (IsAmidRun names policy before s) s s
+  since_run_start s = since_start (IsAmidRun names policy before s) s (IsAmidRun.beginning (still_here s.world))
+
+  pub since_run_reads : (s t : State) → Reads s t → Since (IsAmidRun names policy before s) s t
+  since_run_reads s t reads = since_weaker (IsStill s.world) (IsAmidRun names policy before s) s t (λ x w still. IsAmidRun.beginning still) (since_still s t reads)
+
+  pub since_run : (silent : ℕ → Bool) (start : Waiting) (s m t : State) → Begins names before silent start s m → Since (IsAmidTurns policy silent start before m) m t → Since (IsAmidRun names policy before s) s t
+  since_run silent start s m t begins turns =
+      let first = since_run_reads s m begins.looks in
+      since_then (IsAmidRun names policy before s) s m t first
+      (since_weaker (IsAmidTurns policy silent start before m) (λ x. IsAmidRun names policy before s (first.added ++ x)) m t
+      (λ x w amid. IsAmidRun.turning silent start m first.added x begins first.events refl amid) turns)
+
+  stop_of_end : (silent : ℕ → Bool) (start : Waiting) (s t : State) (first now : List AUnit) (after : Held) → EndTurns policy silent start before s first now after t → StopTurns policy silent start before s first now None t
+  stop_of_end silent start s t first now after ends = StopTurns.leaving ends.q after ends.front ends.turned ends.ended (left_some ends.q ends.front now ends.left_over) tt
+
+  -- what was carried out to the end has come so far
+  pub run_of_whole : (us : List AUnit) (after : Held) (s t : State) → IsConfigureRun names policy us before after s t → HasRun names policy us None before s t
+  run_of_whole us after s t run = HasRun.turning run.first run.refused run.silent run.start run.looked run.begins (stop_of_end run.silent run.start run.looked t run.first us after run.turns)

@@ -1,0 +1,6 @@
+use Rattle.std.proofs.Common.{take}
+use Rattle.configure_run.specs.LeftOver.{AddLeftOver}
+use Rattle.configure_run.proofs.left_over.refuse_numbers.Given as goal
+
+abbrev pub invariant-loop-number : goal.invariant-loop-number
+invariant-loop-number l = AddLeftOver l.turns (take l.number-index l.numbers) l.fn.units.items l.units.items

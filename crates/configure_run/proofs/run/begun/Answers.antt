@@ -1,0 +1,10 @@
+use Rattle.std.proofs.Common.{List, subst}
+use Rattle.configure_run.specs.Starting.{AreSilentOf}
+use Rattle.status_db.specs.declared.record.Record.{Record}
+use Rattle.configure_run.proofs.Numbers.{are_silent}
+use Rattle.configure_run.proofs.run.begun.Goals as goal
+
+pub returns-in-Ok-clause-seen : goal.returns-in-Ok-clause-seen
+returns-in-Ok-clause-seen g c honest =
+    are_silent c.args.names.now c.args.database.now.records c.in_ok-turns.turns c.in_ok-turns.ensures (g.H.Host.state c.args.host.now).world c.in-Ok.silent.items
+    (subst (λ (rs : List Record). AreSilentOf (g.H.Host.state c.args.host.now).world c.args.names.now rs c.in-Ok.silent.items) c.records.ensures (c.in-Ok.ensures.found honest))

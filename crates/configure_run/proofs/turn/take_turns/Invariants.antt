@@ -1,0 +1,36 @@
+use Rattle.std.proofs.Common.{◌≡◌, false}
+use Rattle.dependency_sets.specs.Sets.{has}
+use Rattle.host_core.specs.Host.{Since, faults}
+use Rattle.host_core.specs.Loss.{IsAnswered}
+use Rattle.host_core.specs.Host.{Needs}
+use Rattle.file_lists.specs.Owners.{places_in}
+use Rattle.unit_parts.specs.Order.{IsInOrder}
+use Rattle.unit_reports.specs.Held.{held}
+use Rattle.unit_reports.specs.Units.{calls_of}
+use Rattle.unwind_stack.specs.Transcript.{TellsAll}
+use Rattle.configure_run.specs.Starting.{AreWaiting}
+use Rattle.configure_run.specs.Turns.{HaveTurned, IsAmidTurns}
+use Rattle.configure_run.proofs.Progress.{count}
+use Rattle.configure_run.proofs.turn.take_turns.Given as goal
+
+abbrev pub invariant-loop-taken : goal.invariant-loop-taken
+invariant-loop-taken g l =
+    let old = g.H.Host.state l.fn.host in
+    let now = g.H.Host.state l.host in
+    let before = held l.fn.database l.fn.lists l.diversions in
+    let mid = held l.database l.lists l.diversions in
+    record {
+      turned : HaveTurned l.policy (has l.silent) l.initial.turns before old l.fn.units.items l.units.items l.turns mid now;
+      wait : AreWaiting l.turns l.database.records;
+      no_fault : faults now ≡ faults old;
+      told : TellsAll old now (calls_of l.fn.units.items) (calls_of l.units.items);
+      order : Needs now (IsInOrder l.database l.lists.lists);
+      noting : l.database.closed ≡ false;
+      listing : l.lists.closed ≡ false;
+      kept : l.places ≡ places_in l.diversions.entries l.lists.lists;
+      answered : IsAnswered old now;
+      moments : Since (IsAmidTurns l.policy (has l.silent) l.initial.turns before old) old now;
+    }
+
+abbrev pub decreases-loop-taken : goal.decreases-loop-taken
+decreases-loop-taken g l = count l.turns

@@ -1,0 +1,28 @@
+use Rattle.std.proofs.Common.{◌≡◌, List, ap, map, subst, sym, ◌∙◌}
+use Rattle.dependency_check.specs.Waiting.{Waiting}
+use Rattle.recorded_packages.specs.Packages.{ArePackagesOf}
+use Rattle.relation_index.specs.declared.package.Package.{Package}
+use Rattle.status_db.specs.Words.{is_installed}
+use Rattle.status_db.specs.declared.record.Record.{Record}
+use Rattle.configure_run.specs.Starting.{IsBegun, waits}
+use Rattle.configure_run.proofs.Numbers.{begun_even, named_apart}
+use Rattle.configure_run.proofs.turns.Turns.of.Goals as goal
+use Rattle.configure_run.proofs.turns.Turns.of.Goals.{In_ok-queue}
+
+begun : (c : In_ok-queue) → IsBegun c.args.names.now c.args.database.now.records c.in_ok-queue.queue
+begun c =
+    let is = c.in_ok-queue.ensures in
+    let packages : c.in_ok-queue.queue.packages ≡ c.in_ok-packages.packages = ap (λ (q : Waiting). q.packages) is in
+    record {
+      packages = subst (λ (rs : List Record). ArePackagesOf rs c.in_ok-queue.queue.packages) c.records.ensures (subst (λ (ps : List Package). ArePackagesOf c.records.result.now ps) (sym packages) c.in_ok-packages.ensures);
+      installed = ap (λ (q : Waiting). q.installed) is ∙ c.as_slice.ensures.value ∙ c.in_ok-installed.ensures ∙ ap (map (λ (r : Record). is_installed r.state)) c.records-2.ensures;
+      waiting = ap (λ (q : Waiting). q.waiting) is ∙ c.as_slice-2.ensures.value ∙ c.in_ok-waiting.ensures ∙ ap (map (waits c.args.names.now)) c.records-3.ensures;
+    }
+
+pub invariant_of-result : goal.invariant_of-result
+invariant_of-result c =
+    let so = begun (goal.at.invariant_of-result c).In_ok-queue in (
+      sym (ap (λ (q : Waiting). q.waiting) c.in_ok-queue.ensures ∙ c.as_slice-2.ensures.value),
+      begun_even c.args.names.now c.args.database.now.records c.in_ok-queue.queue so,
+      named_apart c.args.database.now.records c.in_ok-queue.queue.packages c.law.ensures.order so.packages,
+    )

@@ -1,0 +1,30 @@
+use Rattle.std.proofs.Common.{◌≡◌, ℕ, List, Option, Some, None, ◌∙◌}
+use Rattle.std.specs.List.{All}
+use Rattle.conffiles.specs.Settling.{CanSettle}
+use Rattle.configure_engine.specs.Obstacles.{IsObstacle, names_of_all}
+use Rattle.configure_engine.specs.Units.{CanConfigure}
+use Rattle.configure_engine.specs.Waiting.{settling_paths}
+use Rattle.status_db.specs.Records.{record_in}
+use Rattle.configure_run.specs.Turns.{HasObstacle}
+use Rattle.configure_run.proofs.Units.{clear_is, obstacle_is, ok_so}
+use Rattle.configure_run.proofs.unit.obstacle_of.Goals as goal
+
+pub unreachable-requires : goal.unreachable-requires
+unreachable-requires g c =
+    let none : None ≡ record_in c.args.database.now.records c.args.name.now = c.in-None.ensures in
+    let e : None ≡ Some c.requires.waits.entry = none ∙ c.requires.waits.found in
+    cc
+
+pub returns-clause-found : goal.returns-clause-found
+returns-clause-found g c honest =
+    let w = (g.H.Host.state c.args.host.now).world in
+    let entry = c.in-Some.entry.now in
+    ok_so c.obstacle.result (λ (found : Option (List ℕ)). IsObstacle w (names_of_all (settling_paths entry)) found) (λ found. HasObstacle c.args.database.now.records c.args.name.now w found)
+    (λ found is. obstacle_is c.args.database.now.records c.args.name.now w entry found c.in-Some.ensures is) (c.obstacle.ensures.found honest)
+
+pub returns-clause-clear : goal.returns-clause-clear
+returns-clause-clear g c honest =
+    let w = (g.H.Host.state c.args.host.now).world in
+    let entry = c.in-Some.entry.now in
+    ok_so c.obstacle.result (λ (found : Option (List ℕ)). found ≡ None → All (λ x. CanSettle x w) (settling_paths entry)) (λ found. found ≡ None → CanConfigure c.args.database.now.records c.args.name.now w)
+    (λ found is none. clear_is c.args.database.now.records c.args.name.now w entry c.in-Some.ensures (is none)) (c.obstacle.ensures.clear honest)

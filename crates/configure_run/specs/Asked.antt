@@ -1,0 +1,40 @@
+-- The names of a command, and the packages that wait to be configured.
+use Rattle.std.specs.Prelude.{ℕ, Bool, true, false, cond, List, [], ◌∷◌, ◌++◌, ◌&&◌, filter}
+use Rattle.std.specs.List.{list_any, fold}
+use Rattle.std.specs.Str.{bytes_eq}
+use Rattle.status_db.specs.Order.{names_of}
+use Rattle.status_db.specs.declared.record.Record.{Record}
+use Rattle.status_db.specs.declared.words.Flag.{Flag}
+use Rattle.status_db.specs.declared.words.Flag.TheVariants as flag
+use Rattle.status_db.specs.declared.words.State.{State}
+use Rattle.status_db.specs.declared.words.State.TheVariants as state
+
+-- the name behind them, where it isn't among them
+abbrev pub with_name : List (List ℕ) → List ℕ → List (List ℕ)
+with_name names name = cond (list_any (bytes_eq name) names) names (names ++ name ∷ [])
+
+-- each name once, in the order of its first mention: a second one is dropped
+abbrev pub each_once : List (List ℕ) → List (List ℕ)
+each_once names = fold with_name [] names
+
+-- unpacked or half-configured
+abbrev pub is_unconfigured : State → Bool
+is_unconfigured state.NotInstalled = false
+is_unconfigured state.ConfigFiles = false
+is_unconfigured state.HalfInstalled = false
+is_unconfigured state.Unpacked = true
+is_unconfigured state.HalfConfigured = true
+is_unconfigured state.Installed = false
+
+-- it needn't be installed again first
+abbrev pub is_sound : Flag → Bool
+is_sound flag.Ok = true
+is_sound flag.Reinstreq = false
+
+-- a package that can wait to be configured
+abbrev pub can_wait : Record → Bool
+can_wait r = is_unconfigured r.state && is_sound r.flag
+
+-- the names of all packages that can, in name order
+abbrev pub waiting_names : List Record → List (List ℕ)
+waiting_names records = names_of (filter can_wait records)

@@ -1,0 +1,7 @@
+pub mod Asked
+pub mod Early
+pub mod Starting
+pub mod LeftOver
+pub mod Turns
+pub mod Taking
+pub mod Run

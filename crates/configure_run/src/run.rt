@@ -1,0 +1,169 @@
+// All units of a configure.
+ghost use Rattle.std.specs.Prelude.{◌≡◌, ◌++◌, [], Some, IfErr, IfOk, IfSome, IsNone, OnErr, OnOk, false};
+ghost use Rattle.dependency_sets.specs.Sets.{has};
+ghost use Rattle.file_lists.specs.Owners.{places_in};
+ghost use Rattle.host_core.specs.Host.{Counts, Needs, Reads, Silent, Since, Tells, faults};
+ghost use Rattle.host_core.specs.Loss.{IsAnswered};
+ghost use Rattle.unit_parts.specs.Order.{IsInOrder};
+ghost use Rattle.unit_reports.specs.Held.{held};
+ghost use Rattle.unit_reports.specs.Units.{CountsLast, CountsReply, IsBrokenBy, TellsCalls, calls_of};
+ghost use Rattle.unit_reports.specs.declared.report.Breakage.TheVariants.{Closed};
+ghost use Rattle.unwind_stack.specs.Transcript.{TellsAll};
+ghost use Rattle.configure_run.specs.Asked.{each_once};
+ghost use Rattle.configure_run.specs.Early.{AreRefused, AreSomeRefused, early_refusals};
+ghost use Rattle.configure_run.specs.Run.{HasRun, IsAmidRun, IsConfigureRun};
+ghost use Rattle.configure_run.specs.Starting.{AreSilent, IsBegun};
+
+use crate::asked::each_once;
+use crate::early::refuse_early;
+use crate::starting::silent_of;
+use crate::turn::run_turns;
+use crate::turns::Turns;
+use crate::unit::no_memory;
+use conffiles::ConfPolicy;
+use diversions::Diversions;
+use file_lists::FileLists;
+use host_core::{Host, HostFault, Places};
+use status_db::NotedDatabase;
+use std::alloc::{AllocError, Global};
+use texts::Text;
+use unit_reports::{Report, Unit, breakage_of, broken};
+
+// Refuses the packages that can't wait, each once.
+fn refuse_first(
+    alloc: Global,
+    database: &NotedDatabase,
+    names: &[Text],
+    units: &mut Vec<Unit>,
+) -> Result<(), AllocError>
+    requires none { units.old.items ≡ [] }
+    ensures ok { OnOk result (AreRefused (early_refusals database.now.records (each_once names.now)) units.new.items) }
+    ensures err { OnErr result (AreSomeRefused (early_refusals database.now.records (each_once names.now)) units.new.items) }
+{
+    let list = each_once(alloc, names)?;
+    refuse_early(alloc, database, list.as_slice(), units)?;
+    Ok(())
+}
+
+// The turns of the packages that wait, and which of these have no postinst.
+fn begun<H: Host>(
+    alloc: Global,
+    host: &mut H,
+    database: &NotedDatabase,
+    names: &[Text],
+) -> Result<(Turns, Vec<bool>), HostFault>
+    ensures begun { IfOk result (λ both. IsBegun names.now database.now.records both.0) }
+    ensures seen { Tells result (λ both w. AreSilent w both.0 (has both.1.items)) (H.state host.old) (H.state host.new) }
+    ensures reads { Reads (H.state host.old) (H.state host.new) }
+    ensures silent { Silent (H.state host.old) (H.state host.new) }
+    ensures counts { Counts (H.state host.old) (H.state host.new) result }
+{
+    let turns = Turns::of(alloc, database, names)?;
+    match silent_of(alloc, host, names, database.records()) {
+        Ok(silent) => Ok((turns, silent)),
+        Err(fault) => Err(fault),
+    }
+}
+
+// All units of a configure, or the one that was broken off.
+fn run_all<H: Host>(
+    alloc: Global,
+    host: &mut H,
+    database: &mut NotedDatabase,
+    lists: &mut FileLists,
+    places: &mut Places,
+    diversions: &Diversions,
+    names: &[Text],
+    policy: ConfPolicy,
+    units: &mut Vec<Unit>,
+) -> Result<(), Unit>
+    requires none { units.old.items ≡ [] }
+    requires noting { database.old.closed ≡ false }
+    requires listing { lists.old.closed ≡ false }
+    requires kept { places.old ≡ places_in diversions.now.entries lists.old.lists }
+    requires order { Needs (H.state host.old) (IsInOrder database.old lists.old.lists) }
+    ensures ok { OnOk result (IsConfigureRun names.now policy units.new.items (held database.old lists.old diversions.now) (held database.new lists.new diversions.now) (H.state host.old) (H.state host.new)) }
+    ensures err { IfErr result (λ unit. HasRun names.now policy units.new.items (Some unit) (held database.old lists.old diversions.now) (H.state host.old) (H.state host.new)) }
+    ensures answered { OnOk result (IsAnswered (H.state host.old) (H.state host.new)) }
+    ensures order { OnOk result (Needs (H.state host.new) (IsInOrder database.new lists.new.lists)) }
+    ensures noting { OnOk result (database.new.closed ≡ false) }
+    ensures listing { OnOk result (lists.new.closed ≡ false) }
+    ensures kept { OnOk result (places.new ≡ places_in diversions.now.entries lists.new.lists) }
+    ensures told { OnOk result (TellsAll (H.state host.old) (H.state host.new) [] (calls_of units.new.items)) }
+    ensures told_broken { IfErr result (λ unit. TellsAll (H.state host.old) (H.state host.new) [] (calls_of units.new.items ++ unit.calls.items)) }
+    ensures any_moment { Since (IsAmidRun names.now policy (held database.old lists.old diversions.now) (H.state host.old)) (H.state host.old) (H.state host.new) }
+    ensures no_fault { OnOk result (faults (H.state host.new) ≡ faults (H.state host.old)) }
+    ensures counts { IfErr result (λ unit. CountsReply (H.state host.old) (H.state host.new) unit.reply) }
+    ensures not_closed { IfErr result (λ unit. IsBrokenBy Closed unit.reply → ⊥) }
+{
+    database.law();
+    match refuse_first(alloc, database, names, units) {
+        Ok(()) => match begun(alloc, host, database, names) {
+            Ok((turns, silent)) => match run_turns(
+                alloc,
+                host,
+                database,
+                lists,
+                places,
+                diversions,
+                policy,
+                turns,
+                silent.as_slice(),
+                units,
+            ) {
+                Ok(()) => Ok(()),
+                Err(unit) => Err(unit),
+            },
+            Err(fault) => Err(broken(alloc, Vec::new(alloc), breakage_of(fault))),
+        },
+        Err(_) => Err(no_memory(alloc)),
+    }
+}
+
+/// Configures packages: those that can't wait are refused, in the order in which they are named; then each is
+/// configured at its turn, as what it depends on is; and those that are left over are refused.
+pub fn configure_packages<H: Host>(
+    alloc: Global,
+    host: &mut H,
+    database: &mut NotedDatabase,
+    lists: &mut FileLists,
+    places: &mut Places,
+    diversions: &Diversions,
+    names: Vec<Text>,
+    policy: ConfPolicy,
+) -> Report
+    requires noting { database.old.closed ≡ false }
+    requires listing { lists.old.closed ≡ false }
+    requires kept { places.old ≡ places_in diversions.now.entries lists.old.lists }
+    requires order { Needs (H.state host.old) (IsInOrder database.old lists.old.lists) }
+    ensures whole { IsNone result.last → IsConfigureRun names.items policy result.units.items (held database.old lists.old diversions.now) (held database.new lists.new diversions.now) (H.state host.old) (H.state host.new) }
+    ensures part { HasRun names.items policy result.units.items result.last (held database.old lists.old diversions.now) (H.state host.old) (H.state host.new) }
+    ensures told { TellsCalls (H.state host.old) (H.state host.new) result }
+    ensures any_moment { Since (IsAmidRun names.items policy (held database.old lists.old diversions.now) (H.state host.old)) (H.state host.old) (H.state host.new) }
+    ensures answered { IsNone result.last → IsAnswered (H.state host.old) (H.state host.new) }
+    ensures order { IsNone result.last → Needs (H.state host.new) (IsInOrder database.new lists.new.lists) }
+    ensures noting { IsNone result.last → database.new.closed ≡ false }
+    ensures listing { IsNone result.last → lists.new.closed ≡ false }
+    ensures kept { IsNone result.last → places.new ≡ places_in diversions.now.entries lists.new.lists }
+    ensures counts { CountsLast (H.state host.old) (H.state host.new) result.last }
+    ensures not_closed { IfSome result.last (λ unit. IsBrokenBy Closed unit.reply → ⊥) }
+{
+    let mut units = Vec::new(alloc);
+    match run_all(
+        alloc,
+        host,
+        database,
+        lists,
+        places,
+        diversions,
+        names.as_slice(),
+        policy,
+        &mut units,
+    ) {
+        Ok(()) => Report { units, last: None },
+        Err(unit) => Report {
+            units,
+            last: Some(unit),
+        },
+    }
+}

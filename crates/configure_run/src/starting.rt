@@ -1,0 +1,94 @@
+// The packages as numbers, and which of them wait and call no script, when configuring begins.
+ghost use Rattle.std.specs.Prelude.{◌≡◌, IfOk, map, true};
+ghost use Rattle.administration.specs.Places.{script_path as stored_path};
+ghost use Rattle.host_core.specs.Host.{Counts, Reads, Silent, Tells};
+ghost use Rattle.status_db.specs.Words.{is_installed};
+ghost use Rattle.texts.specs.PackageNames.{is_package_name};
+ghost use Rattle.configure_run.specs.Starting.{AreSilentOf, is_silent, waits};
+
+use crate::asked::{can_wait, has_name};
+use administration::script_path;
+use host_core::{Host, HostFault, Script};
+use status_db::{NotedDatabase, Record};
+use std::alloc::{AllocError, Global};
+use texts::Text;
+
+fn waits(names: &[Text], entry: &Record) -> bool
+    ensures { result ≡ waits names.now entry.now }
+{
+    can_wait(entry) && has_name(names, &entry.name)
+}
+
+pub(crate) fn installed_of(alloc: Global, records: &[Record]) -> Result<Vec<bool>, AllocError>
+    ensures { IfOk result (λ set. set.items ≡ map (λ r. is_installed r.state) records.now) }
+{
+    let mut set = Vec::new(alloc);
+    for entry in records {
+        set.push(entry.state.is_installed())?;
+    }
+    Ok(set)
+}
+
+pub(crate) fn waiting_of(
+    alloc: Global,
+    names: &[Text],
+    records: &[Record],
+) -> Result<Vec<bool>, AllocError>
+    ensures { IfOk result (λ set. set.items ≡ map (waits names.now) records.now) }
+{
+    let mut set = Vec::new(alloc);
+    for entry in records {
+        set.push(waits(names, entry))?;
+    }
+    Ok(set)
+}
+
+// Whether no postinst is stored with a package.
+#[tactic(auto, using(host_core::specs::Moments::reads_then))]
+fn is_silent<H: Host>(alloc: Global, host: &mut H, name: &Text) -> Result<bool, HostFault>
+    requires named { is_package_name name.now ≡ true }
+    ensures found { Tells result (λ is w. is ≡ is_silent w name.now) (H.state host.old) (H.state host.new) }
+    ensures reads { Reads (H.state host.old) (H.state host.new) }
+    ensures silent { Silent (H.state host.old) (H.state host.new) }
+    ensures counts { Counts (H.state host.old) (H.state host.new) result }
+{
+    let path = script_path(alloc, name, Script::Postinst)?;
+    Ok(host.kind(&path)?.is_none())
+}
+
+// The same of a record's package, which isn't looked for where it doesn't wait.
+fn is_silent_at<H: Host>(
+    alloc: Global,
+    host: &mut H,
+    names: &[Text],
+    entry: &Record,
+) -> Result<bool, HostFault>
+    ensures found { Tells result (λ is w. waits names.now entry.now ≡ true → is ≡ is_silent w entry.now.name) (H.state host.old) (H.state host.new) }
+    ensures reads { Reads (H.state host.old) (H.state host.new) }
+    ensures silent { Silent (H.state host.old) (H.state host.new) }
+    ensures counts { Counts (H.state host.old) (H.state host.new) result }
+{
+    if waits(names, entry) {
+        return is_silent(alloc, host, &entry.name);
+    }
+    Ok(false)
+}
+
+/// Which of the packages that wait have no postinst.
+pub(crate) fn silent_of<H: Host>(
+    alloc: Global,
+    host: &mut H,
+    names: &[Text],
+    records: &[Record],
+) -> Result<Vec<bool>, HostFault>
+    ensures found { Tells result (λ set w. AreSilentOf w names.now records.now set.items) (H.state host.old) (H.state host.new) }
+    ensures reads { Reads (H.state host.old) (H.state host.new) }
+    ensures silent { Silent (H.state host.old) (H.state host.new) }
+    ensures counts { Counts (H.state host.old) (H.state host.new) result }
+{
+    let mut set = Vec::new(alloc);
+    for entry in records {
+        set.push(is_silent_at(alloc, host, names, entry)?)?;
+    }
+    Ok(set)
+}

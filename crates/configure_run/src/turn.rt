@@ -1,0 +1,216 @@
+// Turns, one after another.
+ghost use Rattle.std.specs.Prelude.{◌≡◌, ◌++◌, ℕ, [], None, Some, IfErr, IfOk, IfSome, OnErr, OnOk, false};
+ghost use Rattle.dependency_check.specs.Waiting.{IsConfigurableNow, IsNextOfConfigurable};
+ghost use Rattle.dependency_sets.specs.Sets.{has};
+ghost use Rattle.file_lists.specs.Owners.{places_in};
+ghost use Rattle.host_core.specs.Host.{AtEachMomentOf, Needs, Since, faults};
+ghost use Rattle.host_core.specs.Loss.{IsAnswered};
+ghost use Rattle.unit_parts.specs.Order.{IsInOrder};
+ghost use Rattle.unit_reports.specs.Held.{held};
+ghost use Rattle.unit_reports.specs.Units.{CountsReply, IsBrokenBy, calls_of};
+ghost use Rattle.unit_reports.specs.declared.report.Breakage.TheVariants.{Closed};
+ghost use Rattle.unwind_stack.specs.Transcript.{TellsAll};
+ghost use Rattle.configure_run.specs.Starting.{AreWaiting};
+ghost use Rattle.configure_run.specs.Turns.{EndTurns, HaveTurned, IsAmidNext, IsAmidTurns, IsBrokenOff, StopTurns, after_turn};
+ghost use Rattle.configure_run.specs.Taking.{IsAmidTurn, IsBrokenAt, TakesNext, TakesTurn};
+
+use crate::left_over::refuse_left;
+use crate::turns::Turns;
+use crate::unit::{is_done, no_memory, unit_of};
+use conffiles::ConfPolicy;
+use diversions::Diversions;
+use file_lists::FileLists;
+use host_core::{Host, Places};
+use status_db::NotedDatabase;
+use std::alloc::Global;
+use unit_reports::{Unit, is_broken};
+
+// The unit of the package of a number more, or the unit that was broken off. The answer is whether it was configured.
+fn take_turn<H: Host>(
+    alloc: Global,
+    host: &mut H,
+    database: &mut NotedDatabase,
+    lists: &mut FileLists,
+    places: &mut Places,
+    diversions: &Diversions,
+    policy: ConfPolicy,
+    turns: &Turns,
+    number: usize,
+    units: &mut Vec<Unit>,
+) -> Result<bool, Unit>
+    requires noting { database.old.closed ≡ false }
+    requires listing { lists.old.closed ≡ false }
+    requires wait { AreWaiting turns.now database.old.records }
+    requires kept { places.old ≡ places_in diversions.now.entries lists.old.lists }
+    requires order { Needs (H.state host.old) (IsInOrder database.old lists.old.lists) }
+    requires member { IsConfigurableNow turns.now number }
+    ensures ok { IfOk result (λ done. TakesTurn policy turns.now number done (held database.old lists.old diversions.now) (held database.new lists.new diversions.now) (H.state host.old) (H.state host.new) units.old.items units.new.items) }
+    ensures wait { IfOk result (λ done. AreWaiting (after_turn done number turns.now) database.new.records) }
+    ensures order { OnOk result (Needs (H.state host.new) (IsInOrder database.new lists.new.lists)) }
+    ensures noting { OnOk result (database.new.closed ≡ false) }
+    ensures listing { OnOk result (lists.new.closed ≡ false) }
+    ensures kept { OnOk result (places.new ≡ places_in diversions.now.entries lists.new.lists) }
+    ensures err { OnErr result (units.new.items ≡ units.old.items) }
+    ensures broken_off { IfErr result (IsBrokenAt policy turns.now number (held database.old lists.old diversions.now) (H.state host.old) (H.state host.new)) }
+    ensures told { OnOk result (TellsAll (H.state host.old) (H.state host.new) (calls_of units.old.items) (calls_of units.new.items)) }
+    ensures told_broken { IfErr result (λ unit. TellsAll (H.state host.old) (H.state host.new) [] unit.calls.items) }
+    ensures any_moment { AtEachMomentOf (IsAmidTurn policy turns.now number (held database.old lists.old diversions.now)) (H.state host.old) (H.state host.new) }
+    ensures no_fault { OnOk result (faults (H.state host.new) ≡ faults (H.state host.old)) }
+    ensures counts { IfErr result (λ unit. CountsReply (H.state host.old) (H.state host.new) unit.reply) }
+    ensures not_closed { IfErr result (λ unit. IsBrokenBy Closed unit.reply → ⊥) }
+{
+    if units.reserve(1).is_err() {
+        return Err(no_memory(alloc));
+    }
+    turns.law();
+    let packages = turns.packages();
+    let of = &packages.as_slice()[number];
+    let unit = unit_of(
+        alloc, host, database, lists, places, diversions, packages, of, policy,
+    );
+    if is_broken(&unit) {
+        return Err(unit);
+    }
+    let done = is_done(&unit);
+    units.push(unit).unwrap();
+    Ok(done)
+}
+
+// The same of the next package; the answer has its number too, and is none where no turn is left.
+fn take_next<H: Host>(
+    alloc: Global,
+    host: &mut H,
+    database: &mut NotedDatabase,
+    lists: &mut FileLists,
+    places: &mut Places,
+    diversions: &Diversions,
+    policy: ConfPolicy,
+    turns: &Turns,
+    silent: &[bool],
+    units: &mut Vec<Unit>,
+) -> Result<Option<(usize, bool)>, Unit>
+    requires noting { database.old.closed ≡ false }
+    requires listing { lists.old.closed ≡ false }
+    requires wait { AreWaiting turns.now database.old.records }
+    requires kept { places.old ≡ places_in diversions.now.entries lists.old.lists }
+    requires order { Needs (H.state host.old) (IsInOrder database.old lists.old.lists) }
+    ensures ok { IfOk result (λ next. TakesNext policy (has silent.now) turns.now next (held database.old lists.old diversions.now) (held database.new lists.new diversions.now) (H.state host.old) (H.state host.new) units.old.items units.new.items) }
+    ensures member { IfOk result (λ next. IfSome next (λ n. IsConfigurableNow turns.now n.0)) }
+    ensures none_left { IfOk result (λ next. next ≡ None → (x : ℕ) → IsConfigurableNow turns.now x → ⊥) }
+    ensures wait { IfOk result (λ next. IfSome next (λ n. AreWaiting (after_turn n.1 n.0 turns.now) database.new.records)) }
+    ensures order { OnOk result (Needs (H.state host.new) (IsInOrder database.new lists.new.lists)) }
+    ensures noting { OnOk result (database.new.closed ≡ false) }
+    ensures listing { OnOk result (lists.new.closed ≡ false) }
+    ensures kept { OnOk result (places.new ≡ places_in diversions.now.entries lists.new.lists) }
+    ensures err { OnErr result (units.new.items ≡ units.old.items) }
+    ensures broken_off { IfErr result (IsBrokenOff policy (has silent.now) turns.now (held database.old lists.old diversions.now) (H.state host.old) (H.state host.new)) }
+    ensures told { OnOk result (TellsAll (H.state host.old) (H.state host.new) (calls_of units.old.items) (calls_of units.new.items)) }
+    ensures told_broken { IfErr result (λ unit. TellsAll (H.state host.old) (H.state host.new) [] unit.calls.items) }
+    ensures any_moment { AtEachMomentOf (IsAmidNext policy (has silent.now) turns.now (held database.old lists.old diversions.now)) (H.state host.old) (H.state host.new) }
+    ensures no_fault { OnOk result (faults (H.state host.new) ≡ faults (H.state host.old)) }
+    ensures counts { IfErr result (λ unit. CountsReply (H.state host.old) (H.state host.new) unit.reply) }
+    ensures not_closed { IfErr result (λ unit. IsBrokenBy Closed unit.reply → ⊥) }
+{
+    match turns.next(alloc, silent) {
+        Ok(Some(number)) => match take_turn(
+            alloc, host, database, lists, places, diversions, policy, turns, number, units,
+        ) {
+            Ok(done) => Ok(Some((number, done))),
+            Err(unit) => Err(unit),
+        },
+        Ok(None) => Ok(None),
+        Err(_) => Err(no_memory(alloc)),
+    }
+}
+
+// All turns, up to a unit that is broken off. The answer is what is left over.
+fn take_turns<H: Host>(
+    alloc: Global,
+    host: &mut H,
+    database: &mut NotedDatabase,
+    lists: &mut FileLists,
+    places: &mut Places,
+    diversions: &Diversions,
+    policy: ConfPolicy,
+    turns: Turns,
+    silent: &[bool],
+    units: &mut Vec<Unit>,
+) -> Result<Turns, Unit>
+    requires noting { database.old.closed ≡ false }
+    requires listing { lists.old.closed ≡ false }
+    requires wait { AreWaiting turns database.old.records }
+    requires kept { places.old ≡ places_in diversions.now.entries lists.old.lists }
+    requires order { Needs (H.state host.old) (IsInOrder database.old lists.old.lists) }
+    ensures ok { IfOk result (λ left. HaveTurned policy (has silent.now) turns (held database.old lists.old diversions.now) (H.state host.old) units.old.items units.new.items left (held database.new lists.new diversions.now) (H.state host.new)) }
+    ensures ended { IfOk result (λ left. IsNextOfConfigurable left (has silent.now) None) }
+    ensures none_left { IfOk result (λ left. (x : ℕ) → IsConfigurableNow left x → ⊥) }
+    ensures answered { OnOk result (IsAnswered (H.state host.old) (H.state host.new)) }
+    ensures order { OnOk result (Needs (H.state host.new) (IsInOrder database.new lists.new.lists)) }
+    ensures noting { OnOk result (database.new.closed ≡ false) }
+    ensures listing { OnOk result (lists.new.closed ≡ false) }
+    ensures kept { OnOk result (places.new ≡ places_in diversions.now.entries lists.new.lists) }
+    ensures err { IfErr result (λ unit. StopTurns policy (has silent.now) turns (held database.old lists.old diversions.now) (H.state host.old) units.old.items units.new.items (Some unit) (H.state host.new)) }
+    ensures told { OnOk result (TellsAll (H.state host.old) (H.state host.new) (calls_of units.old.items) (calls_of units.new.items)) }
+    ensures told_broken { IfErr result (λ unit. TellsAll (H.state host.old) (H.state host.new) (calls_of units.old.items) (calls_of units.new.items ++ unit.calls.items)) }
+    ensures any_moment { Since (IsAmidTurns policy (has silent.now) turns (held database.old lists.old diversions.now) (H.state host.old)) (H.state host.old) (H.state host.new) }
+    ensures no_fault { OnOk result (faults (H.state host.new) ≡ faults (H.state host.old)) }
+    ensures counts { IfErr result (λ unit. CountsReply (H.state host.old) (H.state host.new) unit.reply) }
+    ensures not_closed { IfErr result (λ unit. IsBrokenBy Closed unit.reply → ⊥) }
+{
+    let mut turns = turns;
+    loop {
+        match take_next(
+            alloc, host, database, lists, places, diversions, policy, &turns, silent, units,
+        ) {
+            Ok(Some(taken)) => match turns.after(taken.0, taken.1) {
+                Ok(left) => turns = left,
+                Err(_) => return Err(no_memory(alloc)),
+            },
+            Ok(None) => return Ok(turns),
+            Err(unit) => return Err(unit),
+        }
+    }
+}
+
+/// All turns, and the refusals of those left over; or the unit that was broken off.
+pub(crate) fn run_turns<H: Host>(
+    alloc: Global,
+    host: &mut H,
+    database: &mut NotedDatabase,
+    lists: &mut FileLists,
+    places: &mut Places,
+    diversions: &Diversions,
+    policy: ConfPolicy,
+    turns: Turns,
+    silent: &[bool],
+    units: &mut Vec<Unit>,
+) -> Result<(), Unit>
+    requires noting { database.old.closed ≡ false }
+    requires listing { lists.old.closed ≡ false }
+    requires wait { AreWaiting turns database.old.records }
+    requires kept { places.old ≡ places_in diversions.now.entries lists.old.lists }
+    requires order { Needs (H.state host.old) (IsInOrder database.old lists.old.lists) }
+    ensures ok { OnOk result (EndTurns policy (has silent.now) turns (held database.old lists.old diversions.now) (H.state host.old) units.old.items units.new.items (held database.new lists.new diversions.now) (H.state host.new)) }
+    ensures answered { OnOk result (IsAnswered (H.state host.old) (H.state host.new)) }
+    ensures order { OnOk result (Needs (H.state host.new) (IsInOrder database.new lists.new.lists)) }
+    ensures noting { OnOk result (database.new.closed ≡ false) }
+    ensures listing { OnOk result (lists.new.closed ≡ false) }
+    ensures kept { OnOk result (places.new ≡ places_in diversions.now.entries lists.new.lists) }
+    ensures err { IfErr result (λ unit. StopTurns policy (has silent.now) turns (held database.old lists.old diversions.now) (H.state host.old) units.old.items units.new.items (Some unit) (H.state host.new)) }
+    ensures told { OnOk result (TellsAll (H.state host.old) (H.state host.new) (calls_of units.old.items) (calls_of units.new.items)) }
+    ensures told_broken { IfErr result (λ unit. TellsAll (H.state host.old) (H.state host.new) (calls_of units.old.items) (calls_of units.new.items ++ unit.calls.items)) }
+    ensures any_moment { Since (IsAmidTurns policy (has silent.now) turns (held database.old lists.old diversions.now) (H.state host.old)) (H.state host.old) (H.state host.new) }
+    ensures no_fault { OnOk result (faults (H.state host.new) ≡ faults (H.state host.old)) }
+    ensures counts { IfErr result (λ unit. CountsReply (H.state host.old) (H.state host.new) unit.reply) }
+    ensures not_closed { IfErr result (λ unit. IsBrokenBy Closed unit.reply → ⊥) }
+{
+    match take_turns(
+        alloc, host, database, lists, places, diversions, policy, turns, silent, units,
+    ) {
+        Ok(left) => match refuse_left(alloc, &left, units) {
+            Ok(()) => Ok(()),
+            Err(_) => Err(no_memory(alloc)),
+        },
+        Err(unit) => Err(unit),
+    }
+}

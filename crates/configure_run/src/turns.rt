@@ -1,0 +1,125 @@
+// Packages that wait for their turn.
+ghost use Rattle.std.specs.Prelude.{◌≡◌, ◌<◌, ℕ, None, IfOk, IfSome, IsTrue, false, length, slice_set};
+ghost use Rattle.dependency_check.specs.Waiting.{IsConfigurableNow, IsNextOfConfigurable};
+ghost use Rattle.dependency_sets.specs.Choices.{IsListing};
+ghost use Rattle.dependency_sets.specs.Sets.{has};
+ghost use Rattle.configure_run.specs.Starting.{AreNamedApart, IsBegun, IsEven};
+ghost use Rattle.configure_run.specs.Turns.{after_turn};
+
+use crate::starting::{installed_of, waiting_of};
+use dependency_check::ConfigureQueue;
+use dependency_sets::{Numbers, listed};
+use recorded_packages::packages_of;
+use relation_index::Packages;
+use status_db::NotedDatabase;
+use std::alloc::{AllocError, Global};
+use std::marker::Model;
+use texts::Text;
+
+/// The queue of the packages, and which of them wait.
+#[derive(Drop)]
+pub(crate) struct Turns {
+    queue: ConfigureQueue,
+    waiting: Vec<bool>,
+}
+
+impl Model for Turns {
+    ghost use Rattle.std.specs.Prelude.{◌≡◌};
+    ghost use Rattle.dependency_check.specs.Waiting.{Waiting};
+    ghost use Rattle.configure_run.specs.Starting.{AreNamedApart, IsEven};
+
+    ghost Value = { Waiting };
+
+    ghost view = { λ t. t.queue };
+
+    ghost invariant = { λ t. (t.waiting.items ≡ t.queue.waiting) × IsEven t.queue × AreNamedApart t.queue.packages };
+}
+
+// What is left of the queue.
+fn queue_after(
+    queue: ConfigureQueue,
+    number: usize,
+    done: bool,
+) -> Result<ConfigureQueue, AllocError>
+    requires room { number < length queue.installed }
+    requires member { IsConfigurableNow queue number }
+    ensures { IfOk result (λ q. q ≡ after_turn done number queue) }
+{
+    let mut queue = queue;
+    if done {
+        queue.installed(number);
+        return Ok(queue);
+    }
+    queue.failed(number)
+}
+
+impl Turns {
+    /// The turns of the named packages that can wait.
+    pub(crate) fn of(
+        alloc: Global,
+        database: &NotedDatabase,
+        names: &[Text],
+    ) -> Result<Turns, AllocError>
+        ensures { IfOk result (IsBegun names.now database.now.records) }
+    {
+        database.law();
+        let packages = packages_of(alloc, database.records())?;
+        let installed = installed_of(alloc, database.records())?;
+        let waiting = waiting_of(alloc, names, database.records())?;
+        let queue = ConfigureQueue::of(alloc, packages, installed.as_slice(), waiting.as_slice())?;
+        Ok(Turns { queue, waiting })
+    }
+
+    /// What holds of all turns.
+    pub(crate) fn law(&self)
+        ensures even { IsEven self.now }
+        ensures apart { AreNamedApart self.now.packages }
+    {
+        let _ = &self.queue;
+    }
+
+    pub(crate) fn packages(&self) -> &Packages
+        ensures { result.now ≡ self.now.packages }
+    {
+        self.queue.packages()
+    }
+
+    pub(crate) fn supply(&self) -> &[bool]
+        ensures { result.now ≡ self.now.installed }
+    {
+        self.queue.supply()
+    }
+
+    /// Whose turn it is; `silent` are the packages without postinst.
+    pub(crate) fn next(&self, alloc: Global, silent: &[bool]) -> Result<Option<usize>, AllocError>
+        ensures next { IfOk result (IsNextOfConfigurable self.now (has silent.now)) }
+        ensures member { IfOk result (λ next. IfSome next (IsConfigurableNow self.now)) }
+        ensures none_left { IfOk result (λ next. next ≡ None → (x : ℕ) → IsConfigurableNow self.now x → ⊥) }
+    {
+        let _ = self.queue.members();
+        let next = self.queue.next(alloc, silent)?;
+        Ok(next)
+    }
+
+    /// The packages that still wait.
+    pub(crate) fn left(&self, alloc: Global) -> Result<Numbers, AllocError>
+        ensures { IfOk result (IsListing (λ x. IsTrue (has self.now.waiting x))) }
+    {
+        let left = listed(alloc, self.waiting.as_slice())?;
+        Ok(left)
+    }
+
+    /// The turns behind that of a package, which was configured or wasn't. Where memory is wanting they are gone.
+    pub(crate) fn after(self, number: usize, done: bool) -> Result<Turns, AllocError>
+        requires member { IsConfigurableNow self number }
+        ensures { IfOk result (λ t. t ≡ after_turn done number self) }
+    {
+        let Turns { queue, mut waiting } = self;
+        waiting[number] = false;
+        let left = queue_after(queue, number, done)?;
+        Ok(Turns {
+            queue: left,
+            waiting,
+        })
+    }
+}

@@ -1,0 +1,310 @@
+// The unit of the package whose turn it is.
+ghost use Rattle.std.specs.Prelude.{◌≡◌, ◌⊎◌, ◌<◌, [], ◌∷◌, None, IfOk, OnOk, false, length};
+ghost use Rattle.configure_engine.specs.Units.{CanConfigure, HasEnded, IsAmidUnit as IsAmidConfiguring, IsWaiting};
+ghost use Rattle.file_lists.specs.Owners.{places_in};
+ghost use Rattle.host_core.specs.Host.{AtEachMomentOf, Counts, Needs, Reads, Silent, Tells};
+ghost use Rattle.host_core.specs.Loss.{IsAnswered, IsOnDisk};
+ghost use Rattle.unit_parts.specs.Order.{IsInOrder};
+ghost use Rattle.unit_reports.specs.Held.{held};
+ghost use Rattle.unit_reports.specs.Units as reports;
+ghost use Rattle.unit_reports.specs.Units.{CountsReply, IsBroken, IsBrokenBy, IsRefusedUnit};
+ghost use Rattle.unit_reports.specs.declared.report.Breakage.TheVariants.{Closed, NoMemory};
+ghost use Rattle.unit_reports.specs.declared.refusal.Rule.TheVariants.{BrokenBy};
+ghost use Rattle.configure_run.specs.Starting.{name_at};
+ghost use Rattle.configure_run.specs.Turns.{Answers, ConfiguresToDisk, HasCalledFor, HasCalledToDisk, HasObstacle, IsAmidUnit, IsBeside, IsConfigured, IsUnit, IsUnitFor, given_by, holding_of, is_done, reply_to};
+
+use conffiles::ConfPolicy;
+use configure_engine::{configure, obstacle};
+use dependency_check::broken_by;
+use diversions::Diversions;
+use file_lists::FileLists;
+use host_core::{Call, Host, HostFault, Places, RootPath};
+use relation_index::{Package, Packages};
+use stack_run::Failure as Cause;
+use status_db::NotedDatabase;
+use std::alloc::{AllocError, Global};
+use texts::Text;
+use unit_reports::{
+    Breakage, Failure, Reply, Rule, Touched, Unit, breakage_of, broken, refused, touched_at,
+};
+use unwind_stack::Called;
+
+/// Whether a unit did all that was asked.
+pub(crate) fn is_done(unit: &Unit) -> bool
+    ensures { result ≡ is_done unit.now.reply }
+{
+    match &unit.reply {
+        Reply::Done => true,
+        Reply::Refused(_) => false,
+        Reply::Failed(_) => false,
+        Reply::Broken(_) => false,
+    }
+}
+
+/// A unit that was broken off for want of memory, before any call.
+pub(crate) fn no_memory(alloc: Global) -> Unit
+    ensures reply { IsBrokenBy NoMemory result.reply }
+    ensures told { result.calls.items ≡ [] }
+    ensures touched { result.touched.items ≡ [] }
+{
+    broken(alloc, Vec::new(alloc), Breakage::NoMemory)
+}
+
+// What is in the way of settling the conffiles of a package.
+fn obstacle_of<H: Host>(
+    alloc: Global,
+    host: &mut H,
+    database: &NotedDatabase,
+    name: &Text,
+) -> Result<Option<RootPath>, HostFault>
+    requires waits { IsWaiting database.now.records name.now }
+    ensures found { Tells result (λ found w. HasObstacle database.now.records name.now w found) (H.state host.old) (H.state host.new) }
+    ensures clear { Tells result (λ found w. found ≡ None → CanConfigure database.now.records name.now w) (H.state host.old) (H.state host.new) }
+    ensures reads { Reads (H.state host.old) (H.state host.new) }
+    ensures silent { Silent (H.state host.old) (H.state host.new) }
+    ensures counts { Counts (H.state host.old) (H.state host.new) result }
+{
+    match database.get(name) {
+        Some(entry) => obstacle(alloc, host, entry),
+        None => unreachable!(),
+    }
+}
+
+// A package alone, with its record.
+fn touched_alone(
+    alloc: Global,
+    database: &NotedDatabase,
+    name: &Text,
+) -> Result<Vec<Touched>, AllocError>
+    ensures { IfOk result (λ touched. touched.items ≡ reports.touched_at database.now.records name.now ∷ []) }
+{
+    let mut touched = Vec::new(alloc);
+    touched.push(touched_at(database, name)?)?;
+    Ok(touched)
+}
+
+// The reply to a package that was configured, or that failed by a call.
+fn reply_to(name: &Text, failed: Option<Call>) -> Result<Reply, AllocError>
+    ensures { IfOk result (λ reply. reply ≡ reply_to name.now failed) }
+{
+    match failed {
+        None => Ok(Reply::Done),
+        Some(call) => Ok(Reply::Failed(Failure {
+            package: name.copy()?,
+            cause: Cause::OfCall(call),
+        })),
+    }
+}
+
+// What a unit tells at its end.
+fn told_of(
+    alloc: Global,
+    database: &NotedDatabase,
+    name: &Text,
+    failed: Option<Call>,
+) -> Result<(Vec<Touched>, Reply), AllocError>
+    ensures touched { IfOk result (λ told. told.0.items ≡ reports.touched_at database.now.records name.now ∷ []) }
+    ensures reply { IfOk result (λ told. told.1 ≡ reply_to name.now failed) }
+{
+    let touched = touched_alone(alloc, database, name)?;
+    let reply = reply_to(name, failed)?;
+    Ok((touched, reply))
+}
+
+// The unit of a package that was configured, or that failed by a call.
+fn answered(
+    alloc: Global,
+    database: &NotedDatabase,
+    name: &Text,
+    failed: Option<Call>,
+    calls: Vec<Called>,
+) -> Unit
+    ensures answer { IsBrokenBy NoMemory result.reply ⊎ Answers name.now database.now.records failed result }
+    ensures told { result.calls.items ≡ calls.items }
+    ensures untouched { IsBroken result.reply → result.touched.items ≡ [] }
+{
+    match told_of(alloc, database, name, failed) {
+        Ok((touched, reply)) => Unit {
+            calls,
+            touched,
+            reply,
+        },
+        Err(_) => broken(alloc, calls, Breakage::NoMemory),
+    }
+}
+
+// The refused unit of a package.
+fn refused_named(alloc: Global, rule: Rule, name: &Text) -> Unit
+    ensures unit { IsBrokenBy NoMemory result.reply ⊎ IsRefusedUnit rule name.now result }
+    ensures told { result.calls.items ≡ [] }
+    ensures touched { result.touched.items ≡ [] }
+{
+    match name.copy() {
+        Ok(package) => refused(alloc, rule, package),
+        Err(_) => no_memory(alloc),
+    }
+}
+
+// Configures a package, and brings all that was done to the disk.
+fn configure_to_disk<H: Host>(
+    alloc: Global,
+    host: &mut H,
+    database: &mut NotedDatabase,
+    lists: &mut FileLists,
+    places: &mut Places,
+    diversions: &Diversions,
+    name: &Text,
+    policy: ConfPolicy,
+    told: &mut Vec<Called>,
+) -> Result<Option<Call>, HostFault>
+    requires noting { database.old.closed ≡ false }
+    requires listing { lists.old.closed ≡ false }
+    requires waits { IsWaiting database.old.records name.now }
+    requires kept { places.old ≡ places_in diversions.now.entries lists.old.lists }
+    requires order { Needs (H.state host.old) (IsInOrder database.old lists.old.lists) }
+    requires clear { Needs (H.state host.old) (CanConfigure database.old.records name.now) }
+    ensures unit { IfOk result (λ failed. ConfiguresToDisk (given_by policy name.now (held database.old lists.old diversions.now)) failed (holding_of (held database.new lists.new diversions.now)) (H.state host.old) (H.state host.new) told.old.items told.new.items) }
+    ensures end { IfOk result (λ failed. HasEnded name.now failed database.old.records database.new.records) }
+    ensures order { IfOk result (λ failed. Needs (H.state host.new) (IsInOrder database.new lists.new.lists)) }
+    ensures kept { OnOk result (places.new ≡ places_in diversions.now.entries lists.new.lists) }
+    ensures noting { OnOk result (database.new.closed ≡ false) }
+    ensures listing { OnOk result (lists.new.closed ≡ false) }
+    ensures on_disk { OnOk result (IsOnDisk (H.state host.new).events) }
+    ensures told { HasCalledToDisk (given_by policy name.now (held database.old lists.old diversions.now)) (H.state host.old) (H.state host.new) told.old.items told.new.items }
+    ensures any_moment { AtEachMomentOf (λ old. IsBeside (IsAmidConfiguring (given_by policy name.now (held database.old lists.old diversions.now)) old)) (H.state host.old) (H.state host.new) }
+    ensures counts { Counts (H.state host.old) (H.state host.new) result }
+{
+    match configure(
+        alloc, host, database, lists, places, diversions, name, policy, told,
+    ) {
+        Ok(failed) => match host.barrier() {
+            Ok(()) => Ok(failed),
+            Err(fault) => Err(fault),
+        },
+        Err(fault) => Err(fault),
+    }
+}
+
+// The unit of a package of which nothing is in the way.
+fn configured_unit<H: Host>(
+    alloc: Global,
+    host: &mut H,
+    database: &mut NotedDatabase,
+    lists: &mut FileLists,
+    places: &mut Places,
+    diversions: &Diversions,
+    name: &Text,
+    policy: ConfPolicy,
+) -> Unit
+    requires noting { database.old.closed ≡ false }
+    requires listing { lists.old.closed ≡ false }
+    requires waits { IsWaiting database.old.records name.now }
+    requires kept { places.old ≡ places_in diversions.now.entries lists.old.lists }
+    requires order { Needs (H.state host.old) (IsInOrder database.old lists.old.lists) }
+    requires clear { Needs (H.state host.old) (CanConfigure database.old.records name.now) }
+    ensures unit { IsBroken result.reply ⊎ IsConfigured policy name.now (held database.old lists.old diversions.now) (held database.new lists.new diversions.now) result (H.state host.old) (H.state host.new) }
+    ensures noting { IsBroken result.reply ⊎ (database.new.closed ≡ false) }
+    ensures listing { IsBroken result.reply ⊎ (lists.new.closed ≡ false) }
+    ensures kept { IsBroken result.reply ⊎ (places.new ≡ places_in diversions.now.entries lists.new.lists) }
+    ensures on_disk { IsBroken result.reply ⊎ IsOnDisk (H.state host.new).events }
+    ensures untouched { IsBroken result.reply → result.touched.items ≡ [] }
+    ensures told { HasCalledToDisk (given_by policy name.now (held database.old lists.old diversions.now)) (H.state host.old) (H.state host.new) [] result.calls.items }
+    ensures any_moment { AtEachMomentOf (λ old. IsBeside (IsAmidConfiguring (given_by policy name.now (held database.old lists.old diversions.now)) old)) (H.state host.old) (H.state host.new) }
+    ensures counts { CountsReply (H.state host.old) (H.state host.new) result.reply }
+    ensures not_closed { IsBrokenBy Closed result.reply → ⊥ }
+{
+    let mut calls = Vec::new(alloc);
+    match configure_to_disk(
+        alloc, host, database, lists, places, diversions, name, policy, &mut calls,
+    ) {
+        Ok(failed) => answered(alloc, database, name, failed, calls),
+        Err(fault) => broken(alloc, calls, breakage_of(fault)),
+    }
+}
+
+// The unit of a package that no other breaks.
+fn unit_for<H: Host>(
+    alloc: Global,
+    host: &mut H,
+    database: &mut NotedDatabase,
+    lists: &mut FileLists,
+    places: &mut Places,
+    diversions: &Diversions,
+    name: &Text,
+    policy: ConfPolicy,
+) -> Unit
+    requires noting { database.old.closed ≡ false }
+    requires listing { lists.old.closed ≡ false }
+    requires waits { IsWaiting database.old.records name.now }
+    requires kept { places.old ≡ places_in diversions.now.entries lists.old.lists }
+    requires order { Needs (H.state host.old) (IsInOrder database.old lists.old.lists) }
+    ensures unit { IsBroken result.reply ⊎ IsUnitFor policy name.now (held database.old lists.old diversions.now) (held database.new lists.new diversions.now) result (H.state host.old) (H.state host.new) }
+    ensures order { IsBroken result.reply ⊎ Needs (H.state host.new) (IsInOrder database.new lists.new.lists) }
+    ensures noting { IsBroken result.reply ⊎ (database.new.closed ≡ false) }
+    ensures listing { IsBroken result.reply ⊎ (lists.new.closed ≡ false) }
+    ensures kept { IsBroken result.reply ⊎ (places.new ≡ places_in diversions.now.entries lists.new.lists) }
+    ensures answered { IsBroken result.reply ⊎ IsAnswered (H.state host.old) (H.state host.new) }
+    ensures untouched { IsBroken result.reply → result.touched.items ≡ [] }
+    ensures told { HasCalledFor policy name.now (held database.old lists.old diversions.now) result (H.state host.old) (H.state host.new) }
+    ensures any_moment { AtEachMomentOf (IsAmidUnit policy name.now (held database.old lists.old diversions.now)) (H.state host.old) (H.state host.new) }
+    ensures counts { CountsReply (H.state host.old) (H.state host.new) result.reply }
+    ensures not_closed { IsBrokenBy Closed result.reply → ⊥ }
+{
+    match obstacle_of(alloc, host, database, name) {
+        Ok(None) => configured_unit(
+            alloc, host, database, lists, places, diversions, name, policy,
+        ),
+        Ok(Some(path)) => refused_named(alloc, Rule::ConffileKind(path), name),
+        Err(fault) => broken(alloc, Vec::new(alloc), breakage_of(fault)),
+    }
+}
+
+// The refused unit of a package that the one of this number breaks.
+fn refused_for(alloc: Global, packages: &[Package], breaking: usize, name: &Text) -> Unit
+    requires { breaking < length packages.now }
+    ensures unit { IsBrokenBy NoMemory result.reply ⊎ IsRefusedUnit (BrokenBy (name_at packages.now breaking)) name.now result }
+    ensures told { result.calls.items ≡ [] }
+    ensures touched { result.touched.items ≡ [] }
+{
+    match packages[breaking].name.copy() {
+        Ok(other) => refused_named(alloc, Rule::BrokenBy(other), name),
+        Err(_) => no_memory(alloc),
+    }
+}
+
+/// The unit of a package whose turn it is.
+pub(crate) fn unit_of<H: Host>(
+    alloc: Global,
+    host: &mut H,
+    database: &mut NotedDatabase,
+    lists: &mut FileLists,
+    places: &mut Places,
+    diversions: &Diversions,
+    packages: &Packages,
+    of: &Package,
+    policy: ConfPolicy,
+) -> Unit
+    requires noting { database.old.closed ≡ false }
+    requires listing { lists.old.closed ≡ false }
+    requires waits { IsWaiting database.old.records of.now.name }
+    requires kept { places.old ≡ places_in diversions.now.entries lists.old.lists }
+    requires order { Needs (H.state host.old) (IsInOrder database.old lists.old.lists) }
+    ensures unit { IsBroken result.reply ⊎ IsUnit policy packages.now of.now (held database.old lists.old diversions.now) (held database.new lists.new diversions.now) result (H.state host.old) (H.state host.new) }
+    ensures order { IsBroken result.reply ⊎ Needs (H.state host.new) (IsInOrder database.new lists.new.lists) }
+    ensures noting { IsBroken result.reply ⊎ (database.new.closed ≡ false) }
+    ensures listing { IsBroken result.reply ⊎ (lists.new.closed ≡ false) }
+    ensures kept { IsBroken result.reply ⊎ (places.new ≡ places_in diversions.now.entries lists.new.lists) }
+    ensures answered { IsBroken result.reply ⊎ IsAnswered (H.state host.old) (H.state host.new) }
+    ensures untouched { IsBroken result.reply → result.touched.items ≡ [] }
+    ensures told { HasCalledFor policy of.now.name (held database.old lists.old diversions.now) result (H.state host.old) (H.state host.new) }
+    ensures any_moment { AtEachMomentOf (IsAmidUnit policy of.now.name (held database.old lists.old diversions.now)) (H.state host.old) (H.state host.new) }
+    ensures counts { CountsReply (H.state host.old) (H.state host.new) result.reply }
+    ensures not_closed { IsBrokenBy Closed result.reply → ⊥ }
+{
+    match broken_by(packages, of) {
+        Some(breaking) => refused_for(alloc, packages.as_slice(), breaking, &of.name),
+        None => unit_for(
+            alloc, host, database, lists, places, diversions, &of.name, policy,
+        ),
+    }
+}

@@ -1,0 +1,165 @@
+-- What a unit carries over: an administration that is in order, its diversions, and an `info` that no opening refuses.
+use Rattle.std.proofs.Common.{◌≡◌, ℕ, List, [], ◌∷◌, Option, Some, None, IsTrue, Contains, refl, sym, ap, subst, ◌∙◌}
+use Rattle.std.specs.Prelude.{is_some, true}
+use Rattle.std.proofs.Math.Logic.{∥∥₁_map}
+use Rattle.host_core.specs.Events.{Did}
+use Rattle.host_core.specs.Host.{State, Happens, Needs, Reads}
+use Rattle.host_core.specs.World.{World, Barrier}
+use Rattle.host_core.specs.declared.call.Call.{Call}
+use Rattle.administration.specs.Places.{diversions_path, info_path, temporary}
+use Rattle.administration.proofs.WholeFiles.{no_directory_at}
+use Rattle.diversions.specs.declared.entry.Diversion.{Diversion}
+use Rattle.diversions.specs.Lines.{HasEntries}
+use Rattle.opening.specs.Parts.{names_of}
+use Rattle.status_db.proofs.NotedWorlds.{found_named}
+use Rattle.status_db.proofs.Ordered.{same_standing, standing_same}
+use Rattle.unit_parts.specs.Order.{IsInOrder}
+use Rattle.unpack_engine.specs.Order.{IsInOrder as IsInOrderHere}
+use Rattle.unit_reports.specs.Held.{Held}
+use Rattle.unit_reports.specs.Units.{IsRefused}
+use Rattle.unit_reports.specs.declared.refusal.Rule.{Rule}
+use Rattle.unit_reports.specs.declared.report.Unit.{Unit as AUnit}
+use Rattle.unit_stages.specs.Runs.{HaveRun}
+use Rattle.unit_stages.specs.declared.stage.Stage.{Stage}
+use Rattle.status_db.specs.Records.{record_in}
+use Rattle.status_db.specs.declared.record.Record.{Record}
+use Rattle.unpack_engine.proofs.EndRecords.{has_name}
+use Rattle.unpack_engine.proofs.Order.{directory_there}
+use Rattle.unwind_stack.specs.declared.rows.Called.{Called}
+use Rattle.dpkg_session.specs.History.{Stands}
+use Rattle.dpkg_session.specs.Standing.{IsStanding}
+use Rattle.dpkg_session.proofs.Certain.{lists_had}
+use Rattle.dpkg_session.proofs.Found.{HasInfo}
+use Rattle.dpkg_session.proofs.Keeping.{KeepsOthers}
+use Rattle.dpkg_session.proofs.Known.{all_named, name_among, named_standing, stages_named}
+use Rattle.dpkg_session.proofs.Sound.{diversions_others, diversions_spare_others, sound_kept, text_kept}
+use Rattle.dpkg_session.proofs.Standings.{order_standing, recorded, standing_found}
+use Rattle.dpkg_session.proofs.Staying.{AreOwnStages, stages_fall, stages_keep}
+
+abbrev pub InOrder : Held → State → Type 0
+InOrder h s = Needs s (IsInOrder h.records h.lists)
+
+pub record Carries (before after : Held) (s t : State) : Type 0 where
+  pub falls : IsTrue t.honest → IsTrue s.honest
+  pub order : InOrder before s → InOrder after t
+  pub entries : after.entries ≡ before.entries
+  pub file : IsTrue t.honest → t.world diversions_path ≡ s.world diversions_path
+  pub spare : IsTrue t.honest → t.world (temporary diversions_path) ≡ s.world (temporary diversions_path)
+  pub info : IsTrue t.honest → InOrder before s → HasInfo before s.world → HasInfo after t.world
+
+pub carries_here : (h : Held) (s : State) → Carries h h s s
+carries_here h s = record { falls = λ honest. honest; order = λ ready. ready; entries = refl; file = λ honest. refl; spare = λ honest. refl; info = λ honest ready info. info }
+
+pub carries_same : (before after : Held) (s t : State) → after ≡ before → t ≡ s → Carries before after s t
+carries_same before after s t held same = subst (λ (h : Held). Carries before h s t) (sym held) (subst (Carries before before s) (sym same) (carries_here before s))
+
+pub carries_then : (before mid after : Held) (s m t : State) → Carries before mid s m → Carries mid after m t → Carries before after s t
+carries_then before mid after s m t first second = record {
+  falls = λ h. first.falls (second.falls h);
+  order = λ ready. second.order (first.order ready);
+  entries = second.entries ∙ first.entries;
+  file = λ h. second.file h ∙ first.file (second.falls h);
+  spare = λ h. second.spare h ∙ first.spare (second.falls h);
+  info = λ h ready info. second.info h (first.order ready) (first.info (second.falls h) ready info);
+}
+
+-- where neither what is held nor the world has changed
+pub carries_still : (before after : Held) (s t : State) → after ≡ before → (IsTrue t.honest → IsTrue s.honest) → (IsTrue t.honest → t.world ≡ s.world) → Carries before after s t
+carries_still before after s t held falls same = subst (λ (h : Held). Carries before h s t) (sym held) (record {
+  falls = falls;
+  order = λ ready h. subst (IsInOrder before.records before.lists) (sym (same h)) (ready (falls h));
+  entries = refl;
+  file = λ h. ap (λ w. w diversions_path) (same h);
+  spare = λ h. ap (λ w. w (temporary diversions_path)) (same h);
+  info = λ h ready info. subst (HasInfo before) (sym (same h)) info;
+})
+
+pub carries_refused : (rule : Rule) (name : List ℕ) (before after : Held) (u : AUnit) (s t : State) → IsRefused rule name before after u s t → Carries before after s t
+carries_refused rule name before after u s t is = carries_still before after s t is.held is.silent.honest is.world
+
+pub carries_barrier : (h : Held) (s t : State) → Happens (Did Barrier ∷ []) s t → Carries h h s t
+carries_barrier h s t goes = carries_still h h s t refl goes.honest (λ honest. goes.world)
+
+pub carries_reads : (h : Held) (s t : State) → Reads s t → Carries h h s t
+carries_reads h s t reads = carries_still h h s t refl reads.honest (λ honest. reads.world)
+
+-- the stages of a unit
+
+found_among : (name : List ℕ) (rs : List Record) → is_some (record_in rs name) ≡ true → Contains (names_of rs) name
+found_among name rs some = by (record_in rs name) refl some
+  where
+    by : (o : Option Record) → record_in rs name ≡ o → is_some o ≡ true → Contains (names_of rs) name
+    by None e none = cc
+    by (Some r) e there = has_name rs name r e
+
+-- behind its stages a unit brings all to the disk, which changes nothing
+pub carries_stages : (name : List ℕ) (stages : List Stage) (failed : Option Call) (before after : Held) (s left t : State) (told now : List Called) → is_some (record_in before.records.records name) ≡ true
+    → AreOwnStages name stages
+    → HaveRun name before.entries stages failed (record { records = before.records.records; lists = before.lists }) (record { records = after.records.records; lists = after.lists }) s left told now
+    → Happens (Did Barrier ∷ []) left t → InOrder after t → after.entries ≡ before.entries → Carries before after s t
+carries_stages name stages failed before after s left t told now recorded_there fit run behind order entries =
+    let named = found_named name before.records.records recorded_there in
+    let keeps : IsTrue t.honest → KeepsOthers name s.world t.world = (λ h.
+    subst (KeepsOthers name s.world) (sym behind.world) (stages_keep name before.entries stages failed _ _ s left told now fit run (behind.honest h))) in
+    record {
+      falls = λ h. stages_fall name before.entries stages failed _ _ s left told now run (behind.honest h);
+      order = λ ready. order;
+      entries = entries;
+      file = λ h. (keeps h).stays diversions_path (diversions_others name);
+      spare = λ h. (keeps h).stays (temporary diversions_path) (diversions_spare_others name);
+      info = λ h ready info.
+          let known = stages_named (names_of before.records.records) name (found_among name before.records.records recorded_there) before.entries stages failed _ _ s left told now fit run (all_named before.records.records info.standing) in
+          record {
+            text = text_kept name named s.world t.world (keeps h) info.text;
+            standing = named_standing (names_of before.records.records) after.records.records known;
+            sound = sound_kept name named s.world t.world (keeps h) (names_of before.records.records) (names_of after.records.records) after.lists
+                (name_among (names_of before.records.records) after.records.records known) info.sound (order h).loose (lists_had t.world (names_of after.records.records) after.lists (order h).listed);
+          };
+    }
+
+-- what a session knows, and what a further command can open
+
+-- the order of a unit of stages, and of an unpack
+
+pub as_parts : (h : Held) (w : World) → IsInOrderHere h.records h.lists w → IsInOrder h.records h.lists w
+as_parts h w order = record { home = order.home; info = order.info; loose = order.loose; tmp = order.tmp; kept = order.kept; listed = order.listed }
+
+pub as_engine : (h : Held) (w : World) → IsInOrder h.records h.lists w → IsInOrderHere h.records h.lists w
+as_engine h w order = record { home = order.home; info = order.info; loose = order.loose; tmp = order.tmp; kept = order.kept; listed = order.listed }
+
+pub parts_standing : (h : Held) (w : World) → IsStanding h w → IsInOrder h.records h.lists w
+parts_standing h w standing = as_parts h w (order_standing h w standing)
+
+parts_order : (h : Held) (s : State) → IsStanding h s.world → InOrder h s
+parts_order h s standing = λ honest. parts_standing h s.world standing
+
+pub carries_standing : (before after : Held) (s t : State) → Carries before after s t → IsTrue t.honest → IsStanding before s.world → IsStanding after t.world
+carries_standing before after s t carries h standing =
+    let order = carries.order (parts_order before s standing) h in (
+      recorded after.records t.world order.kept,
+      order.info,
+      order.loose,
+      no_directory_at (t.world diversions_path) (s.world diversions_path) (carries.file h) standing.3,
+      no_directory_at (t.world (temporary diversions_path)) (s.world (temporary diversions_path)) (carries.spare h) standing.4,
+      order.tmp,
+      order.listed,
+      ∥∥₁_map standing.7 (λ has. subst (λ (l : List Diversion). HasEntries (t.world diversions_path) l) (sym carries.entries) (subst (λ n. HasEntries n before.entries) (sym (carries.file h)) has)),
+    )
+
+pub carries_found : (before after : Held) (s t : State) → Carries before after s t → IsTrue t.honest → Stands before s.world → Stands after t.world
+carries_found before after s t carries h found =
+    let ready = parts_order before s (standing_found before s.world found) in
+    let order = carries.order ready h in
+    let info = carries.info h ready (record { text = found.text; standing = same_standing before.records.records found.standing; sound = found.listed.sound }) in
+    record {
+      home = order.kept.unblocked.home;
+      info = directory_there (t.world info_path) order.info;
+      updates = order.kept.unblocked.updates;
+      text = info.text;
+      diversions = subst (λ (l : List Diversion). HasEntries (t.world diversions_path) l) (sym carries.entries) (subst (λ n. HasEntries n before.entries) (sym (carries.file h)) found.diversions);
+      diversions_spare = no_directory_at (t.world (temporary diversions_path)) (s.world (temporary diversions_path)) (carries.spare h) found.diversions_spare;
+      tmp = order.tmp;
+      records = order.kept;
+      standing = standing_same after.records.records info.standing;
+      listed = record { sound = info.sound; lists = lists_had t.world (names_of after.records.records) after.lists order.listed };
+    }

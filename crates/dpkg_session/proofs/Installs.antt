@@ -1,0 +1,75 @@
+-- An install: unpacks, and then what is configured.
+use Rattle.std.proofs.Common.{◌≡◌, inl, inr, ℕ, Bool, List, [], ◌++◌, Option, Some, None, refl, ap, subst, ◌∙◌}
+use Rattle.std.specs.Prelude.{IfSome, IsNone, is_some, true, map}
+use Rattle.conffiles.specs.declared.decisions.ConfPolicy.{ConfPolicy}
+use Rattle.configure_run.specs.Run.{IsAmidRun as IsAmidConfigure}
+use Rattle.host_core.specs.Host.{State, Since}
+use Rattle.host_core.specs.Loss.{IsAnswered}
+use Rattle.host_core.specs.Moments.{since_then, since_weaker}
+use Rattle.unit_reports.specs.Held.{Held}
+use Rattle.unit_reports.specs.Units.{CountsLast, TellsCalls, calls_of, calls_told, last_calls}
+use Rattle.unit_reports.specs.declared.report.Report.{Report}
+use Rattle.unit_reports.specs.declared.report.Unit.{Unit as AUnit}
+use Rattle.unwind_stack.proofs.Makes.{tells_none, tells_then}
+use Rattle.dpkg_session.specs.Diversions.{HasBroken, IsBrokenDiversion}
+use Rattle.dpkg_session.specs.Installs.{HasInstalled, IsAmidInstall, IsEmptyReport, TellsBoth, label_of, last_of, names_done, packages_done}
+use Rattle.dpkg_session.specs.Run.{HasRun, IsAmidRun, IsRun}
+use Rattle.dpkg_session.specs.declared.report.Candidate.{Candidate}
+use Rattle.dpkg_session.proofs.Outlasting.{answered_then, run_answered}
+use Rattle.dpkg_session.proofs.Runs.{counts_from}
+
+-- the moments
+
+pub amid_unpacks : (auto : Bool) (cs : List Candidate) (policy : ConfPolicy) (before : Held) (s m : State) → Since (IsAmidRun auto cs before s) s m → Since (IsAmidInstall auto cs policy before s) s m
+amid_unpacks auto cs policy before s m since = since_weaker (IsAmidRun auto cs before s) (IsAmidInstall auto cs policy before s) s m (λ so_far w is. inl is) since
+
+pub amid_both : (auto : Bool) (cs : List Candidate) (policy : ConfPolicy) (us told : List AUnit) (before mid : Held) (labels : List (List ℕ)) (s m t : State) → labels ≡ map label_of cs → told ≡ us → IsRun auto cs us before mid s m → Since (IsAmidRun auto cs before s) s m
+    → Since (IsAmidConfigure (names_done labels told) policy mid m) m t → Since (IsAmidInstall auto cs policy before s) s t
+amid_both auto cs policy us told before mid labels s m t named same run first behind =
+    let second : Since (IsAmidConfigure (packages_done cs us) policy mid m) m t = subst (λ ls. Since (IsAmidConfigure (names_done ls us) policy mid m) m t) named (subst (λ l. Since (IsAmidConfigure (names_done labels l) policy mid m) m t) same behind) in
+    let unpacks = amid_unpacks auto cs policy before s m first in
+    since_then (IsAmidInstall auto cs policy before s) s m t unpacks
+    (since_weaker (IsAmidConfigure (packages_done cs us) policy mid m) (λ so_far w. IsAmidInstall auto cs policy before s (unpacks.added ++ so_far) w) m t
+    (λ so_far w is. inr (record { unpacked = us; mid = mid; m = m; unpacks = run; front = unpacks.added; rest = so_far; are = refl; events = unpacks.events; configuring = is })) second)
+
+-- the calls
+
+pub tells_both : (s m t : State) (first second : Report) → TellsCalls s m first → TellsCalls m t second → TellsBoth s t first second
+tells_both s m t first second told more = tells_then s m t [] (calls_told first) (calls_told first ++ calls_told second) told (more.0, more.1, ap (λ l. calls_told first ++ l) more.2)
+
+tells_nothing : (t : State) (report : Report) → IsEmptyReport report → TellsCalls t t report
+tells_nothing t report empty = tells_none t t [] (calls_told report) refl (λ i. calls_of (empty.units i) ++ last_calls (empty.last i))
+
+pub tells_first : (s t : State) (first second : Report) → TellsCalls s t first → IsEmptyReport second → TellsBoth s t first second
+tells_first s t first second told empty = tells_both s t t first second told (tells_nothing t second empty)
+
+-- the faults
+
+pub counts_both : (s m t : State) (last : Option AUnit) → CountsLast s m None → CountsLast m t last → CountsLast s t last
+counts_both s m t None first second = second ∙ first
+counts_both s m t (Some u) first second = counts_from u.reply s m t first second
+
+-- the last unit of the reports
+
+pub none_both : (first second : Option AUnit) → IsNone first → IsNone (last_of first second) → IsNone second
+none_both None second none both = both
+none_both (Some u) second none both = cc
+
+-- how far an install came
+
+pub broken_installed : (auto : Bool) (cs : List Candidate) (policy : ConfPolicy) (us : List AUnit) (last : Option AUnit) (configured : Report) (before : Held) (s t : State) → is_some last ≡ true
+    → HasRun auto cs us last before s t → IsEmptyReport configured → HasInstalled auto cs policy us last configured before s t
+broken_installed auto cs policy us None configured before s t some run empty = cc
+broken_installed auto cs policy us (Some u) configured before s t some run empty = (inl run, empty)
+
+pub not_begun_installed : (auto : Bool) (cs : List Candidate) (policy : ConfPolicy) (report configured : Report) (before : Held) (s : State) → is_some report.last ≡ true → HasBroken report → IsEmptyReport configured
+    → HasInstalled auto cs policy report.units.items report.last configured before s s
+not_begun_installed auto cs policy report configured before s some broken empty = by report.last some broken
+  where
+    by : (last : Option AUnit) → is_some last ≡ true → IfSome last (λ u. (report.units.items ≡ []) × IsBrokenDiversion u) → HasInstalled auto cs policy report.units.items last configured before s s
+    by None there is = cc
+    by (Some u) there is = (inr (record { units = is.0; here = refl; broken = is.1.broken; calls = is.1.calls; touched = is.1.touched }), empty)
+
+-- all of it only looked or is on the disk
+pub answered_both : (auto : Bool) (cs : List Candidate) (us : List AUnit) (before mid : Held) (s m t : State) → IsRun auto cs us before mid s m → IsAnswered m t → IsAnswered s t
+answered_both auto cs us before mid s m t run answered = answered_then s m t (run_answered auto cs us before mid s m run) answered

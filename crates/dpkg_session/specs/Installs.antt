@@ -1,0 +1,121 @@
+-- An install: an unpack, and then the packages that were unpacked are configured, and those that were deconfigured for them.
+use Rattle.std.specs.Prelude.{◌≡◌, ◌⊎◌, ℕ, Bool, false, List, [], ◌∷◌, ◌++◌, Option, Some, None, Result, Ok, Err, cond, filter, length, map, nat_lt, slice_index_or}
+use Rattle.conffiles.specs.declared.decisions.ConfPolicy.{ConfPolicy}
+use Rattle.configure_run.specs.Run.{IsConfigureRun, HasRun as HasConfigured, IsAmidRun as IsAmidConfigure}
+use Rattle.host_core.specs.Events.{Event}
+use Rattle.host_core.specs.Host.{State}
+use Rattle.host_core.specs.World.{World}
+use Rattle.package_tree.specs.declared.fault.TreeFault.{TreeFault}
+use Rattle.package_tree.specs.declared.package.Package.{Package}
+use Rattle.status_db.specs.declared.record.Record.{Record}
+use Rattle.unpack_engine.specs.Touched.{is_half_configured}
+use Rattle.unit_reports.specs.Held.{Held}
+use Rattle.unit_reports.specs.Units.{IsBroken, calls_told}
+use Rattle.unit_reports.specs.declared.report.Reply.{Reply}
+use Rattle.unit_reports.specs.declared.report.Reply.TheVariants.{Done, Refused, Failed, Broken}
+use Rattle.unit_reports.specs.declared.report.Report.{Report}
+use Rattle.unit_reports.specs.declared.report.Touched.{Touched}
+use Rattle.unit_reports.specs.declared.report.Unit.{Unit as AUnit}
+use Rattle.unwind_stack.specs.Transcript.{TellsAll}
+use Rattle.dpkg_session.specs.Run.{HasRun, IsAmidRun, IsRun}
+use Rattle.dpkg_session.specs.declared.report.Candidate.{Candidate}
+
+-- the package of a tree, or the word that named one that can't be read
+abbrev pub tree_label : List ℕ → Result Package TreeFault → List ℕ
+tree_label label (Ok p) = p.name
+tree_label label (Err fault) = label
+
+abbrev pub label_of : Candidate → List ℕ
+label_of c = tree_label c.label c.tree
+
+abbrev pub is_half : Option Record → Bool
+is_half None = false
+is_half (Some r) = is_half_configured r.state
+
+-- of the packages that a unit tells those that are half-configured
+abbrev pub half_configured : List Touched → List (List ℕ)
+half_configured touched = map (λ t. t.«package») (filter (λ t. is_half t.entry) touched)
+
+abbrev pub if_done : Reply → List (List ℕ) → List (List ℕ)
+if_done Done names = names
+if_done (Refused refusal) names = []
+if_done (Failed failure) names = []
+if_done (Broken breakage) names = []
+
+-- a unit's package, where it answered Done, and behind it those that were deconfigured for it (Policy 7.3)
+abbrev pub done_with : List ℕ → AUnit → List (List ℕ)
+done_with name u = if_done u.reply (name ∷ half_configured u.touched.items)
+
+-- the same for the name of this number
+abbrev pub done_at : List (List ℕ) → ℕ → AUnit → List (List ℕ)
+done_at names at u = cond (nat_lt at (length names)) (done_with (slice_index_or names at []) u) []
+
+-- of the units of packages of these names
+abbrev pub names_done : List (List ℕ) → List AUnit → List (List ℕ)
+names_done [] us = []
+names_done (name ∷ names) [] = []
+names_done (name ∷ names) (u ∷ us) = done_with name u ++ names_done names us
+
+-- the packages of candidates that answered Done, in order, each with those that were deconfigured for it
+abbrev pub packages_done : List Candidate → List AUnit → List (List ℕ)
+packages_done cs us = names_done (map label_of cs) us
+
+-- what an install answers: the last unit of its reports, if it was broken off
+abbrev pub last_of : Option AUnit → Option AUnit → Option AUnit
+last_of None second = second
+last_of (Some u) second = Some u
+
+-- The trees were unpacked, and then those packages were configured that answered Done.
+pub record IsInstall (auto_deconfigure : Bool) (cs : List Candidate) (policy : ConfPolicy) (unpacked configured : List AUnit) (before after : Held) (s t : State) : Type 0 where
+  pub mid : Held
+  pub m : State
+  pub unpacks : IsRun auto_deconfigure cs unpacked before mid s m
+  pub configures : IsConfigureRun (packages_done cs unpacked) policy configured mid after m t
+
+-- nothing is reported
+pub record IsEmptyReport (report : Report) : Type 0 where
+  pub units : report.units.items ≡ []
+  pub last : report.last ≡ None
+
+-- All trees were unpacked, and of what was configured then this is known.
+pub record HasGoneOn (auto_deconfigure : Bool) (cs : List Candidate) (policy : ConfPolicy) (unpacked : List AUnit) (configured : Report) (before : Held) (s t : State) : Type 0 where
+  pub mid : Held
+  pub m : State
+  pub unpacks : IsRun auto_deconfigure cs unpacked before mid s m
+  pub configures : HasConfigured (packages_done cs unpacked) policy configured.units.items configured.last mid m t
+
+-- memory was wanting before anything was done
+pub record HasNotBegun (unpacked : List AUnit) (u : AUnit) (s t : State) : Type 0 where
+  pub units : unpacked ≡ []
+  pub here : t ≡ s
+  pub broken : IsBroken u.reply
+  pub calls : u.calls.items ≡ []
+  pub touched : u.touched.items ≡ []
+
+-- How far an install came: up to an unpack that was broken off, or not even there, and then nothing is configured; or behind all
+-- unpacks.
+abbrev pub HasInstalled : Bool → List Candidate → ConfPolicy → List AUnit → Option AUnit → Report → Held → State → State → Type 0
+HasInstalled auto_deconfigure cs policy unpacked (Some u) configured before s t =
+    (HasRun auto_deconfigure cs unpacked (Some u) before s t ⊎ HasNotBegun unpacked u s t) × IsEmptyReport configured
+HasInstalled auto_deconfigure cs policy unpacked None configured before s t = HasGoneOn auto_deconfigure cs policy unpacked configured before s t
+
+-- the unpacks are done, and what was done since then is this
+pub record IsAmidConfiguring (auto_deconfigure : Bool) (cs : List Candidate) (policy : ConfPolicy) (before : Held) (s : State) (so_far : List Event) (now : World) : Type 0 where
+  pub unpacked : List AUnit
+  pub mid : Held
+  pub m : State
+  pub unpacks : IsRun auto_deconfigure cs unpacked before mid s m
+  pub front : List Event
+  pub rest : List Event
+  pub are : so_far ≡ front ++ rest
+  pub events : m.events ≡ s.events ++ front
+  pub configuring : IsAmidConfigure (packages_done cs unpacked) policy mid m rest now
+
+-- at each moment of an install
+abbrev pub IsAmidInstall : Bool → List Candidate → ConfPolicy → Held → State → List Event → World → Type 0
+IsAmidInstall auto_deconfigure cs policy before s so_far now =
+    IsAmidRun auto_deconfigure cs before s so_far now ⊎ IsAmidConfiguring auto_deconfigure cs policy before s so_far now
+
+-- the calls of both reports are those by which the host's own list has grown
+abbrev pub TellsBoth : State → State → Report → Report → Type 0
+TellsBoth s t first second = TellsAll s t [] (calls_told first ++ calls_told second)

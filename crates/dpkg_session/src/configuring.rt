@@ -1,0 +1,115 @@
+// A session configures packages.
+ghost use Rattle.std.specs.Prelude.{◌≡◌, true, false, IfOk, IfSome, IsNone, is_some, option_map};
+ghost use Rattle.configure_run.specs.Run.{HasRun, IsAmidRun, IsConfigureRun};
+ghost use Rattle.file_lists.specs.Owners.{places_in};
+ghost use Rattle.host_core.specs.Host.{Falls, Needs, Since};
+ghost use Rattle.host_core.specs.Loss.{IsAnswered};
+ghost use Rattle.unit_parts.specs.Order.{IsInOrder};
+ghost use Rattle.unit_reports.specs.Held.{held};
+ghost use Rattle.unit_reports.specs.Units.{CountsLast, IsBrokenBy, IsClosedReport, TellsCalls};
+ghost use Rattle.unit_reports.specs.declared.report.Breakage.TheVariants.{Closed};
+ghost use Rattle.dpkg_session.specs.Asked.{names_asked};
+ghost use Rattle.dpkg_session.specs.PowerLoss.{LosesLikeAStop, StandsOnceAnswered};
+
+use crate::session::{Session, closed_report};
+use crate::table_units::no_memory;
+use conffiles::ConfPolicy;
+use configure_run::{configure_packages, waiting_names};
+use diversions::Diversions;
+use file_lists::FileLists;
+use host_core::{Host, Places};
+use status_db::NotedDatabase;
+use std::alloc::{AllocError, Global};
+use texts::Text;
+use unit_reports::Report;
+
+// The names that are given, or those of all packages that wait.
+fn names_asked(
+    alloc: Global,
+    database: &NotedDatabase,
+    names: Option<Vec<Text>>,
+) -> Result<Vec<Text>, AllocError>
+    ensures { IfOk result (λ asked. asked.items ≡ names_asked (option_map (λ list. list.items) names) database.now.records) }
+{
+    match names {
+        Some(names) => Ok(names),
+        None => waiting_names(alloc, database),
+    }
+}
+
+// The report of what is configured.
+fn configure_on<H: Host>(
+    alloc: Global,
+    host: &mut H,
+    database: &mut NotedDatabase,
+    lists: &mut FileLists,
+    places: &mut Places,
+    diversions: &Diversions,
+    names: Option<Vec<Text>>,
+    policy: ConfPolicy,
+) -> Report
+    requires order { Needs (H.state host.old) (IsInOrder database.old lists.old.lists) }
+    requires noting { database.old.closed ≡ false }
+    requires listing { lists.old.closed ≡ false }
+    requires kept { places.old ≡ places_in diversions.now.entries lists.old.lists }
+    ensures whole { IsNone result.last → IsConfigureRun (names_asked (option_map (λ list. list.items) names) database.old.records) policy result.units.items (held database.old lists.old diversions.now) (held database.new lists.new diversions.now) (H.state host.old) (H.state host.new) }
+    ensures part { HasRun (names_asked (option_map (λ list. list.items) names) database.old.records) policy result.units.items result.last (held database.old lists.old diversions.now) (H.state host.old) (H.state host.new) }
+    ensures told { TellsCalls (H.state host.old) (H.state host.new) result }
+    ensures any_moment { Since (IsAmidRun (names_asked (option_map (λ list. list.items) names) database.old.records) policy (held database.old lists.old diversions.now) (H.state host.old)) (H.state host.old) (H.state host.new) }
+    ensures answered { IsNone result.last → IsAnswered (H.state host.old) (H.state host.new) }
+    ensures counts { CountsLast (H.state host.old) (H.state host.new) result.last }
+    ensures not_closed { IfSome result.last (λ unit. IsBrokenBy Closed unit.reply → ⊥) }
+    ensures order { IsNone result.last → Needs (H.state host.new) (IsInOrder database.new lists.new.lists) }
+    ensures noting { IsNone result.last → database.new.closed ≡ false }
+    ensures listing { IsNone result.last → lists.new.closed ≡ false }
+    ensures kept { IsNone result.last → places.new ≡ places_in diversions.now.entries lists.new.lists }
+{
+    match names_asked(alloc, database, names) {
+        Ok(asked) => {
+            return configure_packages(
+                alloc, host, database, lists, places, diversions, asked, policy,
+            );
+        }
+        Err(_) => {
+            return no_memory(alloc);
+        }
+    }
+}
+
+impl<H: Host> Session<H> {
+    /// Configures packages: those of these names, or all that wait where none are given. Its units are in the order that their
+    /// relations ask for; one that is broken off closes the session.
+    pub fn configure(&mut self, names: Option<Vec<Text>>, policy: ConfPolicy) -> Report
+        ensures whole { self.old.closed ≡ false → IsNone result.last → IsConfigureRun (names_asked (option_map (λ list. list.items) names) self.old.database.records) policy result.units.items (held self.old.database self.old.lists self.old.diversions) (held self.new.database self.new.lists self.new.diversions) (H.state self.old.host) (H.state self.new.host) }
+        ensures part { self.old.closed ≡ false → HasRun (names_asked (option_map (λ list. list.items) names) self.old.database.records) policy result.units.items result.last (held self.old.database self.old.lists self.old.diversions) (H.state self.old.host) (H.state self.new.host) }
+        ensures told { TellsCalls (H.state self.old.host) (H.state self.new.host) result }
+        ensures any_moment { self.old.closed ≡ false → Since (IsAmidRun (names_asked (option_map (λ list. list.items) names) self.old.database.records) policy (held self.old.database self.old.lists self.old.diversions) (H.state self.old.host)) (H.state self.old.host) (H.state self.new.host) }
+        ensures loss { self.old.closed ≡ false → LosesLikeAStop (IsAmidRun (names_asked (option_map (λ list. list.items) names) self.old.database.records) policy (held self.old.database self.old.lists self.old.diversions) (H.state self.old.host)) (H.state self.old.host) (H.state self.new.host) }
+        ensures stands { self.old.closed ≡ false → IsNone result.last → StandsOnceAnswered (H.state self.old.host) (H.state self.new.host) }
+        ensures closes { self.new.closed ≡ is_some result.last }
+        ensures refused { self.old.closed ≡ true → IsClosedReport result }
+        ensures same { self.old.closed ≡ true → H.state self.new.host ≡ H.state self.old.host }
+        ensures same_held { self.old.closed ≡ true → held self.new.database self.new.lists self.new.diversions ≡ held self.old.database self.old.lists self.old.diversions }
+        ensures answered { self.old.closed ≡ false → IsNone result.last → IsAnswered (H.state self.old.host) (H.state self.new.host) }
+        ensures diversions { self.new.diversions ≡ self.old.diversions }
+        ensures honest { Falls (H.state self.old.host) (H.state self.new.host) }
+        ensures counts { self.old.closed ≡ false → CountsLast (H.state self.old.host) (H.state self.new.host) result.last }
+        ensures not_closed { self.old.closed ≡ false → IfSome result.last (λ unit. IsBrokenBy Closed unit.reply → ⊥) }
+    {
+        if self.closed {
+            return closed_report(self.alloc);
+        }
+        let report = configure_on(
+            self.alloc,
+            &mut self.host,
+            &mut self.database,
+            &mut self.lists,
+            &mut self.places,
+            &self.diversions,
+            names,
+            policy,
+        );
+        self.closed = report.last.is_some();
+        report
+    }
+}

@@ -1,0 +1,231 @@
+// A session unpacks trees, and then configures the packages that were unpacked, and those deconfigured for them.
+ghost use Rattle.std.specs.Prelude.{◌≡◌, true, false, None, IfSome, IsNone, is_some, map};
+ghost use Rattle.configure_run.specs.Run.{IsConfigureRun, HasRun as HasConfigured, IsAmidRun as IsAmidConfigure};
+ghost use Rattle.file_lists.specs.Owners.{places_in};
+ghost use Rattle.host_core.specs.Host.{Falls, Needs, Since};
+ghost use Rattle.host_core.specs.Loss.{IsAnswered};
+ghost use Rattle.unit_parts.specs.Order.{IsInOrder};
+ghost use Rattle.unit_reports.specs.Held.{held};
+ghost use Rattle.unit_reports.specs.Units.{CountsLast, IsBrokenBy, IsClosedReport, TellsCalls};
+ghost use Rattle.unit_reports.specs.declared.report.Breakage.TheVariants.{Closed};
+ghost use Rattle.dpkg_session.specs.Installs.{HasInstalled, IsAmidInstall, IsEmptyReport, IsInstall, TellsBoth, label_of, last_of, names_done};
+ghost use Rattle.dpkg_session.specs.PowerLoss.{LosesLikeAStop, StandsOnceAnswered};
+
+use crate::done::{labels_of, names_done};
+use crate::report::Unpack;
+use crate::session::{Session, closed_report};
+use crate::table_units::no_memory;
+use crate::units::run_units;
+use conffiles::ConfPolicy;
+use configure_run::configure_packages;
+use diversions::Diversions;
+use file_lists::FileLists;
+use host_core::{Host, Places};
+use status_db::NotedDatabase;
+use std::alloc::Global;
+use texts::Text;
+use unit_reports::{Report, Unit};
+
+/// What an install answers: the report of its unpacks, and that of what was configured then; nothing, where an unpack was
+/// broken off.
+#[derive(Drop)]
+pub struct Installed {
+    pub unpacked: Report,
+    pub configured: Report,
+}
+
+impl Installed {
+    fn is_broken(&self) -> bool
+        ensures { result ≡ is_some (last_of self.now.unpacked.last self.now.configured.last) }
+    {
+        self.unpacked.last.is_some() || self.configured.last.is_some()
+    }
+}
+
+fn empty_report(alloc: Global) -> Report
+    ensures { IsEmptyReport result }
+{
+    Report {
+        units: Vec::new(alloc),
+        last: None,
+    }
+}
+
+// Configures the packages of these names whose units answered Done.
+fn configure_done<H: Host>(
+    alloc: Global,
+    host: &mut H,
+    database: &mut NotedDatabase,
+    lists: &mut FileLists,
+    places: &mut Places,
+    diversions: &Diversions,
+    labels: &[Text],
+    units: &[Unit],
+    policy: ConfPolicy,
+) -> Report
+    requires order { Needs (H.state host.old) (IsInOrder database.old lists.old.lists) }
+    requires noting { database.old.closed ≡ false }
+    requires listing { lists.old.closed ≡ false }
+    requires kept { places.old ≡ places_in diversions.now.entries lists.old.lists }
+    ensures whole { IsNone result.last → IsConfigureRun (names_done labels.now units.now) policy result.units.items (held database.old lists.old diversions.now) (held database.new lists.new diversions.now) (H.state host.old) (H.state host.new) }
+    ensures part { HasConfigured (names_done labels.now units.now) policy result.units.items result.last (held database.old lists.old diversions.now) (H.state host.old) (H.state host.new) }
+    ensures told { TellsCalls (H.state host.old) (H.state host.new) result }
+    ensures any_moment { Since (IsAmidConfigure (names_done labels.now units.now) policy (held database.old lists.old diversions.now) (H.state host.old)) (H.state host.old) (H.state host.new) }
+    ensures answered { IsNone result.last → IsAnswered (H.state host.old) (H.state host.new) }
+    ensures counts { CountsLast (H.state host.old) (H.state host.new) result.last }
+    ensures not_closed { IfSome result.last (λ unit. IsBrokenBy Closed unit.reply → ⊥) }
+    ensures order { IsNone result.last → Needs (H.state host.new) (IsInOrder database.new lists.new.lists) }
+    ensures noting { IsNone result.last → database.new.closed ≡ false }
+    ensures listing { IsNone result.last → lists.new.closed ≡ false }
+    ensures kept { IsNone result.last → places.new ≡ places_in diversions.now.entries lists.new.lists }
+{
+    match names_done(alloc, labels, units) {
+        Ok(names) => {
+            return configure_packages(
+                alloc, host, database, lists, places, diversions, names, policy,
+            );
+        }
+        Err(_) => {
+            return no_memory(alloc);
+        }
+    }
+}
+
+// The unpacks, and then what is configured.
+fn unpack_and_configure<H: Host>(
+    alloc: Global,
+    host: &mut H,
+    database: &mut NotedDatabase,
+    lists: &mut FileLists,
+    places: &mut Places,
+    diversions: &Diversions,
+    labels: &[Text],
+    unpack: Unpack,
+    policy: ConfPolicy,
+) -> Installed
+    requires named { labels.now ≡ map label_of unpack.candidates.items }
+    requires order { Needs (H.state host.old) (IsInOrder database.old lists.old.lists) }
+    requires noting { database.old.closed ≡ false }
+    requires listing { lists.old.closed ≡ false }
+    requires kept { places.old ≡ places_in diversions.now.entries lists.old.lists }
+    ensures whole { IsNone (last_of result.unpacked.last result.configured.last) → IsInstall unpack.auto_deconfigure unpack.candidates.items policy result.unpacked.units.items result.configured.units.items (held database.old lists.old diversions.now) (held database.new lists.new diversions.now) (H.state host.old) (H.state host.new) }
+    ensures part { HasInstalled unpack.auto_deconfigure unpack.candidates.items policy result.unpacked.units.items result.unpacked.last result.configured (held database.old lists.old diversions.now) (H.state host.old) (H.state host.new) }
+    ensures told { TellsBoth (H.state host.old) (H.state host.new) result.unpacked result.configured }
+    ensures any_moment { Since (IsAmidInstall unpack.auto_deconfigure unpack.candidates.items policy (held database.old lists.old diversions.now) (H.state host.old)) (H.state host.old) (H.state host.new) }
+    ensures answered { IsNone (last_of result.unpacked.last result.configured.last) → IsAnswered (H.state host.old) (H.state host.new) }
+    ensures counts { CountsLast (H.state host.old) (H.state host.new) (last_of result.unpacked.last result.configured.last) }
+    ensures not_closed { IfSome (last_of result.unpacked.last result.configured.last) (λ unit. IsBrokenBy Closed unit.reply → ⊥) }
+    ensures order { IsNone (last_of result.unpacked.last result.configured.last) → Needs (H.state host.new) (IsInOrder database.new lists.new.lists) }
+    ensures noting { IsNone (last_of result.unpacked.last result.configured.last) → database.new.closed ≡ false }
+    ensures listing { IsNone (last_of result.unpacked.last result.configured.last) → lists.new.closed ≡ false }
+    ensures kept { IsNone (last_of result.unpacked.last result.configured.last) → places.new ≡ places_in diversions.now.entries lists.new.lists }
+{
+    let unpacked = run_units(alloc, host, database, lists, places, diversions, unpack);
+    if unpacked.last.is_some() {
+        return Installed {
+            unpacked,
+            configured: empty_report(alloc),
+        };
+    }
+    let configured = configure_done(
+        alloc,
+        host,
+        database,
+        lists,
+        places,
+        diversions,
+        labels,
+        unpacked.units.as_slice(),
+        policy,
+    );
+    Installed {
+        unpacked,
+        configured,
+    }
+}
+
+fn install_on<H: Host>(
+    alloc: Global,
+    host: &mut H,
+    database: &mut NotedDatabase,
+    lists: &mut FileLists,
+    places: &mut Places,
+    diversions: &Diversions,
+    unpack: Unpack,
+    policy: ConfPolicy,
+) -> Installed
+    requires order { Needs (H.state host.old) (IsInOrder database.old lists.old.lists) }
+    requires noting { database.old.closed ≡ false }
+    requires listing { lists.old.closed ≡ false }
+    requires kept { places.old ≡ places_in diversions.now.entries lists.old.lists }
+    ensures whole { IsNone (last_of result.unpacked.last result.configured.last) → IsInstall unpack.auto_deconfigure unpack.candidates.items policy result.unpacked.units.items result.configured.units.items (held database.old lists.old diversions.now) (held database.new lists.new diversions.now) (H.state host.old) (H.state host.new) }
+    ensures part { HasInstalled unpack.auto_deconfigure unpack.candidates.items policy result.unpacked.units.items result.unpacked.last result.configured (held database.old lists.old diversions.now) (H.state host.old) (H.state host.new) }
+    ensures told { TellsBoth (H.state host.old) (H.state host.new) result.unpacked result.configured }
+    ensures any_moment { Since (IsAmidInstall unpack.auto_deconfigure unpack.candidates.items policy (held database.old lists.old diversions.now) (H.state host.old)) (H.state host.old) (H.state host.new) }
+    ensures answered { IsNone (last_of result.unpacked.last result.configured.last) → IsAnswered (H.state host.old) (H.state host.new) }
+    ensures counts { CountsLast (H.state host.old) (H.state host.new) (last_of result.unpacked.last result.configured.last) }
+    ensures not_closed { IfSome (last_of result.unpacked.last result.configured.last) (λ unit. IsBrokenBy Closed unit.reply → ⊥) }
+    ensures order { IsNone (last_of result.unpacked.last result.configured.last) → Needs (H.state host.new) (IsInOrder database.new lists.new.lists) }
+    ensures noting { IsNone (last_of result.unpacked.last result.configured.last) → database.new.closed ≡ false }
+    ensures listing { IsNone (last_of result.unpacked.last result.configured.last) → lists.new.closed ≡ false }
+    ensures kept { IsNone (last_of result.unpacked.last result.configured.last) → places.new ≡ places_in diversions.now.entries lists.new.lists }
+{
+    match labels_of(alloc, unpack.candidates.as_slice()) {
+        Ok(labels) => unpack_and_configure(
+            alloc,
+            host,
+            database,
+            lists,
+            places,
+            diversions,
+            labels.as_slice(),
+            unpack,
+            policy,
+        ),
+        Err(_) => Installed {
+            unpacked: no_memory(alloc),
+            configured: empty_report(alloc),
+        },
+    }
+}
+
+impl<H: Host> Session<H> {
+    /// Unpacks trees, and then configures the packages that were unpacked, and those deconfigured for them, where no unpack was
+    /// broken off. A unit that is broken off closes the session.
+    pub fn install(&mut self, unpack: Unpack, policy: ConfPolicy) -> Installed
+        ensures whole { self.old.closed ≡ false → IsNone (last_of result.unpacked.last result.configured.last) → IsInstall unpack.auto_deconfigure unpack.candidates.items policy result.unpacked.units.items result.configured.units.items (held self.old.database self.old.lists self.old.diversions) (held self.new.database self.new.lists self.new.diversions) (H.state self.old.host) (H.state self.new.host) }
+        ensures part { self.old.closed ≡ false → HasInstalled unpack.auto_deconfigure unpack.candidates.items policy result.unpacked.units.items result.unpacked.last result.configured (held self.old.database self.old.lists self.old.diversions) (H.state self.old.host) (H.state self.new.host) }
+        ensures told { TellsBoth (H.state self.old.host) (H.state self.new.host) result.unpacked result.configured }
+        ensures any_moment { self.old.closed ≡ false → Since (IsAmidInstall unpack.auto_deconfigure unpack.candidates.items policy (held self.old.database self.old.lists self.old.diversions) (H.state self.old.host)) (H.state self.old.host) (H.state self.new.host) }
+        ensures loss { self.old.closed ≡ false → LosesLikeAStop (IsAmidInstall unpack.auto_deconfigure unpack.candidates.items policy (held self.old.database self.old.lists self.old.diversions) (H.state self.old.host)) (H.state self.old.host) (H.state self.new.host) }
+        ensures stands { self.old.closed ≡ false → IsNone (last_of result.unpacked.last result.configured.last) → StandsOnceAnswered (H.state self.old.host) (H.state self.new.host) }
+        ensures closes { self.new.closed ≡ is_some (last_of result.unpacked.last result.configured.last) }
+        ensures refused { self.old.closed ≡ true → IsClosedReport result.unpacked × IsEmptyReport result.configured }
+        ensures same { self.old.closed ≡ true → H.state self.new.host ≡ H.state self.old.host }
+        ensures same_held { self.old.closed ≡ true → held self.new.database self.new.lists self.new.diversions ≡ held self.old.database self.old.lists self.old.diversions }
+        ensures answered { self.old.closed ≡ false → IsNone (last_of result.unpacked.last result.configured.last) → IsAnswered (H.state self.old.host) (H.state self.new.host) }
+        ensures diversions { self.new.diversions ≡ self.old.diversions }
+        ensures honest { Falls (H.state self.old.host) (H.state self.new.host) }
+        ensures counts { self.old.closed ≡ false → CountsLast (H.state self.old.host) (H.state self.new.host) (last_of result.unpacked.last result.configured.last) }
+        ensures not_closed { self.old.closed ≡ false → IfSome (last_of result.unpacked.last result.configured.last) (λ unit. IsBrokenBy Closed unit.reply → ⊥) }
+    {
+        if self.closed {
+            return Installed {
+                unpacked: closed_report(self.alloc),
+                configured: empty_report(self.alloc),
+            };
+        }
+        let installed = install_on(
+            self.alloc,
+            &mut self.host,
+            &mut self.database,
+            &mut self.lists,
+            &mut self.places,
+            &self.diversions,
+            unpack,
+            policy,
+        );
+        self.closed = installed.is_broken();
+        installed
+    }
+}

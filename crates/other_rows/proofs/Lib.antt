@@ -1,0 +1,4 @@
+pub mod Named
+pub mod Pushed
+pub mod Among
+pub mod Apart

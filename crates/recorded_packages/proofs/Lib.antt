@@ -1,0 +1,3 @@
+mod Readable
+mod InNameOrder
+mod Stated

@@ -1,0 +1,40 @@
+-- What a package's fields say of other packages (Policy 7.1 to 7.6), and whether it is essential (Policy 3.8).
+use Rattle.std.specs.Prelude.{◌≡◌, ◌⊎◌, ◌&&◌, ℕ, Bool, false, List, [], codes}
+use Rattle.std.specs.List.{list_any}
+use Rattle.std.specs.Str.{bytes_eq}
+use Rattle.control_fields.specs.Names.{lower, is_called, value_of, IsFieldCalled}
+use Rattle.control_fields.specs.declared.field.Field.{Field}
+use Rattle.relation_fields.specs.Entries.{ReadsProvides}
+use Rattle.relation_fields.specs.Grammar.{Reads}
+use Rattle.relation_fields.specs.RelationFields.{relation_key, field_rules, IsRelation}
+use Rattle.relation_fields.specs.declared.alternative.Alternative.{Alternative}
+use Rattle.relation_fields.specs.declared.provides.Provided.{Provided}
+use Rattle.relation_fields.specs.declared.relation_field.RelationField.{RelationField}
+use Rattle.relation_fields.specs.declared.relation_field.RelationField.TheVariants as relation
+
+-- the field of this name, given in lower case, has this value
+abbrev pub HasValue : List ℕ → List Field → List ℕ → Type 0
+HasValue key fields value = (f : Field) × IsFieldCalled key fields f × (value ≡ value_of f)
+
+-- where the field stands, its value can be read
+abbrev pub CanBeRead : RelationField → List Field → Type 0
+CanBeRead field fields = (f : Field) → IsFieldCalled (relation_key field) fields f → ∥ IsRelation field (value_of f) ∥₁
+
+-- the clauses of a relation field as they are read; without the field there are none
+abbrev pub StatesClauses : RelationField → List Field → List (List Alternative) → Type 0
+StatesClauses field fields clauses =
+    ((value : List ℕ) × HasValue (relation_key field) fields value × Reads (field_rules field) value clauses)
+    ⊎ ((is_called (relation_key field) fields ≡ false) × (clauses ≡ []))
+
+-- the entries of Provides as they are read; without the field there are none
+abbrev pub StatesProvides : List Field → List Provided → Type 0
+StatesProvides fields entries =
+    ((value : List ℕ) × HasValue (relation_key relation.Provides) fields value × ReadsProvides value entries)
+    ⊎ ((is_called (relation_key relation.Provides) fields ≡ false) × (entries ≡ []))
+
+-- the field Essential with the value `yes` (Policy 5.6.9)
+abbrev pub says_essential : Field → Bool
+says_essential field = bytes_eq (lower field.name) (codes "essential") && bytes_eq field.first (codes "yes")
+
+abbrev pub is_essential : List Field → Bool
+is_essential fields = list_any says_essential fields

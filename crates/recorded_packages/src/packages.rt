@@ -1,0 +1,80 @@
+// The packages of the records, as relations see them.
+ghost use Rattle.std.specs.Prelude.{◌≡◌, IfOk};
+ghost use Rattle.recorded_packages.specs.Packages.{package_state, is_reinstreq, IsPackageOf, ArePackagesOf};
+ghost use Rattle.status_db.specs.Configured.{last_configured};
+ghost use Rattle.status_db.specs.Order.{AreInOrder};
+
+use crate::relations::{is_essential, provides_of, relations_of};
+use relation_fields::{Form, RelationField};
+use relation_index::{Package, PackageState, Packages};
+use status_db::{Flag, Record, State};
+use std::alloc::{AllocError, Global};
+use version_order::Version;
+
+fn package_state(state: State) -> PackageState
+    ensures { result ≡ package_state state }
+{
+    match state {
+        State::NotInstalled => PackageState::NotInstalled,
+        State::ConfigFiles => PackageState::ConfigFiles,
+        State::HalfInstalled => PackageState::HalfInstalled,
+        State::Unpacked => PackageState::Unpacked,
+        State::HalfConfigured => PackageState::HalfConfigured,
+        State::Installed => PackageState::Installed,
+    }
+}
+
+fn is_reinstreq(flag: Flag) -> bool
+    ensures { result ≡ is_reinstreq flag }
+{
+    match flag {
+        Flag::Ok => false,
+        Flag::Reinstreq => true,
+    }
+}
+
+fn configured_of(entry: &Record) -> Result<Option<Version>, AllocError>
+    ensures { IfOk result (λ version. version ≡ last_configured entry.now) }
+{
+    match entry.last_configured() {
+        Some(version) => Ok(Some(version.copy()?)),
+        None => Ok(None),
+    }
+}
+
+/// The package of a record, with the relations that its fields state.
+pub(crate) fn package_of(alloc: Global, entry: &Record) -> Result<Package, AllocError>
+    ensures { IfOk result (IsPackageOf entry.now) }
+{
+    let fields = &entry.fields;
+    Ok(Package {
+        name: entry.name.copy()?,
+        version: entry.version.copy()?,
+        state: package_state(entry.state),
+        reinstreq: is_reinstreq(entry.flag),
+        essential: is_essential(fields),
+        configured: configured_of(entry)?,
+        removed_since: entry.removed_since,
+        provides: provides_of(alloc, fields)?,
+        pre_depends: relations_of(alloc, fields, RelationField::PreDepends, Form::Alternatives)?,
+        depends: relations_of(alloc, fields, RelationField::Depends, Form::Alternatives)?,
+        breaks: relations_of(alloc, fields, RelationField::Breaks, Form::Plain)?,
+        conflicts: relations_of(alloc, fields, RelationField::Conflicts, Form::Plain)?,
+        replaces: relations_of(alloc, fields, RelationField::Replaces, Form::Plain)?,
+    })
+}
+
+/// The packages of all records, which stand in the order of names, as those of an open database do.
+pub fn packages_of(alloc: Global, records: &[Record]) -> Result<Packages, AllocError>
+    requires { AreInOrder records.now }
+    ensures { IfOk result (ArePackagesOf records.now) }
+{
+    let mut list = Vec::new(alloc);
+    for entry in records {
+        list.push(package_of(alloc, entry)?)?;
+    }
+    match Packages::of(alloc, list)? {
+        Some(packages) => Ok(packages),
+        None => unreachable!(),
+    }
+}

@@ -1,0 +1,93 @@
+-- Names that are cleared lie outside the administration.
+use Rattle.std.proofs.Common.{◌≡◌, ℕ, Bool, true, false, not, cond, List, [], ◌∷◌, ◌++◌, codes, refl, sym, ap, ◌∙◌}
+use Rattle.std.specs.Prelude.{◌||◌, ◌&&◌, filter}
+use Rattle.std.specs.List.{flat_map, list_any}
+use Rattle.std.specs.Str.{bytes_eq}
+use Rattle.std.proofs.lemmas.Bool.{true≢false, false_from_ne_true, or_parts}
+use Rattle.std.proofs.lemmas.Slice.Eq.{bytes_eq-Decides}
+use Rattle.host_core.specs.Paths.{Path, is_path_text}
+use Rattle.administration.specs.Places.{home_path, is_within}
+use Rattle.diversions.specs.Places.{place}
+use Rattle.diversions.specs.declared.entry.Diversion.{Diversion}
+use Rattle.host_core.specs.Suffixes.{suffix_text}
+use Rattle.host_core.specs.declared.suffix.Suffix.TheVariants.{New}
+use Rattle.file_lists.specs.declared.paths.PackageList.{PackageList}
+use Rattle.file_removal.specs.Clearing.{is_among}
+use Rattle.list_changes.specs.Leaving.{has_other_owner}
+use Rattle.status_db.specs.declared.entries.ConffileEntry.{ConffileEntry}
+use Rattle.status_db.specs.declared.entries.PendingDigest.{PendingDigest}
+use Rattle.status_db.specs.declared.record.Record.{Record}
+use Rattle.unpack_moves.specs.Concluding.{AreElsewhere}
+use Rattle.file_lists.specs.Owners.{paths_of}
+use Rattle.removal_engine.specs.Records.{entry_paths}
+use Rattle.removal_engine.specs.Names.{cleared_names, clearable, is_clearable, ownerless, purged_names, side_names, side_names_at, stopped_names, unpack_names, waiting_names}
+
+head_elsewhere : (n : Path) (names : List Path) → AreElsewhere (n ∷ names) → (q : Path) → is_within home_path q ≡ true → bytes_eq q n ≡ false
+head_elsewhere n names all q within = (or_parts (bytes_eq q n) (is_among names q) (all q within)).0
+
+tail_elsewhere : (n : Path) (names : List Path) → AreElsewhere (n ∷ names) → AreElsewhere names
+tail_elsewhere n names all q within = (or_parts (bytes_eq q n) (is_among names q) (all q within)).1
+
+both_elsewhere : (n : Path) (names : List Path) → ((q : Path) → is_within home_path q ≡ true → bytes_eq q n ≡ false) → AreElsewhere names → AreElsewhere (n ∷ names)
+both_elsewhere n names one all q within = ap (λ b. b || is_among names q) (one q within) ∙ all q within
+
+pub append_elsewhere : (xs ys : List Path) → AreElsewhere xs → AreElsewhere ys → AreElsewhere (xs ++ ys)
+append_elsewhere [] ys a b = b
+append_elsewhere (x ∷ xs) ys a b = both_elsewhere x (xs ++ ys) (head_elsewhere x xs a) (append_elsewhere xs ys (tail_elsewhere x xs a) b)
+
+filter_elsewhere : (P : Path → Bool) (xs : List Path) → AreElsewhere xs → AreElsewhere (filter P xs)
+filter_elsewhere P [] all = all
+filter_elsewhere P (x ∷ xs) all = by (filter_elsewhere P xs (tail_elsewhere x xs all)) (P x)
+  where
+    by : AreElsewhere (filter P xs) → (b : Bool) → AreElsewhere (cond b (x ∷ filter P xs) (filter P xs))
+    by rest true = both_elsewhere x (filter P xs) (head_elsewhere x xs all) rest
+    by rest false = rest
+
+flat_elsewhere : {X : Type 0} (f : X → List Path) → ((x : X) → AreElsewhere (f x)) → (xs : List X) → AreElsewhere (flat_map f xs)
+flat_elsewhere f each [] = λ q within. refl
+flat_elsewhere f each (x ∷ xs) = append_elsewhere (f x) (flat_map f xs) (each x) (flat_elsewhere f each xs)
+
+spared : (a b c : Bool) → c ≡ true → a && not (b || c) ≡ true → ⊥
+spared false b c within is = true≢false (sym is)
+spared true true c within is = true≢false (sym is)
+spared true false c within is = true≢false (sym is ∙ ap not within)
+
+one_elsewhere : (n : Path) → is_clearable n ≡ true → (q : Path) → is_within home_path q ≡ true → bytes_eq q n ≡ false
+one_elsewhere n is q within = false_from_ne_true (bytes_eq q n) (λ same.
+    spared (is_path_text n) (bytes_eq n (codes "/")) (is_within home_path n) (ap (is_within home_path) (sym ((bytes_eq-Decides q n).0 same)) ∙ within) is)
+
+clearable_elsewhere : (xs : List Path) → AreElsewhere (clearable xs)
+clearable_elsewhere [] = λ q within. refl
+clearable_elsewhere (x ∷ xs) = by (clearable_elsewhere xs) (is_clearable x) refl
+  where
+    by : AreElsewhere (clearable xs) → (b : Bool) → is_clearable x ≡ b → AreElsewhere (cond b (x ∷ clearable xs) (clearable xs))
+    by rest true is = both_elsewhere x (clearable xs) (one_elsewhere x is) rest
+    by rest false is = rest
+
+unless : (b : Bool) (xs : List Path) → AreElsewhere xs → AreElsewhere (cond b [] xs)
+unless true xs all = λ q within. refl
+unless false xs all = all
+
+pub nothing_elsewhere : AreElsewhere []
+nothing_elsewhere = λ q within. refl
+
+module _ (entries : List Diversion) where
+  pub stopped_elsewhere : (name : List ℕ) (conffiles listed : List Path) → AreElsewhere (stopped_names entries name conffiles listed)
+  stopped_elsewhere name conffiles listed =
+      flat_elsewhere (λ (path : Path). cond (list_any (bytes_eq path) conffiles) [] (clearable (unpack_names (place entries name path))))
+      (λ path. unless (list_any (bytes_eq path) conffiles) (clearable (unpack_names (place entries name path))) (clearable_elsewhere (unpack_names (place entries name path)))) listed
+
+  pub waiting_elsewhere : (name : List ℕ) (pending : List PendingDigest) → AreElsewhere (waiting_names entries name pending)
+  waiting_elsewhere name pending =
+      flat_elsewhere (λ (d : PendingDigest). clearable ((place entries name d.path ++ suffix_text New) ∷ [])) (λ d. clearable_elsewhere ((place entries name d.path ++ suffix_text New) ∷ [])) pending
+
+  pub cleared_elsewhere : (lists : List PackageList) (r : Record) → AreElsewhere (cleared_names entries lists r)
+  cleared_elsewhere lists r =
+      append_elsewhere (stopped_names entries r.name (entry_paths r.conffiles) (paths_of lists r.name)) (waiting_names entries r.name r.pending)
+      (stopped_elsewhere r.name (entry_paths r.conffiles) (paths_of lists r.name)) (waiting_elsewhere r.name r.pending)
+
+  pub purged_elsewhere : (lists : List PackageList) (r : Record) → AreElsewhere (purged_names entries lists r)
+  purged_elsewhere lists r =
+      flat_elsewhere (λ (e : ConffileEntry). side_names_at entries lists r.name (place entries r.name e.path))
+      (λ e. unless (has_other_owner entries lists r.name (place entries r.name e.path)) (ownerless entries lists r.name (side_names (place entries r.name e.path)))
+      (filter_elsewhere (λ q. not (has_other_owner entries lists r.name q)) (clearable (side_names (place entries r.name e.path))) (clearable_elsewhere (side_names (place entries r.name e.path))))) r.conffiles

@@ -1,0 +1,12 @@
+pub mod Signs
+pub mod Chosen
+pub mod Elsewhere
+pub mod KeptEntries
+pub mod Listable
+pub mod Sparing
+pub mod Pushed
+pub mod Tables
+pub mod Deeds
+pub mod Fits
+pub mod EndRecords
+pub mod Looking

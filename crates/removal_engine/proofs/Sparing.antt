@@ -1,0 +1,44 @@
+-- What goes of the listed paths isn't the administration's.
+use Rattle.std.proofs.Common.{◌≡◌, ◌⊎◌, ℕ, zero, suc, arith, Contains, Bool, true, false, not, List, [], ◌∷◌, refl, sym, ap, ◌∙◌, inl, inr}
+use Rattle.std.specs.Prelude.{◌||◌, IsTrue}
+use Rattle.std.specs.List.{list_any}
+use Rattle.std.specs.Str.{bytes_eq}
+use Rattle.std.proofs.lemmas.Bool.{false≢true}
+use Rattle.host_core.specs.Paths.{Path}
+use Rattle.administration.specs.Places.{home_path, is_within}
+use Rattle.diversions.specs.Places.{place}
+use Rattle.diversions.specs.declared.entry.Diversion.{Diversion}
+use Rattle.file_lists.specs.declared.paths.PackageList.{PackageList}
+use Rattle.file_removal.specs.declared.leaving.Leaving.{Leaving}
+use Rattle.list_changes.specs.Leaving.{has_other_owner, is_place_of, leaving_at, leaving_of}
+use Rattle.unpack_moves.specs.Closing.{SparesAdministration}
+
+none_in : {X : Type 0} (x : X) → Contains [] x → ⊥
+none_in x has = omega (arith, has.1)
+
+first_or_later : {X : Type 0} (y : X) (xs : List X) (x : X) → Contains (y ∷ xs) x → (y ≡ x) ⊎ Contains xs x
+first_or_later y xs x (zero, lt, is) = inl is
+first_or_later y xs x (suc n, lt, is) = inr (n, omega (arith, lt), is)
+
+-- of these tests the third holds for nothing that goes
+third_fails : (a b c d : Bool) → not (a || (b || (c || d))) ≡ true → c ≡ false
+third_fails true b c d goes = absurd (false≢true goes)
+third_fails false true c d goes = absurd (false≢true goes)
+third_fails false false true d goes = absurd (false≢true goes)
+third_fails false false false d goes = refl
+
+goes_is : (b : Bool) → IsTrue b → b ≡ true
+goes_is b is = is
+
+module _ (entries : List Diversion) (lists : List PackageList) (name : List ℕ) (to_come conffiles : List Path) where
+  one_spares : (path : Path) → IsTrue (leaving_at entries lists name to_come conffiles path).goes → is_within home_path (place entries name path) ≡ false
+  one_spares path goes =
+      let at = place entries name path in
+      third_fails (list_any (bytes_eq path) conffiles) (bytes_eq at []) (is_within home_path at) (is_place_of entries name to_come at || has_other_owner entries lists name at) (goes_is _ goes)
+
+  pub leaving_spares : (listed : List Path) → SparesAdministration (leaving_of entries lists name to_come conffiles listed)
+  leaving_spares [] x has goes = absurd (none_in x has)
+  leaving_spares (path ∷ listed) x has goes = elim (first_or_later (leaving_at entries lists name to_come conffiles path) (leaving_of entries lists name to_come conffiles listed) x has) [
+    | inl same ↦ ap (λ (y : Leaving). is_within home_path y.place) (sym same) ∙ one_spares path (ap (λ (y : Leaving). y.goes) same ∙ goes_is _ goes)
+    | inr later ↦ leaving_spares listed x later goes
+  ]

@@ -1,0 +1,12 @@
+mod Once
+mod Replies
+mod Barriers
+mod Removals
+mod Calling
+mod Sorting
+mod Following
+mod Overleft
+mod Accepting
+mod Removable
+mod Turning
+mod Ending

@@ -1,0 +1,86 @@
+-- How units answer, and the faults of their hosts.
+use Rattle.std.specs.Prelude.{MatchBool}
+use Rattle.std.proofs.Common.{◌≡◌, ◌⊎◌, inl, inr, ℕ, ◌+◌, Bool, true, false, List, Option, Some, None, Err, sym, ap, subst, ◌∙◌}
+use Rattle.std.proofs.lemmas.Bool.{true≢false}
+use Rattle.host_core.specs.Host.{State, Counts, faults}
+use Rattle.host_core.specs.declared.call.Call.{Call}
+use Rattle.host_core.specs.declared.fault.HostFault.{HostFault}
+use Rattle.host_core.specs.declared.fault.HostFault.TheVariants as host
+use Rattle.status_db.specs.declared.record.Record.{Record}
+use Rattle.unit_reports.specs.declared.report.Breakage.{Breakage}
+use Rattle.unit_reports.specs.declared.report.Breakage.TheVariants.{Device, NoMemory, Closed}
+use Rattle.unit_reports.specs.declared.report.Reply.{Reply}
+use Rattle.unit_reports.specs.declared.report.Reply.TheVariants.{Done, Refused, Failed, Broken}
+use Rattle.unit_reports.specs.declared.report.Unit.{Unit as AUnit}
+use Rattle.unit_reports.specs.Units.{CountsReply, IsBroken, IsBrokenBy, breakage_of}
+use Rattle.removal_run.specs.Units.{Answers, reply_to}
+
+-- a unit that wasn't broken off is as is said of it
+pub not_broken : {Q : Type 0} (reply : Reply) (b : Bool) → b ≡ false → MatchBool b (IsBroken reply) (IsBroken reply → ⊥) → IsBroken reply ⊎ Q → Q
+not_broken reply true e is either = absurd (true≢false e)
+not_broken reply false e is (inl broken) = absurd (is broken)
+not_broken reply false e is (inr holds) = holds
+
+pub is_whole : (reply : Reply) (b : Bool) → b ≡ false → MatchBool b (IsBroken reply) (IsBroken reply → ⊥) → IsBroken reply → ⊥
+is_whole reply true e is broken = absurd (true≢false e)
+is_whole reply false e is broken = is broken
+
+pub is_broken_off : (reply : Reply) (b : Bool) → b ≡ true → MatchBool b (IsBroken reply) (IsBroken reply → ⊥) → IsBroken reply
+is_broken_off reply true e broken = broken
+is_broken_off reply false e is = absurd (true≢false (sym e))
+
+pub broken_by : (breakage : Breakage) (reply : Reply) → IsBrokenBy breakage reply → IsBroken reply
+broken_by breakage reply is = subst IsBroken (sym is) tt
+
+pub broken_or : {Q R : Type 0} (breakage : Breakage) (reply : Reply) → (Q → R) → IsBrokenBy breakage reply ⊎ Q → IsBroken reply ⊎ R
+broken_or breakage reply so (inl broken) = inl (broken_by breakage reply broken)
+broken_or breakage reply so (inr holds) = inr (so holds)
+
+pub no_memory_not_closed : (reply : Reply) → IsBrokenBy NoMemory reply → IsBrokenBy Closed reply → ⊥
+no_memory_not_closed reply broken closed = let e : Broken NoMemory ≡ Broken Closed = sym broken ∙ closed in cc
+
+reply_not_closed : (name : List ℕ) (failed : Option Call) → IsBrokenBy Closed (reply_to name failed) → ⊥
+reply_not_closed name None closed = cc
+reply_not_closed name (Some call) closed = cc
+
+pub answer_not_closed : (name : List ℕ) (records : List Record) (failed : Option Call) (u : AUnit) → IsBrokenBy NoMemory u.reply ⊎ Answers name records failed u → IsBrokenBy Closed u.reply → ⊥
+answer_not_closed name records failed u (inl broken) closed = no_memory_not_closed u.reply broken closed
+answer_not_closed name records failed u (inr answers) closed = reply_not_closed name failed (sym answers.replied ∙ closed)
+
+pub fault_not_closed : (fault : HostFault) (reply : Reply) → IsBrokenBy (breakage_of fault) reply → IsBrokenBy Closed reply → ⊥
+fault_not_closed host.Device reply is closed = let e : Broken Device ≡ Broken Closed = sym is ∙ closed in cc
+fault_not_closed host.NoMemory reply is closed = no_memory_not_closed reply is closed
+
+-- the faults of a unit
+
+counts_reply : (name : List ℕ) (failed : Option Call) (a b : State) → faults b ≡ faults a → CountsReply a b (reply_to name failed)
+counts_reply name None a b same = same
+counts_reply name (Some call) a b same = same
+
+pub counts_answered : (name : List ℕ) (records : List Record) (failed : Option Call) (u : AUnit) (a b : State) → faults b ≡ faults a → IsBrokenBy NoMemory u.reply ⊎ Answers name records failed u → CountsReply a b u.reply
+counts_answered name records failed u a b same (inl broken) = subst (CountsReply a b) (sym broken) same
+counts_answered name records failed u a b same (inr answers) = subst (CountsReply a b) (sym answers.replied) (counts_reply name failed a b same)
+
+counts_fault : (T : Type 0) (fault : HostFault) (a b : State) → Counts {T = T} a b (Err fault) → CountsReply a b (Broken (breakage_of fault))
+counts_fault T host.Device a b counts = counts
+counts_fault T host.NoMemory a b counts = counts
+
+pub counts_broken : (T : Type 0) (fault : HostFault) (reply : Reply) (a b : State) → IsBrokenBy (breakage_of fault) reply → Counts {T = T} a b (Err fault) → CountsReply a b reply
+counts_broken T fault reply a b broken counts = subst (CountsReply a b) (sym broken) (counts_fault T fault a b counts)
+
+pub counts_no_memory : (reply : Reply) (a b : State) → faults b ≡ faults a → IsBrokenBy NoMemory reply → CountsReply a b reply
+counts_no_memory reply a b same broken = subst (CountsReply a b) (sym broken) same
+
+pub counts_whole : (reply : Reply) (a b : State) → (IsBroken reply → ⊥) → CountsReply a b reply → faults b ≡ faults a
+counts_whole (Broken breakage) a b whole counts = absurd (whole tt)
+counts_whole Done a b whole counts = counts
+counts_whole (Refused refusal) a b whole counts = counts
+counts_whole (Failed failure) a b whole counts = counts
+
+pub counts_from : (reply : Reply) (a m b : State) → faults m ≡ faults a → CountsReply m b reply → CountsReply a b reply
+counts_from (Broken Device) a m b same counts = record { once = counts.once ∙ ap (λ n. n + 1) same; last = counts.last }
+counts_from (Broken NoMemory) a m b same counts = counts ∙ same
+counts_from (Broken Closed) a m b same counts = counts ∙ same
+counts_from Done a m b same counts = counts ∙ same
+counts_from (Refused refusal) a m b same counts = counts ∙ same
+counts_from (Failed failure) a m b same counts = counts ∙ same

@@ -1,0 +1,60 @@
+-- Names sorted by whether a rule refuses them.
+use Rattle.std.proofs.Common.{◌≡◌, ℕ, Bool, true, false, cond, List, [], ◌∷◌, ◌++◌, Option, Some, None, is_none, refl, sym, ap, subst, ◌∙◌}
+use Rattle.std.proofs.lemmas.List.{append-nil}
+use Rattle.status_db.specs.declared.record.Record.{Record}
+use Rattle.unit_reports.specs.Units.{IsRefusedUnit, calls_of}
+use Rattle.unit_reports.specs.declared.refusal.Refusal.{Refusal}
+use Rattle.unit_reports.specs.declared.refusal.Rule.{Rule}
+use Rattle.unit_reports.specs.declared.report.Unit.{Unit as AUnit}
+use Rattle.removal_run.specs.Refusals.{AreRefused, accepted, refused_first, refusals, rule_for}
+
+-- a unit for each of more refusals
+pub refused_more : (rs ss : List Refusal) (us vs : List AUnit) → AreRefused rs us → AreRefused ss vs → AreRefused (rs ++ ss) (us ++ vs)
+refused_more [] ss [] vs first second = second
+refused_more [] ss (u ∷ us) vs first second = absurd first
+refused_more (r ∷ rs) ss [] vs first second = absurd first
+refused_more (r ∷ rs) ss (u ∷ us) vs first second = (first.0, refused_more rs ss us vs first.1 second)
+
+-- none of them calls a script
+pub refused_calls : (rs : List Refusal) (us : List AUnit) → AreRefused rs us → calls_of us ≡ []
+refused_calls [] [] are = refl
+refused_calls [] (u ∷ us) are = absurd are
+refused_calls (r ∷ rs) [] are = absurd are
+refused_calls (r ∷ rs) (u ∷ us) are = ap (λ l. l ++ calls_of us) are.0.calls ∙ refused_calls rs us are.1
+
+first_behind : (name : List ℕ) (rule : Option Rule) (rs ss : List Refusal) → refused_first name rule (rs ++ ss) ≡ refused_first name rule rs ++ ss
+first_behind name None rs ss = refl
+first_behind name (Some rule) rs ss = refl
+
+module _ (purge : Bool) (records : List Record) where
+  pub refusals_more : (names : List (List ℕ)) (name : List ℕ) → refusals purge records (names ++ name ∷ []) ≡ refusals purge records names ++ refused_first name (rule_for purge records name) []
+  refusals_more [] name = refl
+  refusals_more (n ∷ names) name = ap (refused_first n (rule_for purge records n)) (refusals_more names name) ∙ first_behind n (rule_for purge records n) (refusals purge records names) (refused_first name (rule_for purge records name) [])
+
+  is_fine : List ℕ → Bool
+  is_fine name = is_none (rule_for purge records name)
+
+  pub accepted_more : (names : List (List ℕ)) (name : List ℕ) → accepted purge records (names ++ name ∷ []) ≡ accepted purge records names ++ accepted purge records (name ∷ [])
+  accepted_more [] name = refl
+  accepted_more (n ∷ names) name = by (is_none (rule_for purge records n)) (accepted_more names name)
+    where
+      by : (b : Bool) → accepted purge records (names ++ name ∷ []) ≡ accepted purge records names ++ accepted purge records (name ∷ [])
+          → cond b (n ∷ accepted purge records (names ++ name ∷ [])) (accepted purge records (names ++ name ∷ [])) ≡ cond b (n ∷ accepted purge records names) (accepted purge records names) ++ accepted purge records (name ∷ [])
+      by true rest = ap (λ (l : List (List ℕ)). n ∷ l) rest
+      by false rest = rest
+
+  -- a name that a rule refuses
+  pub refused_one : (names : List (List ℕ)) (name : List ℕ) (rule : Rule) (us : List AUnit) (u : AUnit) → rule_for purge records name ≡ Some rule → IsRefusedUnit rule name u → AreRefused (refusals purge records names) us → AreRefused (refusals purge records (names ++ name ∷ [])) (us ++ u ∷ [])
+  refused_one names name rule us u is unit are =
+      subst (λ rs. AreRefused rs (us ++ u ∷ [])) (sym (refusals_more names name ∙ ap (λ o. refusals purge records names ++ refused_first name o []) is))
+      (refused_more (refusals purge records names) (refused_first name (Some rule) []) us (u ∷ []) are (unit, tt))
+
+  pub unaccepted : (names : List (List ℕ)) (name : List ℕ) (rule : Rule) → rule_for purge records name ≡ Some rule → accepted purge records (names ++ name ∷ []) ≡ accepted purge records names
+  unaccepted names name rule is = accepted_more names name ∙ ap (λ o. accepted purge records names ++ cond (is_none o) (name ∷ []) []) is ∙ append-nil (accepted purge records names)
+
+  -- one that none refuses
+  pub unrefused : (names : List (List ℕ)) (name : List ℕ) → rule_for purge records name ≡ None → refusals purge records (names ++ name ∷ []) ≡ refusals purge records names
+  unrefused names name is = refusals_more names name ∙ ap (λ o. refusals purge records names ++ refused_first name o []) is ∙ append-nil (refusals purge records names)
+
+  pub accepted_one : (names : List (List ℕ)) (name : List ℕ) → rule_for purge records name ≡ None → accepted purge records (names ++ name ∷ []) ≡ accepted purge records names ++ name ∷ []
+  accepted_one names name is = accepted_more names name ∙ ap (λ o. accepted purge records names ++ cond (is_none o) (name ∷ []) []) is

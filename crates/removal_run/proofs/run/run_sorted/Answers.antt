@@ -1,0 +1,23 @@
+use Rattle.unit_reports.specs.Held.{held}
+use Rattle.removal_run.proofs.Ending.{none_ends, runs_through, runs_up_to, stopped_up_to, tells_ended}
+use Rattle.removal_run.proofs.run.run_sorted.Goals as goal
+
+pub returns-in-Ok-clause-whole : goal.returns-in-Ok-clause-whole
+returns-in-Ok-clause-whole g c = λ none.
+    runs_through c.args.purge c.args.sorted.waiting.items c.run_turns.new.waiting.items c.args.sorted.refused.items c.run_turns.new.units.items c.ended.result.units.items
+    (held c.args.database.now c.args.lists.now c.args.diversions.now) (held c.run_turns.new.database c.run_turns.new.lists c.args.diversions.now) (g.H.Host.state c.args.host.now) (g.H.Host.state c.run_turns.new.host)
+    c.in-Ok.ensures.turned c.in-Ok.queue c.in-Ok.ensures.nothing (none_ends c.in-Ok.queue c.run_turns.new.units.items c.ended.result.units.items c.ended.result.last none c.ended.ensures)
+
+pub returns-in-Ok-clause-part : goal.returns-in-Ok-clause-part
+returns-in-Ok-clause-part g c =
+    runs_up_to c.args.purge c.args.sorted.waiting.items c.run_turns.new.waiting.items c.args.sorted.refused.items c.run_turns.new.units.items c.ended.result.units.items
+    (held c.args.database.now c.args.lists.now c.args.diversions.now) (held c.run_turns.new.database c.run_turns.new.lists c.args.diversions.now) (g.H.Host.state c.args.host.now) (g.H.Host.state c.run_turns.new.host)
+    c.in-Ok.ensures.turned c.in-Ok.queue c.in-Ok.ensures.nothing c.ended.result.last c.ended.ensures
+
+pub returns-clause-part : goal.returns-clause-part
+returns-clause-part g c =
+    stopped_up_to c.args.purge c.args.sorted.waiting.items c.args.sorted.refused.items c.run_turns.new.units.items (held c.args.database.now c.args.lists.now c.args.diversions.now) (g.H.Host.state c.args.host.now) (g.H.Host.state c.run_turns.new.host) c.in-Err.unit c.in-Err.ensures.stopped
+
+pub returns-in-Ok-clause-told : goal.returns-in-Ok-clause-told
+returns-in-Ok-clause-told g c =
+    tells_ended c.in-Ok.queue c.args.sorted.refused.items c.run_turns.new.units.items c.ended.result.units.items c.ended.result.last (g.H.Host.state c.args.host.now) (g.H.Host.state c.run_turns.new.host) c.requires.told c.ended.ensures c.in-Ok.ensures.told

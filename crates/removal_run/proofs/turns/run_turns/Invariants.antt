@@ -1,0 +1,32 @@
+use Rattle.std.proofs.Common.{◌≡◌, false, length}
+use Rattle.host_core.specs.Host.{Needs, Since, faults}
+use Rattle.host_core.specs.Loss.{IsAnswered}
+use Rattle.file_lists.specs.Owners.{places_in}
+use Rattle.unit_parts.specs.Order.{IsInOrder}
+use Rattle.unit_reports.specs.Held.{held}
+use Rattle.unit_reports.specs.Units.{calls_of}
+use Rattle.unwind_stack.specs.Transcript.{TellsAll}
+use Rattle.removal_run.specs.Turns.{AreAccepted, HasTurned, IsAmidTurns}
+use Rattle.removal_run.proofs.turns.run_turns.Given as goal
+
+abbrev pub invariant-loop-package : goal.invariant-loop-package
+invariant-loop-package g l =
+    let old = g.H.Host.state l.fn.host in
+    let now = g.H.Host.state l.host in
+    let before = held l.fn.database l.fn.lists l.diversions in
+    let mid = held l.database l.lists l.diversions in
+    record {
+      turned : HasTurned l.purge l.fn.waiting.items l.waiting.items before mid old now l.fn.units.items l.units.items;
+      accepted : AreAccepted l.purge l.database.records l.waiting.items;
+      no_fault : faults now ≡ faults old;
+      told : TellsAll old now (calls_of l.fn.units.items) (calls_of l.units.items);
+      order : Needs now (IsInOrder l.database l.lists.lists);
+      noting : l.database.closed ≡ false;
+      listing : l.lists.closed ≡ false;
+      kept : l.places ≡ places_in l.diversions.entries l.lists.lists;
+      answered : IsAnswered old now;
+      moments : Since (IsAmidTurns l.purge l.fn.waiting.items before old) old now;
+    }
+
+abbrev pub decreases-loop-package : goal.decreases-loop-package
+decreases-loop-package g l = length l.waiting.items

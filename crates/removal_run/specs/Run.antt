@@ -1,0 +1,91 @@
+-- A removal or a purge of packages, as a whole.
+use Rattle.std.specs.Prelude.{◌≡◌, ◌⊎◌, ℕ, Bool, List, [], ◌++◌, Option, Some, None, IfSome, IsSomeAnd}
+use Rattle.dependency_check.specs.Waiting.{Waiting}
+use Rattle.host_core.specs.Events.{Event}
+use Rattle.host_core.specs.Host.{State, AtEachMomentOf}
+use Rattle.host_core.specs.World.{World}
+use Rattle.unit_reports.specs.Held.{Held}
+use Rattle.unit_reports.specs.Units.{IsBrokenBy}
+use Rattle.unit_reports.specs.declared.report.Breakage.TheVariants.{NoMemory}
+use Rattle.unit_reports.specs.declared.report.Report.{Report}
+use Rattle.unit_reports.specs.declared.report.Unit.{Unit as AUnit}
+use Rattle.removal_run.specs.LeftOver.{AreAllTold, AreLeftOver}
+use Rattle.removal_run.specs.Names.{once}
+use Rattle.removal_run.specs.Refusals.{AreRefused, accepted, refusals}
+use Rattle.removal_run.specs.Turns.{IsAmidNext, IsAmidTurns, IsBrokenNext, RemovesTo}
+
+-- the names that wait in the beginning
+abbrev pub waiting_for : Bool → List (List ℕ) → Held → List (List ℕ)
+waiting_for purge names before = accepted purge before.records.records (once names)
+
+-- the units of the names that a rule refuses, in the order given
+abbrev pub IsRefusedFirst : Bool → List (List ℕ) → Held → List AUnit → Type 0
+IsRefusedFirst purge names before us = AreRefused (refusals purge before.records.records (once names)) us
+
+-- Behind the units that are told already packages are removed in turn, and then those that are left over are told.
+pub record RunsThrough (purge : Bool) (names : List (List ℕ)) (refused us : List AUnit) (before after : Held) (s t : State) : Type 0 where
+  pub removed : List AUnit
+  pub left : List AUnit
+  pub units : us ≡ refused ++ (removed ++ left)
+  pub waiting : List (List ℕ)
+  pub turns : RemovesTo purge names before s removed waiting after t
+  pub last : AreLeftOver after.records.records waiting left
+
+-- The whole command: those that a rule refuses come first.
+pub record IsRemovalRun (names : List (List ℕ)) (purge : Bool) (us : List AUnit) (before after : Held) (s t : State) : Type 0 where
+  pub refused : List AUnit
+  pub first : IsRefusedFirst purge names before refused
+  pub runs : RunsThrough purge (waiting_for purge names before) refused us before after s t
+
+-- a unit that was broken off for want of memory before it had done anything
+pub record IsIdle (u : AUnit) : Type 0 where
+  pub broken : IsBrokenBy NoMemory u.reply
+  pub calls : u.calls.items ≡ []
+  pub touched : u.touched.items ≡ []
+
+-- nothing was done at all
+pub record HasNotBegun (us : List AUnit) (last : Option AUnit) (s t : State) : Type 0 where
+  pub units : us ≡ []
+  pub here : t ≡ s
+  pub broken : IsSomeAnd last IsIdle
+
+-- Behind the units that are told already come removals up to a moment of the host, and then those left over where nothing else
+-- can be removed. Since that moment only the next removal was under way: so what the units left stands, also where that one was
+-- broken off.
+pub record RunsUpTo (purge : Bool) (names : List (List ℕ)) (refused us : List AUnit) (last : Option AUnit) (before : Held) (s t : State) : Type 0 where
+  pub removed : List AUnit
+  pub left : List AUnit
+  pub units : us ≡ refused ++ (removed ++ left)
+  pub waiting : List (List ℕ)
+  pub after : Held
+  pub end : State
+  pub turns : RemovesTo purge names before s removed waiting after end
+  pub rest : (left ≡ []) ⊎ AreLeftOver after.records.records waiting left
+  pub since : AtEachMomentOf (IsAmidNext purge waiting after) end t
+  pub broken : IfSome last (IsBrokenNext purge waiting after end t)
+
+pub record HasBegun (names : List (List ℕ)) (purge : Bool) (us : List AUnit) (last : Option AUnit) (before : Held) (s t : State) : Type 0 where
+  pub refused : List AUnit
+  pub first : IsRefusedFirst purge names before refused
+  pub runs : RunsUpTo purge (waiting_for purge names before) refused us last before s t
+
+abbrev pub HasRun : List (List ℕ) → Bool → List AUnit → Option AUnit → Held → State → State → Type 0
+HasRun names purge us last before s t = HasNotBegun us last s t ⊎ HasBegun names purge us last before s t
+
+-- at each moment of a removal or a purge
+abbrev pub IsAmidRun : List (List ℕ) → Bool → Held → State → List Event → World → Type 0
+IsAmidRun names purge before s so_far now = IsAmidTurns purge (waiting_for purge names before) before s so_far now
+
+-- the units of those that are left over of a queue, behind others
+pub record AddsTold (q : Waiting) (old new : List AUnit) : Type 0 where
+  pub left : List AUnit
+  pub grown : new ≡ old ++ left
+  pub told : AreAllTold q left
+
+-- they are told, unless memory was wanting for them
+abbrev pub EndsWith : Waiting → List AUnit → List AUnit → Option AUnit → Type 0
+EndsWith q old new None = AddsTold q old new
+EndsWith q old new (Some u) = (new ≡ old) × IsIdle u
+
+abbrev pub EndsAs : Waiting → List AUnit → Report → Type 0
+EndsAs q units report = EndsWith q units report.units.items report.last

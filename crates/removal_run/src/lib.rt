@@ -1,0 +1,13 @@
+//! Removals and purges of several packages, one after another: which are refused, which is next, and why those left over stay
+//! (Policy 6.8, 7.2).
+#![tactic(auto)]
+
+mod left;
+mod names;
+mod refusals;
+mod run;
+mod turns;
+mod units;
+mod waiting;
+
+pub use run::remove_packages;

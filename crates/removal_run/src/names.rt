@@ -1,0 +1,32 @@
+// The names that a command gives.
+ghost use Rattle.std.specs.Prelude.{◌≡◌, IfOk};
+ghost use Rattle.removal_run.specs.Names.{is_among, once, without};
+
+use std::alloc::{AllocError, Global};
+use texts::Text;
+
+pub(crate) fn is_among(names: &[Text], name: &Text) -> bool
+    ensures { result ≡ is_among names.now name.now }
+{
+    names.iter().any(|other| name.as_str() == other.as_str())
+}
+
+/// Each name once: a second mention is dropped.
+pub(crate) fn once(alloc: Global, names: Vec<Text>) -> Result<Vec<Text>, AllocError>
+    ensures { IfOk result (λ list. list.items ≡ once names.items) }
+{
+    let mut list: Vec<Text> = Vec::new(alloc);
+    for name in names {
+        if !is_among(list.as_slice(), &name) {
+            list.push(name)?;
+        }
+    }
+    Ok(list)
+}
+
+/// Takes a name away.
+pub(crate) fn strike(names: &mut Vec<Text>, name: &Text)
+    ensures { names.new.items ≡ without name.now names.old.items }
+{
+    names.retain(|other| !(other.as_str() == name.as_str()));
+}

@@ -1,0 +1,92 @@
+// Why nothing is removed of a package.
+ghost use Rattle.std.specs.Prelude.{◌≡◌, IfOk};
+ghost use Rattle.recorded_packages.specs.Packages.{is_reinstreq};
+ghost use Rattle.removal_run.specs.Refusals.{AreRefused, accepted, is_config_files, refusals, rule_for, rule_of_record};
+
+use recorded_packages::is_essential;
+use status_db::{Flag, NotedDatabase, Record, State};
+use std::alloc::{AllocError, Global};
+use texts::Text;
+use unit_reports::{Rule, Unit, refused};
+
+fn is_config_files(state: State) -> bool
+    ensures { result ≡ is_config_files state }
+{
+    match state {
+        State::ConfigFiles => true,
+        State::NotInstalled
+        | State::HalfInstalled
+        | State::Unpacked
+        | State::HalfConfigured
+        | State::Installed => false,
+    }
+}
+
+fn is_reinstreq(flag: Flag) -> bool
+    ensures { result ≡ is_reinstreq flag }
+{
+    match flag {
+        Flag::Ok => false,
+        Flag::Reinstreq => true,
+    }
+}
+
+fn rule_of_record(purge: bool, entry: &Record) -> Option<Rule>
+    ensures { result ≡ rule_of_record purge entry.now }
+{
+    if is_config_files(entry.state) && !purge {
+        return Some(Rule::NothingToRemove);
+    }
+    if is_reinstreq(entry.flag) {
+        return Some(Rule::Reinstreq);
+    }
+    if !is_config_files(entry.state) && is_essential(&entry.fields) {
+        return Some(Rule::Essential);
+    }
+    None
+}
+
+/// The rule that refuses a package of this name, if one does.
+fn rule_for(purge: bool, database: &NotedDatabase, name: &Text) -> Option<Rule>
+    ensures { result ≡ rule_for purge database.now.records name.now }
+{
+    match database.get(name) {
+        Some(entry) => rule_of_record(purge, entry),
+        None => Some(Rule::Unknown),
+    }
+}
+
+/// The units that are refused, and the names that wait.
+#[derive(Drop)]
+pub(crate) struct Sorted {
+    pub(crate) refused: Vec<Unit>,
+    pub(crate) waiting: Vec<Text>,
+}
+
+/// Sorts names by whether a rule refuses them, each in its order.
+pub(crate) fn sort(
+    alloc: Global,
+    purge: bool,
+    database: &NotedDatabase,
+    names: Vec<Text>,
+) -> Result<Sorted, AllocError>
+    ensures refused { IfOk result (λ sorted. AreRefused (refusals purge database.now.records names.items) sorted.refused.items) }
+    ensures waiting { IfOk result (λ sorted. sorted.waiting.items ≡ accepted purge database.now.records names.items) }
+{
+    let mut units = Vec::new(alloc);
+    let mut waiting = Vec::new(alloc);
+    for name in names {
+        match rule_for(purge, database, &name) {
+            Some(rule) => {
+                units.push(refused(alloc, rule, name))?;
+            }
+            None => {
+                waiting.push(name)?;
+            }
+        }
+    }
+    Ok(Sorted {
+        refused: units,
+        waiting,
+    })
+}

@@ -1,0 +1,180 @@
+// A removal or a purge of packages, as a whole.
+ghost use Rattle.std.specs.Prelude.{◌≡◌, ◌++◌, [], ℕ, false, IfOk, OnOk, OnErr, IfSome, IsNone, map};
+ghost use Rattle.dependency_check.specs.Waiting.{IsRemovableNow};
+ghost use Rattle.host_core.specs.Host.{Needs, Since};
+ghost use Rattle.host_core.specs.Loss.{IsAnswered};
+ghost use Rattle.file_lists.specs.Owners.{places_in};
+ghost use Rattle.removal_run.specs.Names.{once};
+ghost use Rattle.removal_run.specs.Refusals.{AreRefused, accepted, refusals};
+ghost use Rattle.removal_run.specs.Run.{AddsTold, EndsAs, HasRun, IsRemovalRun, RunsThrough, RunsUpTo, waiting_for};
+ghost use Rattle.removal_run.specs.Waiting.{is_named};
+ghost use Rattle.removal_run.specs.Turns.{AreAccepted, IsAmidTurns};
+ghost use Rattle.unit_parts.specs.Order.{IsInOrder};
+ghost use Rattle.unit_reports.specs.Held.{held};
+ghost use Rattle.unit_reports.specs.Units.{CountsLast, IsBrokenBy, TellsCalls, calls_of};
+ghost use Rattle.unit_reports.specs.declared.report.Breakage.TheVariants.{Closed};
+
+use crate::left::left_over;
+use crate::names::once;
+use crate::refusals::{Sorted, sort};
+use crate::turns::run_turns;
+use dependency_check::RemoveQueue;
+use diversions::Diversions;
+use file_lists::FileLists;
+use host_core::{Host, Places};
+use status_db::NotedDatabase;
+use std::alloc::{AllocError, Global};
+use texts::Text;
+use unit_reports::{Breakage, Report, Unit, broken};
+
+// The names once each, by whether a rule refuses them.
+fn sorted(
+    alloc: Global,
+    purge: bool,
+    database: &NotedDatabase,
+    names: Vec<Text>,
+) -> Result<Sorted, AllocError>
+    ensures refused { IfOk result (λ sorted. AreRefused (refusals purge database.now.records (once names.items)) sorted.refused.items) }
+    ensures waiting { IfOk result (λ sorted. sorted.waiting.items ≡ accepted purge database.now.records (once names.items)) }
+{
+    let list = once(alloc, names)?;
+    sort(alloc, purge, database, list)
+}
+
+// Units behind others, all of them or none.
+fn append(units: &mut Vec<Unit>, more: Vec<Unit>) -> Result<(), AllocError>
+    ensures ok { OnOk result (units.new.items ≡ units.old.items ++ more.items) }
+    ensures err { OnErr result (units.new.items ≡ units.old.items) }
+{
+    let before = units.len();
+    for unit in more {
+        if units.push(unit).is_err() {
+            units.truncate(before);
+            return Err(AllocError);
+        }
+    }
+    Ok(())
+}
+
+// The units of those that are left over, behind the others.
+fn tell_left(
+    alloc: Global,
+    queue: &RemoveQueue,
+    waiting: &[Text],
+    units: &mut Vec<Unit>,
+) -> Result<(), AllocError>
+    requires queue { queue.now.waiting ≡ map (is_named waiting.now) queue.now.packages }
+    requires none { (x : ℕ) → IsRemovableNow queue.now x → ⊥ }
+    ensures ok { OnOk result (AddsTold queue.now units.old.items units.new.items) }
+    ensures err { OnErr result (units.new.items ≡ units.old.items) }
+{
+    let left = left_over(alloc, queue, waiting)?;
+    append(units, left)
+}
+
+// The report of units behind which those that are left over are told.
+fn ended(alloc: Global, queue: &RemoveQueue, waiting: &[Text], mut units: Vec<Unit>) -> Report
+    requires queue { queue.now.waiting ≡ map (is_named waiting.now) queue.now.packages }
+    requires none { (x : ℕ) → IsRemovableNow queue.now x → ⊥ }
+    ensures { EndsAs queue.now units.items result }
+{
+    match tell_left(alloc, queue, waiting, &mut units) {
+        Ok(()) => Report { units, last: None },
+        Err(_) => Report {
+            units,
+            last: Some(broken(alloc, Vec::new(alloc), Breakage::NoMemory)),
+        },
+    }
+}
+
+// The report of a command whose names are sorted.
+fn run_sorted<H: Host>(
+    alloc: Global,
+    host: &mut H,
+    database: &mut NotedDatabase,
+    lists: &mut FileLists,
+    places: &mut Places,
+    diversions: &Diversions,
+    purge: bool,
+    sorted: Sorted,
+) -> Report
+    requires order { Needs (H.state host.old) (IsInOrder database.old lists.old.lists) }
+    requires noting { database.old.closed ≡ false }
+    requires listing { lists.old.closed ≡ false }
+    requires kept { places.old ≡ places_in diversions.now.entries lists.old.lists }
+    requires accepted { AreAccepted purge database.old.records sorted.waiting.items }
+    requires told { calls_of sorted.refused.items ≡ [] }
+    ensures whole { IsNone result.last → RunsThrough purge sorted.waiting.items sorted.refused.items result.units.items (held database.old lists.old diversions.now) (held database.new lists.new diversions.now) (H.state host.old) (H.state host.new) }
+    ensures part { RunsUpTo purge sorted.waiting.items sorted.refused.items result.units.items result.last (held database.old lists.old diversions.now) (H.state host.old) (H.state host.new) }
+    ensures told { TellsCalls (H.state host.old) (H.state host.new) result }
+    ensures any_moment { Since (IsAmidTurns purge sorted.waiting.items (held database.old lists.old diversions.now) (H.state host.old)) (H.state host.old) (H.state host.new) }
+    ensures counts { CountsLast (H.state host.old) (H.state host.new) result.last }
+    ensures not_closed { IfSome result.last (λ unit. IsBrokenBy Closed unit.reply → ⊥) }
+    ensures order { IsNone result.last → Needs (H.state host.new) (IsInOrder database.new lists.new.lists) }
+    ensures noting { IsNone result.last → database.new.closed ≡ false }
+    ensures listing { IsNone result.last → lists.new.closed ≡ false }
+    ensures kept { IsNone result.last → places.new ≡ places_in diversions.now.entries lists.new.lists }
+    ensures answered { IsNone result.last → IsAnswered (H.state host.old) (H.state host.new) }
+{
+    let Sorted {
+        refused: mut units,
+        mut waiting,
+    } = sorted;
+    match run_turns(
+        alloc,
+        host,
+        database,
+        lists,
+        places,
+        diversions,
+        purge,
+        &mut waiting,
+        &mut units,
+    ) {
+        Ok(queue) => ended(alloc, &queue, waiting.as_slice(), units),
+        Err(unit) => Report {
+            units,
+            last: Some(unit),
+        },
+    }
+}
+
+/// Removes packages, or purges them. A second mention of a name is dropped. First those that a rule refuses are told, in the
+/// order given; then packages are removed one after another, each the next of those that can be removed as all are recorded
+/// then; those left over are told last, each with a package that depends on it.
+pub fn remove_packages<H: Host>(
+    alloc: Global,
+    host: &mut H,
+    database: &mut NotedDatabase,
+    lists: &mut FileLists,
+    places: &mut Places,
+    diversions: &Diversions,
+    names: Vec<Text>,
+    purge: bool,
+) -> Report
+    requires order { Needs (H.state host.old) (IsInOrder database.old lists.old.lists) }
+    requires noting { database.old.closed ≡ false }
+    requires listing { lists.old.closed ≡ false }
+    requires kept { places.old ≡ places_in diversions.now.entries lists.old.lists }
+    ensures whole { IsNone result.last → IsRemovalRun names.items purge result.units.items (held database.old lists.old diversions.now) (held database.new lists.new diversions.now) (H.state host.old) (H.state host.new) }
+    ensures part { HasRun names.items purge result.units.items result.last (held database.old lists.old diversions.now) (H.state host.old) (H.state host.new) }
+    ensures told { TellsCalls (H.state host.old) (H.state host.new) result }
+    ensures any_moment { Since (IsAmidTurns purge (waiting_for purge names.items (held database.old lists.old diversions.now)) (held database.old lists.old diversions.now) (H.state host.old)) (H.state host.old) (H.state host.new) }
+    ensures counts { CountsLast (H.state host.old) (H.state host.new) result.last }
+    ensures not_closed { IfSome result.last (λ unit. IsBrokenBy Closed unit.reply → ⊥) }
+    ensures order { IsNone result.last → Needs (H.state host.new) (IsInOrder database.new lists.new.lists) }
+    ensures noting { IsNone result.last → database.new.closed ≡ false }
+    ensures listing { IsNone result.last → lists.new.closed ≡ false }
+    ensures kept { IsNone result.last → places.new ≡ places_in diversions.now.entries lists.new.lists }
+    ensures answered { IsNone result.last → IsAnswered (H.state host.old) (H.state host.new) }
+{
+    match sorted(alloc, purge, database, names) {
+        Ok(sorted) => run_sorted(
+            alloc, host, database, lists, places, diversions, purge, sorted,
+        ),
+        Err(_) => Report {
+            units: Vec::new(alloc),
+            last: Some(broken(alloc, Vec::new(alloc), Breakage::NoMemory)),
+        },
+    }
+}

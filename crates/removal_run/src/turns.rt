@@ -1,0 +1,80 @@
+// The removals of a command, one after another.
+ghost use Rattle.std.specs.Prelude.{◌≡◌, ◌++◌, false, IfErr, IfOk, OnOk};
+ghost use Rattle.host_core.specs.Host.{Needs, Since, faults};
+ghost use Rattle.host_core.specs.Loss.{IsAnswered};
+ghost use Rattle.file_lists.specs.Owners.{places_in};
+ghost use Rattle.removal_run.specs.Next.{IsNothing};
+ghost use Rattle.removal_run.specs.Turns.{AreAccepted, HasStopped, HasTurned, IsAmidTurns};
+ghost use Rattle.unit_parts.specs.Order.{IsInOrder};
+ghost use Rattle.unit_reports.specs.Held.{held};
+ghost use Rattle.unit_reports.specs.Units.{CountsReply, IsBrokenBy, calls_of};
+ghost use Rattle.unit_reports.specs.declared.report.Breakage.TheVariants.{Closed};
+ghost use Rattle.unwind_stack.specs.Transcript.{TellsAll};
+
+use crate::names::strike;
+use crate::units::run_one;
+use crate::waiting::{Next, next_of};
+use dependency_check::RemoveQueue;
+use diversions::Diversions;
+use file_lists::FileLists;
+use host_core::{Host, Places};
+use status_db::NotedDatabase;
+use std::alloc::Global;
+use texts::Text;
+use unit_reports::{Breakage, Unit, broken};
+
+/// Removes packages in turn until none of those that wait can be removed, or one was broken off. The answer is the queue of
+/// those that still wait.
+pub(crate) fn run_turns<H: Host>(
+    alloc: Global,
+    host: &mut H,
+    database: &mut NotedDatabase,
+    lists: &mut FileLists,
+    places: &mut Places,
+    diversions: &Diversions,
+    purge: bool,
+    waiting: &mut Vec<Text>,
+    units: &mut Vec<Unit>,
+) -> Result<RemoveQueue, Unit>
+    requires order { Needs (H.state host.old) (IsInOrder database.old lists.old.lists) }
+    requires noting { database.old.closed ≡ false }
+    requires listing { lists.old.closed ≡ false }
+    requires kept { places.old ≡ places_in diversions.now.entries lists.old.lists }
+    requires accepted { AreAccepted purge database.old.records waiting.old.items }
+    ensures turned { OnOk result (HasTurned purge waiting.old.items waiting.new.items (held database.old lists.old diversions.now) (held database.new lists.new diversions.now) (H.state host.old) (H.state host.new) units.old.items units.new.items) }
+    ensures nothing { IfOk result (IsNothing database.new.records waiting.new.items) }
+    ensures stopped { IfErr result (HasStopped purge waiting.old.items (held database.old lists.old diversions.now) (H.state host.old) (H.state host.new) units.old.items units.new.items) }
+    ensures told { OnOk result (TellsAll (H.state host.old) (H.state host.new) (calls_of units.old.items) (calls_of units.new.items)) }
+    ensures told_stopped { IfErr result (λ unit. TellsAll (H.state host.old) (H.state host.new) (calls_of units.old.items) (calls_of units.new.items ++ unit.calls.items)) }
+    ensures any_moment { Since (IsAmidTurns purge waiting.old.items (held database.old lists.old diversions.now) (H.state host.old)) (H.state host.old) (H.state host.new) }
+    ensures no_fault { OnOk result (faults (H.state host.new) ≡ faults (H.state host.old)) }
+    ensures counts { IfErr result (λ unit. CountsReply (H.state host.old) (H.state host.new) unit.reply) }
+    ensures not_closed { IfErr result (λ unit. IsBrokenBy Closed unit.reply → ⊥) }
+    ensures order { IfOk result (λ queue. Needs (H.state host.new) (IsInOrder database.new lists.new.lists)) }
+    ensures noting { OnOk result (database.new.closed ≡ false) }
+    ensures listing { OnOk result (lists.new.closed ≡ false) }
+    ensures kept { OnOk result (places.new ≡ places_in diversions.now.entries lists.new.lists) }
+    ensures answered { OnOk result (IsAnswered (H.state host.old) (H.state host.new)) }
+{
+    loop {
+        match next_of(alloc, database, waiting.as_slice()) {
+            Ok(Next::Removed(package)) => {
+                strike(waiting, &package);
+                match run_one(
+                    alloc, host, database, lists, places, diversions, package, purge, units,
+                ) {
+                    Ok(()) => {}
+                    Err(unit) => {
+                        return Err(unit);
+                    }
+                }
+            }
+            Ok(Next::Nothing(queue)) => {
+                return Ok(queue);
+            }
+            Err(_) => {
+                return Err(broken(alloc, Vec::new(alloc), Breakage::NoMemory));
+            }
+        }
+    }
+}

@@ -1,0 +1,12 @@
+pub mod ConffileNames
+pub mod Outside
+pub mod Places
+pub mod ReadBack
+pub mod Lists
+pub mod Names
+pub mod Order
+pub mod Moments
+pub mod Settling
+pub mod Discarding
+pub mod Parts
+pub mod Keeping

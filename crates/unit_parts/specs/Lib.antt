@@ -1,0 +1,5 @@
+pub mod Order
+pub mod Parts
+pub mod Doing
+pub mod Fitting
+pub mod Aside

@@ -1,0 +1,12 @@
+//! What units answer, and why one is refused.
+#![tactic(auto)]
+
+mod refusal;
+mod report;
+mod units;
+
+pub use refusal::{Refusal, Rule};
+pub use report::{Breakage, Failure, Reply, Report, Touched, Unit};
+pub use units::{
+    breakage_of, broken, is_broken, record_of, refresh, refused, touched_at, touched_of,
+};

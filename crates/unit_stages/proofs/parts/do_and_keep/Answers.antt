@@ -1,0 +1,21 @@
+use Rattle.std.proofs.Common.{◌≡◌, false, sym, ap, ◌∙◌}
+use Rattle.std.specs.List.{list_any}
+use Rattle.file_lists.specs.Owners.{places_in}
+use Rattle.unit_stages.specs.Holding.{is_listing}
+use Rattle.unit_stages.proofs.Keeping.{unlisted}
+use Rattle.unit_stages.proofs.RunLaws.{later}
+use Rattle.unit_stages.proofs.parts.do_and_keep.Goals as goal
+
+pub keep_places-requires : goal.keep_places-requires
+keep_places-requires g c = λ written.
+    let none : list_any is_listing c.args.parts.items ≡ false = ap (list_any is_listing) (sym c.as_slice.ensures.value) ∙ sym c.have_listing-written.ensures ∙ written in
+    c.requires.kept
+    ∙ ap (places_in c.args.diversions.now.entries) (sym (unlisted c.args.name.now c.args.parts.items c.args.lists.now.lists none))
+    ∙ ap (places_in c.args.diversions.now.entries) (sym c.in_ok-do_parts.ensures.lists)
+
+pub returns-clause-done : goal.returns-clause-done
+returns-clause-done g c = record {
+  silent = c.do_parts.ensures.silent;
+  later = later _ _ _ c.do_parts.ensures.any_moment;
+  done = λ h. c.in_ok-do_parts.ensures.done h;
+}

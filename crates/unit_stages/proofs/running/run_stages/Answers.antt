@@ -1,0 +1,154 @@
+use Rattle.std.proofs.Common.{◌≡◌, List, [], ◌∷◌, ◌++◌, Option, Some, None, refl, sym, subst, ◌∙◌, append_assoc, rules}
+use Rattle.host_core.specs.declared.call.Call.{Call}
+use Rattle.unit_stages.specs.Fitting.{AreStagesFit, AreStagesSettleable, IsStageFit}
+use Rattle.unit_stages.specs.Holding.{Holding, holding}
+use Rattle.unit_stages.specs.Runs.{HaveRun}
+use Rattle.unit_stages.specs.declared.stage.Stage.{Stage}
+use Rattle.unit_stages.proofs.RunLaws.{run_ended, run_left, run_made, run_on}
+use Rattle.unit_stages.proofs.RunMoments.{run_goes_on, run_starts, stage_fits, stage_settleable, stage_settled, unmoved}
+use Rattle.unit_stages.proofs.Tellings.{passed_told, run_told}
+use Rattle.unit_stages.proofs.running.run_stages.Goals as goal
+
+pub loop-stage-init : goal.loop-stage-init
+loop-stage-init g c =
+    let a = g.H.Host.state c.args.host.now in
+    let d = c.args.database.now in
+    let f = c.args.lists.now in
+    record {
+      left = search rules;
+      ran = (refl, refl {a = holding d f}, refl {a = a}, refl {a = c.args.told.now.items});
+      order = c.requires.order;
+      kept = c.requires.kept;
+      noting = c.requires.noting;
+      listing = c.requires.listing;
+      any_moment = run_starts c.args.name.now c.args.diversions.now.entries c.args.stages.items (holding d f) d f a refl c.requires.order;
+      counts = refl;
+    }
+
+pub run_stage-requires-clause-fit : goal.run_stage-requires-clause-fit
+run_stage-requires-clause-fit g c =
+    let name = c.args.name.now in
+    let entries = c.args.diversions.now.entries in
+    let before = holding c.args.database.now c.args.lists.now in
+    let mid = holding c.loop-stage.database c.loop-stage.lists in
+    let stage = c.in-Some.stage in
+    let walk : c.args.stages.items ≡ c.loop-stage.yielded ++ stage ∷ c.next.new.self.rest.items = search rules in
+    subst (λ (h : Holding). IsStageFit name stage h.records h.lists)
+    (sym (run_left name entries c.loop-stage.yielded None before mid (g.H.Host.state c.args.host.now) (g.H.Host.state c.loop-stage.host) c.args.told.now.items c.loop-stage.told.items c.loop-stage.invariant.ran))
+    (stage_fits name c.loop-stage.yielded c.next.new.self.rest.items stage before (subst (λ (l : List Stage). AreStagesFit name l before.records before.lists) walk c.requires.fit))
+
+pub run_stage-requires-clause-settleable : goal.run_stage-requires-clause-settleable
+run_stage-requires-clause-settleable g c = λ h.
+    let a = g.H.Host.state c.args.host.now in
+    let b = g.H.Host.state c.loop-stage.host in
+    let walk : c.args.stages.items ≡ c.loop-stage.yielded ++ c.in-Some.stage ∷ c.next.new.self.rest.items = search rules in
+    stage_settleable c.next.new.self.rest.items c.in-Some.stage a.world b.world c.loop-stage.yielded
+    (unmoved c.args.name.now c.args.diversions.now.entries c.loop-stage.yielded (holding c.args.database.now c.args.lists.now) (holding c.loop-stage.database c.loop-stage.lists) a b c.args.told.now.items c.loop-stage.told.items c.loop-stage.invariant.ran)
+    (subst (λ (l : List Stage). AreStagesSettleable l a.world) walk (c.requires.settleable (c.loop-stage.invariant.any_moment.honest h)))
+
+pub run_stage-requires-clause-settled : goal.run_stage-requires-clause-settled
+run_stage-requires-clause-settled g c = λ h.
+    let a = g.H.Host.state c.args.host.now in
+    let b = g.H.Host.state c.loop-stage.host in
+    let walk : c.args.stages.items ≡ c.loop-stage.yielded ++ c.in-Some.stage ∷ c.next.new.self.rest.items = search rules in
+    stage_settled c.next.new.self.rest.items c.in-Some.stage a.world b.world c.loop-stage.yielded
+    (subst (λ (l : List Stage). AreStagesSettleable l a.world) walk (c.requires.settleable (c.loop-stage.invariant.any_moment.honest h)))
+
+pub returns-in_err-call-clause-told : goal.returns-in_err-call-clause-told
+returns-in_err-call-clause-told g c =
+    let a = g.H.Host.state c.args.host.now in
+    let b = g.H.Host.state c.loop-stage.host in
+    let before = holding c.args.database.now c.args.lists.now in
+    let mid = holding c.loop-stage.database c.loop-stage.lists in
+    let walk : c.args.stages.items ≡ c.loop-stage.yielded ++ c.in-Some.stage ∷ c.next.new.self.rest.items = search rules in
+    run_told c.args.stages.items c.loop-stage.yielded c.next.new.self.rest.items c.in-Some.stage a b (g.H.Host.state c.run_stage.new.host) c.args.told.now.items c.loop-stage.told.items c.run_stage.new.told.items walk
+    (run_made c.args.name.now c.args.diversions.now.entries c.loop-stage.yielded None before mid a b c.args.told.now.items c.loop-stage.told.items c.loop-stage.invariant.ran) c.run_stage.ensures.told
+
+pub returns-in_err-call-clause-any_moment : goal.returns-in_err-call-clause-any_moment
+returns-in_err-call-clause-any_moment g c =
+    let a = g.H.Host.state c.args.host.now in
+    let b = g.H.Host.state c.loop-stage.host in
+    let before = holding c.args.database.now c.args.lists.now in
+    let mid = holding c.loop-stage.database c.loop-stage.lists in
+    let walk : c.args.stages.items ≡ c.loop-stage.yielded ++ c.in-Some.stage ∷ c.next.new.self.rest.items = search rules in
+    run_goes_on c.args.name.now c.args.diversions.now.entries c.args.stages.items before c.loop-stage.yielded c.next.new.self.rest.items c.in-Some.stage walk mid a b (g.H.Host.state c.run_stage.new.host) c.args.told.now.items c.loop-stage.told.items
+    c.loop-stage.invariant.ran c.loop-stage.invariant.any_moment c.run_stage.ensures.any_moment
+
+pub returns-in-Some-2-clause-ran : goal.returns-in-Some-2-clause-ran
+returns-in-Some-2-clause-ran g c =
+    let name = c.args.name.now in
+    let entries = c.args.diversions.now.entries in
+    let a = g.H.Host.state c.args.host.now in
+    let b = g.H.Host.state c.loop-stage.host in
+    let d = g.H.Host.state c.run_stage.new.host in
+    let before = holding c.args.database.now c.args.lists.now in
+    let mid = holding c.loop-stage.database c.loop-stage.lists in
+    let after = holding c.run_stage.new.database c.run_stage.new.lists in
+    let stage = c.in-Some.stage in
+    let rest = c.next.new.self.rest.items in
+    let told = c.args.told.now.items in
+    let more = c.loop-stage.told.items in
+    let now = c.run_stage.new.told.items in
+    let call = c.in-Some-2.call in
+    let walk : c.args.stages.items ≡ c.loop-stage.yielded ++ stage ∷ rest = search rules in
+    let one = subst (λ (o : Option Call). HaveRun name entries (stage ∷ []) o mid after b d more now) c.in-Some-2.is c.in_ok-call.ensures.ran in
+    subst (λ (l : List Stage). HaveRun name entries l (Some call) before after a d told now) (sym walk)
+    (run_on name entries c.loop-stage.yielded (stage ∷ rest) (Some call) before mid after a b d told more now c.loop-stage.invariant.ran
+    (run_ended name entries (stage ∷ []) rest call mid after b d more now one))
+
+pub returns-in-Some-2-clause-told : goal.returns-in-Some-2-clause-told
+returns-in-Some-2-clause-told g c =
+    let a = g.H.Host.state c.args.host.now in
+    let b = g.H.Host.state c.loop-stage.host in
+    let before = holding c.args.database.now c.args.lists.now in
+    let mid = holding c.loop-stage.database c.loop-stage.lists in
+    let walk : c.args.stages.items ≡ c.loop-stage.yielded ++ c.in-Some.stage ∷ c.next.new.self.rest.items = search rules in
+    run_told c.args.stages.items c.loop-stage.yielded c.next.new.self.rest.items c.in-Some.stage a b (g.H.Host.state c.run_stage.new.host) c.args.told.now.items c.loop-stage.told.items c.run_stage.new.told.items walk
+    (run_made c.args.name.now c.args.diversions.now.entries c.loop-stage.yielded None before mid a b c.args.told.now.items c.loop-stage.told.items c.loop-stage.invariant.ran) c.run_stage.ensures.told
+
+pub returns-in-Some-2-clause-any_moment : goal.returns-in-Some-2-clause-any_moment
+returns-in-Some-2-clause-any_moment g c =
+    let a = g.H.Host.state c.args.host.now in
+    let b = g.H.Host.state c.loop-stage.host in
+    let before = holding c.args.database.now c.args.lists.now in
+    let mid = holding c.loop-stage.database c.loop-stage.lists in
+    let walk : c.args.stages.items ≡ c.loop-stage.yielded ++ c.in-Some.stage ∷ c.next.new.self.rest.items = search rules in
+    run_goes_on c.args.name.now c.args.diversions.now.entries c.args.stages.items before c.loop-stage.yielded c.next.new.self.rest.items c.in-Some.stage walk mid a b (g.H.Host.state c.run_stage.new.host) c.args.told.now.items c.loop-stage.told.items
+    c.loop-stage.invariant.ran c.loop-stage.invariant.any_moment c.run_stage.ensures.any_moment
+
+pub loop-stage-preserved : goal.loop-stage-preserved
+loop-stage-preserved g c =
+    let name = c.args.name.now in
+    let entries = c.args.diversions.now.entries in
+    let inv = c.loop-stage.invariant in
+    let a = g.H.Host.state c.args.host.now in
+    let b = g.H.Host.state c.loop-stage.host in
+    let d = g.H.Host.state c.run_stage.new.host in
+    let before = holding c.args.database.now c.args.lists.now in
+    let mid = holding c.loop-stage.database c.loop-stage.lists in
+    let after = holding c.run_stage.new.database c.run_stage.new.lists in
+    let stage = c.in-Some.stage in
+    let told = c.args.told.now.items in
+    let more = c.loop-stage.told.items in
+    let now = c.run_stage.new.told.items in
+    let walk : c.args.stages.items ≡ c.loop-stage.yielded ++ stage ∷ c.next.new.self.rest.items = search rules in
+    let one = subst (λ (o : Option Call). HaveRun name entries (stage ∷ []) o mid after b d more now) c.in_default.is c.in_ok-call.ensures.ran in
+    record {
+      left = walk ∙ sym (append_assoc c.loop-stage.yielded (stage ∷ []) c.next.new.self.rest.items);
+      ran = run_on name entries c.loop-stage.yielded (stage ∷ []) None before mid after a b d told more now inv.ran one;
+      order = c.in_ok-call.ensures.order;
+      kept = c.in_ok-call.ensures.kept;
+      noting = c.in_ok-call.ensures.noting;
+      listing = c.in_ok-call.ensures.listing;
+      any_moment = run_goes_on name entries c.args.stages.items before c.loop-stage.yielded c.next.new.self.rest.items stage walk mid a b d told more inv.ran inv.any_moment c.run_stage.ensures.any_moment;
+      counts = c.in_ok-call.ensures.counts ∙ inv.counts;
+    }
+
+pub returns-clause-told : goal.returns-clause-told
+returns-clause-told g c =
+    let a = g.H.Host.state c.args.host.now in
+    let b = g.H.Host.state c.loop-stage.host in
+    let before = holding c.args.database.now c.args.lists.now in
+    let mid = holding c.loop-stage.database c.loop-stage.lists in
+    passed_told c.args.stages.items c.loop-stage.yielded c.loop-stage.stage-iterator.rest.items a b c.args.told.now.items c.loop-stage.told.items c.loop-stage.invariant.left
+    (run_made c.args.name.now c.args.diversions.now.entries c.loop-stage.yielded None before mid a b c.args.told.now.items c.loop-stage.told.items c.loop-stage.invariant.ran)

@@ -1,0 +1,86 @@
+// The parts of a stage, and the places that scripts leave alone behind them.
+ghost use Rattle.std.specs.Prelude.{◌≡◌, false, true, ℕ, List, OnOk};
+ghost use Rattle.std.specs.List.{list_any};
+ghost use Rattle.host_core.specs.Host.{AtEachMoment, Counts, Needs, Silent};
+ghost use Rattle.texts.specs.PackageNames.{is_package_name};
+ghost use Rattle.file_lists.specs.Owners.{places_in};
+ghost use Rattle.unit_parts.specs.Doing.{AreDoing};
+ghost use Rattle.unit_parts.specs.Fitting.{AreFit, AreSettleable};
+ghost use Rattle.unit_parts.specs.Order.{IsInOrder};
+ghost use Rattle.unit_stages.specs.Holding.{after_parts, holding, is_listing};
+ghost use Rattle.unit_stages.specs.Runs.{DoesParts};
+
+use diversions::Diversions;
+use file_lists::FileLists;
+use host_core::{Host, HostFault, Places};
+use status_db::NotedDatabase;
+use std::alloc::{AllocError, Global};
+use texts::Text;
+use unit_parts::{Part, do_parts};
+
+fn is_listing(part: &Part) -> bool
+    ensures { result ≡ is_listing part.now }
+{
+    match part {
+        Part::List(_) => true,
+        _ => false,
+    }
+}
+
+// Whether one of these parts writes the package's list.
+fn have_listing(parts: &[Part]) -> bool
+    ensures { result ≡ list_any is_listing parts.now }
+{
+    parts.iter().any(|part| is_listing(part))
+}
+
+// The places of the lists, computed anew where a list was written.
+fn keep_places(
+    alloc: Global,
+    lists: &FileLists,
+    places: &mut Places,
+    diversions: &Diversions,
+    written: bool,
+) -> Result<(), AllocError>
+    requires { written ≡ false → places.old ≡ places_in diversions.now.entries lists.now.lists }
+    ensures { OnOk result (places.new ≡ places_in diversions.now.entries lists.now.lists) }
+{
+    if written {
+        *places = lists.places(alloc, diversions)?;
+    }
+    Ok(())
+}
+
+/// Does these parts. What the list has no more is a script's to change behind them.
+pub(crate) fn do_and_keep<H: Host>(
+    alloc: Global,
+    host: &mut H,
+    database: &mut NotedDatabase,
+    lists: &mut FileLists,
+    places: &mut Places,
+    diversions: &Diversions,
+    name: &Text,
+    parts: Vec<Part>,
+) -> Result<(), HostFault>
+    requires noting { database.old.closed ≡ false }
+    requires listing { lists.old.closed ≡ false }
+    requires named { is_package_name name.now ≡ true }
+    requires fit { AreFit name.now parts.items database.old.records lists.old.lists }
+    requires kept { places.old ≡ places_in diversions.now.entries lists.old.lists }
+    requires order { Needs (H.state host.old) (IsInOrder database.old lists.old.lists) }
+    requires settleable { Needs (H.state host.old) (AreSettleable parts.items) }
+    ensures left { OnOk result (holding database.new lists.new ≡ after_parts name.now parts.items (holding database.old lists.old)) }
+    ensures noting { OnOk result (database.new.closed ≡ false) }
+    ensures listing { OnOk result (lists.new.closed ≡ false) }
+    ensures kept { OnOk result (places.new ≡ places_in diversions.now.entries lists.new.lists) }
+    ensures done { OnOk result (DoesParts name.now parts.items (holding database.old lists.old) (H.state host.old) (H.state host.new)) }
+    ensures order { OnOk result (Needs (H.state host.new) (IsInOrder database.new lists.new.lists)) }
+    ensures any_moment { AtEachMoment (AreDoing name.now parts.items database.old.records) (H.state host.old) (H.state host.new) }
+    ensures silent { Silent (H.state host.old) (H.state host.new) }
+    ensures counts { Counts (H.state host.old) (H.state host.new) result }
+{
+    let written = have_listing(parts.as_slice());
+    do_parts(alloc, host, database, lists, name, parts)?;
+    keep_places(alloc, lists, places, diversions, written)?;
+    Ok(())
+}

@@ -1,0 +1,5 @@
+pub mod Readable
+pub mod Numbered
+pub mod Members
+pub mod Named
+pub mod Apart

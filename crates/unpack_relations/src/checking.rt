@@ -1,0 +1,57 @@
+// Whether a tree can be unpacked beside the recorded packages.
+ghost use Rattle.std.specs.Prelude.{IfOk};
+ghost use Rattle.unpack_relations.specs.Checks.{AreBesideApart, IsChecked, IsCheckedBy};
+
+use crate::beside::{Beside, beside_of};
+use crate::incoming::incoming_package;
+use crate::refusal::rule_of;
+use dependency_check::{CheckFault, check_unpack};
+use package_tree::Package;
+use recorded_packages::packages_of;
+use relation_index::Packages;
+use status_db::NotedDatabase;
+use std::alloc::{AllocError, Global};
+use unit_reports::Rule;
+
+/// What an unpack does to other packages, or the first rule that refuses it.
+#[derive(Drop)]
+pub enum Checked {
+    Refused(Rule),
+    Planned(Beside),
+}
+
+fn checked_by(
+    alloc: Global,
+    packages: &Packages,
+    incoming: &relation_index::Package,
+    auto_deconfigure: bool,
+) -> Result<Checked, AllocError>
+    ensures { IfOk result (IsCheckedBy packages.now incoming.now auto_deconfigure) }
+{
+    let list = packages.as_slice();
+    match check_unpack(alloc, packages, incoming, auto_deconfigure) {
+        Ok(plan) => Ok(Checked::Planned(beside_of(alloc, list, incoming, &plan)?)),
+        Err(CheckFault::Refused(refusal)) => {
+            Ok(Checked::Refused(rule_of(list, incoming, refusal)?))
+        }
+        Err(CheckFault::NoMemory) => Err(AllocError),
+    }
+}
+
+/// What the unpack of a tree does to other packages, or the first reason that refuses it. Packages are deconfigured only by
+/// leave.
+pub fn check(
+    alloc: Global,
+    database: &NotedDatabase,
+    incoming: &Package,
+    auto_deconfigure: bool,
+) -> Result<Checked, AllocError>
+    ensures checked { IfOk result (IsChecked database.now.records incoming.now auto_deconfigure) }
+    ensures apart { IfOk result (AreBesideApart incoming.now.name database.now.records) }
+{
+    database.law();
+    let packages = packages_of(alloc, database.records())?;
+    let package = incoming_package(alloc, incoming)?;
+    let checked = checked_by(alloc, &packages, &package, auto_deconfigure)?;
+    Ok(checked)
+}

@@ -1,0 +1,414 @@
+// Packages are configured and installed: the answers, and what is left.
+use super::{TreeFile, answers, expect};
+use host_core::Outcome;
+use std::alloc::{AllocError, Global};
+use std::process::Abort;
+use std::test::Fail;
+
+// What a root holds first, how calls end, the lines of words, and the row: their answers and what is read.
+type PackageRow = (
+    &'static [&'static str],
+    &'static [Outcome],
+    &'static [&'static str],
+    &'static str,
+);
+
+const SCRIPT: &str = "#!/bin/sh\n";
+
+const CONTROL: &str = "/DEBIAN/control";
+
+const FAILS: Outcome = Outcome::Exit(1);
+
+const SUCCEEDS: Outcome = Outcome::Exit(0);
+
+const TREES: &[TreeFile] = &[
+    ("alpha", CONTROL, "Package: alpha\nVersion: 1.0\n"),
+    ("alpha", "/DEBIAN/preinst", SCRIPT),
+    ("alpha", "/DEBIAN/postinst", SCRIPT),
+    ("bravo", CONTROL, "Package: bravo\nVersion: 2\n"),
+    ("bravo", "/DEBIAN/preinst", SCRIPT),
+    ("zulu", CONTROL, "Package: zulu\nVersion: 2\n"),
+    ("zulu", "/DEBIAN/conffiles", "/etc/z.conf\n"),
+    ("zulu", "/etc/z.conf", "c"),
+    ("flag", CONTROL, "Package: zulu\nVersion: 2\n"),
+    (
+        "flag",
+        "/DEBIAN/conffiles",
+        "remove-on-upgrade /etc/z.conf\n",
+    ),
+    ("flag", "/etc/other", "o"),
+];
+
+const CONFIGURED: PackageRow = (
+    &[],
+    &[],
+    &[
+        "dpkg_cli unpack alpha",
+        "dpkg_cli configure alpha alpha",
+        "dpkg_cli configure alpha",
+        "dpkg_cli configure",
+        "dpkg_cli status alpha",
+    ],
+    "call new alpha preinst install: exit 0
+state alpha 1.0 install ok unpacked
+done
+||0
+call old alpha postinst configure \"\": exit 0
+state alpha 1.0 install ok installed
+done
+||0
+refused alpha WrongState
+||1
+||0
+Package: alpha
+Status: install ok installed
+Version: 1.0
+||0
+",
+);
+
+const POSTINST_FAILS: PackageRow = (
+    &[],
+    &[SUCCEEDS, FAILS],
+    &[
+        "dpkg_cli unpack alpha",
+        "dpkg_cli configure alpha",
+        "dpkg_cli configure",
+    ],
+    "call new alpha preinst install: exit 0
+state alpha 1.0 install ok unpacked
+done
+||0
+call old alpha postinst configure \"\": exit 1
+state alpha 1.0 install ok half-configured
+failed alpha postinst configure \"\"
+||1
+call old alpha postinst configure \"\": exit 0
+state alpha 1.0 install ok installed
+done
+||0
+",
+);
+
+const REFUSED: PackageRow = (
+    &[
+        "write /var/lib/dpkg/status Package: alpha\nStatus: install reinstreq half-configured\nVersion: 1\n\nPackage: bravo\nStatus: install ok unpacked\nVersion: 1\n\nPackage: delta\nStatus: install ok installed\nVersion: 1\nBreaks: bravo (<< 2)\n",
+    ],
+    &[],
+    &["dpkg_cli configure no-such.name A alpha delta bravo alpha"],
+    "refused no-such.name Unknown
+refused A Unknown
+refused alpha Reinstreq
+refused delta WrongState
+refused bravo BrokenBy delta
+||1
+",
+);
+
+const LOOP: &str =
+    "write /var/lib/dpkg/status Package: aa\nStatus: install ok unpacked\nVersion: 1\nDepends: bb\n\nPackage: bb\nStatus: install ok unpacked\nVersion: 1\nDepends: cc\n\nPackage: cc\nStatus: install ok unpacked\nVersion: 1\nDepends: aa\n";
+
+const NO_LOOP: &str =
+    "write /var/lib/dpkg/status Package: aa\nStatus: install ok unpacked\nVersion: 1\nDepends: bb\n\nPackage: bb\nStatus: install ok unpacked\nVersion: 1\nDepends: cc\n\nPackage: cc\nStatus: install ok unpacked\nVersion: 1\nDepends: aa, mm\n";
+
+const AA_POSTINST: &str = "write /var/lib/dpkg/info/aa.postinst #!/bin/sh\n";
+
+const BB_POSTINST: &str = "write /var/lib/dpkg/info/bb.postinst #!/bin/sh\n";
+
+// The one without a postinst is first.
+const ROUND: PackageRow = (
+    &[LOOP, AA_POSTINST, BB_POSTINST],
+    &[],
+    &["dpkg_cli configure aa bb cc"],
+    "state cc 1 install ok installed
+done
+call old bb postinst configure \"\": exit 0
+state bb 1 install ok installed
+done
+call old aa postinst configure \"\": exit 0
+state aa 1 install ok installed
+done
+||0
+",
+);
+
+const UNMET: PackageRow = (
+    &[NO_LOOP, AA_POSTINST, BB_POSTINST],
+    &[],
+    &["dpkg_cli configure aa bb cc", "dpkg_cli list"],
+    "refused aa Depends bb
+refused bb Depends cc
+refused cc Depends aa
+||1
+aa 1 unpacked
+bb 1 unpacked
+cc 1 unpacked
+||0
+",
+);
+
+const ZULU: &str =
+    "write /var/lib/dpkg/status Package: zulu\nStatus: install ok installed\nVersion: 1\nConffiles:\n /etc/z.conf 0cc175b9c0f1b6a831c399e269772661\n";
+
+const ZULU_LIST: &str = "write /var/lib/dpkg/info/zulu.list /.\n/etc\n/etc/z.conf\n";
+
+const INSTALLED: PackageRow = (
+    &[ZULU, ZULU_LIST, "write /etc/z.conf b"],
+    &[],
+    &[
+        "dpkg_cli install --force-confnew zulu",
+        "read /etc",
+        "read /etc/z.conf",
+        "read /etc/z.conf.dpkg-old",
+        "dpkg_cli status zulu",
+    ],
+    "state zulu 2 install ok unpacked
+done
+state zulu 2 install ok installed
+done
+||0
+directory: z.conf z.conf.dpkg-old
+c
+b
+Package: zulu
+Status: install ok installed
+Version: 2
+Conffiles:
+ /etc/z.conf 4a8a08f09d37b73795649038408b5f33
+||0
+",
+);
+
+const NO_FILE: PackageRow = (
+    &[
+        ZULU,
+        ZULU_LIST,
+        "write /etc/z.conf b",
+        "write /etc/z.conf.dpkg-old/below b",
+    ],
+    &[],
+    &["dpkg_cli install --force-confnew zulu", "dpkg_cli list"],
+    "state zulu 2 install ok unpacked
+done
+refused zulu ConffileKind /etc/z.conf.dpkg-old
+||1
+zulu 2 unpacked
+||0
+",
+);
+
+// Only what is unpacked is configured, and each of several.
+const SOME_INSTALLED: PackageRow = (
+    &[],
+    &[FAILS],
+    &["dpkg_cli install bravo alpha missing", "dpkg_cli list"],
+    "call new bravo preinst install: exit 1
+state bravo none
+failed bravo preinst install
+call new alpha preinst install: exit 0
+state alpha 1.0 install ok unpacked
+done
+refused missing NoControl
+call old alpha postinst configure \"\": exit 0
+state alpha 1.0 install ok installed
+done
+||1
+alpha 1.0 installed
+||0
+",
+);
+
+const UNCHANGED_GOES: PackageRow = (
+    &[ZULU, ZULU_LIST, "write /etc/z.conf a"],
+    &[],
+    &[
+        "dpkg_cli install flag",
+        "read /etc",
+        "dpkg_cli listfiles zulu",
+        "dpkg_cli status zulu",
+    ],
+    "state zulu 2 install ok unpacked
+done
+state zulu 2 install ok installed
+done
+||0
+directory: other
+/.
+/etc
+/etc/other
+||0
+Package: zulu
+Status: install ok installed
+Version: 2
+||0
+",
+);
+
+const EDITED_IS_KEPT: PackageRow = (
+    &[ZULU, ZULU_LIST, "write /etc/z.conf b"],
+    &[],
+    &[
+        "dpkg_cli install flag",
+        "read /etc",
+        "read /etc/z.conf.dpkg-old",
+    ],
+    "state zulu 2 install ok unpacked
+done
+state zulu 2 install ok installed
+done
+||0
+directory: other z.conf.dpkg-old
+b
+",
+);
+
+const MISSING_STAYS_SO: PackageRow = (
+    &[ZULU, ZULU_LIST],
+    &[],
+    &["dpkg_cli install flag", "read /etc"],
+    "state zulu 2 install ok unpacked
+done
+state zulu 2 install ok installed
+done
+||0
+directory: other
+",
+);
+
+const OF_THE_ADMINISTRATOR: PackageRow = (
+    &["write /etc/z.conf mine"],
+    &[],
+    &["dpkg_cli install flag", "read /etc", "read /etc/z.conf"],
+    "state zulu 2 install ok unpacked
+done
+state zulu 2 install ok installed
+done
+||0
+directory: other z.conf
+mine
+",
+);
+
+const ROWS: &[PackageRow] = &[
+    CONFIGURED,
+    POSTINST_FAILS,
+    REFUSED,
+    ROUND,
+    UNMET,
+    INSTALLED,
+    NO_FILE,
+    SOME_INSTALLED,
+    UNCHANGED_GOES,
+    EDITED_IS_KEPT,
+    MISSING_STAYS_SO,
+    OF_THE_ADMINISTRATOR,
+];
+
+#[test]
+fn packages_are_configured(rt: HostRuntime) -> Result<(), Fail> {
+    for (files, outcomes, lines, row) in ROWS {
+        expect(&rt, answers(rt.alloc(), TREES, outcomes, files, lines), row)?;
+    }
+    Ok(())
+}
+
+// How a conffile is settled: the digest of the last version settled, what the file holds (nothing where it is missing)
+// and what is shipped with its digest; the flag that is given; and the names in the directory and what the file holds
+// then.
+type SettledRow = (
+    (&'static str, &'static str, (&'static str, &'static str)),
+    &'static str,
+    (&'static str, &'static str),
+);
+
+const NONE: &str = "newconffile";
+
+const A: &str = "0cc175b9c0f1b6a831c399e269772661";
+
+const SHIPPED_A: (&str, &str) = ("a", A);
+
+const SHIPPED_B: (&str, &str) = ("b", "92eb5ffee6ae2fec3ad71c777531578f");
+
+const SHIPPED_C: (&str, &str) = ("c", "4a8a08f09d37b73795649038408b5f33");
+
+const SETTLED: &[SettledRow] = &[
+    ((NONE, "", SHIPPED_B), "", (" z.conf", "b")),
+    ((NONE, "b", SHIPPED_B), "", (" z.conf", "b")),
+    (
+        (NONE, "a", SHIPPED_B),
+        "",
+        (" z.conf z.conf.dpkg-dist", "a"),
+    ),
+    (
+        (NONE, "a", SHIPPED_B),
+        "--force-confnew ",
+        (" z.conf z.conf.dpkg-old", "b"),
+    ),
+    ((A, "", SHIPPED_A), "", ("", "")),
+    ((A, "", SHIPPED_A), "--force-confnew ", ("", "")),
+    ((A, "", SHIPPED_A), "--force-confmiss ", (" z.conf", "a")),
+    ((A, "", SHIPPED_B), "", ("", "")),
+    ((A, "", SHIPPED_B), "--force-confold ", ("", "")),
+    ((A, "", SHIPPED_B), "--force-confnew ", (" z.conf", "b")),
+    ((A, "", SHIPPED_B), "--force-confmiss ", (" z.conf", "b")),
+    ((A, "b", SHIPPED_B), "", (" z.conf", "b")),
+    ((A, "a", SHIPPED_B), "", (" z.conf", "b")),
+    ((A, "b", SHIPPED_A), "--force-confnew ", (" z.conf", "b")),
+    ((A, "b", SHIPPED_C), "", (" z.conf z.conf.dpkg-dist", "b")),
+    (
+        (A, "b", SHIPPED_C),
+        "--force-confold ",
+        (" z.conf z.conf.dpkg-dist", "b"),
+    ),
+    (
+        (A, "b", SHIPPED_C),
+        "--force-confnew ",
+        (" z.conf z.conf.dpkg-old", "c"),
+    ),
+];
+
+// What the status file says of the package that is to be configured.
+fn unsettled(alloc: Global, recorded: &str, digest: &str) -> Result<String, AllocError> {
+    format!(in alloc;
+        "write /var/lib/dpkg/status Package: zulu\nStatus: install ok unpacked\nVersion: 2\nConfig-Version: 1\nConffiles:\n /etc/z.conf {recorded}\nNew-Conffiles:\n /etc/z.conf {digest}\n"
+    )
+}
+
+// The answers, and what they are to be.
+fn settle(alloc: Global, row: &SettledRow) -> Result<(String, String), AllocError> {
+    let ((recorded, current, (shipped, digest)), flag, (names, holds)) = *row;
+    let status = unsettled(alloc, recorded, digest)?;
+    let file = match current {
+        "" => String::from_str(alloc, "write /etc/motd")?,
+        text => format!(in alloc; "write /etc/z.conf {text}")?,
+    };
+    let new = format!(in alloc; "write /etc/z.conf.dpkg-new {shipped}")?;
+    let files = [status.as_str(), ZULU_LIST, file.as_str(), new.as_str()];
+    let line = format!(in alloc; "dpkg_cli configure {flag}zulu")?;
+    let lines = [
+        line.as_str(),
+        "read /etc",
+        "read /etc/z.conf",
+        "dpkg_cli status zulu",
+    ];
+    let told = answers(alloc, TREES, &[], &files, &lines)?;
+    let wanted = format!(in alloc;
+        "state zulu 2 install ok installed\ndone\n||0\ndirectory:{names}\n{holds}\nPackage: zulu\nStatus: install ok installed\nVersion: 2\nConffiles:\n /etc/z.conf {digest}\n||0\n"
+    )?;
+    Ok((told, wanted))
+}
+
+// Stops the test where a conffile isn't settled as the row says.
+fn check_settled(rt: &(impl Abort + AllocGlobal), row: &SettledRow) -> Result<(), Fail> {
+    let (told, wanted) = settle(rt.alloc(), row)?;
+    assert_eq!(rt; told.as_str(), wanted.as_str());
+    Ok(())
+}
+
+#[test]
+fn conffiles_are_settled(rt: HostRuntime) -> Result<(), Fail> {
+    for row in SETTLED {
+        check_settled(&rt, row)?;
+    }
+    Ok(())
+}

@@ -1,0 +1,304 @@
+// Packages are installed, upgraded, removed and purged on real files, with real scripts.
+use super::{NEW_DIRECTORY, RealHosts, is_refused, shell};
+use crate::answers::{answer, is_want};
+use std::alloc::AllocError;
+use std::io::{Error, ErrorKind};
+use std::test::Fail;
+use std::{fs, io};
+
+// A command: lines of shell that come before it, its words but for the root, and the tree that is its last word, if one
+// is; the lines of its answer up to its last call, and what follows them; lines of shell that look at what is left, and
+// what they print.
+struct Deed {
+    before: &'static str,
+    words: &'static str,
+    tree: &'static str,
+    calls: &'static str,
+    rest: &'static str,
+    look: &'static str,
+    left: &'static str,
+}
+
+// The answer to the words under the root.
+fn told(hosts: &mut RealHosts, directory: &str, deed: &Deed) -> Result<String, AllocError> {
+    let alloc = hosts.rt.alloc();
+    let words = deed.words;
+    let tree = deed.tree;
+    let line = match tree {
+        "" => format!(in alloc; "dpkg_cli {words} --root {directory}/root")?,
+        tree => format!(in alloc; "dpkg_cli {words} --root {directory}/root {directory}/{tree}")?,
+    };
+    answer(alloc, hosts, line.as_str())
+}
+
+// Carries out a command, and keeps in the text what isn't the row.
+fn try_deed(rt: &HostRuntime, directory: &str, deed: &Deed, text: &mut String) -> io::Result<()> {
+    shell(rt, deed.before, &[directory])?;
+    let mut hosts = RealHosts::new(*rt);
+    let answer = told(&mut hosts, directory, deed)?;
+    if is_want(answer.as_str(), deed.calls) {
+        return Err(Error::from(ErrorKind::OutOfMemory));
+    }
+    let left = shell(rt, deed.look, &[directory])?;
+    if answer.as_str().strip_prefix(deed.calls) == Some(deed.rest) && left.as_str() == deed.left {
+        return Ok(());
+    }
+    text.push_str(answer.as_str())?;
+    text.push_str(left.as_str())?;
+    Err(Error::other("not the row"))
+}
+
+// Carries out the commands over a new root.
+fn try_deeds(rt: &HostRuntime, deeds: &[Deed], text: &mut String) -> io::Result<()> {
+    let directory = shell(rt, NEW_DIRECTORY, &["/"])?;
+    for deed in deeds {
+        try_deed(rt, directory.as_str(), deed, text)?;
+    }
+    fs::remove_dir_all(rt, directory.as_str())
+}
+
+// What isn't the row is how the test fails.
+fn check(rt: &HostRuntime, deeds: &[Deed]) -> Result<(), Fail> {
+    let mut text = String::new(rt.alloc());
+    match try_deeds(rt, deeds, &mut text) {
+        Ok(()) => Ok(()),
+        Err(error) if is_refused(rt, &error) => Ok(()),
+        Err(error) => Err(Fail::new(format_args!("{error}:\n{text}"))),
+    }
+}
+
+// What stands under the root beside the administration: its mode, its name and what it holds.
+const LOOK: &str = "cat started
+>started
+cd root
+find . -path ./var -prune -o ! -name . -printf '%m %p\n' | LC_ALL=C sort -k 2 | while read -r mode path; do
+  echo \"$mode $path\"
+  [ ! -f \"$path\" ] || cat \"$path\"
+done
+cat var/lib/dpkg/info/zulu.list 2>/dev/null || true";
+
+const LIVED: &[Deed] = &[
+    Deed {
+        before: "mkdir root
+>started
+tree one zulu 1
+for name in preinst postinst prerm postrm; do script one $name 755 'exit 0'; done
+mkdir -p one/etc one/opt/z
+echo red >one/etc/z.conf
+echo one >one/opt/z/bin
+ln -s bin one/opt/z/link
+echo /etc/z.conf >one/DEBIAN/conffiles",
+        words: "install",
+        tree: "one",
+        calls: "call new zulu preinst install: exit 0
+state zulu 1 install ok unpacked
+done
+call old zulu postinst configure \"\": exit 0
+",
+        rest: "state zulu 1 install ok installed
+done
+||0
+",
+        look: LOOK,
+        left: "preinst install
+postinst configure 
+755 ./etc
+644 ./etc/z.conf
+red
+755 ./opt
+755 ./opt/z
+644 ./opt/z/bin
+one
+777 ./opt/z/link
+one
+/.
+/etc
+/etc/z.conf
+/opt
+/opt/z
+/opt/z/bin
+/opt/z/link
+",
+    },
+    // An administrator's change stays, and so does the access of the file.
+    Deed {
+        before: "tree two zulu 2
+for name in preinst postinst prerm postrm; do script two $name 755 'exit 0'; done
+mkdir -p two/etc two/opt/z
+echo blue >two/etc/z.conf
+echo two >two/opt/z/bin
+echo /etc/z.conf >two/DEBIAN/conffiles
+echo mine >root/etc/z.conf
+chmod 600 root/etc/z.conf",
+        words: "install",
+        tree: "two",
+        calls: "call old zulu prerm upgrade 2: exit 0
+call new zulu preinst upgrade 1 2: exit 0
+call old zulu postrm upgrade 2: exit 0
+state zulu 2 install ok unpacked
+done
+call old zulu postinst configure 1: exit 0
+",
+        rest: "state zulu 2 install ok installed
+done
+||0
+",
+        look: LOOK,
+        left: "prerm upgrade 2
+preinst upgrade 1 2
+postrm upgrade 2
+postinst configure 1
+755 ./etc
+600 ./etc/z.conf
+mine
+644 ./etc/z.conf.dpkg-dist
+blue
+755 ./opt
+755 ./opt/z
+644 ./opt/z/bin
+two
+/.
+/etc
+/etc/z.conf
+/opt
+/opt/z
+/opt/z/bin
+",
+    },
+    Deed {
+        before: "echo mine >root/opt/z/note",
+        words: "remove zulu",
+        tree: "",
+        calls: "call old zulu prerm remove: exit 0
+call old zulu postrm remove: exit 0
+",
+        rest: "state zulu 2 deinstall ok config-files
+done
+||0
+",
+        look: LOOK,
+        left: "prerm remove
+postrm remove
+755 ./etc
+600 ./etc/z.conf
+mine
+644 ./etc/z.conf.dpkg-dist
+blue
+755 ./opt
+755 ./opt/z
+644 ./opt/z/note
+mine
+/.
+/etc
+/etc/z.conf
+",
+    },
+    Deed {
+        before: "",
+        words: "purge zulu",
+        tree: "",
+        calls: "call old zulu postrm purge: exit 0\n",
+        rest: "state zulu none
+done
+||0
+",
+        look: LOOK,
+        left: "postrm purge
+755 ./opt
+755 ./opt/z
+644 ./opt/z/note
+mine
+",
+    },
+];
+
+#[test]
+fn a_package_comes_and_goes(rt: HostRuntime) -> Result<(), Fail> {
+    check(&rt, LIVED)
+}
+
+const POSTINST_FAILS: &[Deed] = &[
+    Deed {
+        before: "mkdir root
+>started
+tree one zulu 1
+script one postinst 755 '[ -e ../fine ]'",
+        words: "install",
+        tree: "one",
+        calls: "state zulu 1 install ok unpacked
+done
+call old zulu postinst configure \"\": exit 1
+",
+        rest: "state zulu 1 install ok half-configured
+failed zulu postinst configure \"\"
+||1
+",
+        look: LOOK,
+        left: "postinst configure 
+/.
+",
+    },
+    Deed {
+        before: ">fine",
+        words: "configure",
+        tree: "",
+        calls: "call old zulu postinst configure \"\": exit 0\n",
+        rest: "state zulu 1 install ok installed
+done
+||0
+",
+        look: LOOK,
+        left: "postinst configure 
+/.
+",
+    },
+    Deed {
+        before: "",
+        words: "configure zulu",
+        tree: "",
+        calls: "",
+        rest: "refused zulu WrongState
+||1
+",
+        look: LOOK,
+        left: "/.
+",
+    },
+];
+
+#[test]
+fn configuring_is_tried_again(rt: HostRuntime) -> Result<(), Fail> {
+    check(&rt, POSTINST_FAILS)
+}
+
+const NO_FILE: &[Deed] = &[Deed {
+    before: "mkdir root root/etc
+ln -s other root/etc/z.conf
+>started
+tree one zulu 1
+mkdir -p one/etc
+echo red >one/etc/z.conf
+echo /etc/z.conf >one/DEBIAN/conffiles",
+    words: "install --force-confnew",
+    tree: "one",
+    calls: "state zulu 1 install ok unpacked
+done
+",
+    rest: "refused zulu ConffileKind /etc/z.conf
+||1
+",
+    look: LOOK,
+    left: "755 ./etc
+777 ./etc/z.conf
+644 ./etc/z.conf.dpkg-new
+red
+/.
+/etc
+/etc/z.conf
+",
+}];
+
+#[test]
+fn a_link_is_no_conffile(rt: HostRuntime) -> Result<(), Fail> {
+    check(&rt, NO_FILE)
+}
