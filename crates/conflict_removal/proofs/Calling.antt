@@ -1,5 +1,5 @@
 -- The calls of removals are those of the host's own list.
-use Rattle.std.proofs.Common.{◌≡◌, ℕ, List, [], ◌∷◌, Option, refl, sym, ap, ◌∙◌}
+use Rattle.std.proofs.Common.{◌≡◌, ◌++◌, ℕ, List, [], ◌∷◌, Option, sym, ap, ◌∙◌}
 use Rattle.cleanup_stack.specs.Telling.{Begun}
 use Rattle.host_core.specs.Events.{Ran, calls_of}
 use Rattle.host_core.specs.Host.{Silent, State, calls}

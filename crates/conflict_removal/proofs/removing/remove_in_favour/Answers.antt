@@ -39,8 +39,8 @@ loop-name-preserved g c =
     let told = c.args.told.now.items in
     let more = c.remove_one.new.told.items in
     record {
-      removed = subst (λ (ns : List (List ℕ)). HaveBeenRemoved entries ns c.first_failed.result before after old new told more) (sym (names_more names i name name c.loop-name-test.true c.name-item.is))
-          (subst (λ (failed : Option Call). HaveBeenRemoved entries (take i names ++ name ∷ []) failed before after old new told more) (sym c.first_failed.ensures)
+      removed = subst (λ (ns : List (List ℕ)). HaveBeenRemoved entries ns c.first_failed-failed.result before after old new told more) (sym (names_more names i name name c.loop-name-test.true c.name-item.is))
+          (subst (λ (failed : Option Call). HaveBeenRemoved entries (take i names ++ name ∷ []) failed before after old new told more) (sym c.first_failed-failed.ensures)
           (removed_more entries name c.in-Ok.own after new more (take i names) l.failed before mid old now told l.told.items inv.removed c.in-Ok.ensures.removed));
       others = others_more names i name name c.loop-name-test.true c.name-item.is c.args.database.now.records l.database.records c.remove_one.new.database.records inv.others c.in-Ok.ensures.others;
       order = c.in-Ok.ensures.order;
