@@ -1,5 +1,5 @@
 -- What removals leave.
-use Rattle.std.proofs.Common.{◌≡◌, inl, inr, IsTrue, true, ℕ, List, [], ◌∷◌, ◌++◌, Option, refl, sym, ap, subst, ◌∙◌}
+use Rattle.std.proofs.Common.{◌≡◌, inl, inr, IsTrue, true, ℕ, List, [], ◌∷◌, ◌++◌, Option, sym, ap, subst, ◌∙◌}
 use Rattle.host_core.specs.Paths.{Path, is_own}
 use Rattle.host_core.specs.World.{World}
 use Rattle.host_core.specs.Events.{Event}
@@ -12,7 +12,7 @@ use Rattle.removal_engine.proofs.Deeds.{ArePlannedFit, stages_fit}
 use Rattle.removal_engine.proofs.Fits.{removal_fit}
 use Rattle.removal_engine.proofs.Tables.{is_named}
 use Rattle.removal_engine.specs.Stages.{Planned}
-use Rattle.removal_engine.specs.Units.{Given, IsAmidUnit, IsPlanOf, given}
+use Rattle.removal_engine.specs.Units.{Given, IsPlanOf, given}
 use Rattle.removal_engine.specs.declared.extent.Extent.TheVariants.{InFavour}
 use Rattle.unit_parts.specs.Aside.{IsAside}
 use Rattle.unit_stages.specs.Fitting.{AreStagesFit}

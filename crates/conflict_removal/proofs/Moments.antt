@@ -1,5 +1,5 @@
 -- What holds at each moment of removals, and the calls that they make.
-use Rattle.std.proofs.Common.{◌≡◌, inl, inr, IsTrue, ℕ, List, [], ◌∷◌, ◌++◌, None, Option, refl, sym, ap, subst, ◌∙◌}
+use Rattle.std.proofs.Common.{◌≡◌, inl, inr, ℕ, List, [], ◌∷◌, ◌++◌, None, Option, refl, sym, subst}
 use Rattle.std.proofs.lemmas.List.{append-nil}
 use Rattle.host_core.specs.World.{World}
 use Rattle.host_core.specs.Events.{Event}
