@@ -1,0 +1,39 @@
+// What removals in favour of another package leave, and which calls they make.
+ghost use Rattle.std.specs.Prelude.{◌≡◌, ℕ, IsTrue, List, Option, true};
+ghost use Rattle.host_core.specs.Paths.{Path, is_own};
+ghost use Rattle.host_core.specs.World.{World};
+ghost use Rattle.host_core.specs.Events.{Event};
+ghost use Rattle.host_core.specs.Host.{State};
+ghost use Rattle.host_core.specs.Loss.{IsLater};
+ghost use Rattle.host_core.specs.declared.call.Call.{Call as ACall};
+ghost use Rattle.diversions.specs.declared.entry.Diversion.{Diversion as ADiversion};
+ghost use Rattle.unit_stages.specs.Holding.{Holding};
+ghost use Rattle.unwind_stack.specs.Transcript.{TellsAll};
+ghost use Rattle.unwind_stack.specs.declared.rows.Called.{Called as ACalled};
+ghost use Rattle.conflict_removal.specs.Removals.{CanBeOpened, HaveBeenRemoved, HaveCalled, IsAmidRemovals, IsAsideOfAll, IsInOrderWith};
+
+use unit_stages::{
+    what_a_run_of_stages_leaves, what_is_broken_off_begins_a_run_of_stages, what_stages_leave,
+};
+
+/// Removals leave an administration in order. In the end and at each moment of them a place of the program's own is as before, unless
+/// it is a record's or one of these packages', and the next opening finds records.
+pub fn what_removals_leave()
+    ensures later { (entries : List ADiversion) (names : List (List ℕ)) (failed : Option ACall) (before after : Holding) (s t : State) (told now : List ACalled) → HaveBeenRemoved entries names failed before after s t told now → IsLater s t }
+    ensures order { (entries : List ADiversion) (names : List (List ℕ)) (failed : Option ACall) (before after : Holding) (s t : State) (told now : List ACalled) → HaveBeenRemoved entries names failed before after s t told now → IsTrue t.honest → IsInOrderWith before s.world → IsInOrderWith after t.world }
+    ensures aside { (entries : List ADiversion) (names : List (List ℕ)) (failed : Option ACall) (before after : Holding) (s t : State) (told now : List ACalled) (q : Path) → IsAsideOfAll names q → is_own q ≡ true → HaveBeenRemoved entries names failed before after s t told now → IsTrue t.honest → t.world q ≡ s.world q }
+    ensures amid { (entries : List ADiversion) (names : List (List ℕ)) (before : Holding) (s : State) (so_far : List Event) (now : World) (q : Path) → IsAsideOfAll names q → is_own q ≡ true → IsAmidRemovals entries names before s so_far now → now q ≡ s.world q }
+    ensures opens { (entries : List ADiversion) (names : List (List ℕ)) (before : Holding) (s : State) (so_far : List Event) (now : World) → IsAmidRemovals entries names before s so_far now → CanBeOpened now }
+{
+    what_a_run_of_stages_leaves();
+    what_stages_leave();
+}
+
+/// The calls of removals are those of the host's own list, and each is told, whatever the answer.
+pub fn what_removals_call()
+    ensures removed { (entries : List ADiversion) (names : List (List ℕ)) (failed : Option ACall) (before after : Holding) (s t : State) (told now : List ACalled) → HaveBeenRemoved entries names failed before after s t told now → TellsAll s t told now }
+    ensures called { (entries : List ADiversion) (names : List (List ℕ)) (before : Holding) (s t : State) (told now : List ACalled) → HaveCalled entries names before s t told now → TellsAll s t told now }
+{
+    what_a_run_of_stages_leaves();
+    what_is_broken_off_begins_a_run_of_stages();
+}

@@ -1,0 +1,8 @@
+mod Numbers
+mod Directories
+mod Plans
+mod Looking
+mod Both
+mod Sequence
+mod Asides
+mod Calling

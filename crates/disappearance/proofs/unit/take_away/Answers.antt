@@ -1,0 +1,27 @@
+use Rattle.unit_stages.specs.Holding.{holding}
+use Rattle.disappearance.proofs.Plans.{gone_begun, gone_settleable, gone_taken}
+use Rattle.disappearance.proofs.unit.take_away.Goals as goal
+
+pub run_stages-requires-clause-settleable : goal.run_stages-requires-clause-settleable
+run_stages-requires-clause-settleable g c = λ h. gone_settleable c.args.gone.items c.requires.quiet.0 _ c.requires.quiet.1
+
+pub returns-clause-taken : goal.returns-clause-taken
+returns-clause-taken g c =
+    gone_taken c.args.name.now c.args.diversions.now.entries c.args.gone.items c.requires.quiet.0 c.requires.quiet.1 c.in_ok-run_stages.field-0 (holding c.args.database.now c.args.lists.now) (holding c.run_stages.new.database c.run_stages.new.lists)
+    (g.H.Host.state c.args.host.now) (g.H.Host.state c.run_stages.new.host) c.args.told.now.items c.run_stages.new.told.items c.in_ok-run_stages.ensures.ran
+
+pub returns-clause-untold : goal.returns-clause-untold
+returns-clause-untold g c =
+    (gone_begun c.args.name.now c.args.diversions.now.entries c.args.gone.items c.requires.quiet.0 c.requires.quiet.1 (g.H.Host.state c.args.host.now) (g.H.Host.state c.run_stages.new.host) c.args.told.now.items c.run_stages.new.told.items c.run_stages.ensures.told).1
+
+pub returns-clause-silent : goal.returns-clause-silent
+returns-clause-silent g c =
+    (gone_begun c.args.name.now c.args.diversions.now.entries c.args.gone.items c.requires.quiet.0 c.requires.quiet.1 (g.H.Host.state c.args.host.now) (g.H.Host.state c.run_stages.new.host) c.args.told.now.items c.run_stages.new.told.items c.run_stages.ensures.told).0
+
+pub returns-in_err-run_stages-clause-untold : goal.returns-in_err-run_stages-clause-untold
+returns-in_err-run_stages-clause-untold g c =
+    (gone_begun c.args.name.now c.args.diversions.now.entries c.args.gone.items c.requires.quiet.0 c.requires.quiet.1 (g.H.Host.state c.args.host.now) (g.H.Host.state c.run_stages.new.host) c.args.told.now.items c.run_stages.new.told.items c.run_stages.ensures.told).1
+
+pub returns-in_err-run_stages-clause-silent : goal.returns-in_err-run_stages-clause-silent
+returns-in_err-run_stages-clause-silent g c =
+    (gone_begun c.args.name.now c.args.diversions.now.entries c.args.gone.items c.requires.quiet.0 c.requires.quiet.1 (g.H.Host.state c.args.host.now) (g.H.Host.state c.run_stages.new.host) c.args.told.now.items c.run_stages.new.told.items c.run_stages.ensures.told).0

@@ -1,0 +1,188 @@
+// One package: it disappears, or it stays.
+ghost use Rattle.std.specs.Prelude.{◌≡◌, ◌++◌, ◌∷◌, [], ℕ, List, true, false, IfOk, MatchOption, None, OnOk, map};
+ghost use Rattle.host_core.specs.Host.{AtEachMomentOf, Counts, Needs, Reads, Silent, Since};
+ghost use Rattle.texts.specs.PackageNames.{is_package_name};
+ghost use Rattle.cleanup_stack.specs.Telling.{Begun};
+ghost use Rattle.file_lists.specs.Owners.{places_in};
+ghost use Rattle.removal_engine.specs.Stages.{gone_stage, planned};
+ghost use Rattle.status_db.specs.declared.record.Record.{Record as ARecord};
+ghost use Rattle.unit_parts.specs.Order.{IsInOrder};
+ghost use Rattle.unit_stages.specs.Calls.{MayRunStages};
+ghost use Rattle.unit_stages.specs.Fitting.{AreStagesFit};
+ghost use Rattle.unit_stages.specs.Holding.{holding};
+ghost use Rattle.unit_stages.specs.Running.{AreRunning};
+ghost use Rattle.unit_stages.specs.Runs.{HaveRun};
+ghost use Rattle.unwind_stack.specs.declared.rows.Row.{Row as ARow};
+ghost use Rattle.disappearance.specs.Stages.{ArePlanned, IsPlan};
+ghost use Rattle.disappearance.specs.Units.{HasCalledOne, HaveRunBoth, IsAmidBoth, IsAmidUnit, IsDecided};
+ghost use Rattle.disappearance.specs.Verdicts.{Goes, Stays};
+
+use crate::looks::look;
+use crate::losing::Losing;
+use crate::stages::{Plan, plan_stages};
+use diversions::Diversions;
+use file_lists::FileLists;
+use host_core::{Call, Host, HostFault, Places};
+use status_db::NotedDatabase;
+use std::alloc::{AllocError, Global};
+use texts::{Text, Texts};
+use unit_stages::{Stage, run_stages};
+use unwind_stack::Called;
+use version_order::Version;
+
+// All goes that the administration has of a package; nothing is called.
+fn take_away<H: Host>(
+    alloc: Global,
+    host: &mut H,
+    database: &mut NotedDatabase,
+    lists: &mut FileLists,
+    places: &mut Places,
+    diversions: &Diversions,
+    name: &Text,
+    gone: Vec<Stage>,
+    told: &mut Vec<Called>,
+) -> Result<(), HostFault>
+    requires noting { database.old.closed ≡ false }
+    requires listing { lists.old.closed ≡ false }
+    requires kept { places.old ≡ places_in diversions.now.entries lists.old.lists }
+    requires order { Needs (H.state host.old) (IsInOrder database.old lists.old.lists) }
+    requires named { is_package_name name.now ≡ true }
+    requires fit { AreStagesFit name.now gone.items database.old.records lists.old.lists }
+    requires quiet { (r : ARecord) × (map planned gone.items ≡ gone_stage r ∷ []) }
+    ensures taken { OnOk result (HaveRun name.now diversions.now.entries gone.items None (holding database.old lists.old) (holding database.new lists.new) (H.state host.old) (H.state host.new) told.new.items told.new.items) }
+    ensures order { OnOk result (Needs (H.state host.new) (IsInOrder database.new lists.new.lists)) }
+    ensures kept { OnOk result (places.new ≡ places_in diversions.now.entries lists.new.lists) }
+    ensures noting { OnOk result (database.new.closed ≡ false) }
+    ensures listing { OnOk result (lists.new.closed ≡ false) }
+    ensures untold { told.new.items ≡ told.old.items }
+    ensures silent { Silent (H.state host.old) (H.state host.new) }
+    ensures any_moment { AtEachMomentOf (AreRunning name.now diversions.now.entries gone.items (holding database.old lists.old)) (H.state host.old) (H.state host.new) }
+    ensures counts { Counts (H.state host.old) (H.state host.new) result }
+{
+    run_stages(
+        alloc, host, database, lists, places, diversions, name, gone, told,
+    )?;
+    Ok(())
+}
+
+// The call is made, and behind it, whatever its outcome, all goes. The answer is the call, if it failed.
+fn run_both<H: Host>(
+    alloc: Global,
+    host: &mut H,
+    database: &mut NotedDatabase,
+    lists: &mut FileLists,
+    places: &mut Places,
+    diversions: &Diversions,
+    name: &Text,
+    plan: Plan,
+    told: &mut Vec<Called>,
+) -> Result<Option<Call>, HostFault>
+    requires noting { database.old.closed ≡ false }
+    requires listing { lists.old.closed ≡ false }
+    requires kept { places.old ≡ places_in diversions.now.entries lists.old.lists }
+    requires order { Needs (H.state host.old) (IsInOrder database.old lists.old.lists) }
+    requires planned { (row : ARow) × ArePlanned name.now (holding database.old lists.old) row plan.call.items plan.gone.items }
+    ensures ran { IfOk result (λ failed. HaveRunBoth name.now diversions.now.entries plan.call.items plan.gone.items failed (holding database.old lists.old) (holding database.new lists.new) (H.state host.old) (H.state host.new) told.old.items told.new.items) }
+    ensures order { OnOk result (Needs (H.state host.new) (IsInOrder database.new lists.new.lists)) }
+    ensures kept { OnOk result (places.new ≡ places_in diversions.now.entries lists.new.lists) }
+    ensures noting { OnOk result (database.new.closed ≡ false) }
+    ensures listing { OnOk result (lists.new.closed ≡ false) }
+    ensures told { Begun (MayRunStages plan.call.items) (H.state host.old) (H.state host.new) told.old.items told.new.items }
+    ensures any_moment { Since (IsAmidBoth name.now diversions.now.entries plan.call.items plan.gone.items (holding database.old lists.old) (H.state host.old)) (H.state host.old) (H.state host.new) }
+    ensures counts { Counts (H.state host.old) (H.state host.new) result }
+{
+    let Plan { call, gone } = plan;
+    match run_stages(
+        alloc, host, database, lists, places, diversions, name, call, told,
+    ) {
+        Ok(failed) => match take_away(
+            alloc, host, database, lists, places, diversions, name, gone, told,
+        ) {
+            Ok(()) => Ok(failed),
+            Err(fault) => Err(fault),
+        },
+        Err(fault) => Err(fault),
+    }
+}
+
+// Looks whether a package disappears, and plans what is run then.
+#[tactic(auto, using(host_core::specs::Moments::reads_then))]
+fn decide<H: Host>(
+    alloc: Global,
+    host: &mut H,
+    database: &NotedDatabase,
+    lists: &FileLists,
+    diversions: &Diversions,
+    incoming: &Text,
+    version: &Version,
+    losing: &Losing,
+) -> Result<Option<Plan>, HostFault>
+    ensures decision { IfOk result (λ found. MatchOption found (Stays incoming.now diversions.now.entries losing.now (holding database.now lists.now) (H.state host.old).world (H.state host.new).honest) (λ p. Goes incoming.now diversions.now.entries losing.now (holding database.now lists.now) (H.state host.old).world (H.state host.new).honest × IsPlan incoming.now version.now losing.now.name (holding database.now lists.now) (H.state host.old).world (H.state host.new).honest p.call.items p.gone.items)) }
+    ensures reads { Reads (H.state host.old) (H.state host.new) }
+    ensures silent { Silent (H.state host.old) (H.state host.new) }
+    ensures counts { Counts (H.state host.old) (H.state host.new) result }
+{
+    let goes = look(alloc, host, database, lists, diversions, incoming, losing)?;
+    if !goes {
+        return Ok(None);
+    }
+    let plan = plan_stages(alloc, host, database, incoming, version, &losing.name)?;
+    Ok(Some(plan))
+}
+
+fn push_name(names: &mut Texts, name: &Text) -> Result<(), AllocError>
+    ensures { OnOk result (names.new ≡ names.old ++ name.now ∷ []) }
+{
+    names.push(name.copy()?)?;
+    Ok(())
+}
+
+/// Looks whether a package disappears. Where it does its name is added to those of others, its postrm is called, and whatever the
+/// outcome all goes that the administration has of it; directories stay. The answer is the call, if it failed.
+pub(crate) fn disappear<H: Host>(
+    alloc: Global,
+    host: &mut H,
+    database: &mut NotedDatabase,
+    lists: &mut FileLists,
+    places: &mut Places,
+    diversions: &Diversions,
+    incoming: &Text,
+    version: &Version,
+    losing: &Losing,
+    names: &mut Texts,
+    told: &mut Vec<Called>,
+) -> Result<Option<Call>, HostFault>
+    requires noting { database.old.closed ≡ false }
+    requires listing { lists.old.closed ≡ false }
+    requires kept { places.old ≡ places_in diversions.now.entries lists.old.lists }
+    requires order { Needs (H.state host.old) (IsInOrder database.old lists.old.lists) }
+    ensures decided { IfOk result (λ failed. (own : List (List ℕ)) × (names.new ≡ names.old ++ own) × IsDecided incoming.now version.now diversions.now.entries losing.now own failed (holding database.old lists.old) (holding database.new lists.new) (H.state host.old) (H.state host.new) told.old.items told.new.items) }
+    ensures order { OnOk result (Needs (H.state host.new) (IsInOrder database.new lists.new.lists)) }
+    ensures kept { OnOk result (places.new ≡ places_in diversions.now.entries lists.new.lists) }
+    ensures noting { OnOk result (database.new.closed ≡ false) }
+    ensures listing { OnOk result (lists.new.closed ≡ false) }
+    ensures told { HasCalledOne incoming.now version.now diversions.now.entries losing.now (holding database.old lists.old) (H.state host.old) (H.state host.new) told.old.items told.new.items }
+    ensures any_moment { Since (IsAmidUnit incoming.now version.now diversions.now.entries losing.now (holding database.old lists.old) (H.state host.old)) (H.state host.old) (H.state host.new) }
+    ensures counts { Counts (H.state host.old) (H.state host.new) result }
+{
+    match decide(
+        alloc, host, database, lists, diversions, incoming, version, losing,
+    ) {
+        Ok(Some(plan)) => match push_name(names, &losing.name) {
+            Ok(()) => run_both(
+                alloc,
+                host,
+                database,
+                lists,
+                places,
+                diversions,
+                &losing.name,
+                plan,
+                told,
+            ),
+            Err(_) => Err(HostFault::NoMemory),
+        },
+        Ok(None) => Ok(None),
+        Err(fault) => Err(fault),
+    }
+}
