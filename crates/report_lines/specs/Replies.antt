@@ -15,9 +15,9 @@ breakage_word Device = codes "device"
 breakage_word NoMemory = codes "memory"
 breakage_word Closed = codes "closed"
 
--- for what a package's unit failed: a call, or a step fault
+-- for what a package's unit failed: a call of a package, its own or another one, or a step fault
 abbrev pub cause_text : List ℕ → Cause → List ℕ
-cause_text p (OfCall call) = call_text p call
+cause_text p (OfCall call) = call_text call.package call
 cause_text p (OfFiles fault) = p ++ (codes " " ++ step_text fault)
 
 -- `done`, `refused PKG RULE` with its detail, `failed PKG SCRIPT ARGS`, `failed PKG STEPFAULT PATH` with the owner, or `broken WHY`

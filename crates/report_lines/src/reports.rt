@@ -122,12 +122,12 @@ fn files_text(alloc: Global, package: &Text, fault: &StepFault) -> Result<String
     format!(in alloc; "{package} {fault}")
 }
 
-// For what a package's unit failed.
+// For what a package's unit failed: a call of this package or another one, or a fault of its files.
 fn cause_text(alloc: Global, package: &Text, cause: &Cause) -> Result<String, AllocError>
     ensures { IfOk result (λ text. string_bytes text ≡ cause_text «package».now cause.now) }
 {
     match cause {
-        Cause::OfCall(call) => call_text(alloc, package, call),
+        Cause::OfCall(call) => call_text(alloc, &call.package, call),
         Cause::OfFiles(fault) => files_text(alloc, package, fault),
     }
 }
