@@ -3,6 +3,7 @@
 
 mod asked;
 mod configuring;
+mod displacing;
 mod diverting;
 mod done;
 mod installing;
@@ -13,6 +14,7 @@ mod removing;
 mod report;
 mod session;
 mod table_units;
+mod touched;
 mod undiverting;
 mod units;
 

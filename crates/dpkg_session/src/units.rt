@@ -15,34 +15,40 @@ ghost use Rattle.unit_reports.specs.declared.report.Breakage.TheVariants.{NoMemo
 ghost use Rattle.unit_reports.specs.Held.{held};
 ghost use Rattle.dpkg_session.specs.Run.{AddsUnit, IsAmidBeside, IsAmidPackage, IsAmidRun, IsAmidUnitOf, IsAmidUnpack, IsRun, HasRun};
 ghost use Rattle.unit_reports.specs.Units.{CountsLast, CountsReply, IsBroken, IsBrokenBy, breakage_of, touched_at, IsRefusedUnit, TellsCalls, calls_of};
-ghost use Rattle.dpkg_session.specs.Units.{AnswersUnpack, HasCalledBeside, HasCalledOf, HasCalledPackage, HasUnpackedBeside, HaveRows, IsBrokenOff, IsPackageUnit, IsUnit, IsUnpacked, given_by, reply_to, yielding};
+ghost use Rattle.dpkg_session.specs.Units.{AnswersBoth, HasCalledBeside, HasCalledOf, HasCalledPackage, HasCalledWhole, HasUnpackedBeside, HaveRows, IsBehind, IsBrokenOff, IsPackageUnit, IsUnit, IsUnpacked, given_by, reply_to, yielding};
 
+use crate::displacing::{Behind, UnpackEnd, behind_of, unpack_whole};
 use crate::refusal::decision_of;
 use crate::report::{Candidate, Unpack};
+use crate::touched::touched_of_both;
+use displaced_packages::Displaced;
 use diversions::Diversions;
 use file_lists::FileLists;
-use host_core::{Host, HostFault, Places};
+use host_core::{Call, Host, HostFault, Places};
 use other_rows::{rows_beside, yields_beside};
 use package_tree::Package;
-use stack_run::Unwinding;
+use stack_run::{Failure as Cause, Unwinding};
 use status_db::NotedDatabase;
 use std::alloc::Global;
 use texts::{Text, Texts};
 use unit_reports::{
-    Breakage, Failure, Reply, Report, Rule, Unit, breakage_of, broken, is_broken, refresh, refused,
-    touched_of,
+    Breakage, Failure, Reply, Report, Rule, Unit, breakage_of, broken, is_broken, refused,
 };
 use unpack_engine::{Others, Unpacked, unpack};
 use unpack_relations::{Beside, Checked};
 use unwind_stack::Called;
 
-// The reply to a unit of a package, by how its rows were unwound.
-fn reply_to(package: Text, unwinding: Option<Unwinding>) -> Reply
-    ensures { result ≡ reply_to «package» unwinding }
+// The reply to a unit of a package, by how its rows were unwound, and by the call that failed behind its commit.
+fn reply_to(package: Text, unwinding: Option<Unwinding>, failed: Option<Call>) -> Reply
+    ensures { result ≡ reply_to «package» unwinding failed }
 {
-    match unwinding {
-        None => Reply::Done,
-        Some(unwinding) => {
+    match (unwinding, failed) {
+        (None, None) => Reply::Done,
+        (None, Some(call)) => Reply::Failed(Failure {
+            package,
+            cause: Cause::OfCall(call),
+        }),
+        (Some(unwinding), _) => {
             let Unwinding {
                 fall: _,
                 failed: _,
@@ -58,19 +64,22 @@ fn answered(
     alloc: Global,
     database: &NotedDatabase,
     package: Text,
-    unpacked: Unpacked,
+    end: UnpackEnd,
     calls: Vec<Called>,
 ) -> Unit
-    ensures answer { IsBrokenBy NoMemory result.reply ⊎ AnswersUnpack «package» database.now.records unpacked.unwinding unpacked.touched result }
+    ensures answer { IsBrokenBy NoMemory result.reply ⊎ AnswersBoth «package» database.now.records end.unpacked.unwinding end.displaced.failed end.unpacked.touched end.displaced.names result }
     ensures told { result.calls.items ≡ calls.items }
     ensures untouched { IsBroken result.reply → result.touched.items ≡ [] }
 {
-    let Unpacked { unwinding, touched } = unpacked;
-    match touched_of(alloc, database, touched.as_slice()) {
+    let UnpackEnd {
+        unpacked: Unpacked { unwinding, touched },
+        displaced: Displaced { names, failed },
+    } = end;
+    match touched_of_both(alloc, database, touched.as_slice(), names.as_slice()) {
         Ok(touched) => Unit {
             calls,
             touched,
-            reply: reply_to(package, unwinding),
+            reply: reply_to(package, unwinding, failed),
         },
         Err(_) => broken(alloc, calls, Breakage::NoMemory),
     }
@@ -139,7 +148,7 @@ fn unpack_to_disk<H: Host>(
 }
 
 // Unpacks a package that isn't refused.
-fn unpack_beside<H: Host>(
+pub(crate) fn unpack_beside<H: Host>(
     alloc: Global,
     host: &mut H,
     database: &mut NotedDatabase,
@@ -172,28 +181,6 @@ fn unpack_beside<H: Host>(
     }
 }
 
-// The unit of what was unpacked, once the kept places are those of the lists that it left.
-fn settled(
-    alloc: Global,
-    database: &NotedDatabase,
-    lists: &FileLists,
-    places: &mut Places,
-    diversions: &Diversions,
-    package: Text,
-    unpacked: Unpacked,
-    calls: Vec<Called>,
-) -> Unit
-    ensures answer { IsBrokenBy NoMemory result.reply ⊎ AnswersUnpack «package» database.now.records unpacked.unwinding unpacked.touched result }
-    ensures kept { IsBrokenBy NoMemory result.reply ⊎ (places.new ≡ places_in diversions.now.entries lists.now.lists) }
-    ensures told { result.calls.items ≡ calls.items }
-    ensures untouched { IsBroken result.reply → result.touched.items ≡ [] }
-{
-    match refresh(alloc, lists, diversions, places) {
-        Ok(()) => answered(alloc, database, package, unpacked, calls),
-        Err(_) => broken(alloc, calls, Breakage::NoMemory),
-    }
-}
-
 // The unit of a package of this name that isn't refused.
 fn unpack_named<H: Host>(
     alloc: Global,
@@ -202,11 +189,11 @@ fn unpack_named<H: Host>(
     lists: &mut FileLists,
     places: &mut Places,
     diversions: &Diversions,
-    package: Text,
+    behind: Behind,
     incoming: Package,
     beside: &Beside,
 ) -> Unit
-    requires name { «package» ≡ incoming.name }
+    requires behind { IsBehind incoming beside.now lists.old.lists behind }
     requires apart { AreApart incoming.name database.old.records beside.now }
     requires order { Needs (H.state host.old) (IsInOrder database.old lists.old.lists) }
     requires noting { database.old.closed ≡ false }
@@ -218,18 +205,16 @@ fn unpack_named<H: Host>(
     ensures kept { IsBroken result.reply ⊎ (places.new ≡ places_in diversions.now.entries lists.new.lists) }
     ensures on_disk { IsBroken result.reply ⊎ IsOnDisk (H.state host.new).events }
     ensures untouched { IsBroken result.reply → result.touched.items ≡ [] }
-    ensures told { HasCalledBeside incoming beside.now (held database.old lists.old diversions.now) (H.state host.old) (H.state host.new) [] result.calls.items }
+    ensures told { HasCalledWhole incoming beside.now (held database.old lists.old diversions.now) (H.state host.old) (H.state host.new) [] result.calls.items }
     ensures any_moment { AtEachMomentOf (IsAmidUnpack incoming beside.now (held database.old lists.old diversions.now)) (H.state host.old) (H.state host.new) }
     ensures counts { CountsReply (H.state host.old) (H.state host.new) result.reply }
     ensures not_closed { IsBrokenBy Closed result.reply → ⊥ }
 {
     let mut calls = Vec::new(alloc);
-    match unpack_beside(
-        alloc, host, database, lists, places, diversions, incoming, beside, &mut calls,
+    match unpack_whole(
+        alloc, host, database, lists, places, diversions, incoming, beside, &behind, &mut calls,
     ) {
-        Ok(unpacked) => settled(
-            alloc, database, lists, places, diversions, package, unpacked, calls,
-        ),
+        Ok(end) => answered(alloc, database, behind.package, end, calls),
         Err(fault) => broken(alloc, calls, breakage_of(fault)),
     }
 }
@@ -256,15 +241,15 @@ fn unpack_unit<H: Host>(
     ensures kept { IsBroken result.reply ⊎ (places.new ≡ places_in diversions.now.entries lists.new.lists) }
     ensures on_disk { IsBroken result.reply ⊎ IsOnDisk (H.state host.new).events }
     ensures untouched { IsBroken result.reply → result.touched.items ≡ [] }
-    ensures told { HasCalledBeside incoming beside.now (held database.old lists.old diversions.now) (H.state host.old) (H.state host.new) [] result.calls.items }
+    ensures told { HasCalledWhole incoming beside.now (held database.old lists.old diversions.now) (H.state host.old) (H.state host.new) [] result.calls.items }
     ensures any_moment { AtEachMomentOf (IsAmidUnpack incoming beside.now (held database.old lists.old diversions.now)) (H.state host.old) (H.state host.new) }
     ensures counts { CountsReply (H.state host.old) (H.state host.new) result.reply }
     ensures not_closed { IsBrokenBy Closed result.reply → ⊥ }
 {
-    match incoming.name.copy() {
-        Ok(package) => {
+    match behind_of(alloc, lists, &incoming, beside) {
+        Ok(behind) => {
             return unpack_named(
-                alloc, host, database, lists, places, diversions, package, incoming, beside,
+                alloc, host, database, lists, places, diversions, behind, incoming, beside,
             );
         }
         Err(_) => {
