@@ -39,6 +39,22 @@ fn push_losing(
     Ok(())
 }
 
+// Those of these packages that don't conflict.
+fn losing_among(
+    alloc: Global,
+    lists: &FileLists,
+    conflicting: &[Text],
+    replaced: &[Text],
+) -> Result<Vec<Losing>, AllocError>
+    ensures { IfOk result (λ losing. losing.items ≡ map (losing_of lists.now.lists) (filter (is_spared conflicting.now) replaced.now)) }
+{
+    let mut losing = Vec::new(alloc);
+    for name in replaced {
+        push_losing(&mut losing, lists, conflicting, name)?;
+    }
+    Ok(losing)
+}
+
 /// The packages that may disappear once this is unpacked, each with how many paths it lists yet: the replaced ones that don't
 /// conflict.
 pub fn losing_beside(
@@ -48,9 +64,11 @@ pub fn losing_beside(
 ) -> Result<Vec<Losing>, AllocError>
     ensures { IfOk result (λ losing. losing.items ≡ losing_beside lists.now.lists beside.now) }
 {
-    let mut losing = Vec::new(alloc);
-    for name in beside.replaced.as_slice() {
-        push_losing(&mut losing, lists, beside.conflicting.as_slice(), name)?;
-    }
+    let losing = losing_among(
+        alloc,
+        lists,
+        beside.conflicting.as_slice(),
+        beside.replaced.as_slice(),
+    )?;
     Ok(losing)
 }

@@ -11,6 +11,7 @@ use Rattle.administration.proofs.WholeFiles.{no_directory_at}
 use Rattle.diversions.specs.declared.entry.Diversion.{Diversion}
 use Rattle.diversions.specs.Lines.{HasEntries}
 use Rattle.opening.specs.Parts.{names_of}
+use Rattle.removal_run.specs.Units.{holding_of}
 use Rattle.status_db.proofs.Ordered.{same_standing, standing_same}
 use Rattle.unit_parts.specs.Order.{IsInOrder}
 use Rattle.unpack_engine.specs.Order.{IsInOrder as IsInOrderHere}
@@ -91,7 +92,7 @@ pub carries_stages : (name : List ℕ) (stages : List Stage) (failed : Option Ca
     → Happens (Did Barrier ∷ []) left t → InOrder after t → after.entries ≡ before.entries → Carries before after s t
 carries_stages name stages failed before after s left t told now recorded_there fit run behind order entries =
     let names = names_of before.records.records in
-    let leaves = leaves_barrier names before.records.records after.records.records s left t (stages_leave names name before.entries stages failed _ _ s left told now recorded_there fit run) behind in
+    let leaves = leaves_barrier names before.records.records after.records.records s left t (stages_leave names name before.entries stages failed (holding_of before) (holding_of after) s left told now recorded_there fit run) behind in
     record {
       falls = leaves.falls;
       order = λ ready. order;

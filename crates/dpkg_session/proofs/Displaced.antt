@@ -12,6 +12,7 @@ use Rattle.host_core.specs.Events.{Did}
 use Rattle.host_core.specs.Host.{Happens, State}
 use Rattle.host_core.specs.World.{Barrier}
 use Rattle.host_core.specs.declared.call.Call.{Call}
+use Rattle.removal_run.specs.Units.{holding_of}
 use Rattle.stack_run.specs.declared.unwinding.Unwinding.{Unwinding}
 use Rattle.status_db.proofs.NotedWorlds.{found_named}
 use Rattle.status_db.specs.Records.{record_in}
@@ -128,4 +129,4 @@ module _ (names : List (List ℕ)) where
       → HasDisplaced unwinding name version losing conflicting displaced failed mid after m t told now → Leaves names mid.records.records after.records.records m t
   behind_leaves (Some u) name version losing conflicting displaced failed mid after m t told now is = leaves_same mid.records.records after.records.records m t (ap (λ (h : Held). h.records.records) is.held) is.here
   behind_leaves None name version losing conflicting displaced failed mid after m t told now is =
-      displaced_leave mid.entries name version losing conflicting displaced failed _ _ m t told now is
+      displaced_leave mid.entries name version losing conflicting displaced failed (holding_of mid) (holding_of after) m t told now is

@@ -1,10 +1,13 @@
 -- The packages that a unit tells: those of an unpack, and those that were displaced behind it.
-use Rattle.std.proofs.Common.{◌≡◌, ◌⊎◌, ◌||◌, inl, inr, ℕ, Bool, true, false, List, [], ◌∷◌, Contains, cond, refl, sym, ap, subst, ◌∙◌}
+use Rattle.std.proofs.Common.{◌≡◌, ◌⊎◌, ◌||◌, ◌+◌, ◌<◌, inl, inr, ℕ, Bool, true, false, List, Contains, cond, get_or, length, take, refl, sym, ap, ◌∙◌}
+use Rattle.std.specs.Str.{bytes_eq}
 use Rattle.std.proofs.lemmas.Bool.{or_cases, or_left, or_right, true≢false}
+use Rattle.std.proofs.lemmas.List.Folds.{list_any_more}
 use Rattle.control_members.proofs.Drawn.{any_contains, contains_any}
 use Rattle.removal_run.specs.Names.{is_among}
 use Rattle.status_db.specs.Records.{record_in}
 use Rattle.status_db.specs.declared.record.Record.{Record}
+use Rattle.unpack_engine.proofs.Names.{entered}
 use Rattle.unpack_engine.specs.Units.{IsTouched}
 use Rattle.dpkg_session.specs.Units.{AreOfBoth, IsTouchedBeside}
 
@@ -16,8 +19,7 @@ either_among names q = by (is_among names q) refl
     by true e = inl (any_contains names q e)
     by false e = inr (λ has. true≢false (sym (contains_any names q has) ∙ e))
 
-module _ (name : List ℕ) (displaced touched names : List (List ℕ)) (before mid after : List Record) (told : IsTouched name before mid touched) (both : AreOfBoth touched displaced names)
-    (others : (q : List ℕ) → (Contains displaced q → ⊥) → record_in after q ≡ record_in mid q) where
+module _ (name : List ℕ) (displaced touched names : List (List ℕ)) (before mid after : List Record) (told : IsTouched name before mid touched) (both : AreOfBoth touched displaced names) (others : (q : List ℕ) → (Contains displaced q → ⊥) → record_in after q ≡ record_in mid q) where
   from_either : (q : List ℕ) → Contains touched q ⊎ Contains displaced q → (q ≡ name) ⊎ Contains displaced q ⊎ (record_in after q ≡ record_in before q → ⊥)
   from_either q (inr has) = inr (inl has)
   from_either q (inl has) = by ((told.exact q).0 has) (either_among displaced q)
@@ -53,3 +55,17 @@ from_among first second q is = elim (or_cases (is_among first q) (is_among secon
 pub to_among : (first second : List (List ℕ)) (q : List ℕ) → Contains first q ⊎ Contains second q → is_among first q || is_among second q ≡ true
 to_among first second q (inl has) = or_left (is_among first q) (is_among second q) (contains_any first q has)
 to_among first second q (inr has) = or_right (is_among first q) (is_among second q) (contains_any second q has)
+
+-- a name goes into the set
+
+or_assoc : (a b c : Bool) → (a || b) || c ≡ a || (b || c)
+or_assoc true b c = refl
+or_assoc false b c = refl
+
+pub name_entered : (names : List (List ℕ)) (i : ℕ) (name key q : List ℕ) (new mid old : Bool) → i < length names → name ≡ get_or names i name → key ≡ name → new ≡ cond (bytes_eq key q) true mid
+    → mid ≡ old || is_among (take i names) q → new ≡ old || is_among (take (i + 1) names) q
+name_entered names i name key q new mid old lt is same new_is mid_is =
+    entered q key new mid (old || is_among (take i names) q) name same new_is mid_is
+    ∙ or_assoc old (is_among (take i names) q) (bytes_eq q name)
+    ∙ ap (λ (n : List ℕ). old || (is_among (take i names) q || bytes_eq q n)) is
+    ∙ ap (λ b. old || b) (sym (list_any_more (bytes_eq q) names i name lt))

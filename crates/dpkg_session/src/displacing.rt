@@ -10,10 +10,10 @@ ghost use Rattle.unit_reports.specs.Held.{held};
 ghost use Rattle.dpkg_session.specs.Run.{IsAmidBeside, IsAmidUnpack};
 ghost use Rattle.dpkg_session.specs.Units.{AreOfBoth, HasCalledBeside, HasCalledWhole, HasUnpackedBeside, HasUnpackedWhole, IsBehind, IsTouchedBeside};
 
-use crate::units::unpack_beside;
-use diversions::Diversions;
+use crate::unpacking::unpack_beside;
 use disappearance::Losing;
 use displaced_packages::{Displaced, displace, losing_beside};
+use diversions::Diversions;
 use file_lists::FileLists;
 use host_core::{Host, HostFault, Places};
 use package_tree::Package;

@@ -14,9 +14,10 @@ mod removing;
 mod report;
 mod session;
 mod table_units;
-mod touched;
+mod tellings;
 mod undiverting;
 mod units;
+mod unpacking;
 
 pub use asked::{Diverting, Undiverting};
 pub use installing::Installed;

@@ -30,9 +30,12 @@ returns-in-Ok-clause-others g c =
     let old = c.args.database.now.records in
     let mid = c.disappear_packages.new.database.records in
     let new = c.remove_behind.new.database.records in
-    if_ok_with c.remove_behind.result (λ e. HaveBeenRemovedBehind c.args.diversions.now.entries c.args.conflicting.now d.names d.failed e.names e.failed _ _ _ _ _ _)
+    let removed = holding c.disappear_packages.new.database c.disappear_packages.new.lists in
+    let after = holding c.remove_behind.new.database c.remove_behind.new.lists in
+    if_ok_with c.remove_behind.result (λ e. HaveBeenRemovedBehind c.args.diversions.now.entries c.args.conflicting.now d.names d.failed e.names e.failed removed after (g.H.Host.state c.disappear_packages.new.host) (g.H.Host.state c.remove_behind.new.host)
+    c.disappear_packages.new.told.items c.remove_behind.new.told.items)
     (λ e. (q : List ℕ) → (Contains e.names q → ⊥) → record_in new q ≡ record_in old q)
-    (λ e removed kept. others_kept old mid new d.names c.args.conflicting.now e.names removed.names_are c.in-Ok.ensures.left.others kept) c.remove_behind.ensures.removed c.remove_behind.ensures.others
+    (λ e is kept. others_kept old mid new d.names c.args.conflicting.now e.names is.names_are c.in-Ok.ensures.left.others kept) c.remove_behind.ensures.removed c.remove_behind.ensures.others
 
 pub returns-in-Ok-clause-told : goal.returns-in-Ok-clause-told
 returns-in-Ok-clause-told g c =

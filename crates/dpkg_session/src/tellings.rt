@@ -1,5 +1,5 @@
 // The packages of a unit.
-ghost use Rattle.std.specs.Prelude.{◌≡◌, ◌||◌, ◌++◌, ℕ, List, IfOk, OnOk};
+ghost use Rattle.std.specs.Prelude.{◌≡◌, ◌||◌, ℕ, List, IfOk, OnOk};
 ghost use Rattle.std.specs.BTreeSet.{contains_text};
 ghost use Rattle.removal_run.specs.Names.{is_among};
 ghost use Rattle.dpkg_session.specs.Units.{AreOfBoth, AreTouched};
