@@ -1,7 +1,7 @@
 -- The calls for what is displaced are those of the host's own list.
 use Rattle.std.proofs.Common.{◌≡◌, inl, inr, ℕ, List, [], ◌∷◌, Option, None, refl, sym, ap, ◌∙◌}
 use Rattle.cleanup_stack.proofs.Tellings.{begun_calls, made_calls}
-use Rattle.conflict_removal.proofs.Calling.{called_tells as removing_tells}
+use Rattle.conflict_removal.specs.Removals.{HasCalledNext as HasCalledNextRemoval, HaveBeenRemoved, HaveCalled as HaveCalledRemoving, IsRemovedOrGone}
 use Rattle.disappearance.specs.Runs.{HasCalledNext, HaveCalled as HaveCalledDisappearing, HaveDisappeared}
 use Rattle.disappearance.specs.Units.{HasCalledOne, IsDecided}
 use Rattle.disappearance.specs.declared.losing.Losing.{Losing}
@@ -10,6 +10,8 @@ use Rattle.host_core.specs.Events.{calls_of}
 use Rattle.host_core.specs.Host.{Silent, State, calls}
 use Rattle.host_core.specs.Scripts.{calls_of-scripts}
 use Rattle.host_core.specs.declared.call.Call.{Call}
+use Rattle.removal_engine.specs.Units.{Given, HasCalled as HasCalledRemoval, given}
+use Rattle.removal_engine.specs.declared.extent.Extent.TheVariants.{InFavour}
 use Rattle.unit_stages.proofs.RunLaws.{run_made}
 use Rattle.unit_stages.specs.Calls.{AreCallsOf, MayRunStages}
 use Rattle.unit_stages.specs.Holding.{Holding}
@@ -27,6 +29,32 @@ run_tells : (name : List ℕ) (entries : List Diversion) (stages : List Stage) (
 run_tells name entries stages failed before after s t told now run =
     let made = made_calls (AreCallsOf stages failed) s t told now (run_made name entries stages failed before after s t told now run) in
     (made.0, made.1, made.2.1)
+
+removal_tells : (g : Given) (s t : State) (told now : List Called) → HasCalledRemoval g s t told now → TellsAll s t told now
+removal_tells g s t told now (HasCalledRemoval.unplanned silent same) = silent_tells s t told now silent same
+removal_tells g s t told now (HasCalledRemoval.planned stages plan begun) = let made = begun_calls (MayRunStages stages) s t told now begun in (made.0, made.2, made.3.1)
+
+-- those that are removed
+
+module _ (entries : List Diversion) where
+  removed_tells : (name : List ℕ) (failed : Option Call) (before after : Holding) (s t : State) (told now : List Called) → IsRemovedOrGone entries name failed before after s t told now → TellsAll s t told now
+  removed_tells name failed before after s t told now (IsRemovedOrGone.removed is ended order) = run_tells name entries is.stages failed before after s t told now is.run
+  removed_tells name failed before after s t told now (IsRemovedOrGone.passed gone none held same silent) = tells_none s t told now (ap calls same) silent
+
+  removals_tell : (names : List (List ℕ)) (failed : Option Call) (before after : Holding) (s t : State) (told now : List Called) → HaveBeenRemoved entries names failed before after s t told now → TellsAll s t told now
+  removals_tell [] failed before after s t told now none = tells_none s t told now (ap calls none.2) none.3
+  removals_tell (name ∷ names) failed before after s t told now some =
+      tells_then s some.3 t told some.4 now (removed_tells name some.0 before some.2 s some.3 told some.4 some.6) (removals_tell names some.1 some.2 after some.3 t some.4 now some.7)
+
+  next_removal_tells : (left : List (List ℕ)) (h : Holding) (s t : State) (told now : List Called) → HasCalledNextRemoval entries left h s t told now → TellsAll s t told now
+  next_removal_tells [] h s t told now none = silent_tells s t told now none.0 none.1
+  next_removal_tells (name ∷ left) h s t told now called = removal_tells (given InFavour name entries h) s t told now called
+
+  removing_tells : (names : List (List ℕ)) (before : Holding) (s t : State) (told now : List Called) → HaveCalledRemoving entries names before s t told now → TellsAll s t told now
+  removing_tells names before s t told now is =
+      tells_then s is.m t told is.between now (removals_tell is.done is.failed before is.mid s is.m told is.between is.removed) (next_removal_tells is.left is.mid is.m t is.between now is.called)
+
+-- those that disappear
 
 module _ (incoming version : List ℕ) (entries : List Diversion) where
   decided_tells : (l : Losing) (names : List (List ℕ)) (failed : Option Call) (before after : Holding) (s t : State) (told now : List Called) → IsDecided incoming version entries l names failed before after s t told now → TellsAll s t told now

@@ -7,9 +7,12 @@ use Rattle.file_lists.specs.Owners.{paths_of}
 use Rattle.file_lists.specs.declared.paths.PackageList.{PackageList}
 use Rattle.unpack_relations.specs.declared.beside.Beside.{Beside}
 
+abbrev pub is_among : List (List ℕ) → List ℕ → Bool
+is_among names name = list_any (bytes_eq name) names
+
 -- a package that isn't removed itself
 abbrev pub is_spared : List (List ℕ) → List ℕ → Bool
-is_spared conflicting name = not (list_any (bytes_eq name) conflicting)
+is_spared conflicting name = not (is_among conflicting name)
 
 -- with how many paths it lists
 abbrev pub losing_of : List PackageList → List ℕ → Losing

@@ -1,6 +1,6 @@
 // The packages that may disappear.
 ghost use Rattle.std.specs.Prelude.{◌≡◌, ◌++◌, ◌∷◌, [], cond, filter, map, IfOk, OnOk};
-ghost use Rattle.displaced_packages.specs.Losing.{is_spared, losing_beside, losing_of};
+ghost use Rattle.displaced_packages.specs.Losing.{is_among, is_spared, losing_beside, losing_of};
 
 use disappearance::Losing;
 use file_lists::FileLists;
@@ -8,12 +8,16 @@ use std::alloc::{AllocError, Global};
 use texts::Text;
 use unpack_relations::Beside;
 
+fn is_among(names: &[Text], name: &Text) -> bool
+    ensures { result ≡ is_among names.now name.now }
+{
+    names.iter().any(|other| name.as_str() == other.as_str())
+}
+
 fn is_spared(conflicting: &[Text], name: &Text) -> bool
     ensures { result ≡ is_spared conflicting.now name.now }
 {
-    !conflicting
-        .iter()
-        .any(|other| name.as_str() == other.as_str())
+    !is_among(conflicting, name)
 }
 
 fn losing_of(lists: &FileLists, name: &Text) -> Result<Losing, AllocError>
