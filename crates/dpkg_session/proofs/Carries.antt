@@ -26,6 +26,7 @@ use Rattle.unpack_engine.proofs.Order.{directory_there}
 use Rattle.unwind_stack.specs.declared.rows.Called.{Called}
 use Rattle.dpkg_session.specs.History.{Stands}
 use Rattle.dpkg_session.specs.Standing.{IsStanding}
+use Rattle.dpkg_session.proofs.Certain.{lists_had}
 use Rattle.dpkg_session.proofs.Found.{HasInfo, info_left}
 use Rattle.dpkg_session.proofs.Displaced.{Leaves, leaves_barrier, stages_leave}
 use Rattle.dpkg_session.proofs.Sound.{diversions_others, diversions_spare_others}

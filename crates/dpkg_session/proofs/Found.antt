@@ -1,5 +1,5 @@
 -- What a run leaves is what a further command can open.
-use Rattle.std.proofs.Common.{◌≡◌, inr, ℕ, Bool, true, List, [], ◌∷◌, Option, Some, None, Result, Ok, Err, IsTrue, Contains, refl, sym, ap, subst, ◌∙◌}
+use Rattle.std.proofs.Common.{◌≡◌, inr, ℕ, Bool, true, List, [], ◌∷◌, Option, Some, Result, Ok, Err, IsTrue, Contains, refl, sym, ap, subst, ◌∙◌}
 use Rattle.std.specs.List.{AllByRecursion}
 use Rattle.texts.specs.PackageNames.{is_package_name}
 use Rattle.host_core.specs.World.{World}

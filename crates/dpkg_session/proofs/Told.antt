@@ -1,5 +1,5 @@
 -- The calls that units tell are those of the host's own list.
-use Rattle.std.proofs.Common.{◌≡◌, inl, inr, Bool, List, [], ◌∷◌, ◌++◌, Option, Some, None, Result, Ok, Err, append_assoc, ap, refl, subst, sym, ◌∙◌}
+use Rattle.std.proofs.Common.{◌≡◌, inl, inr, Bool, List, [], ◌∷◌, ◌++◌, Option, None, Result, Ok, Err, append_assoc, ap, refl, subst, sym, ◌∙◌}
 use Rattle.std.proofs.lemmas.List.{append-nil}
 use Rattle.cleanup_stack.proofs.Tellings.{begun_calls, made_calls}
 use Rattle.displaced_packages.proofs.Calling.{displacing_tells}

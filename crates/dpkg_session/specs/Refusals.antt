@@ -1,5 +1,5 @@
 -- The refusals of an unpack, in the order in which they are looked for.
-use Rattle.std.specs.Prelude.{◌≡◌, not, ℕ, Bool, List, [], ◌∷◌, Option, Some, None, cond}
+use Rattle.std.specs.Prelude.{◌≡◌, not, ℕ, Bool, List, Option, Some, None, cond}
 use Rattle.std.specs.List.{find}
 use Rattle.std.specs.Cmp.Lexicographic.{slice_cmp}
 use Rattle.std.specs.Ordering.{nat_cmp, is_lt}

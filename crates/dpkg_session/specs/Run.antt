@@ -1,5 +1,5 @@
 -- A run of units, one after another.
-use Rattle.std.specs.Prelude.{◌≡◌, ◌⊎◌, Bool, true, IsTrue, List, [], ◌∷◌, ◌++◌, length, take, drop, Option, Some, None, IfSome, Result, Ok, Err}
+use Rattle.std.specs.Prelude.{◌≡◌, ◌⊎◌, Bool, true, IsTrue, List, [], ◌∷◌, ◌++◌, length, take, drop, Option, None, IfSome, Result, Ok, Err}
 use Rattle.displaced_packages.specs.Displacing.{IsAmidDisplacing}
 use Rattle.displaced_packages.specs.Losing.{losing_beside}
 use Rattle.file_lists.specs.declared.paths.PackageList.{PackageList}

@@ -6,7 +6,9 @@ use Rattle.dpkg_session.proofs.Amid.{since_under_way}
 use Rattle.dpkg_session.proofs.Carries.{as_engine, as_parts}
 use Rattle.dpkg_session.proofs.Outlasting.{answered_disk}
 use Rattle.dpkg_session.proofs.Touching.{touched_beside}
-use Rattle.dpkg_session.proofs.Whole.{called_whole, displaced_whole, since_whole, unwound_end}
+use Rattle.dpkg_session.specs.declared.displacing.UnpackEnd.{UnpackEnd}
+use Rattle.displaced_packages.specs.declared.displacing.Displaced.{Displaced}
+use Rattle.dpkg_session.proofs.Whole.{called_whole, counts_behind, displaced_whole, since_whole, unwound_end}
 use Rattle.dpkg_session.proofs.displacing.unpack_whole.Goals as goal
 
 pub displace-requires-clause-order : goal.displace-requires-clause-order
@@ -41,7 +43,7 @@ returns-then-is_some-clause-any_moment g c =
 pub returns-in-Ok-displace-clause-unit : goal.returns-in-Ok-displace-clause-unit
 returns-in-Ok-displace-clause-unit g c =
     displaced_whole c.args.incoming c.args.beside.now (held c.args.database.now c.args.lists.now c.args.diversions.now) c.args.places.now c.unpack_refreshed.new.database c.unpack_refreshed.new.lists.lists c.requires.kept
-    c.args.behind.now c.requires.behind c.as_slice.result.now c.as_slice-2.result.now c.as_slice.ensures.value c.as_slice-2.ensures c.in-Ok.unpacked.unwinding (sym c.is_some.ensures ∙ c.if-is_some.false) (g.H.Host.state c.args.host.now) (g.H.Host.state c.unpack_refreshed.new.host) (g.H.Host.state c.displace.new.host)
+    c.args.behind.now c.requires.behind c.as_slice.result.now c.as_slice-in-Ok.result.now c.as_slice.ensures.value c.as_slice-in-Ok.ensures c.in-Ok.unpacked.unwinding (sym c.is_some.ensures ∙ c.if-is_some.false) (g.H.Host.state c.args.host.now) (g.H.Host.state c.unpack_refreshed.new.host) (g.H.Host.state c.displace.new.host)
     c.args.told.now.items c.unpack_refreshed.new.told.items c.in-Ok.ensures.unit
     c.in-Ok-displace.displaced.names c.in-Ok-displace.displaced.failed (held c.displace.new.database c.displace.new.lists c.args.diversions.now) c.displace.new.told.items c.in-Ok.ensures.order c.in-Ok-displace.ensures.displaced
 
@@ -59,25 +61,25 @@ returns-in-Ok-displace-clause-on_disk g c = answered_disk (g.H.Host.state c.unpa
 pub returns-in-Ok-displace-clause-told : goal.returns-in-Ok-displace-clause-told
 returns-in-Ok-displace-clause-told g c =
     called_whole c.args.incoming c.args.beside.now (held c.args.database.now c.args.lists.now c.args.diversions.now) c.args.places.now c.unpack_refreshed.new.database c.unpack_refreshed.new.lists.lists c.requires.kept
-    c.args.behind.now c.requires.behind c.as_slice.result.now c.as_slice-2.result.now c.as_slice.ensures.value c.as_slice-2.ensures c.in-Ok.unpacked.unwinding (sym c.is_some.ensures ∙ c.if-is_some.false) (g.H.Host.state c.args.host.now) (g.H.Host.state c.unpack_refreshed.new.host) (g.H.Host.state c.displace.new.host)
+    c.args.behind.now c.requires.behind c.as_slice.result.now c.as_slice-in-Ok.result.now c.as_slice.ensures.value c.as_slice-in-Ok.ensures c.in-Ok.unpacked.unwinding (sym c.is_some.ensures ∙ c.if-is_some.false) (g.H.Host.state c.args.host.now) (g.H.Host.state c.unpack_refreshed.new.host) (g.H.Host.state c.displace.new.host)
     c.args.told.now.items c.unpack_refreshed.new.told.items c.in-Ok.ensures.unit c.displace.new.told.items c.displace.ensures.told
 
 pub returns-in-Err-displace-clause-told : goal.returns-in-Err-displace-clause-told
 returns-in-Err-displace-clause-told g c =
     called_whole c.args.incoming c.args.beside.now (held c.args.database.now c.args.lists.now c.args.diversions.now) c.args.places.now c.unpack_refreshed.new.database c.unpack_refreshed.new.lists.lists c.requires.kept
-    c.args.behind.now c.requires.behind c.as_slice.result.now c.as_slice-2.result.now c.as_slice.ensures.value c.as_slice-2.ensures c.in-Ok.unpacked.unwinding (sym c.is_some.ensures ∙ c.if-is_some.false) (g.H.Host.state c.args.host.now) (g.H.Host.state c.unpack_refreshed.new.host) (g.H.Host.state c.displace.new.host)
+    c.args.behind.now c.requires.behind c.as_slice.result.now c.as_slice-in-Ok.result.now c.as_slice.ensures.value c.as_slice-in-Ok.ensures c.in-Ok.unpacked.unwinding (sym c.is_some.ensures ∙ c.if-is_some.false) (g.H.Host.state c.args.host.now) (g.H.Host.state c.unpack_refreshed.new.host) (g.H.Host.state c.displace.new.host)
     c.args.told.now.items c.unpack_refreshed.new.told.items c.in-Ok.ensures.unit c.displace.new.told.items c.displace.ensures.told
 
 pub returns-in-Ok-displace-clause-any_moment : goal.returns-in-Ok-displace-clause-any_moment
 returns-in-Ok-displace-clause-any_moment g c =
     since_whole c.args.incoming c.args.beside.now (held c.args.database.now c.args.lists.now c.args.diversions.now) c.args.places.now c.unpack_refreshed.new.database c.unpack_refreshed.new.lists.lists c.requires.kept
-    c.args.behind.now c.requires.behind c.as_slice.result.now c.as_slice-2.result.now c.as_slice.ensures.value c.as_slice-2.ensures c.in-Ok.unpacked.unwinding (sym c.is_some.ensures ∙ c.if-is_some.false) (g.H.Host.state c.args.host.now) (g.H.Host.state c.unpack_refreshed.new.host) (g.H.Host.state c.displace.new.host)
+    c.args.behind.now c.requires.behind c.as_slice.result.now c.as_slice-in-Ok.result.now c.as_slice.ensures.value c.as_slice-in-Ok.ensures c.in-Ok.unpacked.unwinding (sym c.is_some.ensures ∙ c.if-is_some.false) (g.H.Host.state c.args.host.now) (g.H.Host.state c.unpack_refreshed.new.host) (g.H.Host.state c.displace.new.host)
     c.args.told.now.items c.unpack_refreshed.new.told.items c.in-Ok.ensures.unit c.requires.untold c.unpack_refreshed.ensures.any_moment c.displace.ensures.any_moment
 
 pub returns-in-Err-displace-clause-any_moment : goal.returns-in-Err-displace-clause-any_moment
 returns-in-Err-displace-clause-any_moment g c =
     since_whole c.args.incoming c.args.beside.now (held c.args.database.now c.args.lists.now c.args.diversions.now) c.args.places.now c.unpack_refreshed.new.database c.unpack_refreshed.new.lists.lists c.requires.kept
-    c.args.behind.now c.requires.behind c.as_slice.result.now c.as_slice-2.result.now c.as_slice.ensures.value c.as_slice-2.ensures c.in-Ok.unpacked.unwinding (sym c.is_some.ensures ∙ c.if-is_some.false) (g.H.Host.state c.args.host.now) (g.H.Host.state c.unpack_refreshed.new.host) (g.H.Host.state c.displace.new.host)
+    c.args.behind.now c.requires.behind c.as_slice.result.now c.as_slice-in-Ok.result.now c.as_slice.ensures.value c.as_slice-in-Ok.ensures c.in-Ok.unpacked.unwinding (sym c.is_some.ensures ∙ c.if-is_some.false) (g.H.Host.state c.args.host.now) (g.H.Host.state c.unpack_refreshed.new.host) (g.H.Host.state c.displace.new.host)
     c.args.told.now.items c.unpack_refreshed.new.told.items c.in-Ok.ensures.unit c.requires.untold c.unpack_refreshed.ensures.any_moment c.displace.ensures.any_moment
 
 -- the unpack itself was broken off
@@ -88,3 +90,7 @@ returns-in-Err-clause-told g c = inl c.unpack_refreshed.ensures.told
 pub returns-in-Err-clause-any_moment : goal.returns-in-Err-clause-any_moment
 returns-in-Err-clause-any_moment g c =
     since_under_way c.args.incoming c.args.beside.now (held c.args.database.now c.args.lists.now c.args.diversions.now) c.args.places.now (g.H.Host.state c.args.host.now) (g.H.Host.state c.unpack_refreshed.new.host) c.requires.kept c.unpack_refreshed.ensures.any_moment
+
+pub returns-in-Err-displace-clause-counts : goal.returns-in-Err-displace-clause-counts
+returns-in-Err-displace-clause-counts g c =
+    counts_behind Displaced UnpackEnd c.in-Err-displace.fault (g.H.Host.state c.args.host.now) (g.H.Host.state c.unpack_refreshed.new.host) (g.H.Host.state c.displace.new.host) c.in-Ok.ensures.counts c.in-Err-displace.ensures.counts
