@@ -102,12 +102,23 @@ pub since_behind : (p : Package) (beside : Beside) (before : Held) (records : Re
 since_behind p beside before records lists places told between s m t are none unpacked since behind =
     let first = since_under_way p beside before places s m are since in
     let done : HasUnpackedBeside p beside before (places_of before) None records lists s m [] between =
-        subst (λ l. HasUnpackedBeside p beside before (places_of before) None records lists s m l between) none (subst (λ ps. HasUnpackedBeside p beside before ps None records lists s m told between) are unpacked) in
+    subst (λ l. HasUnpackedBeside p beside before (places_of before) None records lists s m l between) none (subst (λ ps. HasUnpackedBeside p beside before ps None records lists s m told between) are unpacked) in
     since_then (IsAmidUnpack p beside before s.world) s m t first
     (since_weaker_if (IsAmidDisplacing p.name p.version before.entries (losing_beside before.lists beside) beside.conflicting (holding_of (held_with before records lists)) m) (λ so_far w. IsAmidUnpack p beside before s.world (first.added ++ so_far) w) m t
     (λ honest so_far w is. inr (record {
-      s = s; from = refl; records = records; lists = lists; m = m; honest = behind.honest honest; between = between; unpacked = done;
-      front = first.added; rest = so_far; split = refl; events = first.events; displacing = is;
+      s = s;
+      from = refl;
+      records = records;
+      lists = lists;
+      m = m;
+      honest = behind.honest honest;
+      between = between;
+      unpacked = done;
+      front = first.added;
+      rest = so_far;
+      split = refl;
+      events = first.events;
+      displacing = is;
     })) behind)
 
 pub since_unpack_start : (p : Package) (beside : Beside) (before : Held) (s : State) → Since (IsAmidUnpack p beside before s.world) s s

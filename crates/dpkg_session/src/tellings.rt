@@ -10,11 +10,7 @@ use std::collections::BTreeSet;
 use texts::{Text, Texts};
 use unit_reports::{Touched, touched_of};
 
-fn add_all(
-    alloc: Global,
-    set: &mut BTreeSet<String>,
-    names: &[Text],
-) -> Result<(), AllocError>
+fn add_all(alloc: Global, set: &mut BTreeSet<String>, names: &[Text]) -> Result<(), AllocError>
     ensures { OnOk result ((q : List ℕ) → contains_text set.new q ≡ contains_text set.old q || is_among names.now q) }
 {
     for name in names {
