@@ -1,13 +1,19 @@
 -- What holds at each moment of a run.
-use Rattle.std.proofs.Common.{◌≡◌, inl, inr, Bool, List, [], ◌∷◌, ◌++◌, Option, None, Result, Ok, Err, refl, sym, ap, subst, ◌∙◌, append_assoc}
+use Rattle.std.proofs.Common.{◌≡◌, inl, inr, Bool, List, [], ◌∷◌, ◌++◌, None, Result, Ok, Err, refl, sym, ap, subst, ◌∙◌, append_assoc}
 use Rattle.std.proofs.lemmas.List.{append-nil, append_cancel_left}
+use Rattle.displaced_packages.specs.Displacing.{IsAmidDisplacing}
+use Rattle.displaced_packages.specs.Losing.{losing_beside}
+use Rattle.file_lists.specs.declared.paths.PackageList.{PackageList}
 use Rattle.host_core.specs.Paths.{Path}
 use Rattle.host_core.specs.World.{World}
 use Rattle.host_core.specs.Events.{Event}
 use Rattle.host_core.specs.Host.{State, Since}
-use Rattle.host_core.specs.Moments.{grown, since_start, since_then, since_weaker}
+use Rattle.host_core.specs.Moments.{grown, since_start, since_then, since_weaker, since_weaker_if}
 use Rattle.package_tree.specs.declared.package.Package.{Package}
 use Rattle.package_tree.specs.declared.fault.TreeFault.{TreeFault}
+use Rattle.removal_run.specs.Units.{holding_of}
+use Rattle.status_db.specs.Recorded.{Recorded}
+use Rattle.unwind_stack.specs.declared.rows.Called.{Called}
 use Rattle.unit_reports.specs.Held.{Held, places_of}
 use Rattle.unpack_relations.specs.declared.beside.Beside.{Beside}
 use Rattle.unpack_relations.specs.declared.checking.Checked.{Checked}
@@ -15,6 +21,7 @@ use Rattle.unpack_relations.specs.declared.checking.Checked.TheVariants.{Planned
 use Rattle.dpkg_session.specs.declared.report.Candidate.{Candidate}
 use Rattle.unit_reports.specs.declared.report.Unit.{Unit as AUnit}
 use Rattle.dpkg_session.specs.Refusals.{IsDecisionFor}
+use Rattle.dpkg_session.specs.Units.{HasUnpackedBeside, held_with}
 use Rattle.dpkg_session.specs.Run.{IsAmidBeside, IsAmidBy, IsAmidNext, IsAmidPackage, IsAmidRun, IsAmidUnitOf, IsAmidUnpack, IsRun}
 
 -- nothing is done yet
@@ -84,10 +91,38 @@ since_next auto cs done us c rest before mid s m t split run first second =
 -- a package that isn't refused
 
 pub since_under_way : (p : Package) (beside : Beside) (before : Held) (places : List Path) (s t : State) → places ≡ places_of before → Since (IsAmidBeside p beside before places s.world) s t → Since (IsAmidUnpack p beside before s.world) s t
-since_under_way p beside before places s t are since = subst (λ ps. Since (IsAmidBeside p beside before ps s.world) s t) are since
+since_under_way p beside before places s t are since =
+    since_weaker (IsAmidBeside p beside before (places_of before) s.world) (IsAmidUnpack p beside before s.world) s t (λ so_far w is. inl is)
+    (subst (λ ps. Since (IsAmidBeside p beside before ps s.world) s t) are since)
+
+-- the unpack is committed, and packages are displaced behind it
+pub since_behind : (p : Package) (beside : Beside) (before : Held) (records : Recorded) (lists : List PackageList) (places : List Path) (told between : List Called) (s m t : State) → places ≡ places_of before → told ≡ []
+    → HasUnpackedBeside p beside before places None records lists s m told between → Since (IsAmidBeside p beside before places s.world) s m
+    → Since (IsAmidDisplacing p.name p.version before.entries (losing_beside before.lists beside) beside.conflicting (holding_of (held_with before records lists)) m) m t → Since (IsAmidUnpack p beside before s.world) s t
+since_behind p beside before records lists places told between s m t are none unpacked since behind =
+    let first = since_under_way p beside before places s m are since in
+    let done : HasUnpackedBeside p beside before (places_of before) None records lists s m [] between =
+    subst (λ l. HasUnpackedBeside p beside before (places_of before) None records lists s m l between) none (subst (λ ps. HasUnpackedBeside p beside before ps None records lists s m told between) are unpacked) in
+    since_then (IsAmidUnpack p beside before s.world) s m t first
+    (since_weaker_if (IsAmidDisplacing p.name p.version before.entries (losing_beside before.lists beside) beside.conflicting (holding_of (held_with before records lists)) m) (λ so_far w. IsAmidUnpack p beside before s.world (first.added ++ so_far) w) m t
+    (λ honest so_far w is. inr (record {
+      s = s;
+      from = refl;
+      records = records;
+      lists = lists;
+      m = m;
+      honest = behind.honest honest;
+      between = between;
+      unpacked = done;
+      front = first.added;
+      rest = so_far;
+      split = refl;
+      events = first.events;
+      displacing = is;
+    })) behind)
 
 pub since_unpack_start : (p : Package) (beside : Beside) (before : Held) (s : State) → Since (IsAmidUnpack p beside before s.world) s s
-since_unpack_start p beside before s = since_start (IsAmidUnpack p beside before s.world) s (inl (refl, refl))
+since_unpack_start p beside before s = since_start (IsAmidUnpack p beside before s.world) s (inl (inl (refl, refl)))
 
 pub since_decided : (auto : Bool) (p : Package) (beside : Beside) (decision : Checked) (before : Held) (s t : State) → IsDecisionFor p auto before decision → decision ≡ Planned beside
     → Since (IsAmidUnpack p beside before s.world) s t → Since (IsAmidPackage auto p before s.world) s t

@@ -4,6 +4,7 @@ use Rattle.administration.specs.Places.{diversions_path, info_path, list_name, l
 use Rattle.cleanup_stack.specs.Transcripts.{Ended, Committed, Unwound}
 use Rattle.control_members.specs.Stored.{stored_member_path}
 use Rattle.control_members.specs.declared.member.Member.{Member}
+use Rattle.displaced_packages.specs.Losing.{losing_beside}
 use Rattle.file_lists.specs.declared.paths.PackageList.{PackageList}
 use Rattle.file_removal.specs.Clearing.{cleared}
 use Rattle.host_core.specs.Paths.{Path, is_below_administration, is_own}
@@ -30,7 +31,9 @@ use Rattle.dpkg_session.specs.declared.report.Candidate.{Candidate}
 use Rattle.unit_reports.specs.declared.report.Unit.{Unit as AUnit}
 use Rattle.unit_reports.specs.Held.{Held}
 use Rattle.dpkg_session.specs.Run.{IsRun}
-use Rattle.dpkg_session.specs.Units.{IsUnitBy, IsUnitOf}
+use Rattle.dpkg_session.specs.Units.{IsUnitBy, IsUnitOf, held_with}
+use Rattle.dpkg_session.proofs.Displaced.{behind_leaves}
+use Rattle.dpkg_session.proofs.Keeping.{IsUnnamed}
 use Rattle.dpkg_session.proofs.Runs.{falls_run}
 
 -- the diversions of a run
@@ -62,6 +65,13 @@ diversions_far = record { own = refl; below = refl; unnoted = refl; tmp = refl; 
 
 diversions_spare_far : IsFar (temporary diversions_path)
 diversions_spare_far = record { own = refl; below = refl; unnoted = refl; tmp = refl; info = λ rest e. absurd (omega (arith, ap (λ (l : Path). get_or l 14 0) e)) }
+
+far_unnamed : (q : Path) → IsFar q → IsUnnamed q
+far_unnamed q far name named = record {
+  inside = record { own = far.own; below = far.below; unnoted = far.unnoted };
+  list = (far.info (list_name name), far.info (list_name name ++ codes ".dpkg-inst"));
+  members = λ member is. far.info (name ++ 46 ∷ member);
+}
 
 module _ (q : Path) (far : IsFar q) where
   no_list : (name : List ℕ) → (q ≢ list_path name) × (q ≢ temporary (list_path name))
@@ -114,7 +124,10 @@ module _ (q : Path) (far : IsFar q) where
 
 stays_by : (q : Path) → IsFar q → (p : Package) (decision : Checked) (before after : Held) (u : AUnit) (s t : State) → IsUnitBy p decision before after u s t → IsTrue t.honest → t.world q ≡ s.world q
 stays_by q far p (Refused rule) before after u s t is h = ap (λ w. w q) (is.world h)
-stays_by q far p (Planned beside) before after u s t is h = unpacked_stays q far _ _ _ _ _ s t _ _ is.unpacked.unpacked h
+stays_by q far p (Planned beside) before after u s t is h =
+    let whole = is.unpacked in
+    let leaves = behind_leaves [] is.unwinding p.name p.version (losing_beside before.lists beside) beside.conflicting is.displaced is.failed (held_with before whole.records whole.lists) after whole.m t whole.between u.calls.items whole.behind in
+    (leaves.keeps h).stays q (far_unnamed q far) ∙ unpacked_stays q far _ _ _ _ _ s whole.m _ _ whole.unpacked.unpacked (leaves.falls h)
 
 stays_unit : (auto : Bool) (q : Path) → IsFar q → (label : List ℕ) (tree : Result Package TreeFault) (before after : Held) (u : AUnit) (s t : State) → IsUnitOf auto label tree before after u s t → IsTrue t.honest → t.world q ≡ s.world q
 stays_unit auto q far label (Err fault) before after u s t is h = ap (λ w. w q) (is.world h)

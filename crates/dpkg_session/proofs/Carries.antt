@@ -1,5 +1,5 @@
 -- What a unit carries over: an administration that is in order, its diversions, and an `info` that no opening refuses.
-use Rattle.std.proofs.Common.{◌≡◌, ℕ, List, [], ◌∷◌, Option, Some, None, IsTrue, Contains, refl, sym, ap, subst, ◌∙◌}
+use Rattle.std.proofs.Common.{◌≡◌, ℕ, List, [], ◌∷◌, Option, IsTrue, refl, sym, ap, subst, ◌∙◌}
 use Rattle.std.specs.Prelude.{is_some, true}
 use Rattle.std.proofs.Math.Logic.{∥∥₁_map}
 use Rattle.host_core.specs.Events.{Did}
@@ -11,7 +11,7 @@ use Rattle.administration.proofs.WholeFiles.{no_directory_at}
 use Rattle.diversions.specs.declared.entry.Diversion.{Diversion}
 use Rattle.diversions.specs.Lines.{HasEntries}
 use Rattle.opening.specs.Parts.{names_of}
-use Rattle.status_db.proofs.NotedWorlds.{found_named}
+use Rattle.removal_run.specs.Units.{holding_of}
 use Rattle.status_db.proofs.Ordered.{same_standing, standing_same}
 use Rattle.unit_parts.specs.Order.{IsInOrder}
 use Rattle.unpack_engine.specs.Order.{IsInOrder as IsInOrderHere}
@@ -22,19 +22,16 @@ use Rattle.unit_reports.specs.declared.report.Unit.{Unit as AUnit}
 use Rattle.unit_stages.specs.Runs.{HaveRun}
 use Rattle.unit_stages.specs.declared.stage.Stage.{Stage}
 use Rattle.status_db.specs.Records.{record_in}
-use Rattle.status_db.specs.declared.record.Record.{Record}
-use Rattle.unpack_engine.proofs.EndRecords.{has_name}
 use Rattle.unpack_engine.proofs.Order.{directory_there}
 use Rattle.unwind_stack.specs.declared.rows.Called.{Called}
 use Rattle.dpkg_session.specs.History.{Stands}
 use Rattle.dpkg_session.specs.Standing.{IsStanding}
 use Rattle.dpkg_session.proofs.Certain.{lists_had}
-use Rattle.dpkg_session.proofs.Found.{HasInfo}
-use Rattle.dpkg_session.proofs.Keeping.{KeepsOthers}
-use Rattle.dpkg_session.proofs.Known.{all_named, name_among, named_standing, stages_named}
-use Rattle.dpkg_session.proofs.Sound.{diversions_others, diversions_spare_others, sound_kept, text_kept}
+use Rattle.dpkg_session.proofs.Found.{HasInfo, info_left}
+use Rattle.dpkg_session.proofs.Displaced.{Leaves, leaves_barrier, stages_leave}
+use Rattle.dpkg_session.proofs.Sound.{diversions_others, diversions_spare_others}
 use Rattle.dpkg_session.proofs.Standings.{order_standing, recorded, standing_found}
-use Rattle.dpkg_session.proofs.Staying.{AreOwnStages, stages_fall, stages_keep}
+use Rattle.dpkg_session.proofs.Staying.{AreOwnStages}
 
 abbrev pub InOrder : Held → State → Type 0
 InOrder h s = Needs s (IsInOrder h.records h.lists)
@@ -85,12 +82,9 @@ carries_reads h s t reads = carries_still h h s t refl reads.honest (λ honest. 
 
 -- the stages of a unit
 
-found_among : (name : List ℕ) (rs : List Record) → is_some (record_in rs name) ≡ true → Contains (names_of rs) name
-found_among name rs some = by (record_in rs name) refl some
-  where
-    by : (o : Option Record) → record_in rs name ≡ o → is_some o ≡ true → Contains (names_of rs) name
-    by None e none = cc
-    by (Some r) e there = has_name rs name r e
+-- what is in `info` has no fault afterwards, where records of packages of before are left
+pub leaves_info : (before after : Held) (s t : State) → Leaves (names_of before.records.records) before.records.records after.records.records s t → InOrder after t → IsTrue t.honest → HasInfo before s.world → HasInfo after t.world
+leaves_info before after s t leaves order h info = info_left before after s.world t.world (leaves.keeps h) leaves.named (order h).loose (order h).listed info
 
 -- behind its stages a unit brings all to the disk, which changes nothing
 pub carries_stages : (name : List ℕ) (stages : List Stage) (failed : Option Call) (before after : Held) (s left t : State) (told now : List Called) → is_some (record_in before.records.records name) ≡ true
@@ -98,23 +92,15 @@ pub carries_stages : (name : List ℕ) (stages : List Stage) (failed : Option Ca
     → HaveRun name before.entries stages failed (record { records = before.records.records; lists = before.lists }) (record { records = after.records.records; lists = after.lists }) s left told now
     → Happens (Did Barrier ∷ []) left t → InOrder after t → after.entries ≡ before.entries → Carries before after s t
 carries_stages name stages failed before after s left t told now recorded_there fit run behind order entries =
-    let named = found_named name before.records.records recorded_there in
-    let keeps : IsTrue t.honest → KeepsOthers name s.world t.world = (λ h.
-    subst (KeepsOthers name s.world) (sym behind.world) (stages_keep name before.entries stages failed _ _ s left told now fit run (behind.honest h))) in
+    let names = names_of before.records.records in
+    let leaves = leaves_barrier names before.records.records after.records.records s left t (stages_leave names name before.entries stages failed (holding_of before) (holding_of after) s left told now recorded_there fit run) behind in
     record {
-      falls = λ h. stages_fall name before.entries stages failed _ _ s left told now run (behind.honest h);
+      falls = leaves.falls;
       order = λ ready. order;
       entries = entries;
-      file = λ h. (keeps h).stays diversions_path (diversions_others name);
-      spare = λ h. (keeps h).stays (temporary diversions_path) (diversions_spare_others name);
-      info = λ h ready info.
-          let known = stages_named (names_of before.records.records) name (found_among name before.records.records recorded_there) before.entries stages failed _ _ s left told now fit run (all_named before.records.records info.standing) in
-          record {
-            text = text_kept name named s.world t.world (keeps h) info.text;
-            standing = named_standing (names_of before.records.records) after.records.records known;
-            sound = sound_kept name named s.world t.world (keeps h) (names_of before.records.records) (names_of after.records.records) after.lists
-                (name_among (names_of before.records.records) after.records.records known) info.sound (order h).loose (lists_had t.world (names_of after.records.records) after.lists (order h).listed);
-          };
+      file = λ h. (leaves.keeps h).stays diversions_path (λ other named. diversions_others other);
+      spare = λ h. (leaves.keeps h).stays (temporary diversions_path) (λ other named. diversions_spare_others other);
+      info = λ h ready info. leaves_info before after s t leaves order h info;
     }
 
 -- what a session knows, and what a further command can open

@@ -1,5 +1,5 @@
 -- What a run leaves is what a further command can open.
-use Rattle.std.proofs.Common.{◌≡◌, inr, ℕ, Bool, true, List, [], ◌∷◌, Option, Some, None, Result, Ok, Err, IsTrue, Contains, refl, sym, ap, subst, ◌∙◌}
+use Rattle.std.proofs.Common.{◌≡◌, inr, ℕ, Bool, true, List, [], ◌∷◌, Option, Some, Result, Ok, Err, IsTrue, Contains, refl, sym, ap, subst, ◌∙◌}
 use Rattle.std.specs.List.{AllByRecursion}
 use Rattle.texts.specs.PackageNames.{is_package_name}
 use Rattle.host_core.specs.World.{World}
@@ -9,16 +9,20 @@ use Rattle.administration.specs.Places.{diversions_path, info_path, temporary}
 use Rattle.administration.proofs.WholeFiles.{no_directory_at}
 use Rattle.cleanup_stack.specs.Place.{Place}
 use Rattle.cleanup_stack.specs.Transcripts.{Ended, Committed, Unwound}
+use Rattle.displaced_packages.specs.Losing.{losing_beside}
 use Rattle.diversions.specs.declared.entry.Diversion.{Diversion}
 use Rattle.diversions.specs.Lines.{HasEntries}
-use Rattle.file_lists.specs.Info.{AreSound}
+use Rattle.file_lists.specs.Info.{AreLoose, AreSound}
+use Rattle.file_lists.specs.Lists.{HasLists}
 use Rattle.file_lists.specs.declared.paths.PackageList.{PackageList}
 use Rattle.file_works.specs.declared.work.Work.{Work}
 use Rattle.opening.specs.Parts.{names_of}
 use Rattle.package_tree.specs.declared.package.Package.{Package}
 use Rattle.package_tree.specs.declared.fault.TreeFault.{TreeFault}
 use Rattle.stack_run.specs.Ended.{ended_as}
+use Rattle.stack_run.specs.declared.unwinding.Unwinding.{Unwinding}
 use Rattle.status_db.proofs.Ordered.{same_standing, standing_same}
+use Rattle.status_db.specs.Recorded.{Recorded}
 use Rattle.status_db.specs.Records.{AreStanding, record_in}
 use Rattle.status_db.specs.Words.{is_not_installed}
 use Rattle.status_db.specs.declared.record.Record.{Record}
@@ -34,15 +38,20 @@ use Rattle.unpack_rows.specs.ForwardRows.{records_of}
 use Rattle.unpack_relations.specs.declared.checking.Checked.{Checked}
 use Rattle.unpack_relations.specs.declared.checking.Checked.TheVariants.{Planned as Unpacks, Refused}
 use Rattle.unpack_relations.specs.declared.beside.Beside.{Beside}
+use Rattle.unwind_stack.specs.declared.rows.Called.{Called}
 use Rattle.dpkg_session.specs.declared.report.Candidate.{Candidate}
 use Rattle.unit_reports.specs.declared.report.Unit.{Unit as AUnit}
 use Rattle.unit_reports.specs.Held.{Held, places_of}
 use Rattle.dpkg_session.specs.History.{Stands}
 use Rattle.dpkg_session.specs.Run.{IsRun}
-use Rattle.dpkg_session.specs.Units.{IsUnitBy, IsUnitOf, IsUnpacked, given_by, yielding}
+use Rattle.dpkg_session.specs.Units.{HasUnpackedBeside, IsUnitBy, IsUnitOf, IsUnpacked, given_by, held_with, yielding}
 use Rattle.dpkg_session.proofs.Beside.{diverted_run, diverted_spare_run, entries_run}
 use Rattle.dpkg_session.proofs.Certain.{lists_had}
+use Rattle.dpkg_session.proofs.Displaced.{behind_leaves}
+use Rattle.dpkg_session.proofs.Keeping.{KeepsUnnamed}
+use Rattle.dpkg_session.proofs.Known.{IsOneOf, all_named, name_among, named_standing}
 use Rattle.dpkg_session.proofs.Runs.{falls_run}
+use Rattle.dpkg_session.proofs.Sound.{sound_kept, text_kept}
 
 -- what is in `info` has no fault, and no record is of a package that is gone
 pub record HasInfo (h : Held) (w : World) : Type 0 where
@@ -86,34 +95,57 @@ module _ (j : Job) (g : Ground) (p : Planned) (planned : IsPlanned j p) (same : 
 
 -- a unit
 
-unpacked_info : (p : Package) (beside : Beside) (before after : Held) (u : AUnit) (s t : State) → IsUnpacked p beside before after u s t → IsTrue t.honest → HasInfo before s.world → HasInfo after t.world
-unpacked_info p beside before after u s t is h info =
-    let g = ground_of (given_by p before is.unpacked.others (yielding beside)) (places_of before) in
-    let out = is.unpacked.unpacked.carried_out in
-    let plan = is.unpacked.unpacked.plan in
-    let planned = is.unpacked.unpacked.plan_for.planned in
-    let recorded = is.unpacked.have_rows.apart.recorded in
-    let ended = ended_as is.unwinding in
+unpacked_info : (p : Package) (beside : Beside) (before : Held) (unwinding : Option Unwinding) (records : Recorded) (lists : List PackageList) (s t : State) (told now : List Called) → HasUnpackedBeside p beside before (places_of before) unwinding records lists s t told now
+    → IsTrue t.honest → IsInOrder records lists t.world → HasInfo before s.world → HasInfo (held_with before records lists) t.world
+unpacked_info p beside before unwinding records lists s t told now is h order info =
+    let g = ground_of (given_by p before is.others (yielding beside)) (places_of before) in
+    let out = is.unpacked.carried_out in
+    let plan = is.unpacked.plan in
+    let planned = is.unpacked.plan_for.planned in
+    let recorded = is.have_rows.apart.recorded in
+    let ended = ended_as unwinding in
     let honest = out.since.honest h in
-    let order = is.order h in
     let at = out.ran.rows_end in
     let named = own_named _ g plan planned refl info.standing recorded in
     let mid_known = subst (λ (rs : List Record). AllByRecursion (IsKnown (record_names g.records) (package_name g plan)) rs) (sym at.records) (rows_end _ g plan planned refl info.standing recorded (last_place g plan ended)) in
     let known = subst (λ (rs : List Record). AllByRecursion (IsKnown (record_names g.records) (package_name g plan)) rs) (sym out.records) (end_known _ g plan planned refl info.standing recorded ended out.mid.works out.mid.lists out.mid.database.records mid_known) in
     record {
       text = text_left g plan named planned.works_are.named planned.lists_are.spares planned.names_are.elsewhere ended out.mid s.world out.ran.begun out.last (out.ran.begins_so honest) at honest t.world (out.leaves h) info.text;
-      standing = known_standing (record_names g.records) (package_name g plan) after.records.records known;
+      standing = known_standing (record_names g.records) (package_name g plan) records.records known;
       sound = sound_left g plan named planned.works_are.named planned.lists_are.spares planned.names_are.elsewhere ended out.mid s.world out.ran.begun out.last (out.ran.begins_so honest) at honest t.world (out.leaves h)
-          (record_names g.records) (record_names after.records.records) (found_among _ g plan planned refl info.standing recorded)
-          (known_name (record_names g.records) (package_name g plan) after.records.records known) info.sound order.loose after.lists (lists_had t.world (record_names after.records.records) after.lists order.listed);
+          (record_names g.records) (record_names records.records) (found_among _ g plan planned refl info.standing recorded)
+          (known_name (record_names g.records) (package_name g plan) records.records known) info.sound order.loose lists (lists_had t.world (record_names records.records) lists order.listed);
     }
+
+-- what packages leave that aren't unpacked
+
+pub info_left : (before after : Held) (old new : World) → KeepsUnnamed old new
+    → (AllByRecursion (IsOneOf (names_of before.records.records)) before.records.records → AllByRecursion (IsOneOf (names_of before.records.records)) after.records.records)
+    → AreLoose new → ∥ HasLists new (names_of after.records.records) after.lists ∥₁ → HasInfo before old → HasInfo after new
+info_left before after old new keeps named loose listed info =
+    let known = named (all_named before.records.records info.standing) in
+    record {
+      text = text_kept old new keeps info.text;
+      standing = named_standing (names_of before.records.records) after.records.records known;
+      sound = sound_kept old new keeps (names_of before.records.records) (names_of after.records.records) after.lists
+          (name_among (names_of before.records.records) after.records.records known) info.sound loose (lists_had new (names_of after.records.records) after.lists listed);
+    }
+
+whole_info : (p : Package) (beside : Beside) (before after : Held) (u : AUnit) (s t : State) → IsUnpacked p beside before after u s t → IsTrue t.honest → HasInfo before s.world → HasInfo after t.world
+whole_info p beside before after u s t is h info =
+    let whole = is.unpacked in
+    let mid = held_with before whole.records whole.lists in
+    let leaves = behind_leaves (names_of whole.records.records) is.unwinding p.name p.version (losing_beside before.lists beside) beside.conflicting is.displaced is.failed mid after whole.m t whole.between u.calls.items whole.behind in
+    let honest = leaves.falls h in
+    info_left mid after whole.m.world t.world (leaves.keeps h) leaves.named (is.order h).loose (is.order h).listed
+    (unpacked_info p beside before is.unwinding whole.records whole.lists s whole.m [] whole.between whole.unpacked honest (whole.ready honest) info)
 
 same_info : (before after : Held) (v w : World) → after ≡ before → w ≡ v → HasInfo before v → HasInfo after w
 same_info before after v w held world info = subst (λ (h : Held). HasInfo h w) (sym held) (subst (HasInfo before) (sym world) info)
 
 info_by : (p : Package) (decision : Checked) (before after : Held) (u : AUnit) (s t : State) → IsUnitBy p decision before after u s t → IsTrue t.honest → HasInfo before s.world → HasInfo after t.world
 info_by p (Refused rule) before after u s t is h info = same_info before after s.world t.world is.held (is.world h) info
-info_by p (Unpacks beside) before after u s t is h info = unpacked_info p beside before after u s t is h info
+info_by p (Unpacks beside) before after u s t is h info = whole_info p beside before after u s t is h info
 
 info_unit : (auto : Bool) (label : List ℕ) (tree : Result Package TreeFault) (before after : Held) (u : AUnit) (s t : State) → IsUnitOf auto label tree before after u s t → IsTrue t.honest → HasInfo before s.world → HasInfo after t.world
 info_unit auto label (Err fault) before after u s t is h info = same_info before after s.world t.world is.held (is.world h) info

@@ -4,6 +4,7 @@ use Rattle.std.specs.List.{AllByRecursion, list_any}
 use Rattle.std.specs.Str.{bytes_eq}
 use Rattle.std.proofs.lemmas.Bool.{and_parts, false≢true, true≢false}
 use Rattle.std.proofs.lemmas.Slice.Eq.{bytes_eq-Decides}
+use Rattle.texts.specs.PackageNames.{is_package_name}
 use Rattle.host_core.specs.Paths.{Path, has_reserved_suffix, has_room, is_below_administration, is_own, is_path_text, is_ship_text}
 use Rattle.host_core.specs.World.{World, SameOn}
 use Rattle.host_core.specs.declared.node.Access.{Access}
@@ -62,6 +63,27 @@ keeps_same name old new same = record { stays = λ q others. same q others.insid
 
 pub keeps_own : (name : Path) (old new : World) → SameOn is_own old new → KeepsOthers name old new
 keeps_own name old new same = keeps_same name old new (λ q inside. same q inside.own)
+
+-- none of a package's
+abbrev pub IsUnnamed : Path → Type 0
+IsUnnamed q = (name : Path) → is_package_name name ≡ true → IsOthers name q
+
+-- whatever the packages are, such a path stays, and no link comes anywhere
+pub record KeepsUnnamed (old new : World) : Type 0 where
+  pub stays : (q : Path) → IsUnnamed q → new q ≡ old q
+  pub links : (q : Path) → IsInside q → IsLink (new q) → IsLink (old q)
+
+pub unnamed_of : (name : Path) (old new : World) → is_package_name name ≡ true → KeepsOthers name old new → KeepsUnnamed old new
+unnamed_of name old new named keeps = record { stays = λ q unnamed. keeps.stays q (unnamed name named); links = keeps.links }
+
+pub unnamed_here : (w : World) → KeepsUnnamed w w
+unnamed_here w = record { stays = λ q unnamed. refl; links = λ q inside link. link }
+
+pub unnamed_then : (v w x : World) → KeepsUnnamed v w → KeepsUnnamed w x → KeepsUnnamed v x
+unnamed_then v w x first second = record {
+  stays = λ q unnamed. second.stays q unnamed ∙ first.stays q unnamed;
+  links = λ q inside link. first.links q inside (second.links q inside link);
+}
 
 -- a node is a link, or it is none
 

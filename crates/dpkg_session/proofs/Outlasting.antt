@@ -25,7 +25,7 @@ run_loses given asked before old new same settled since =
     loses_like (IsAmidRun asked.auto_deconfigure asked.candidates.items before old) old new settled (subst (λ (u : Unpack). Since (IsAmidRun u.auto_deconfigure u.candidates.items before old) old new) same since)
 
 -- all is on the disk behind what was answered, where it was before
-answered_disk : (s t : State) → IsAnswered s t → IsOnDisk s.events → IsOnDisk t.events
+pub answered_disk : (s t : State) → IsAnswered s t → IsOnDisk s.events → IsOnDisk t.events
 answered_disk s t (inl now) disk = now
 answered_disk s t (inr reads) disk =
     (disk.0, disk.1 ++ reads.added, reads.events ∙ ap (λ l. l ++ reads.added) disk.2 ∙ append_assoc disk.0 (Did Barrier ∷ disk.1) reads.added, faults_then disk.1 reads.added disk.3 reads.failed)

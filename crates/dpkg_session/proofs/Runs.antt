@@ -3,8 +3,8 @@ use Rattle.std.specs.Prelude.{MatchBool, IfSome, length, take, drop}
 use Rattle.std.proofs.Common.{◌≡◌, ◌⊎◌, inl, inr, ℕ, Bool, true, false, List, [], ◌∷◌, ◌++◌, Option, Some, None, Result, Ok, Err, IsTrue, refl, sym, ap, subst, ◌∙◌, ◌+◌, arith}
 use Rattle.std.proofs.Math.Seq.{take-append_seam, drop-append_seam}
 use Rattle.std.proofs.lemmas.Bool.{true≢false}
-use Rattle.host_core.specs.Paths.{Path}
 use Rattle.host_core.specs.Host.{State, Counts, Needs, Since, faults}
+use Rattle.host_core.specs.declared.call.Call.{Call}
 use Rattle.host_core.specs.declared.fault.HostFault.{HostFault}
 use Rattle.host_core.specs.declared.fault.HostFault.TheVariants as host
 use Rattle.package_tree.specs.declared.package.Package.{Package}
@@ -12,7 +12,6 @@ use Rattle.package_tree.specs.declared.fault.TreeFault.{TreeFault}
 use Rattle.stack_run.specs.declared.unwinding.Unwinding.{Unwinding}
 use Rattle.status_db.specs.declared.record.Record.{Record}
 use Rattle.unpack_engine.specs.Order.{IsInOrder}
-use Rattle.unpack_engine.specs.Units.{IsTouched}
 use Rattle.unpack_relations.specs.declared.beside.Beside.{Beside}
 use Rattle.unpack_relations.specs.declared.checking.Checked.{Checked}
 use Rattle.unpack_relations.specs.declared.checking.Checked.TheVariants as checked
@@ -25,11 +24,11 @@ use Rattle.dpkg_session.specs.declared.report.Candidate.{Candidate}
 use Rattle.unit_reports.specs.declared.report.Reply.{Reply}
 use Rattle.unit_reports.specs.declared.report.Reply.TheVariants.{Done, Refused, Failed, Broken}
 use Rattle.unit_reports.specs.declared.report.Unit.{Unit as AUnit}
-use Rattle.unit_reports.specs.Held.{Held, places_of}
+use Rattle.unit_reports.specs.Held.{Held}
 use Rattle.dpkg_session.specs.Run.{HasRun, IsAmidNext, IsBrokenNext, IsRun, RunsUnit}
 use Rattle.unit_reports.specs.Units.{CountsReply, IsRefused, IsRefusedUnit, IsBroken, IsBrokenBy, breakage_of}
 use Rattle.dpkg_session.specs.Refusals.{IsDecisionFor}
-use Rattle.dpkg_session.specs.Units.{AnswersUnpack, HasUnpackedBeside, IsPackageUnit, IsUnit, IsUnitBy, IsUnitOf, IsUnpacked, reply_to}
+use Rattle.dpkg_session.specs.Units.{AnswersBoth, AnswersUnpack, AreOfBoth, HasUnpackedWhole, IsPackageUnit, IsTouchedBeside, IsUnit, IsUnitBy, IsUnitOf, IsUnpacked, reply_to}
 
 pub run_more : (auto : Bool) (cs : List Candidate) (us : List AUnit) (c : Candidate) (u : AUnit) (before mid after : Held) (s m t : State) → IsRun auto cs us before mid s m → RunsUnit auto c mid after u m t → IsRun auto (cs ++ c ∷ []) (us ++ u ∷ []) before after s t
 run_more auto [] [] c u before mid after s m t so_far unit =
@@ -134,20 +133,22 @@ broken_or breakage reply so (inl broken) = inl (broken_by breakage reply broken)
 broken_or breakage reply so (inr holds) = inr (so holds)
 
 -- the unit of a package that was unpacked, as it tells it
-pub is_unpacked : (p : Package) (beside : Beside) (before after : Held) (u : AUnit) (unwinding : Option Unwinding) (names : List (List ℕ)) (places : List Path) (s t : State) (name : List ℕ) (told now : List Called) → name ≡ p.name → places ≡ places_of before → told ≡ [] → u.calls.items ≡ now
-    → HasUnpackedBeside p beside before places unwinding after.records after.lists s t told now → Ready after t → after.entries ≡ before.entries
-    → IsTouched p.name before.records.records after.records.records names → IsBrokenBy NoMemory u.reply ⊎ AnswersUnpack name after.records.records unwinding names u → IsBroken u.reply ⊎ IsUnpacked p beside before after u s t
-is_unpacked p beside before after u unwinding names places s t name told now named are none same unpacked order entries changed either =
+pub is_unpacked : (p : Package) (beside : Beside) (before after : Held) (u : AUnit) (unwinding : Option Unwinding) (touched displaced : List (List ℕ)) (failed : Option Call) (s t : State) (name : List ℕ) (told now : List Called) → name ≡ p.name → told ≡ [] → u.calls.items ≡ now
+    → HasUnpackedWhole p beside before unwinding displaced failed after s t told now → Ready after t → after.entries ≡ before.entries
+    → ((names : List (List ℕ)) → AreOfBoth touched displaced names → IsTouchedBeside p.name displaced before.records.records after.records.records names)
+    → IsBrokenBy NoMemory u.reply ⊎ AnswersBoth name after.records.records unwinding failed touched displaced u → IsBroken u.reply ⊎ IsUnpacked p beside before after u s t
+is_unpacked p beside before after u unwinding touched displaced failed s t name told now named none same unpacked order entries changed either =
     broken_or NoMemory u.reply (λ answers. record {
       unwinding = unwinding;
-      names = names;
-      unpacked = subst (λ l. HasUnpackedBeside p beside before (places_of before) unwinding after.records after.lists s t [] l) (sym same)
-          (subst (λ l. HasUnpackedBeside p beside before (places_of before) unwinding after.records after.lists s t l now) none
-          (subst (λ ps. HasUnpackedBeside p beside before ps unwinding after.records after.lists s t told now) are unpacked));
+      displaced = displaced;
+      failed = failed;
+      names = answers.names;
+      unpacked = subst (λ l. HasUnpackedWhole p beside before unwinding displaced failed after s t [] l) (sym same)
+          (subst (λ l. HasUnpackedWhole p beside before unwinding displaced failed after s t l now) none unpacked);
       order = order;
       entries = entries;
-      changed = changed;
-      answers = subst (λ n. AnswersUnpack n after.records.records unwinding names u) named answers;
+      changed = changed answers.names answers.both;
+      answers = subst (λ n. AnswersUnpack n after.records.records unwinding failed answers.names u) named answers.answers;
     }) either
 
 -- a unit that wasn't broken off isn't one that is closed
@@ -155,22 +156,24 @@ pub by_no_memory : {Q : Type 0} (reply : Reply) → (Q → IsBrokenBy Closed rep
 by_no_memory reply so (inl broken) closed = (let e : Broken NoMemory ≡ Broken Closed = sym broken ∙ closed in cc)
 by_no_memory reply so (inr holds) closed = so holds closed
 
-reply_not_closed : (name : List ℕ) (unwinding : Option Unwinding) → IsBrokenBy Closed (reply_to name unwinding) → ⊥
-reply_not_closed name None closed = cc
-reply_not_closed name (Some u) closed = cc
+reply_not_closed : (name : List ℕ) (unwinding : Option Unwinding) (failed : Option Call) → IsBrokenBy Closed (reply_to name unwinding failed) → ⊥
+reply_not_closed name None None closed = cc
+reply_not_closed name None (Some call) closed = cc
+reply_not_closed name (Some u) failed closed = cc
 
-pub answer_not_closed : (name : List ℕ) (records : List Record) (unwinding : Option Unwinding) (names : List (List ℕ)) (u : AUnit) → IsBrokenBy NoMemory u.reply ⊎ AnswersUnpack name records unwinding names u → IsBrokenBy Closed u.reply → ⊥
-answer_not_closed name records unwinding names u either = by_no_memory u.reply (λ answers closed. reply_not_closed name unwinding (sym answers.replied ∙ closed)) either
+pub answer_not_closed : (name : List ℕ) (records : List Record) (unwinding : Option Unwinding) (failed : Option Call) (touched displaced : List (List ℕ)) (u : AUnit) → IsBrokenBy NoMemory u.reply ⊎ AnswersBoth name records unwinding failed touched displaced u → IsBrokenBy Closed u.reply → ⊥
+answer_not_closed name records unwinding failed touched displaced u either = by_no_memory u.reply (λ answers closed. reply_not_closed name unwinding failed (sym answers.answers.replied ∙ closed)) either
 
 -- the faults of a unit
 
-counts_reply : (name : List ℕ) (unwinding : Option Unwinding) (a b : State) → faults b ≡ faults a → CountsReply a b (reply_to name unwinding)
-counts_reply name None a b same = same
-counts_reply name (Some u) a b same = same
+counts_reply : (name : List ℕ) (unwinding : Option Unwinding) (failed : Option Call) (a b : State) → faults b ≡ faults a → CountsReply a b (reply_to name unwinding failed)
+counts_reply name None None a b same = same
+counts_reply name None (Some call) a b same = same
+counts_reply name (Some u) failed a b same = same
 
-pub counts_answered : (name : List ℕ) (records : List Record) (unwinding : Option Unwinding) (names : List (List ℕ)) (u : AUnit) (a b : State) → faults b ≡ faults a → IsBrokenBy NoMemory u.reply ⊎ AnswersUnpack name records unwinding names u → CountsReply a b u.reply
-counts_answered name records unwinding names u a b same (inl broken) = subst (CountsReply a b) (sym broken) same
-counts_answered name records unwinding names u a b same (inr answers) = subst (CountsReply a b) (sym answers.replied) (counts_reply name unwinding a b same)
+pub counts_answered : (name : List ℕ) (records : List Record) (unwinding : Option Unwinding) (failed : Option Call) (touched displaced : List (List ℕ)) (u : AUnit) (a b : State) → faults b ≡ faults a → IsBrokenBy NoMemory u.reply ⊎ AnswersBoth name records unwinding failed touched displaced u → CountsReply a b u.reply
+counts_answered name records unwinding failed touched displaced u a b same (inl broken) = subst (CountsReply a b) (sym broken) same
+counts_answered name records unwinding failed touched displaced u a b same (inr answers) = subst (CountsReply a b) (sym answers.answers.replied) (counts_reply name unwinding failed a b same)
 
 counts_fault : (T : Type 0) (fault : HostFault) (a b : State) → Counts {T = T} a b (Err fault) → CountsReply a b (Broken (breakage_of fault))
 counts_fault T host.Device a b counts = counts

@@ -19,7 +19,7 @@ use Rattle.control_members.proofs.MemberNames.{signs_of, stored_is_path, stored_
 use Rattle.file_lists.specs.Info.{AreLoose, AreSound, entry_path, is_foreign}
 use Rattle.file_lists.specs.Lists.{HasLists, IsReadable}
 use Rattle.file_lists.specs.declared.paths.PackageList.{PackageList}
-use Rattle.dpkg_session.proofs.Keeping.{IsOthers, KeepsOthers}
+use Rattle.dpkg_session.proofs.Keeping.{IsOthers, KeepsUnnamed}
 
 -- a name that no opening refuses: text that makes a path, without a colon
 record IsTame (entry : Path) : Type 0 where
@@ -90,24 +90,24 @@ module _ (name : Path) (named : is_package_name name ≡ true) where
     members = λ member is. strange_apart entry (name ++ 46 ∷ member) strange (member_tame member is);
   }
 
-  module _ (old new : World) (keeps : KeepsOthers name old new) where
-    -- each name in it is text still
-    pub text_kept : (HasBadName old info_path → ⊥) → HasBadName new info_path → ⊥
-    text_kept text bad = text (bad.0, bad.1, bad.2, subst IsSome (keeps.stays (entry_path bad.0) (strange_others bad.0 (inl bad.2))) bad.3)
+module _ (old new : World) (keeps : KeepsUnnamed old new) where
+  -- each name in it is text still
+  pub text_kept : (HasBadName old info_path → ⊥) → HasBadName new info_path → ⊥
+  text_kept text bad = text (bad.0, bad.1, bad.2, subst IsSome (keeps.stays (entry_path bad.0) (λ name named. strange_others name named bad.0 (inl bad.2))) bad.3)
 
-    colon_kept : (before : List (List ℕ)) (entry : Path) → has_slash entry ≡ false → AreSound old before → IsSome (new (entry_path entry)) → (b : Bool) → is_foreign entry ≡ b → b ≡ false
-    colon_kept before entry whole sound some false e = refl
-    colon_kept before entry whole sound some true e =
-        absurd (true≢false (sym e ∙ (sound entry whole).colon (subst IsSome (keeps.stays (entry_path entry) (strange_others entry (inr e))) some)))
+  colon_kept : (before : List (List ℕ)) (entry : Path) → has_slash entry ≡ false → AreSound old before → IsSome (new (entry_path entry)) → (b : Bool) → is_foreign entry ≡ b → b ≡ false
+  colon_kept before entry whole sound some false e = refl
+  colon_kept before entry whole sound some true e =
+      absurd (true≢false (sym e ∙ (sound entry whole).colon (subst IsSome (keeps.stays (entry_path entry) (λ name named. strange_others name named entry (inr e))) some)))
 
-    -- each entry is sound, for packages of before
-    pub sound_kept : (before after : List (List ℕ)) (lists : List PackageList) → ((q : List ℕ) → Contains after q → Contains before q) → AreSound old before → AreLoose new → HasLists new after lists → AreSound new after
-    sound_kept before after lists known sound loose listed entry whole = record {
-      colon = λ some. colon_kept before entry whole sound some (is_foreign entry) refl;
-      loose = loose entry whole;
-      list = λ of. subst (λ (x : Path). IsReadable (new (entry_path x))) (sym of.2) (listed.readable of.0 of.1);
-      script = λ of link. (sound entry whole).script (of.0, of.1, known of.1 of.2, of.3) (keeps.links (entry_path entry) (record { own = refl; below = refl; unnoted = refl }) link);
-    }
+  -- each entry is sound, for packages of before
+  pub sound_kept : (before after : List (List ℕ)) (lists : List PackageList) → ((q : List ℕ) → Contains after q → Contains before q) → AreSound old before → AreLoose new → HasLists new after lists → AreSound new after
+  sound_kept before after lists known sound loose listed entry whole = record {
+    colon = λ some. colon_kept before entry whole sound some (is_foreign entry) refl;
+    loose = loose entry whole;
+    list = λ of. subst (λ (x : Path). IsReadable (new (entry_path x))) (sym of.2) (listed.readable of.0 of.1);
+    script = λ of link. (sound entry whole).script (of.0, of.1, known of.1 of.2, of.3) (keeps.links (entry_path entry) (record { own = refl; below = refl; unnoted = refl }) link);
+  }
 
 -- the file of the diversions, and its temporary name, are none of a package's
 

@@ -1,26 +1,31 @@
 -- The calls that units tell are those of the host's own list.
-use Rattle.std.proofs.Common.{◌≡◌, inl, inr, Bool, List, [], ◌∷◌, ◌++◌, Option, Some, None, Result, Ok, Err, append_assoc, ap, refl, subst, sym, ◌∙◌}
+use Rattle.std.proofs.Common.{◌≡◌, inl, inr, Bool, List, [], ◌∷◌, ◌++◌, Option, None, Result, Ok, Err, append_assoc, ap, refl, subst, sym, ◌∙◌}
 use Rattle.std.proofs.lemmas.List.{append-nil}
-use Rattle.cleanup_stack.proofs.Tellings.{begun_calls}
+use Rattle.cleanup_stack.proofs.Tellings.{begun_calls, made_calls}
+use Rattle.displaced_packages.proofs.Calling.{displacing_tells}
+use Rattle.file_lists.specs.declared.paths.PackageList.{PackageList}
 use Rattle.host_core.specs.Events.{calls_of as calls_in}
 use Rattle.host_core.specs.Host.{State, Silent, calls}
+use Rattle.host_core.specs.Paths.{Path}
 use Rattle.host_core.specs.Scripts.{calls_of-scripts}
 use Rattle.package_tree.specs.declared.package.Package.{Package}
 use Rattle.package_tree.specs.declared.fault.TreeFault.{TreeFault}
+use Rattle.stack_run.specs.declared.unwinding.Unwinding.{Unwinding}
+use Rattle.status_db.specs.Recorded.{Recorded}
 use Rattle.unpack_engine.specs.Units.{Given, HasCalled, HasCalledRows}
 use Rattle.cleanup_stack.specs.Transcripts.{MayRun}
 use Rattle.unwind_stack.specs.declared.rows.Row.{Row}
 use Rattle.unwind_stack.specs.Transcript.{TellsAll}
 use Rattle.unwind_stack.proofs.Makes.{tells_none, tells_then}
 use Rattle.unwind_stack.specs.declared.rows.Called.{Called}
-use Rattle.unit_reports.specs.Held.{Held}
+use Rattle.unit_reports.specs.Held.{Held, places_of}
 use Rattle.unpack_relations.specs.declared.beside.Beside.{Beside}
 use Rattle.unpack_relations.specs.declared.checking.Checked.{Checked}
 use Rattle.unpack_relations.specs.declared.checking.Checked.TheVariants.{Planned, Refused}
 use Rattle.unit_reports.specs.declared.report.Unit.{Unit as AUnit}
 use Rattle.unit_reports.specs.Units.{HasNoCalls, calls_of}
 use Rattle.dpkg_session.specs.Refusals.{IsDecisionFor}
-use Rattle.dpkg_session.specs.Units.{HasCalledBeside, HasCalledBy, HasCalledOf, HasCalledPackage, given_by, yielding}
+use Rattle.dpkg_session.specs.Units.{HasCalledBeside, HasCalledBy, HasCalledOf, HasCalledPackage, HasCalledWhole, HasUnpackedBeside, given_by, yielding}
 
 -- nothing was done
 pub silent_here : (s : State) → Silent s s
@@ -67,9 +72,24 @@ beside_tells : (p : Package) (beside : Beside) (before : Held) (s t : State) (to
 beside_tells p beside before s t told now (HasCalledBeside.looking silent same) = tells_none s t told now (silent_calls s t silent) same
 beside_tells p beside before s t told now (HasCalledBeside.calling others rows called) = has_called_tells (given_by p before others (yielding beside)) s t told now called
 
+-- all calls of an unpack that was carried out
+unpacked_tells : (p : Package) (beside : Beside) (before : Held) (places : List Path) (unwinding : Option Unwinding) (after : Recorded) (lists : List PackageList) (s t : State) (told now : List Called) → HasUnpackedBeside p beside before places unwinding after lists s t told now → TellsAll s t told now
+unpacked_tells p beside before places unwinding after lists s t told now is =
+    let out = is.unpacked.carried_out in
+    let made = made_calls _ out.ran.begun out.last told now out.ran.run in
+    tells_then s out.last t told now now
+    (tells_then s out.ran.begun out.last told told now (tells_none s out.ran.begun told told (silent_calls s out.ran.begun out.ran.quiet) refl) (made.0, made.1, made.2.1))
+    (tells_none out.last t now now (silent_calls out.last t out.since) refl)
+
+whole_tells : (p : Package) (beside : Beside) (before : Held) (s t : State) (told now : List Called) → HasCalledWhole p beside before s t told now → TellsAll s t told now
+whole_tells p beside before s t told now (inl called) = beside_tells p beside before s t told now called
+whole_tells p beside before s t told now (inr is) =
+    tells_then s is.m t told is.between now (unpacked_tells p beside before (places_of before) None is.records is.lists s is.m told is.between is.unpacked)
+    (displacing_tells p.name p.version before.entries _ beside.conflicting _ is.m t is.between now is.called)
+
 called_by_tells : (p : Package) (decision : Checked) (before : Held) (u : AUnit) (s t : State) → HasCalledBy p decision before u s t → TellsAll s t [] u.calls.items
 called_by_tells p (Refused rule) before u s t none = no_calls_tell u s t none
-called_by_tells p (Planned beside) before u s t called = beside_tells p beside before s t [] u.calls.items called
+called_by_tells p (Planned beside) before u s t called = whole_tells p beside before s t [] u.calls.items called
 
 package_tells : (auto : Bool) (p : Package) (before : Held) (u : AUnit) (s t : State) → HasCalledPackage auto p before u s t → TellsAll s t [] u.calls.items
 package_tells auto p before u s t (inl none) = no_calls_tell u s t none
@@ -81,8 +101,8 @@ called_tells auto (Ok p) before u s t called = package_tells auto p before u s t
 
 -- by what is refused, and what isn't
 
-pub called_nothing : (p : Package) (beside : Beside) (before : Held) (s : State) (told : List Called) → told ≡ [] → HasCalledBeside p beside before s s [] told
-called_nothing p beside before s told none = HasCalledBeside.looking (silent_here s) none
+pub called_nothing : (p : Package) (beside : Beside) (before : Held) (s : State) (told : List Called) → told ≡ [] → HasCalledWhole p beside before s s [] told
+called_nothing p beside before s told none = inl (HasCalledBeside.looking (silent_here s) none)
 
 pub no_calls : (u : AUnit) (s : State) → u.calls.items ≡ [] → HasNoCalls u s s
 no_calls u s none = record { silent = silent_here s; told = none }
@@ -91,15 +111,15 @@ pub not_begun_package : (auto : Bool) (p : Package) (before : Held) (u : AUnit) 
 not_begun_package auto p before u s none = inl (no_calls u s none)
 
 pub called_decided : (auto : Bool) (p : Package) (beside : Beside) (decision : Checked) (before : Held) (u : AUnit) (s t : State) → IsDecisionFor p auto before decision → decision ≡ Planned beside
-    → HasCalledBeside p beside before s t [] u.calls.items → HasCalledPackage auto p before u s t
+    → HasCalledWhole p beside before s t [] u.calls.items → HasCalledPackage auto p before u s t
 called_decided auto p beside decision before u s t decided is called = inr (decision, decided, subst (λ d. HasCalledBy p d before u s t) (sym is) called)
 
 pub called_read : (auto : Bool) (p : Package) (tree : Result Package TreeFault) (before : Held) (u : AUnit) (s t : State) → tree ≡ Ok p → HasCalledPackage auto p before u s t → HasCalledOf auto tree before u s t
 called_read auto p tree before u s t is called = subst (λ r. HasCalledOf auto r before u s t) (sym is) called
 
 -- from the list that a unit began with, and as it tells it
-pub called_as : (p : Package) (beside : Beside) (before : Held) (s t : State) (old now told : List Called) → old ≡ [] → told ≡ now → HasCalledBeside p beside before s t old now → HasCalledBeside p beside before s t [] told
-called_as p beside before s t old now told empty is called = subst (λ l. HasCalledBeside p beside before s t l told) empty (subst (HasCalledBeside p beside before s t old) (sym is) called)
+pub called_as : (p : Package) (beside : Beside) (before : Held) (s t : State) (old now told : List Called) → old ≡ [] → told ≡ now → HasCalledWhole p beside before s t old now → HasCalledWhole p beside before s t [] told
+called_as p beside before s t old now told empty is called = subst (λ l. HasCalledWhole p beside before s t l told) empty (subst (HasCalledWhole p beside before s t old) (sym is) called)
 
 -- a unit that wasn't begun
 pub not_begun : (auto : Bool) (tree : Result Package TreeFault) (before : Held) (u : AUnit) (s : State) → u.calls.items ≡ [] → HasCalledOf auto tree before u s s

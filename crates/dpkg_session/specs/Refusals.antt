@@ -1,5 +1,5 @@
 -- The refusals of an unpack, in the order in which they are looked for.
-use Rattle.std.specs.Prelude.{◌≡◌, not, ℕ, Bool, List, [], ◌∷◌, Option, Some, None, cond}
+use Rattle.std.specs.Prelude.{◌≡◌, not, ℕ, Bool, List, Option, Some, None, cond}
 use Rattle.std.specs.List.{find}
 use Rattle.std.specs.Cmp.Lexicographic.{slice_cmp}
 use Rattle.std.specs.Ordering.{nat_cmp, is_lt}
@@ -10,13 +10,10 @@ use Rattle.diversions.specs.declared.entry.Diversion.{Diversion}
 use Rattle.package_tree.specs.declared.package.Package.{Package}
 use Rattle.status_db.specs.declared.record.Record.{Record}
 use Rattle.unit_reports.specs.Held.{Held}
-use Rattle.unit_reports.specs.declared.refusal.Rule.TheVariants.{NotYet, ConffileDiverted}
-use Rattle.relation_fields.specs.declared.relation_field.RelationField.{RelationField}
-use Rattle.relation_fields.specs.declared.relation_field.RelationField.TheVariants.{Conflicts, Replaces}
+use Rattle.unit_reports.specs.declared.refusal.Rule.TheVariants.{ConffileDiverted}
 use Rattle.unpack_relations.specs.Checks.{IsChecked}
-use Rattle.unpack_relations.specs.declared.beside.Beside.{Beside}
 use Rattle.unpack_relations.specs.declared.checking.Checked.{Checked}
-use Rattle.unpack_relations.specs.declared.checking.Checked.TheVariants.{Refused, Planned}
+use Rattle.unpack_relations.specs.declared.checking.Checked.TheVariants.{Refused}
 
 -- the file of a path lies at another path for the package
 abbrev pub is_away : List Diversion → List ℕ → Path → Bool
@@ -36,29 +33,10 @@ first_of (Some a) (Some b) = Some (cond (is_lt (slice_cmp nat_cmp b a)) b a)
 abbrev pub conffile_away : List Diversion → Package → Option Path
 conffile_away entries p = first_of (first_away entries p.name p.conffiles) (first_away entries p.name p.flagged)
 
--- this field where there are such packages, else the other
-abbrev pub where_any : List (List ℕ) → RelationField → Option RelationField → Option RelationField
-where_any [] field other = other
-where_any (name ∷ names) field other = Some field
-
--- other packages aren't removed yet, and no file is taken over from them: the first field by which an unpack would do that
-abbrev pub not_yet : Beside → Option RelationField
-not_yet beside = where_any beside.conflicting Conflicts (where_any beside.replaced Replaces None)
-
-abbrev pub decided_by : Option RelationField → Beside → Checked
-decided_by None beside = Planned beside
-decided_by (Some field) beside = Refused (NotYet field)
-
--- relations refuse it, or else what isn't carried out yet
-abbrev pub decision_by : Checked → Checked
-decision_by (Refused rule) = Refused rule
-decision_by (Planned beside) = decided_by (not_yet beside) beside
-
 -- a conffile is diverted, or else relations to the recorded packages say it (Policy 7.2 to 7.6)
 abbrev pub IsDecisionBy : Option Path → Package → Bool → List Record → Checked → Type 0
 IsDecisionBy (Some path) p auto_deconfigure records decision = decision ≡ Refused (ConffileDiverted path)
-IsDecisionBy None p auto_deconfigure records decision =
-    (checked : Checked) × IsChecked records p auto_deconfigure checked × (decision ≡ decision_by checked)
+IsDecisionBy None p auto_deconfigure records decision = IsChecked records p auto_deconfigure decision
 
 -- the first rule that refuses a package, or what its unpack does to other packages, which are deconfigured only by leave
 abbrev pub IsDecisionOf : Package → Bool → List Record → List Diversion → Checked → Type 0

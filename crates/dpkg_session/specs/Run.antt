@@ -1,5 +1,8 @@
 -- A run of units, one after another.
-use Rattle.std.specs.Prelude.{◌≡◌, ◌⊎◌, Bool, true, List, [], ◌∷◌, ◌++◌, length, take, drop, Option, Some, None, IfSome, Result, Ok, Err}
+use Rattle.std.specs.Prelude.{◌≡◌, ◌⊎◌, Bool, true, IsTrue, List, [], ◌∷◌, ◌++◌, length, take, drop, Option, None, IfSome, Result, Ok, Err}
+use Rattle.displaced_packages.specs.Displacing.{IsAmidDisplacing}
+use Rattle.displaced_packages.specs.Losing.{losing_beside}
+use Rattle.file_lists.specs.declared.paths.PackageList.{PackageList}
 use Rattle.host_core.specs.Events.{Event, scripts_of}
 use Rattle.host_core.specs.Host.{State, AtEachMomentOf}
 use Rattle.host_core.specs.Loss.{IsAnswered}
@@ -7,6 +10,8 @@ use Rattle.host_core.specs.Paths.{Path}
 use Rattle.host_core.specs.World.{World}
 use Rattle.package_tree.specs.declared.fault.TreeFault.{TreeFault}
 use Rattle.package_tree.specs.declared.package.Package.{Package}
+use Rattle.removal_run.specs.Units.{holding_of}
+use Rattle.status_db.specs.Recorded.{Recorded}
 use Rattle.unpack_engine.specs.Units.{IsAmidUnit}
 use Rattle.unit_reports.specs.Held.{Held, places_of}
 use Rattle.unpack_relations.specs.declared.beside.Beside.{Beside}
@@ -14,7 +19,8 @@ use Rattle.unpack_relations.specs.declared.checking.Checked.{Checked}
 use Rattle.unpack_relations.specs.declared.checking.Checked.TheVariants.{Refused, Planned}
 use Rattle.unpack_rows.specs.declared.rows.OtherPackage.{OtherPackage}
 use Rattle.dpkg_session.specs.Refusals.{IsDecisionFor}
-use Rattle.dpkg_session.specs.Units.{HaveRows, IsBrokenOff, IsUnit, given_by, yielding}
+use Rattle.unwind_stack.specs.declared.rows.Called.{Called}
+use Rattle.dpkg_session.specs.Units.{HasUnpackedBeside, HaveRows, IsBrokenOff, IsUnit, given_by, held_with, yielding}
 use Rattle.dpkg_session.specs.declared.report.Candidate.{Candidate}
 use Rattle.unit_reports.specs.declared.report.Unit.{Unit as AUnit}
 
@@ -34,8 +40,25 @@ IsAmidBeside p beside before places old so_far now = IsStill old so_far now
     ⊎ ((others : List OtherPackage) × HaveRows p beside before.records.records old true others
     × IsAmidUnit (given_by p before others (yielding beside)) places old so_far now)
 
+-- The unpack is committed, and packages are displaced behind it.
+pub record IsAmidBehind (p : Package) (beside : Beside) (before : Held) (old : World) (so_far : List Event) (now : World) : Type 0 where
+  pub s : State
+  pub from : s.world ≡ old
+  pub records : Recorded
+  pub lists : List PackageList
+  pub m : State
+  pub honest : IsTrue m.honest
+  pub between : List Called
+  pub unpacked : HasUnpackedBeside p beside before (places_of before) None records lists s m [] between
+  pub front : List Event
+  pub rest : List Event
+  pub split : so_far ≡ front ++ rest
+  pub events : m.events ≡ s.events ++ front
+  pub displacing : IsAmidDisplacing p.name p.version before.entries (losing_beside before.lists beside) beside.conflicting (holding_of (held_with before records lists)) m rest now
+
+-- at each moment of the unpack of a package, and of what is displaced behind it
 abbrev pub IsAmidUnpack : Package → Beside → Held → World → List Event → World → Type 0
-IsAmidUnpack p beside before old so_far now = IsAmidBeside p beside before (places_of before) old so_far now
+IsAmidUnpack p beside before old so_far now = IsAmidBeside p beside before (places_of before) old so_far now ⊎ IsAmidBehind p beside before old so_far now
 
 -- at each moment of the unit of a package: nothing has changed where it is refused
 abbrev pub IsAmidBy : Package → Checked → Held → World → List Event → World → Type 0

@@ -1,19 +1,27 @@
 -- Units of an unpack: what each did, and what it answers.
-use Rattle.std.specs.Prelude.{◌≡◌, ◌⊎◌, ℕ, Bool, IsTrue, List, [], ◌++◌, Option, Some, None, Result, Ok, Err, map}
+use Rattle.std.specs.Prelude.{◌≡◌, ◌⊎◌, ◌↔◌, ℕ, Bool, IsTrue, List, [], ◌++◌, Option, Some, None, Result, Ok, Err, Contains, map}
+use Rattle.displaced_packages.specs.Displacing.{HasCalled as HasCalledDisplacing, HaveBeenDisplaced}
+use Rattle.displaced_packages.specs.Losing.{losing_beside}
+use Rattle.disappearance.specs.declared.losing.Losing.{Losing}
+use Rattle.file_lists.specs.Increasing.{AreIncreasing}
 use Rattle.host_core.specs.Host.{State, Needs, Silent}
 use Rattle.host_core.specs.Paths.{Path}
 use Rattle.host_core.specs.World.{World}
+use Rattle.host_core.specs.declared.call.Call.{Call}
 use Rattle.file_lists.specs.declared.paths.PackageList.{PackageList}
 use Rattle.other_rows.specs.Rows.{AreRowsBeside}
+use Rattle.removal_run.specs.Units.{holding_of}
 use Rattle.package_tree.specs.declared.package.Package.{Package}
 use Rattle.package_tree.specs.declared.fault.TreeFault.{TreeFault}
 use Rattle.stack_run.specs.Ended.{ended_as}
+use Rattle.stack_run.specs.declared.failure.Failure.TheVariants.{OfCall}
 use Rattle.stack_run.specs.declared.unwinding.Unwinding.{Unwinding}
 use Rattle.status_db.specs.Recorded.{Recorded}
+use Rattle.status_db.specs.Records.{record_in}
 use Rattle.status_db.specs.declared.record.Record.{Record}
 use Rattle.unpack_engine.specs.Order.{IsInOrder}
 use Rattle.unpack_engine.specs.Others.{AreOthers}
-use Rattle.unpack_engine.specs.Units.{Given, HasCalled, HasFailedFor, HasUnpacked, IsTouched, given_beside}
+use Rattle.unpack_engine.specs.Units.{Given, HasCalled, HasFailedFor, HasUnpacked, given_beside}
 use Rattle.unpack_relations.specs.declared.beside.Beside.{Beside}
 use Rattle.unpack_relations.specs.declared.checking.Checked.{Checked}
 use Rattle.unpack_relations.specs.declared.checking.Checked.TheVariants as checked
@@ -24,8 +32,10 @@ use Rattle.unit_reports.specs.Units.{HasNoCalls, IsBroken, IsRefused, touched_at
 use Rattle.unit_reports.specs.declared.refusal.Rule.TheVariants.{Tree}
 use Rattle.unit_reports.specs.declared.report.Reply.{Reply}
 use Rattle.unit_reports.specs.declared.report.Reply.TheVariants.{Done, Failed}
+use Rattle.unit_reports.specs.declared.report.Touched.{Touched}
 use Rattle.unit_reports.specs.declared.report.Unit.{Unit as AUnit}
 use Rattle.dpkg_session.specs.Refusals.{IsDecisionFor}
+use Rattle.dpkg_session.specs.declared.displacing.Behind.{Behind}
 use Rattle.dpkg_session.specs.declared.report.Candidate.{Candidate}
 
 -- a package to be unpacked, what is held, the other packages that have rows, and those that let it take paths of theirs
@@ -41,15 +51,38 @@ pub record HaveRows (p : Package) (beside : Beside) (records : List Record) (w :
   pub rows : IsTrue honest → AreRowsBeside p.name p.version records beside w others
   pub apart : AreOthers p.name records others
 
--- the reply to a unit whose rows were unwound for a cause, or succeeded
-abbrev pub reply_to : List ℕ → Option Unwinding → Reply
-reply_to name None = Done
-reply_to name (Some u) = Failed (record { «package» = name; cause = u.failure })
+-- the reply to a unit whose rows were unwound for a cause, or succeeded; then by the first call behind the commit that failed
+abbrev pub reply_to : List ℕ → Option Unwinding → Option Call → Reply
+reply_to name None None = Done
+reply_to name None (Some call) = Failed (record { «package» = name; cause = OfCall call })
+reply_to name (Some u) failed = Failed (record { «package» = name; cause = u.failure })
 
--- how a unit answers whose rows were unwound so, or succeeded, of packages of these names
-pub record AnswersUnpack (name : List ℕ) (records : List Record) (unwinding : Option Unwinding) (names : List (List ℕ)) (u : AUnit) : Type 0 where
-  pub replied : u.reply ≡ reply_to name unwinding
+-- how a unit answers whose rows were unwound so, or succeeded, and behind whose commit this call failed, of packages of these names
+pub record AnswersUnpack (name : List ℕ) (records : List Record) (unwinding : Option Unwinding) (failed : Option Call) (names : List (List ℕ)) (u : AUnit) : Type 0 where
+  pub replied : u.reply ≡ reply_to name unwinding failed
   pub touched : u.touched.items ≡ map (touched_at records) names
+
+-- the names of both lists, in order, each once
+pub record AreOfBoth (first second names : List (List ℕ)) : Type 0 where
+  pub order : AreIncreasing names
+  pub exact : (q : List ℕ) → Contains names q ↔ (Contains first q ⊎ Contains second q)
+
+-- these are told of both lists
+pub record AreTouched (records : List Record) (first second : List (List ℕ)) (touched : List Touched) : Type 0 where
+  pub names : List (List ℕ)
+  pub both : AreOfBoth first second names
+  pub are : touched ≡ map (touched_at records) names
+
+-- it tells the packages of both lists
+pub record AnswersBoth (name : List ℕ) (records : List Record) (unwinding : Option Unwinding) (failed : Option Call) (first second : List (List ℕ)) (u : AUnit) : Type 0 where
+  pub names : List (List ℕ)
+  pub both : AreOfBoth first second names
+  pub answers : AnswersUnpack name records unwinding failed names u
+
+-- the packages of a unit, in the order of names: the one that was named, those that it displaced, and each whose record differs since
+pub record IsTouchedBeside (name : List ℕ) (displaced : List (List ℕ)) (before after : List Record) (touched : List (List ℕ)) : Type 0 where
+  pub order : AreIncreasing touched
+  pub exact : (q : List ℕ) → Contains touched q ↔ ((q ≡ name) ⊎ Contains displaced q ⊎ (record_in after q ≡ record_in before q → ⊥))
 
 -- The package was unpacked with the rows of other packages, or all rows were unwound.
 pub record HasUnpackedBeside (p : Package) (beside : Beside) (h : Held) (places : List Path) (unwinding : Option Unwinding) (after : Recorded) (lists : List PackageList) (s t : State) (told now : List Called) : Type 0 where
@@ -58,15 +91,53 @@ pub record HasUnpackedBeside (p : Package) (beside : Beside) (h : Held) (places 
   pub unpacked : HasUnpacked (given_by p h others (yielding beside)) places (ended_as unwinding) after lists s t told now
   pub cause : HasFailedFor (given_by p h others (yielding beside)) s t unwinding
 
--- The unit was carried out, and the administration is in order: told are its packages, and for what the rows were unwound.
+-- nothing was displaced
+pub record HasDisplacedNone (displaced : List (List ℕ)) (failed : Option Call) (mid after : Held) (m t : State) (told now : List Called) : Type 0 where
+  pub none : displaced ≡ []
+  pub no_failure : failed ≡ None
+  pub held : after ≡ mid
+  pub here : t ≡ m
+  pub calls : now ≡ told
+
+-- What the unpack of this name and version displaced: where all rows succeeded, those of the losing packages that disappeared, and the
+-- conflicting ones; where they were unwound nothing.
+abbrev pub HasDisplaced : Option Unwinding → List ℕ → List ℕ → List Losing → List (List ℕ) → List (List ℕ) → Option Call → Held → Held → State → State → List Called → List Called → Type 0
+HasDisplaced (Some u) name version losing conflicting displaced failed mid after m t told now = HasDisplacedNone displaced failed mid after m t told now
+HasDisplaced None name version losing conflicting displaced failed mid after m t told now =
+    HaveBeenDisplaced name version mid.entries losing conflicting displaced failed (holding_of mid) (holding_of after) m t told now
+
+-- what is known of it before
+pub record IsBehind (p : Package) (beside : Beside) (lists : List PackageList) (b : Behind) : Type 0 where
+  pub name : b.«package» ≡ p.name
+  pub version : b.version ≡ p.version
+  pub losing : b.losing.items ≡ losing_beside lists beside
+
+-- with the records and lists that the unpack left
+abbrev pub held_with : Held → Recorded → List PackageList → Held
+held_with h records lists = record { records = records; lists = lists; entries = h.entries }
+
+-- The package was unpacked, or all rows were unwound; and then what it displaces was displaced.
+pub record HasUnpackedWhole (p : Package) (beside : Beside) (before : Held) (unwinding : Option Unwinding) (displaced : List (List ℕ)) (failed : Option Call) (after : Held) (s t : State) (told now : List Called) : Type 0 where
+  pub records : Recorded
+  pub lists : List PackageList
+  pub m : State
+  pub between : List Called
+  pub unpacked : HasUnpackedBeside p beside before (places_of before) unwinding records lists s m told between
+  pub ready : Needs m (IsInOrder records lists)
+  pub behind : HasDisplaced unwinding p.name p.version (losing_beside before.lists beside) beside.conflicting displaced failed (held_with before records lists) after m t between now
+
+-- The unit was carried out, and the administration is in order: told are its packages, and for what the rows were unwound, or
+-- which call behind the commit failed.
 pub record IsUnpacked (p : Package) (beside : Beside) (before after : Held) (u : AUnit) (s t : State) : Type 0 where
   pub unwinding : Option Unwinding
+  pub displaced : List (List ℕ)
+  pub failed : Option Call
   pub names : List (List ℕ)
-  pub unpacked : HasUnpackedBeside p beside before (places_of before) unwinding after.records after.lists s t [] u.calls.items
+  pub unpacked : HasUnpackedWhole p beside before unwinding displaced failed after s t [] u.calls.items
   pub order : Needs t (IsInOrder after.records after.lists)
   pub entries : after.entries ≡ before.entries
-  pub changed : IsTouched p.name before.records.records after.records.records names
-  pub answers : AnswersUnpack p.name after.records.records unwinding names u
+  pub changed : IsTouchedBeside p.name displaced before.records.records after.records.records names
+  pub answers : AnswersUnpack p.name after.records.records unwinding failed names u
 
 -- a package is refused, or unpacked
 abbrev pub IsUnitBy : Package → Checked → Held → Held → AUnit → State → State → Type 0
@@ -92,10 +163,23 @@ pub data HasCalledBeside (p : Package) (beside : Beside) (h : Held) (s t : State
   calling : (others : List OtherPackage) → HaveRows p beside h.records.records s.world t.honest others
       → HasCalled (given_by p h others (yielding beside)) s t told now → HasCalledBeside p beside h s t told now
 
+-- all calls of an unpack that is committed, and then the first of those for what it displaces
+pub record HasCalledBehind (p : Package) (beside : Beside) (h : Held) (s t : State) (told now : List Called) : Type 0 where
+  pub records : Recorded
+  pub lists : List PackageList
+  pub m : State
+  pub between : List Called
+  pub unpacked : HasUnpackedBeside p beside h (places_of h) None records lists s m told between
+  pub called : HasCalledDisplacing p.name p.version h.entries (losing_beside h.lists beside) beside.conflicting (holding_of (held_with h records lists)) m t between now
+
+-- the first calls of an unpack, or all of them and the first behind it
+abbrev pub HasCalledWhole : Package → Beside → Held → State → State → List Called → List Called → Type 0
+HasCalledWhole p beside h s t told now = HasCalledBeside p beside h s t told now ⊎ HasCalledBehind p beside h s t told now
+
 -- the calls of a unit, whatever its answer: none where the package is refused, else those of its unpack
 abbrev pub HasCalledBy : Package → Checked → Held → AUnit → State → State → Type 0
 HasCalledBy p (checked.Refused rule) before u s t = HasNoCalls u s t
-HasCalledBy p (checked.Planned beside) before u s t = HasCalledBeside p beside before s t [] u.calls.items
+HasCalledBy p (checked.Planned beside) before u s t = HasCalledWhole p beside before s t [] u.calls.items
 
 -- of a tree that was read; memory may be wanting before it is decided
 abbrev pub HasCalledPackage : Bool → Package → Held → AUnit → State → State → Type 0

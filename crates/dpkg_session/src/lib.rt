@@ -3,6 +3,7 @@
 
 mod asked;
 mod configuring;
+mod displacing;
 mod diverting;
 mod done;
 mod installing;
@@ -13,8 +14,10 @@ mod removing;
 mod report;
 mod session;
 mod table_units;
+mod tellings;
 mod undiverting;
 mod units;
+mod unpacking;
 
 pub use asked::{Diverting, Undiverting};
 pub use installing::Installed;

@@ -1,17 +1,16 @@
 // What refuses the unpack of a package, or what it does to other packages.
 ghost use Rattle.std.specs.Prelude.{◌≡◌, IfOk, option_copied};
 ghost use Rattle.unpack_relations.specs.Checks.{AreBesideApart};
-ghost use Rattle.dpkg_session.specs.Refusals.{IsDecisionOf, conffile_away, decision_by, first_away, first_of, is_away, not_yet};
+ghost use Rattle.dpkg_session.specs.Refusals.{IsDecisionOf, conffile_away, first_away, first_of, is_away};
 
 use diversions::Diversions;
 use host_core::ShipPath;
 use package_tree::Package;
-use relation_fields::RelationField;
 use status_db::NotedDatabase;
 use std::alloc::{AllocError, Global};
 use texts::Text;
 use unit_reports::Rule;
-use unpack_relations::{Beside, Checked, check};
+use unpack_relations::{Checked, check};
 
 // Whether the file of a path lies at another path for the package.
 fn is_away(diversions: &Diversions, name: &Text, path: &ShipPath) -> bool
@@ -52,31 +51,6 @@ fn conffile_away<'a>(diversions: &Diversions, incoming: &'a Package) -> Option<&
     first_of(shipped, flagged)
 }
 
-// The first field by which an unpack would do something to other packages that isn't carried out yet.
-fn not_yet(beside: &Beside) -> Option<RelationField>
-    ensures { result ≡ not_yet beside.now }
-{
-    if !beside.conflicting.as_slice().is_empty() {
-        return Some(RelationField::Conflicts);
-    }
-    if !beside.replaced.as_slice().is_empty() {
-        return Some(RelationField::Replaces);
-    }
-    None
-}
-
-fn decision_by(checked: Checked) -> Checked
-    ensures { result ≡ decision_by checked }
-{
-    match checked {
-        Checked::Refused(rule) => Checked::Refused(rule),
-        Checked::Planned(beside) => match not_yet(&beside) {
-            Some(field) => Checked::Refused(Rule::NotYet(field)),
-            None => Checked::Planned(beside),
-        },
-    }
-}
-
 // The first rule that refuses a package, a diverted conffile or else one of relations between packages; or what its
 // unpack does to other packages.
 pub(crate) fn decision_of(
@@ -93,5 +67,5 @@ pub(crate) fn decision_of(
         return Ok(Checked::Refused(Rule::ConffileDiverted(path.copy()?)));
     }
     let checked = check(alloc, database, incoming, auto_deconfigure)?;
-    Ok(decision_by(checked))
+    Ok(checked)
 }

@@ -1,48 +1,49 @@
 // The units of a command, one after another.
-ghost use Rattle.std.specs.Prelude.{◌≡◌, ◌⊎◌, false, None, IfOk, [], IfErr, OnOk, OnErr, IfSome, IsNone, MatchBool, map};
-ghost use Rattle.host_core.specs.Host.{AtEachMomentOf, Counts, Needs, Reads, Silent, Since, faults};
+ghost use Rattle.std.specs.Prelude.{◌≡◌, ◌⊎◌, false, None, [], IfErr, OnOk, OnErr, IfSome, IsNone};
+ghost use Rattle.host_core.specs.Host.{AtEachMomentOf, Needs, Since, faults};
 ghost use Rattle.host_core.specs.Loss.{IsAnswered, IsOnDisk};
 ghost use Rattle.file_lists.specs.Owners.{places_in};
-ghost use Rattle.status_db.specs.Records.{record_in};
-ghost use Rattle.stack_run.specs.Ended.{ended_as};
 ghost use Rattle.unwind_stack.specs.Transcript.{TellsAll};
 ghost use Rattle.unpack_engine.specs.Order.{IsInOrder};
-ghost use Rattle.unpack_engine.specs.Others.{AreOthers};
-ghost use Rattle.unpack_engine.specs.Units.{HasCalled, HasFailedFor, HasUnpacked, IsAmidUnit, IsTouched};
 ghost use Rattle.unpack_relations.specs.Checks.{AreApart};
 ghost use Rattle.unit_reports.specs.declared.refusal.Rule.TheVariants.{Tree};
 ghost use Rattle.unit_reports.specs.declared.report.Breakage.TheVariants.{NoMemory, Closed};
 ghost use Rattle.unit_reports.specs.Held.{held};
-ghost use Rattle.dpkg_session.specs.Run.{AddsUnit, IsAmidBeside, IsAmidPackage, IsAmidRun, IsAmidUnitOf, IsAmidUnpack, IsRun, HasRun};
-ghost use Rattle.unit_reports.specs.Units.{CountsLast, CountsReply, IsBroken, IsBrokenBy, breakage_of, touched_at, IsRefusedUnit, TellsCalls, calls_of};
-ghost use Rattle.dpkg_session.specs.Units.{AnswersUnpack, HasCalledBeside, HasCalledOf, HasCalledPackage, HasUnpackedBeside, HaveRows, IsBrokenOff, IsPackageUnit, IsUnit, IsUnpacked, given_by, reply_to, yielding};
+ghost use Rattle.dpkg_session.specs.Run.{AddsUnit, IsAmidPackage, IsAmidRun, IsAmidUnitOf, IsAmidUnpack, IsRun, HasRun};
+ghost use Rattle.unit_reports.specs.Units.{CountsLast, CountsReply, IsBroken, IsBrokenBy, breakage_of, TellsCalls, calls_of};
+ghost use Rattle.dpkg_session.specs.Units.{AnswersBoth, HasCalledOf, HasCalledPackage, HasCalledWhole, IsBehind, IsBrokenOff, IsPackageUnit, IsUnit, IsUnpacked, reply_to};
 
+use crate::displacing::{Behind, UnpackEnd, behind_of, unpack_whole};
 use crate::refusal::decision_of;
 use crate::report::{Candidate, Unpack};
+use crate::tellings::touched_of_both;
+use displaced_packages::Displaced;
 use diversions::Diversions;
 use file_lists::FileLists;
-use host_core::{Host, HostFault, Places};
-use other_rows::{rows_beside, yields_beside};
+use host_core::{Call, Host, Places};
 use package_tree::Package;
-use stack_run::Unwinding;
+use stack_run::{Failure as Cause, Unwinding};
 use status_db::NotedDatabase;
 use std::alloc::Global;
-use texts::{Text, Texts};
+use texts::Text;
 use unit_reports::{
-    Breakage, Failure, Reply, Report, Rule, Unit, breakage_of, broken, is_broken, refresh, refused,
-    touched_of,
+    Breakage, Failure, Reply, Report, Rule, Unit, breakage_of, broken, is_broken, refused,
 };
-use unpack_engine::{Others, Unpacked, unpack};
+use unpack_engine::Unpacked;
 use unpack_relations::{Beside, Checked};
 use unwind_stack::Called;
 
-// The reply to a unit of a package, by how its rows were unwound.
-fn reply_to(package: Text, unwinding: Option<Unwinding>) -> Reply
-    ensures { result ≡ reply_to «package» unwinding }
+// The reply to a unit of a package, by how its rows were unwound, and by the call that failed behind its commit.
+fn reply_to(package: Text, unwinding: Option<Unwinding>, failed: Option<Call>) -> Reply
+    ensures { result ≡ reply_to «package» unwinding failed }
 {
-    match unwinding {
-        None => Reply::Done,
-        Some(unwinding) => {
+    match (unwinding, failed) {
+        (None, None) => Reply::Done,
+        (None, Some(call)) => Reply::Failed(Failure {
+            package,
+            cause: Cause::OfCall(call),
+        }),
+        (Some(unwinding), _) => {
             let Unwinding {
                 fall: _,
                 failed: _,
@@ -58,138 +59,23 @@ fn answered(
     alloc: Global,
     database: &NotedDatabase,
     package: Text,
-    unpacked: Unpacked,
+    end: UnpackEnd,
     calls: Vec<Called>,
 ) -> Unit
-    ensures answer { IsBrokenBy NoMemory result.reply ⊎ AnswersUnpack «package» database.now.records unpacked.unwinding unpacked.touched result }
+    ensures answer { IsBrokenBy NoMemory result.reply ⊎ AnswersBoth «package» database.now.records end.unpacked.unwinding end.displaced.failed end.unpacked.touched end.displaced.names result }
     ensures told { result.calls.items ≡ calls.items }
     ensures untouched { IsBroken result.reply → result.touched.items ≡ [] }
 {
-    let Unpacked { unwinding, touched } = unpacked;
-    match touched_of(alloc, database, touched.as_slice()) {
+    let UnpackEnd {
+        unpacked: Unpacked { unwinding, touched },
+        displaced: Displaced { names, failed },
+    } = end;
+    match touched_of_both(alloc, database, touched.as_slice(), names.as_slice()) {
         Ok(touched) => Unit {
             calls,
             touched,
-            reply: reply_to(package, unwinding),
+            reply: reply_to(package, unwinding, failed),
         },
-        Err(_) => broken(alloc, calls, Breakage::NoMemory),
-    }
-}
-
-// The other packages that have rows, and those that let the package take paths of theirs.
-fn others_beside<H: Host>(
-    alloc: Global,
-    host: &mut H,
-    database: &NotedDatabase,
-    incoming: &Package,
-    beside: &Beside,
-) -> Result<Others, HostFault>
-    requires { AreApart incoming.now.name database.now.records beside.now }
-    ensures rows { IfOk result (λ others. HaveRows incoming.now beside.now database.now.records (H.state host.old).world (H.state host.new).honest others.packages.items) }
-    ensures yields { IfOk result (λ others. others.yields ≡ yielding beside.now) }
-    ensures reads { Reads (H.state host.old) (H.state host.new) }
-    ensures silent { Silent (H.state host.old) (H.state host.new) }
-    ensures counts { Counts (H.state host.old) (H.state host.new) result }
-{
-    match yields_beside(alloc, beside) {
-        Ok(yields) => match rows_beside(alloc, host, database, incoming, beside) {
-            Ok(packages) => Ok(Others { packages, yields }),
-            Err(fault) => Err(fault),
-        },
-        Err(_) => Err(HostFault::NoMemory),
-    }
-}
-
-// Unpacks a package with the rows of others, and brings all that was done to the disk.
-fn unpack_to_disk<H: Host>(
-    alloc: Global,
-    host: &mut H,
-    database: &mut NotedDatabase,
-    lists: &mut FileLists,
-    places: &mut Places,
-    diversions: &Diversions,
-    incoming: Package,
-    others: Others,
-    told: &mut Vec<Called>,
-) -> Result<Unpacked, HostFault>
-    requires others { AreOthers incoming.name database.old.records others.packages.items }
-    requires order { Needs (H.state host.old) (IsInOrder database.old lists.old.lists) }
-    requires noting { database.old.closed ≡ false }
-    requires listing { lists.old.closed ≡ false }
-    ensures unit { IfOk result (λ u. HasUnpacked (given_by incoming (held database.old lists.old diversions.now) others.packages.items others.yields) places.old (ended_as u.unwinding) database.new lists.new.lists (H.state host.old) (H.state host.new) told.old.items told.new.items) }
-    ensures cause { IfOk result (λ u. HasFailedFor (given_by incoming (held database.old lists.old diversions.now) others.packages.items others.yields) (H.state host.old) (H.state host.new) u.unwinding) }
-    ensures touched { IfOk result (λ u. IsTouched incoming.name database.old.records database.new.records u.touched) }
-    ensures order { IfOk result (λ u. Needs (H.state host.new) (IsInOrder database.new lists.new.lists)) }
-    ensures noting { OnOk result (database.new.closed ≡ false) }
-    ensures listing { OnOk result (lists.new.closed ≡ false) }
-    ensures on_disk { OnOk result (IsOnDisk (H.state host.new).events) }
-    ensures told { HasCalled (given_by incoming (held database.old lists.old diversions.now) others.packages.items others.yields) (H.state host.old) (H.state host.new) told.old.items told.new.items }
-    ensures any_moment { AtEachMomentOf (IsAmidUnit (given_by incoming (held database.old lists.old diversions.now) others.packages.items others.yields) places.old) (H.state host.old) (H.state host.new) }
-    ensures counts { Counts (H.state host.old) (H.state host.new) result }
-{
-    match unpack(
-        alloc, host, database, lists, places, diversions, incoming, others, told,
-    ) {
-        Ok(unpacked) => match host.barrier() {
-            Ok(()) => Ok(unpacked),
-            Err(fault) => Err(fault),
-        },
-        Err(fault) => Err(fault),
-    }
-}
-
-// Unpacks a package that isn't refused.
-fn unpack_beside<H: Host>(
-    alloc: Global,
-    host: &mut H,
-    database: &mut NotedDatabase,
-    lists: &mut FileLists,
-    places: &mut Places,
-    diversions: &Diversions,
-    incoming: Package,
-    beside: &Beside,
-    told: &mut Vec<Called>,
-) -> Result<Unpacked, HostFault>
-    requires apart { AreApart incoming.name database.old.records beside.now }
-    requires order { Needs (H.state host.old) (IsInOrder database.old lists.old.lists) }
-    requires noting { database.old.closed ≡ false }
-    requires listing { lists.old.closed ≡ false }
-    ensures unit { IfOk result (λ u. HasUnpackedBeside incoming beside.now (held database.old lists.old diversions.now) places.old u.unwinding database.new lists.new.lists (H.state host.old) (H.state host.new) told.old.items told.new.items) }
-    ensures touched { IfOk result (λ u. IsTouched incoming.name database.old.records database.new.records u.touched) }
-    ensures order { IfOk result (λ u. Needs (H.state host.new) (IsInOrder database.new lists.new.lists)) }
-    ensures noting { OnOk result (database.new.closed ≡ false) }
-    ensures listing { OnOk result (lists.new.closed ≡ false) }
-    ensures on_disk { OnOk result (IsOnDisk (H.state host.new).events) }
-    ensures told { HasCalledBeside incoming beside.now (held database.old lists.old diversions.now) (H.state host.old) (H.state host.new) told.old.items told.new.items }
-    ensures any_moment { AtEachMomentOf (IsAmidBeside incoming beside.now (held database.old lists.old diversions.now) places.old) (H.state host.old) (H.state host.new) }
-    ensures counts { Counts (H.state host.old) (H.state host.new) result }
-{
-    match others_beside(alloc, host, database, &incoming, beside) {
-        Ok(others) => unpack_to_disk(
-            alloc, host, database, lists, places, diversions, incoming, others, told,
-        ),
-        Err(fault) => Err(fault),
-    }
-}
-
-// The unit of what was unpacked, once the kept places are those of the lists that it left.
-fn settled(
-    alloc: Global,
-    database: &NotedDatabase,
-    lists: &FileLists,
-    places: &mut Places,
-    diversions: &Diversions,
-    package: Text,
-    unpacked: Unpacked,
-    calls: Vec<Called>,
-) -> Unit
-    ensures answer { IsBrokenBy NoMemory result.reply ⊎ AnswersUnpack «package» database.now.records unpacked.unwinding unpacked.touched result }
-    ensures kept { IsBrokenBy NoMemory result.reply ⊎ (places.new ≡ places_in diversions.now.entries lists.now.lists) }
-    ensures told { result.calls.items ≡ calls.items }
-    ensures untouched { IsBroken result.reply → result.touched.items ≡ [] }
-{
-    match refresh(alloc, lists, diversions, places) {
-        Ok(()) => answered(alloc, database, package, unpacked, calls),
         Err(_) => broken(alloc, calls, Breakage::NoMemory),
     }
 }
@@ -202,11 +88,11 @@ fn unpack_named<H: Host>(
     lists: &mut FileLists,
     places: &mut Places,
     diversions: &Diversions,
-    package: Text,
+    behind: Behind,
     incoming: Package,
     beside: &Beside,
 ) -> Unit
-    requires name { «package» ≡ incoming.name }
+    requires behind { IsBehind incoming beside.now lists.old.lists behind }
     requires apart { AreApart incoming.name database.old.records beside.now }
     requires order { Needs (H.state host.old) (IsInOrder database.old lists.old.lists) }
     requires noting { database.old.closed ≡ false }
@@ -218,18 +104,16 @@ fn unpack_named<H: Host>(
     ensures kept { IsBroken result.reply ⊎ (places.new ≡ places_in diversions.now.entries lists.new.lists) }
     ensures on_disk { IsBroken result.reply ⊎ IsOnDisk (H.state host.new).events }
     ensures untouched { IsBroken result.reply → result.touched.items ≡ [] }
-    ensures told { HasCalledBeside incoming beside.now (held database.old lists.old diversions.now) (H.state host.old) (H.state host.new) [] result.calls.items }
+    ensures told { HasCalledWhole incoming beside.now (held database.old lists.old diversions.now) (H.state host.old) (H.state host.new) [] result.calls.items }
     ensures any_moment { AtEachMomentOf (IsAmidUnpack incoming beside.now (held database.old lists.old diversions.now)) (H.state host.old) (H.state host.new) }
     ensures counts { CountsReply (H.state host.old) (H.state host.new) result.reply }
     ensures not_closed { IsBrokenBy Closed result.reply → ⊥ }
 {
     let mut calls = Vec::new(alloc);
-    match unpack_beside(
-        alloc, host, database, lists, places, diversions, incoming, beside, &mut calls,
+    match unpack_whole(
+        alloc, host, database, lists, places, diversions, incoming, beside, &behind, &mut calls,
     ) {
-        Ok(unpacked) => settled(
-            alloc, database, lists, places, diversions, package, unpacked, calls,
-        ),
+        Ok(end) => answered(alloc, database, behind.package, end, calls),
         Err(fault) => broken(alloc, calls, breakage_of(fault)),
     }
 }
@@ -256,15 +140,15 @@ fn unpack_unit<H: Host>(
     ensures kept { IsBroken result.reply ⊎ (places.new ≡ places_in diversions.now.entries lists.new.lists) }
     ensures on_disk { IsBroken result.reply ⊎ IsOnDisk (H.state host.new).events }
     ensures untouched { IsBroken result.reply → result.touched.items ≡ [] }
-    ensures told { HasCalledBeside incoming beside.now (held database.old lists.old diversions.now) (H.state host.old) (H.state host.new) [] result.calls.items }
+    ensures told { HasCalledWhole incoming beside.now (held database.old lists.old diversions.now) (H.state host.old) (H.state host.new) [] result.calls.items }
     ensures any_moment { AtEachMomentOf (IsAmidUnpack incoming beside.now (held database.old lists.old diversions.now)) (H.state host.old) (H.state host.new) }
     ensures counts { CountsReply (H.state host.old) (H.state host.new) result.reply }
     ensures not_closed { IsBrokenBy Closed result.reply → ⊥ }
 {
-    match incoming.name.copy() {
-        Ok(package) => {
+    match behind_of(alloc, lists, &incoming, beside) {
+        Ok(behind) => {
             return unpack_named(
-                alloc, host, database, lists, places, diversions, package, incoming, beside,
+                alloc, host, database, lists, places, diversions, behind, incoming, beside,
             );
         }
         Err(_) => {

@@ -1,37 +1,26 @@
 use Rattle.std.proofs.Common.{ap, refl, ◌∙◌}
-use Rattle.unpack_engine.specs.declared.finishing.Unpacked.{Unpacked}
-use Rattle.unit_reports.specs.declared.report.Breakage.TheVariants.{NoMemory}
 use Rattle.unit_reports.specs.declared.report.Reply.TheVariants.{Broken}
 use Rattle.unit_reports.specs.Held.{held}
-use Rattle.dpkg_session.proofs.Amid.{since_under_way}
-use Rattle.dpkg_session.proofs.Runs.{answer_not_closed, broken_or, counts_answered, counts_broken, is_unpacked}
+use Rattle.dpkg_session.specs.declared.displacing.UnpackEnd.{UnpackEnd}
+use Rattle.dpkg_session.proofs.Runs.{answer_not_closed, counts_answered, counts_broken, is_unpacked}
 use Rattle.dpkg_session.proofs.Told.{called_as}
 use Rattle.dpkg_session.proofs.units.unpack_named.Goals as goal
 
 pub returns-in-Ok-clause-unit : goal.returns-in-Ok-clause-unit
 returns-in-Ok-clause-unit g c =
-    is_unpacked _ _ _ _ c.settled.result _ _ _ _ _ _ _ _ c.requires.name c.requires.kept c.new-calls.ensures.items c.settled.ensures.told c.in-Ok.ensures.unit c.in-Ok.ensures.order refl c.in-Ok.ensures.touched c.settled.ensures.answer
-
-pub returns-in-Ok-clause-kept : goal.returns-in-Ok-clause-kept
-returns-in-Ok-clause-kept g c = broken_or NoMemory c.settled.result.reply (λ are. are) c.settled.ensures.kept
-
-pub returns-in-Ok-clause-any_moment : goal.returns-in-Ok-clause-any_moment
-returns-in-Ok-clause-any_moment g c = since_under_way c.args.incoming c.args.beside.now (held c.args.database.now c.args.lists.now c.args.diversions.now) _ _ _ c.requires.kept c.unpack_beside.ensures.any_moment
-
-pub returns-in-Err-clause-any_moment : goal.returns-in-Err-clause-any_moment
-returns-in-Err-clause-any_moment g c = since_under_way c.args.incoming c.args.beside.now (held c.args.database.now c.args.lists.now c.args.diversions.now) _ _ _ c.requires.kept c.unpack_beside.ensures.any_moment
+    is_unpacked _ _ _ _ c.answered.result _ _ _ _ _ _ _ _ _ c.requires.behind.name c.new-calls.ensures.items c.answered.ensures.told c.in-Ok.ensures.unit c.in-Ok.ensures.order refl c.in-Ok.ensures.touched c.answered.ensures.answer
 
 pub returns-in-Ok-clause-told : goal.returns-in-Ok-clause-told
-returns-in-Ok-clause-told g c = called_as _ _ (held c.args.database.now c.args.lists.now c.args.diversions.now) _ _ _ _ _ c.new-calls.ensures.items c.settled.ensures.told c.unpack_beside.ensures.told
+returns-in-Ok-clause-told g c = called_as _ _ (held c.args.database.now c.args.lists.now c.args.diversions.now) _ _ _ _ _ c.new-calls.ensures.items c.answered.ensures.told c.unpack_whole.ensures.told
 
 pub returns-in-Err-clause-told : goal.returns-in-Err-clause-told
-returns-in-Err-clause-told g c = called_as _ _ (held c.args.database.now c.args.lists.now c.args.diversions.now) _ _ _ _ _ c.new-calls.ensures.items c.broken.ensures.told c.unpack_beside.ensures.told
+returns-in-Err-clause-told g c = called_as _ _ (held c.args.database.now c.args.lists.now c.args.diversions.now) _ _ _ _ _ c.new-calls.ensures.items c.broken.ensures.told c.unpack_whole.ensures.told
 
 pub returns-in-Ok-clause-counts : goal.returns-in-Ok-clause-counts
-returns-in-Ok-clause-counts g c = counts_answered _ _ _ _ c.settled.result (g.H.Host.state c.args.host.now) (g.H.Host.state c.unpack_beside.new.host) c.in-Ok.ensures.counts c.settled.ensures.answer
+returns-in-Ok-clause-counts g c = counts_answered _ _ _ _ _ _ c.answered.result (g.H.Host.state c.args.host.now) (g.H.Host.state c.unpack_whole.new.host) c.in-Ok.ensures.counts c.answered.ensures.answer
 
 pub returns-in-Err-clause-counts : goal.returns-in-Err-clause-counts
-returns-in-Err-clause-counts g c = counts_broken Unpacked c.in-Err.fault c.broken.result.reply (g.H.Host.state c.args.host.now) (g.H.Host.state c.unpack_beside.new.host) (c.broken.ensures.reply ∙ ap Broken c.breakage_of.ensures) c.in-Err.ensures.counts
+returns-in-Err-clause-counts g c = counts_broken UnpackEnd c.in-Err.fault c.broken.result.reply (g.H.Host.state c.args.host.now) (g.H.Host.state c.unpack_whole.new.host) (c.broken.ensures.reply ∙ ap Broken c.breakage_of.ensures) c.in-Err.ensures.counts
 
 pub returns-in-Ok-clause-not_closed : goal.returns-in-Ok-clause-not_closed
-returns-in-Ok-clause-not_closed g c = answer_not_closed _ _ _ _ c.settled.result c.settled.ensures.answer
+returns-in-Ok-clause-not_closed g c = answer_not_closed _ _ _ _ _ _ c.answered.result c.answered.ensures.answer

@@ -1,6 +1,6 @@
 use Rattle.dpkg_session.proofs.Barriers.{amid_unit_still, called_behind, failed_behind, on_disk, order_behind, since_to_disk, unpacked_to_disk}
 use Rattle.host_core.specs.Moments.{since_barrier}
-use Rattle.dpkg_session.proofs.units.unpack_to_disk.Goals as goal
+use Rattle.dpkg_session.proofs.unpacking.unpack_to_disk.Goals as goal
 
 pub returns-in-Ok-barrier-clause-unit : goal.returns-in-Ok-barrier-clause-unit
 returns-in-Ok-barrier-clause-unit g c =

@@ -3,7 +3,7 @@ use Rattle.unpack_engine.specs.Units.{HasFailedFor, HasUnpacked}
 use Rattle.unit_reports.specs.Held.{held}
 use Rattle.dpkg_session.specs.Units.{HasUnpackedBeside, given_by}
 use Rattle.dpkg_session.proofs.Looking.{called_beside, if_ok_both, looking, nothing_called, under_way, unpacked_beside}
-use Rattle.dpkg_session.proofs.units.unpack_beside.Goals as goal
+use Rattle.dpkg_session.proofs.unpacking.unpack_beside.Goals as goal
 
 pub unpack_to_disk-requires-clause-others : goal.unpack_to_disk-requires-clause-others
 unpack_to_disk-requires-clause-others g c = c.in-Ok.ensures.rows.apart

@@ -1,0 +1,91 @@
+-- A barrier behind what was done.
+use Rattle.std.specs.Prelude.{OnOk}
+use Rattle.std.proofs.Common.{◌≡◌, ◌⊎◌, inl, inr, true, false, IsTrue, ℕ, nat_eq, arith, length, List, [], ◌∷◌, ◌++◌, Option, Result, Ok, Err, refl, sym, subst, ◌∙◌}
+use Rattle.std.proofs.lemmas.Bool.{and_parts, eqb-true, true≢false}
+use Rattle.std.proofs.lemmas.List.{append-nil}
+use Rattle.disappearance.specs.declared.losing.Losing.{Losing}
+use Rattle.diversions.specs.declared.entry.Diversion.{Diversion}
+use Rattle.file_lists.specs.declared.paths.PackageList.{PackageList}
+use Rattle.host_core.specs.World.{World, Step, Barrier}
+use Rattle.host_core.specs.Events.{Event, Did, Failed, scripts_of, follow}
+use Rattle.host_core.specs.Host.{State, Does, Happens, Needs, Since, Stops}
+use Rattle.host_core.specs.Loss.{IsAnswered}
+use Rattle.host_core.specs.Moments.{ThroughEvent, since_failed, since_fails, since_goes, since_now, since_then}
+use Rattle.host_core.specs.declared.call.Call.{Call}
+use Rattle.host_core.specs.declared.fault.HostFault.{HostFault}
+use Rattle.host_core.specs.declared.fault.HostFault.TheVariants.{Device, NoMemory}
+use Rattle.status_db.specs.Recorded.{Recorded}
+use Rattle.unit_parts.specs.Order.{IsInOrder}
+use Rattle.unit_stages.specs.Holding.{Holding}
+use Rattle.unwind_stack.specs.declared.rows.Called.{Called}
+use Rattle.displaced_packages.specs.Displacing.{HaveBeenDisplaced, IsBroughtToDisk, is_nothing}
+
+-- what holds at each moment, and asks no more of what was done than which scripts were called, goes on to hold
+since_barrier_behind : (P : List Event → World → Type 0) (result : Result Unit HostFault) (a b c : State) → ((x quiet : List Event) (w : World) → scripts_of quiet ≡ [] → P x w → P (x ++ quiet) w)
+    → Since P a b → Does Barrier b c result → Since P a c
+since_barrier_behind P result a b c still first does = since_then P a b c first (more result does)
+  where
+    Q : List Event → World → Type 0
+    Q so_far w = P (first.added ++ so_far) w
+
+    here : IsTrue b.honest → (x : List Event) → scripts_of x ≡ [] → Q x b.world
+    here h x none = still first.added x b.world none (since_now P a b first h)
+
+    through : IsTrue b.honest → ThroughEvent Q b.world (Did Barrier)
+    through h = record { before = here h [] refl; inside = λ d cut. absurd cut.1; behind = here h (Did Barrier ∷ []) refl }
+
+    whole : (u : Step) → IsTrue b.honest → u ≡ Barrier → ThroughEvent Q b.world (Did u)
+    whole u h same = subst (λ x. ThroughEvent Q b.world (Did x)) (sym same) (through h)
+
+    after : (u : Step) → IsTrue b.honest → u ≡ Barrier → Q (Did u ∷ Failed ∷ []) (follow (Did u) b.world)
+    after u h same = subst (λ x. Q (Did x ∷ Failed ∷ []) (follow (Did x) b.world)) (sym same) (here h (Did Barrier ∷ Failed ∷ []) refl)
+
+    more : (result : Result Unit HostFault) → Does Barrier b c result → Since Q b c
+    more (Ok x) does = since_goes Q (Did Barrier) b c does (λ h. through (does.honest h))
+    more (Err Device) (Stops.nothing goes) = since_failed Q b c goes (λ h. here (goes.honest h) [] refl) (λ h. here (goes.honest h) (Failed ∷ []) refl)
+    more (Err Device) (Stops.some u is goes) = since_fails Q (Did u) b c goes (λ h. elim (is h) [ inl same ↦ whole u (goes.honest h) same | inr part ↦ absurd part ])
+        (λ h. elim (is h) [ inl same ↦ after u (goes.honest h) same | inr part ↦ absurd part ])
+    more (Err NoMemory) does = record { added = []; events = does.events ∙ sym (append-nil b.events); honest = does.honest; world = does.world; each = λ h. here (does.honest h) [] refl }
+
+-- also where nothing was called at all
+pub since_to_disk : (P : List Event → World → Type 0) (result : Result Unit HostFault) (a b c : State) → ((x quiet : List Event) (w : World) → scripts_of quiet ≡ [] → P x w → P (x ++ quiet) w)
+    → Since P a b → (c ≡ b) ⊎ Does Barrier b c result → Since P a c
+since_to_disk P result a b c still first (inl same) = subst (λ (x : State). Since P a x) (sym same) first
+since_to_disk P result a b c still first (inr does) = since_barrier_behind P result a b c still first does
+
+order_barrier : (d : Recorded) (lists : List PackageList) (m t : State) → Happens (Did Barrier ∷ []) m t → Needs m (IsInOrder d lists) → Needs t (IsInOrder d lists)
+order_barrier d lists m t goes order = λ h. subst (IsInOrder d lists) (sym goes.world) (order (goes.honest h))
+
+pub order_behind : (d : Recorded) (lists : List PackageList) (losing : List Losing) (names : List (List ℕ)) (m t : State) → IsBroughtToDisk losing names m t → Needs m (IsInOrder d lists) → Needs t (IsInOrder d lists)
+order_behind d lists [] [] m t same order = subst (λ (x : State). Needs x (IsInOrder d lists)) (sym same) order
+order_behind d lists [] (name ∷ names) m t goes order = order_barrier d lists m t goes order
+order_behind d lists (one ∷ more) names m t goes order = order_barrier d lists m t goes order
+
+-- what is brought to the disk
+
+pub nothing_brought : (losing : List Losing) (names : List (List ℕ)) (s : State) → is_nothing losing names ≡ true → IsBroughtToDisk losing names s s
+nothing_brought [] [] s none = refl
+nothing_brought [] (name ∷ names) s none = let is : length (name ∷ names) ≡ 0 = eqb-true (length (name ∷ names)) 0 (and_parts (nat_eq 0 0) (nat_eq (length (name ∷ names)) 0) none).1 in absurd (omega (arith, is))
+nothing_brought (one ∷ more) names s none = let is : length (one ∷ more) ≡ 0 = eqb-true (length (one ∷ more)) 0 (and_parts (nat_eq (length (one ∷ more)) 0) (nat_eq (length names) 0) none).0 in absurd (omega (arith, is))
+
+pub some_brought : (result : Result Unit HostFault) (losing : List Losing) (names : List (List ℕ)) (s t : State) → is_nothing losing names ≡ false → Does Barrier s t result → OnOk result (IsBroughtToDisk losing names s t)
+some_brought (Ok x) [] [] s t some does = absurd (true≢false some)
+some_brought (Ok x) [] (name ∷ names) s t some does = does
+some_brought (Ok x) (one ∷ more) names s t some does = does
+some_brought (Err fault) losing names s t some does = tt
+
+answered_here : (s : State) → IsAnswered s s
+answered_here s = inr (record { honest = λ h. h; world = refl; added = []; failed = tt; events = sym (append-nil s.events) })
+
+on_disk : (s m t : State) → Happens (Did Barrier ∷ []) m t → IsAnswered s t
+on_disk s m t goes = inl (m.events, [], goes.events, tt)
+
+-- all of it is on the disk, or nothing was done
+pub displaced_answered : (incoming version : List ℕ) (entries : List Diversion) (losing : List Losing) (conflicting names : List (List ℕ)) (failed : Option Call) (before after : Holding) (s t : State) (told now : List Called)
+    → HaveBeenDisplaced incoming version entries losing conflicting names failed before after s t told now → IsAnswered s t
+displaced_answered incoming version entries [] [] names failed before after s t told now is =
+    let gone = is.gone.disappeared in
+    let removed = is.gone.removed.removed in
+    subst (λ (x : State). IsAnswered s x) (sym (is.disk ∙ removed.2 ∙ gone.3)) (answered_here s)
+displaced_answered incoming version entries [] (one ∷ more) names failed before after s t told now is = on_disk s is.end t is.disk
+displaced_answered incoming version entries (one ∷ more) conflicting names failed before after s t told now is = on_disk s is.end t is.disk

@@ -1,0 +1,3 @@
+pub mod Barriers
+pub mod Going
+pub mod Calling

@@ -1,0 +1,172 @@
+// What an unpack displaces behind its commit.
+ghost use Rattle.std.specs.Prelude.{◌≡◌, false, ℕ, List, [], None, IfOk, OnOk};
+ghost use Rattle.host_core.specs.Host.{AtEachMomentOf, Counts, Needs};
+ghost use Rattle.host_core.specs.Loss.{IsOnDisk};
+ghost use Rattle.file_lists.specs.Owners.{places_in};
+ghost use Rattle.unpack_engine.specs.Order.{IsInOrder};
+ghost use Rattle.unpack_engine.specs.Units.{IsTouched};
+ghost use Rattle.unpack_relations.specs.Checks.{AreApart};
+ghost use Rattle.unit_reports.specs.Held.{held};
+ghost use Rattle.dpkg_session.specs.Run.{IsAmidBeside, IsAmidUnpack};
+ghost use Rattle.dpkg_session.specs.Units.{AreOfBoth, HasCalledBeside, HasCalledWhole, HasUnpackedBeside, HasUnpackedWhole, IsBehind, IsTouchedBeside};
+
+use crate::unpacking::unpack_beside;
+use disappearance::Losing;
+use displaced_packages::{Displaced, displace, losing_beside};
+use diversions::Diversions;
+use file_lists::FileLists;
+use host_core::{Host, HostFault, Places};
+use package_tree::Package;
+use status_db::NotedDatabase;
+use std::alloc::{AllocError, Global};
+use texts::{Text, Texts};
+use unit_reports::refresh;
+use unpack_engine::Unpacked;
+use unpack_relations::Beside;
+use unwind_stack::Called;
+use version_order::Version;
+
+/// What is known before an unpack of that which it may displace.
+#[derive(Drop)]
+pub(crate) struct Behind {
+    pub package: Text,
+    pub version: Version,
+    pub losing: Vec<Losing>,
+}
+
+pub(crate) fn behind_of(
+    alloc: Global,
+    lists: &FileLists,
+    incoming: &Package,
+    beside: &Beside,
+) -> Result<Behind, AllocError>
+    ensures { IfOk result (IsBehind incoming.now beside.now lists.now.lists) }
+{
+    Ok(Behind {
+        package: incoming.name.copy()?,
+        version: incoming.version.copy()?,
+        losing: losing_beside(alloc, lists, beside)?,
+    })
+}
+
+/// How an unpack ended, and what was displaced behind it.
+#[derive(Drop)]
+pub(crate) struct UnpackEnd {
+    pub unpacked: Unpacked,
+    pub displaced: Displaced,
+}
+
+// The end of an unpack whose rows were unwound: nothing is displaced.
+fn undisplaced(alloc: Global, unpacked: Unpacked) -> UnpackEnd
+    ensures unpacked { result.unpacked ≡ unpacked }
+    ensures none { result.displaced.names ≡ [] }
+    ensures no_failure { result.displaced.failed ≡ None }
+{
+    UnpackEnd {
+        unpacked,
+        displaced: Displaced {
+            names: Texts::new(alloc),
+            failed: None,
+        },
+    }
+}
+
+// Unpacks a package, and then computes the places anew.
+fn unpack_refreshed<H: Host>(
+    alloc: Global,
+    host: &mut H,
+    database: &mut NotedDatabase,
+    lists: &mut FileLists,
+    places: &mut Places,
+    diversions: &Diversions,
+    incoming: Package,
+    beside: &Beside,
+    told: &mut Vec<Called>,
+) -> Result<Unpacked, HostFault>
+    requires apart { AreApart incoming.name database.old.records beside.now }
+    requires order { Needs (H.state host.old) (IsInOrder database.old lists.old.lists) }
+    requires noting { database.old.closed ≡ false }
+    requires listing { lists.old.closed ≡ false }
+    ensures unit { IfOk result (λ u. HasUnpackedBeside incoming beside.now (held database.old lists.old diversions.now) places.old u.unwinding database.new lists.new.lists (H.state host.old) (H.state host.new) told.old.items told.new.items) }
+    ensures touched { IfOk result (λ u. IsTouched incoming.name database.old.records database.new.records u.touched) }
+    ensures order { IfOk result (λ u. Needs (H.state host.new) (IsInOrder database.new lists.new.lists)) }
+    ensures noting { OnOk result (database.new.closed ≡ false) }
+    ensures listing { OnOk result (lists.new.closed ≡ false) }
+    ensures kept { OnOk result (places.new ≡ places_in diversions.now.entries lists.new.lists) }
+    ensures on_disk { OnOk result (IsOnDisk (H.state host.new).events) }
+    ensures told { HasCalledBeside incoming beside.now (held database.old lists.old diversions.now) (H.state host.old) (H.state host.new) told.old.items told.new.items }
+    ensures any_moment { AtEachMomentOf (IsAmidBeside incoming beside.now (held database.old lists.old diversions.now) places.old) (H.state host.old) (H.state host.new) }
+    ensures counts { Counts (H.state host.old) (H.state host.new) result }
+{
+    match unpack_beside(
+        alloc, host, database, lists, places, diversions, incoming, beside, told,
+    ) {
+        Ok(unpacked) => match refresh(alloc, lists, diversions, places) {
+            Ok(()) => Ok(unpacked),
+            Err(_) => Err(HostFault::NoMemory),
+        },
+        Err(fault) => Err(fault),
+    }
+}
+
+/// Unpacks a package that isn't refused, and displaces packages behind the commit.
+pub(crate) fn unpack_whole<H: Host>(
+    alloc: Global,
+    host: &mut H,
+    database: &mut NotedDatabase,
+    lists: &mut FileLists,
+    places: &mut Places,
+    diversions: &Diversions,
+    incoming: Package,
+    beside: &Beside,
+    behind: &Behind,
+    told: &mut Vec<Called>,
+) -> Result<UnpackEnd, HostFault>
+    requires behind { IsBehind incoming beside.now lists.old.lists behind.now }
+    requires apart { AreApart incoming.name database.old.records beside.now }
+    requires order { Needs (H.state host.old) (IsInOrder database.old lists.old.lists) }
+    requires noting { database.old.closed ≡ false }
+    requires listing { lists.old.closed ≡ false }
+    requires kept { places.old ≡ places_in diversions.now.entries lists.old.lists }
+    requires untold { told.old.items ≡ [] }
+    ensures unit { IfOk result (λ e. HasUnpackedWhole incoming beside.now (held database.old lists.old diversions.now) e.unpacked.unwinding e.displaced.names e.displaced.failed (held database.new lists.new diversions.now) (H.state host.old) (H.state host.new) told.old.items told.new.items) }
+    ensures touched { IfOk result (λ e. (names : List (List ℕ)) → AreOfBoth e.unpacked.touched e.displaced.names names → IsTouchedBeside incoming.name e.displaced.names database.old.records database.new.records names) }
+    ensures order { OnOk result (Needs (H.state host.new) (IsInOrder database.new lists.new.lists)) }
+    ensures noting { OnOk result (database.new.closed ≡ false) }
+    ensures listing { OnOk result (lists.new.closed ≡ false) }
+    ensures kept { OnOk result (places.new ≡ places_in diversions.now.entries lists.new.lists) }
+    ensures on_disk { OnOk result (IsOnDisk (H.state host.new).events) }
+    ensures told { HasCalledWhole incoming beside.now (held database.old lists.old diversions.now) (H.state host.old) (H.state host.new) told.old.items told.new.items }
+    ensures any_moment { AtEachMomentOf (IsAmidUnpack incoming beside.now (held database.old lists.old diversions.now)) (H.state host.old) (H.state host.new) }
+    ensures counts { Counts (H.state host.old) (H.state host.new) result }
+{
+    match unpack_refreshed(
+        alloc, host, database, lists, places, diversions, incoming, beside, told,
+    ) {
+        Ok(unpacked) => {
+            if unpacked.unwinding.is_some() {
+                return Ok(undisplaced(alloc, unpacked));
+            }
+            match displace(
+                alloc,
+                host,
+                database,
+                lists,
+                places,
+                diversions,
+                &behind.package,
+                &behind.version,
+                behind.losing.as_slice(),
+                beside.conflicting.as_slice(),
+                told,
+            ) {
+                Ok(displaced) => Ok(UnpackEnd {
+                    unpacked,
+                    displaced,
+                }),
+                Err(fault) => Err(fault),
+            }
+        }
+        Err(fault) => Err(fault),
+    }
+}

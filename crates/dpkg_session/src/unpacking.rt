@@ -1,0 +1,119 @@
+// The unpack of a package beside others, brought to the disk.
+ghost use Rattle.std.specs.Prelude.{◌≡◌, false, IfOk, OnOk};
+ghost use Rattle.host_core.specs.Host.{AtEachMomentOf, Counts, Needs, Reads, Silent};
+ghost use Rattle.host_core.specs.Loss.{IsOnDisk};
+ghost use Rattle.stack_run.specs.Ended.{ended_as};
+ghost use Rattle.unpack_engine.specs.Order.{IsInOrder};
+ghost use Rattle.unpack_engine.specs.Others.{AreOthers};
+ghost use Rattle.unpack_engine.specs.Units.{HasCalled, HasFailedFor, HasUnpacked, IsAmidUnit, IsTouched};
+ghost use Rattle.unpack_relations.specs.Checks.{AreApart};
+ghost use Rattle.unit_reports.specs.Held.{held};
+ghost use Rattle.dpkg_session.specs.Run.{IsAmidBeside};
+ghost use Rattle.dpkg_session.specs.Units.{HasCalledBeside, HasUnpackedBeside, HaveRows, given_by, yielding};
+
+use diversions::Diversions;
+use file_lists::FileLists;
+use host_core::{Host, HostFault, Places};
+use other_rows::{rows_beside, yields_beside};
+use package_tree::Package;
+use status_db::NotedDatabase;
+use std::alloc::Global;
+use unpack_engine::{Others, Unpacked, unpack};
+use unpack_relations::Beside;
+use unwind_stack::Called;
+
+// The other packages that have rows, and those that let the package take paths of theirs.
+fn others_beside<H: Host>(
+    alloc: Global,
+    host: &mut H,
+    database: &NotedDatabase,
+    incoming: &Package,
+    beside: &Beside,
+) -> Result<Others, HostFault>
+    requires { AreApart incoming.now.name database.now.records beside.now }
+    ensures rows { IfOk result (λ others. HaveRows incoming.now beside.now database.now.records (H.state host.old).world (H.state host.new).honest others.packages.items) }
+    ensures yields { IfOk result (λ others. others.yields ≡ yielding beside.now) }
+    ensures reads { Reads (H.state host.old) (H.state host.new) }
+    ensures silent { Silent (H.state host.old) (H.state host.new) }
+    ensures counts { Counts (H.state host.old) (H.state host.new) result }
+{
+    match yields_beside(alloc, beside) {
+        Ok(yields) => match rows_beside(alloc, host, database, incoming, beside) {
+            Ok(packages) => Ok(Others { packages, yields }),
+            Err(fault) => Err(fault),
+        },
+        Err(_) => Err(HostFault::NoMemory),
+    }
+}
+
+// Unpacks a package with the rows of others, and brings all that was done to the disk.
+fn unpack_to_disk<H: Host>(
+    alloc: Global,
+    host: &mut H,
+    database: &mut NotedDatabase,
+    lists: &mut FileLists,
+    places: &mut Places,
+    diversions: &Diversions,
+    incoming: Package,
+    others: Others,
+    told: &mut Vec<Called>,
+) -> Result<Unpacked, HostFault>
+    requires others { AreOthers incoming.name database.old.records others.packages.items }
+    requires order { Needs (H.state host.old) (IsInOrder database.old lists.old.lists) }
+    requires noting { database.old.closed ≡ false }
+    requires listing { lists.old.closed ≡ false }
+    ensures unit { IfOk result (λ u. HasUnpacked (given_by incoming (held database.old lists.old diversions.now) others.packages.items others.yields) places.old (ended_as u.unwinding) database.new lists.new.lists (H.state host.old) (H.state host.new) told.old.items told.new.items) }
+    ensures cause { IfOk result (λ u. HasFailedFor (given_by incoming (held database.old lists.old diversions.now) others.packages.items others.yields) (H.state host.old) (H.state host.new) u.unwinding) }
+    ensures touched { IfOk result (λ u. IsTouched incoming.name database.old.records database.new.records u.touched) }
+    ensures order { IfOk result (λ u. Needs (H.state host.new) (IsInOrder database.new lists.new.lists)) }
+    ensures noting { OnOk result (database.new.closed ≡ false) }
+    ensures listing { OnOk result (lists.new.closed ≡ false) }
+    ensures on_disk { OnOk result (IsOnDisk (H.state host.new).events) }
+    ensures told { HasCalled (given_by incoming (held database.old lists.old diversions.now) others.packages.items others.yields) (H.state host.old) (H.state host.new) told.old.items told.new.items }
+    ensures any_moment { AtEachMomentOf (IsAmidUnit (given_by incoming (held database.old lists.old diversions.now) others.packages.items others.yields) places.old) (H.state host.old) (H.state host.new) }
+    ensures counts { Counts (H.state host.old) (H.state host.new) result }
+{
+    match unpack(
+        alloc, host, database, lists, places, diversions, incoming, others, told,
+    ) {
+        Ok(unpacked) => match host.barrier() {
+            Ok(()) => Ok(unpacked),
+            Err(fault) => Err(fault),
+        },
+        Err(fault) => Err(fault),
+    }
+}
+
+/// Unpacks a package that isn't refused.
+pub(crate) fn unpack_beside<H: Host>(
+    alloc: Global,
+    host: &mut H,
+    database: &mut NotedDatabase,
+    lists: &mut FileLists,
+    places: &mut Places,
+    diversions: &Diversions,
+    incoming: Package,
+    beside: &Beside,
+    told: &mut Vec<Called>,
+) -> Result<Unpacked, HostFault>
+    requires apart { AreApart incoming.name database.old.records beside.now }
+    requires order { Needs (H.state host.old) (IsInOrder database.old lists.old.lists) }
+    requires noting { database.old.closed ≡ false }
+    requires listing { lists.old.closed ≡ false }
+    ensures unit { IfOk result (λ u. HasUnpackedBeside incoming beside.now (held database.old lists.old diversions.now) places.old u.unwinding database.new lists.new.lists (H.state host.old) (H.state host.new) told.old.items told.new.items) }
+    ensures touched { IfOk result (λ u. IsTouched incoming.name database.old.records database.new.records u.touched) }
+    ensures order { IfOk result (λ u. Needs (H.state host.new) (IsInOrder database.new lists.new.lists)) }
+    ensures noting { OnOk result (database.new.closed ≡ false) }
+    ensures listing { OnOk result (lists.new.closed ≡ false) }
+    ensures on_disk { OnOk result (IsOnDisk (H.state host.new).events) }
+    ensures told { HasCalledBeside incoming beside.now (held database.old lists.old diversions.now) (H.state host.old) (H.state host.new) told.old.items told.new.items }
+    ensures any_moment { AtEachMomentOf (IsAmidBeside incoming beside.now (held database.old lists.old diversions.now) places.old) (H.state host.old) (H.state host.new) }
+    ensures counts { Counts (H.state host.old) (H.state host.new) result }
+{
+    match others_beside(alloc, host, database, &incoming, beside) {
+        Ok(others) => unpack_to_disk(
+            alloc, host, database, lists, places, diversions, incoming, others, told,
+        ),
+        Err(fault) => Err(fault),
+    }
+}
