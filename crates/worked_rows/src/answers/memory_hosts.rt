@@ -4,6 +4,7 @@ ghost use Rattle.host_memory.specs.Memory.{memory_state};
 
 mod configure_rows;
 mod deconfiguring_rows;
+mod displacing_rows;
 mod diversion_rows;
 mod memory_rows;
 mod query_rows;

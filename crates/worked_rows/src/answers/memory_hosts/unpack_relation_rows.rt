@@ -57,12 +57,6 @@ const TREES: &[TreeFile] = &[
     ("clashes", "/DEBIAN/preinst", "#!/bin/sh\n"),
     ("clashes", "/DEBIAN/postrm", "#!/bin/sh\n"),
     ("clashes", "/usr/bin/x", "new"),
-    (
-        "replaces",
-        CONTROL,
-        "Package: alpha\nVersion: 2.0\nReplaces: gamma (<< 2)\n",
-    ),
-    ("replaces", "/usr/bin/x", "new"),
 ];
 
 const BRAVO: &str =
@@ -267,26 +261,6 @@ gamma 1 installed
 ",
 );
 
-// What isn't done to other packages yet.
-const REMOVES_NOBODY_YET: RelationRow = (
-    &[DELTA],
-    &["dpkg_cli unpack displaces", "dpkg_cli list"],
-    "refused alpha NotYet Conflicts
-||1
-delta 1 installed
-||0
-",
-);
-
-const TAKES_NOTHING_OVER_YET: RelationRow = (
-    &[GAMMA, GAMMA_LIST, "write /usr/bin/x old"],
-    &["dpkg_cli unpack replaces", "read /usr/bin/x"],
-    "refused alpha NotYet Replaces
-||1
-old
-",
-);
-
 const ROWS: &[RelationRow] = &[
     NEEDS,
     NEEDS_CONFIGURED,
@@ -304,8 +278,6 @@ const ROWS: &[RelationRow] = &[
     DEPENDS,
     OF_ITSELF,
     CLASHES,
-    REMOVES_NOBODY_YET,
-    TAKES_NOTHING_OVER_YET,
 ];
 
 #[test]
