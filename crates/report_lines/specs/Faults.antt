@@ -15,7 +15,7 @@ use Rattle.relation_fields.specs.RelationFields.{relation_name}
 use Rattle.diversions.specs.declared.refusal.Refusal.{Refusal as ItsRefusal}
 use Rattle.diversions.specs.declared.refusal.Refusal.TheVariants as diverted
 use Rattle.unit_reports.specs.declared.refusal.Rule.{Rule}
-use Rattle.unit_reports.specs.declared.refusal.Rule.TheVariants.{Tree, NotYet, ConffileDiverted, PreDepends, Conflicts, ConflictEssential, Dependents, Breaks, Divert, Unknown, WrongState, Reinstreq, NothingToRemove, Essential, Depends, BrokenBy, ConffileKind, DependedOn}
+use Rattle.unit_reports.specs.declared.refusal.Rule.TheVariants.{Tree, ConffileDiverted, PreDepends, Conflicts, ConflictEssential, Dependents, Breaks, Divert, Unknown, WrongState, Reinstreq, NothingToRemove, Essential, Depends, BrokenBy, ConffileKind, DependedOn}
 use Rattle.unwind_stack.specs.declared.fall.StepFault.{StepFault}
 use Rattle.unwind_stack.specs.declared.fall.StepFault.TheVariants as step
 
@@ -75,7 +75,6 @@ divert_word diverted.NoParent = codes "NoParent"
 -- fault is the rule
 abbrev pub rule_text : Rule → List ℕ
 rule_text (Tree fault) = tree_text fault
-rule_text (NotYet field) = codes "NotYet " ++ relation_name field
 rule_text (ConffileDiverted path) = codes "ConffileDiverted " ++ path
 rule_text (PreDepends clause) = codes "PreDepends " ++ print_clause clause
 rule_text (Conflicts other) = codes "Conflicts " ++ other

@@ -139,10 +139,6 @@ pub(crate) fn rule_text(alloc: Global, rule: &Rule) -> Result<String, AllocError
 {
     match rule {
         Rule::Tree(fault) => tree_text(alloc, fault),
-        Rule::NotYet(field) => {
-            let field = field.name();
-            format!(in alloc; "NotYet {field}")
-        }
         Rule::ConffileDiverted(path) => {
             let path = path.as_str();
             format!(in alloc; "ConffileDiverted {path}")

@@ -4,9 +4,11 @@
 mod refusal;
 mod report;
 mod units;
+mod watching;
 
 pub use refusal::{Refusal, Rule};
 pub use report::{Breakage, Failure, Reply, Report, Touched, Unit};
 pub use units::{
     breakage_of, broken, is_broken, record_of, refresh, refused, touched_at, touched_of,
 };
+pub use watching::{Unwatched, Watcher, what_is_told_in_turn};
