@@ -1,0 +1,89 @@
+-- A file that is written at its place stays there: no old path goes from it, and it is no waiting file.
+use Rattle.std.proofs.Common.{◌≡◌, ◌||◌, ◌&&◌, not, inl, ℕ, zero, suc, Bool, true, false, List, [], ◌∷◌, Contains, map, refl, sym, ap, subst, arith}
+use Rattle.std.specs.List.{list_any}
+use Rattle.std.specs.Str.{bytes_eq}
+use Rattle.std.proofs.lemmas.Bool.{false_from_ne_true, or_from, true≢false}
+use Rattle.std.proofs.lemmas.Slice.Eq.{bytes_eq-Decides}
+use Rattle.host_core.specs.Paths.{Path, is_ship_text}
+use Rattle.host_core.specs.declared.suffix.Suffix.TheVariants.{New}
+use Rattle.host_core.proofs.ShipNames.{plain_other, ships}
+use Rattle.administration.specs.Places.{home_path, is_within}
+use Rattle.diversions.specs.declared.entry.Diversion.{Diversion}
+use Rattle.diversions.specs.Places.{place}
+use Rattle.file_lists.specs.declared.paths.PackageList.{PackageList}
+use Rattle.file_removal.specs.Clearing.{is_among}
+use Rattle.file_works.specs.declared.work.Work.{Work}
+use Rattle.list_changes.specs.Leaving.{has_other_owner, is_place_of, leaving_of, stays}
+use Rattle.unpack_moves.specs.Areas.{is_leaving_place}
+use Rattle.unpack_plan.specs.Lists.{entry_paths}
+use Rattle.unpack_plan.specs.Names.{waiting_name}
+use Rattle.unpack_plan.specs.Records.{entries_of}
+use Rattle.unpack_engine.specs.Units.{Given}
+use Rattle.unpack_laws.specs.InHand.{unit_found, unit_listed, unit_name, unit_works}
+use Rattle.unpack_laws.specs.Whole.{IsLasting}
+use Rattle.unpack_laws.proofs.Marks.{work_path}
+
+some_left : (a b : Bool) → a ≡ true → a || b ≡ true
+some_left true b e = refl
+some_left false b e = absurd (true≢false (sym e))
+
+some_right : (a b : Bool) → b ≡ true → a || b ≡ true
+some_right true b e = refl
+some_right false b e = e
+
+none_left : (a b : Bool) → a ≡ false → a && b ≡ false
+none_left true b e = absurd (true≢false e)
+none_left false b e = refl
+
+none_right : (a b : Bool) → b ≡ false → a && b ≡ false
+none_right true b e = e
+none_right false b e = refl
+
+module _ (entries : List Diversion) (name : List ℕ) where
+  place_among : (paths : List Path) (path : Path) → Contains paths path → is_place_of entries name paths (place entries name path) ≡ true
+  place_among [] path has = absurd (omega (arith, has.1))
+  place_among (p ∷ paths) path (zero, lt, is) =
+      some_left (bytes_eq (place entries name path) (place entries name p)) (is_place_of entries name paths (place entries name path))
+      ((bytes_eq-Decides (place entries name path) (place entries name p)).1 (ap (place entries name) (sym is)))
+  place_among (p ∷ paths) path (suc k, lt, is) =
+      some_right (bytes_eq (place entries name path) (place entries name p)) (is_place_of entries name paths (place entries name path)) (place_among paths path (k, omega (arith, lt), is))
+
+  -- what the list to come has doesn't go
+  module _ (lists : List PackageList) (to_come conffiles : List Path) (q : Path) (has : is_place_of entries name to_come q ≡ true) where
+    stays_there : stays entries lists name to_come q ≡ true
+    stays_there =
+        some_right (bytes_eq q []) _ (some_right (is_within home_path q) _ (some_left (is_place_of entries name to_come q) (has_other_owner entries lists name q) has))
+
+    none_goes : (path : Path) → not (list_any (bytes_eq path) conffiles || stays entries lists name to_come (place entries name path)) && bytes_eq q (place entries name path) ≡ false
+    none_goes path = by (bytes_eq q (place entries name path)) refl
+      where
+        by : (b : Bool) → bytes_eq q (place entries name path) ≡ b → not (list_any (bytes_eq path) conffiles || stays entries lists name to_come (place entries name path)) && b ≡ false
+        by false e = none_right _ false refl
+        by true e =
+            none_left _ true (ap not (some_right (list_any (bytes_eq path) conffiles) (stays entries lists name to_come (place entries name path))
+            (subst (λ r. stays entries lists name to_come r ≡ true) ((bytes_eq-Decides q (place entries name path)).0 e) stays_there)))
+
+    no_leaving_at : (listed : List Path) → is_leaving_place (leaving_of entries lists name to_come conffiles listed) q ≡ false
+    no_leaving_at [] = refl
+    no_leaving_at (l ∷ ls) = or_from _ _ (none_goes l) (no_leaving_at ls)
+
+  -- a place is no waiting file
+  no_waiting : (q : Path) → is_ship_text q ≡ true → (paths : List Path) → is_among (map (waiting_name entries name) paths) q ≡ false
+  no_waiting q ship [] = refl
+  no_waiting q ship (p ∷ paths) =
+      or_from (bytes_eq q (waiting_name entries name p)) _
+      (false_from_ne_true (bytes_eq q (waiting_name entries name p)) (λ e. plain_other q (place entries name p) New (ships q ship).plain ((bytes_eq-Decides q (waiting_name entries name p)).0 e)))
+      (no_waiting q ship paths)
+
+module _ (g : Given) (x : Work) (has : Contains (unit_works g) x) (ship : is_ship_text x.place ≡ true) where
+  place_lasts : IsLasting g x.place
+  place_lasts =
+      let at = work_path g.entries (unit_name g) g.«package».conffiles g.«package».files x has in
+      record {
+        stays = λ fresh paths is after. no_leaving_at g.entries (unit_name g) g.lists paths (entry_paths (entries_of (unit_found g))) x.place
+            (subst (λ r. is_place_of g.entries (unit_name g) paths r ≡ true) at.2 (place_among g.entries (unit_name g) paths at.0 ((after.are at.0).1 (inl at.1)))) (unit_listed g);
+        uncleared = no_waiting g.entries (unit_name g) x.place ship _;
+      }
+
+  pub target_lasts : x.target ≡ x.place → IsLasting g x.target
+  target_lasts same = subst (IsLasting g) (sym same) place_lasts

@@ -1,0 +1,14 @@
+pub mod Scripted
+pub mod Alone
+pub mod Passing
+pub mod OtherPackages
+pub mod NotedRecords
+pub mod NextRecords
+pub mod Targets
+pub mod OwnFiles
+pub mod OwnList
+pub mod Marks
+pub mod MarksLeaving
+pub mod Lasting
+pub mod OtherLists
+pub mod OwnMembers

@@ -1,0 +1,5 @@
+pub mod InHand
+pub mod NextOpening
+pub mod Whole
+pub mod Marked
+pub mod Info

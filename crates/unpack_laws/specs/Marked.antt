@@ -1,0 +1,76 @@
+-- Where an unpack has changed what stands outside the administration, its package is marked as half-installed, to be installed
+-- again, until its last note (Policy 6.6).
+use Rattle.std.specs.Prelude.{◌≡◌, ◌⊎◌, true, false, List, Some, None, Contains}
+use Rattle.host_core.specs.Paths.{Path, is_named_by}
+use Rattle.host_core.specs.World.{World, Change, changed}
+use Rattle.administration.specs.Places.{home_path, is_within, list_path}
+use Rattle.diversions.specs.Places.{place}
+use Rattle.file_lists.specs.Writing.{list_file}
+use Rattle.file_removal.specs.Clearing.{is_among}
+use Rattle.file_works.specs.declared.work.Work.{Work}
+use Rattle.status_db.specs.Held.{HasRecords}
+use Rattle.status_db.specs.Records.{record_in}
+use Rattle.status_db.specs.declared.record.Record.{Record}
+use Rattle.unpack_engine.specs.Units.{Given}
+use Rattle.unpack_plan.specs.Lists.{IsAfter}
+use Rattle.unpack_plan.specs.Names.{known_conffiles, left_names}
+use Rattle.unpack_plan.specs.Records.{IsFresh, IsIncoming}
+use Rattle.unpack_rows.specs.Kinds.{own_of}
+use Rattle.unpack_rows.specs.Notes.{half_installed}
+use Rattle.unpack_laws.specs.InHand.{unit_found, unit_listed, unit_name, unit_works}
+use Rattle.unpack_laws.specs.Whole.{IsWorkBack}
+
+module _ (g : Given) where
+  -- a list of the package has a path whose place this is, or one of the names beside that place that only the installer writes
+  abbrev pub IsNamedIn : List Path → Path → Type 0
+  IsNamedIn paths q = (path : Path) × Contains paths path × (is_named_by q (place g.entries (unit_name g) path) ≡ true)
+
+  module _ (old now : World) (change : Change) where
+    -- What stands at a path while the package is marked: what scripts made of it; what its list names; nothing, where an old
+    -- path went or the waiting file of a conffile that isn't shipped any more.
+    pub data IsAccounted (paths : List Path) (q : Path) : Type 0 where
+      scripted : now q ≡ changed change old q → IsAccounted paths q
+      named : IsNamedIn paths q → IsAccounted paths q
+      went : (path : Path) → Contains (unit_listed g) path → place g.entries (unit_name g) path ≡ q → now q ≡ None → IsAccounted paths q
+      cleared : is_among (left_names g.entries (unit_name g) g.«package».conffiles (known_conffiles (unit_found g))) q ≡ true → now q ≡ None → IsAccounted paths q
+
+    -- the package's list has these paths, and what is changed is accounted for by them
+    pub record IsListedSo (paths : List Path) : Type 0 where
+      pub list : now (list_path (unit_name g)) ≡ Some (list_file paths)
+      pub accounted : (q : Path) → is_within home_path q ≡ false → IsAccounted paths q
+
+    -- the next opening finds the package half-installed and to be installed again, and its list names what is changed
+    pub record IsMarkedSo : Type 0 where
+      pub table : List Record
+      pub records : HasRecords now table
+      pub incoming : Record
+      pub is_incoming : IsIncoming g.«package» incoming
+      pub own : record_in table (unit_name g) ≡ Some (half_installed (own_of (unit_found g) incoming))
+      pub paths : List Path
+      pub listed : IsListedSo paths
+
+    -- it finds the package unpacked, and so does its new list
+    pub record IsNotedSo : Type 0 where
+      pub table : List Record
+      pub records : HasRecords now table
+      pub fresh : Record
+      pub is_fresh : IsFresh g.«package» (unit_found g) fresh
+      pub own : record_in table (unit_name g) ≡ Some fresh
+      pub paths : List Path
+      pub are : IsAfter g.«package».files fresh paths
+      pub listed : IsListedSo paths
+
+    -- Where the files were put back: what scripts made of it, or at a target a made directory that had to stay; at the names
+    -- beside a place nothing is said.
+    pub data IsRestored (q : Path) : Type 0 where
+      scripted : now q ≡ changed change old q → IsRestored q
+      target : (x : Work) → Contains (unit_works g) x → q ≡ x.target → IsWorkBack old now change x → IsRestored q
+      beside : (x : Work) → Contains (unit_works g) x → (q ≡ x.backup) ⊎ (q ≡ x.fresh) → IsRestored q
+
+    -- At each moment: scripts alone changed what stands outside the administration; or the package is marked; or the files were
+    -- put back; or the last note is written, behind all else.
+    pub data IsMarkedAmid : Type 0 where
+      untouched : ((q : Path) → is_within home_path q ≡ false → now q ≡ changed change old q) → IsMarkedAmid
+      marked : IsMarkedSo → IsMarkedAmid
+      restored : ((q : Path) → is_within home_path q ≡ false → IsRestored q) → IsMarkedAmid
+      noted : IsNotedSo → IsMarkedAmid

@@ -1,0 +1,17 @@
+//! What a stop at any moment of an unpack leaves, path by path (Policy 6.6): laws of what the engine promises of each moment.
+//! Nothing here runs.
+#![tactic(auto)]
+
+mod files;
+mod info;
+mod marked;
+mod packages;
+mod paths;
+mod records;
+
+pub use files::what_stands_of_the_package;
+pub use info::what_stands_in_info;
+pub use marked::what_is_marked;
+pub use packages::what_other_packages_keep;
+pub use paths::what_stands_where_no_work_comes;
+pub use records::what_the_next_opening_finds;
