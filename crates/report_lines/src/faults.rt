@@ -2,7 +2,7 @@
 ghost use Rattle.std.specs.Prelude.{◌≡◌, ◌++◌, IfOk, codes, string_bytes};
 ghost use Rattle.relation_fields.specs.Printing.{print_clause};
 ghost use Rattle.report_lines.specs.Faults.{control_text, divert_word, field_word, line_text, path_text, rule_text, step_text, tree_text};
-ghost use Rattle.report_lines.specs.Openings.{opening_line};
+ghost use Rattle.report_lines.specs.Openings.{expectation, line_expectation, opening_line, whole_expectation};
 
 use administration::AdministrationFault;
 use control_fields::ControlFault;
@@ -177,15 +177,49 @@ pub(crate) fn step_text(alloc: Global, fault: &StepFault) -> Result<String, Allo
     }
 }
 
-/// The line of a fault on opening, for standard error.
+// What a line of a file of the administration is to have.
+fn line_expectation(file: &[u8]) -> &'static str
+    ensures { result.now ≡ line_expectation file.now }
+{
+    if file.starts_with(b"/var/lib/dpkg/info/") {
+        return "an absolute path, or /. for the root";
+    }
+    if file.starts_with(b"/var/lib/dpkg/diversions") {
+        return "three lines for each diversion: a path, its target, and a package or :";
+    }
+    "a field of a package's record, \"Name: value\", once and with a value that can be read"
+}
+
+// What is to stand there as a whole.
+fn whole_expectation(file: &[u8]) -> &'static str
+    ensures { result.now ≡ whole_expectation file.now }
+{
+    if file.starts_with(b"/var/lib/dpkg/info/") {
+        return "a file of a package whose name has no architecture";
+    }
+    "a file or directory as dpkg has it there"
+}
+
+fn expectation(file: &[u8], line: u64) -> &'static str
+    ensures { result.now ≡ expectation file.now line }
+{
+    if line == 0 {
+        whole_expectation(file)
+    } else {
+        line_expectation(file)
+    }
+}
+
+/// The lines of a fault on opening, for standard error: the fault, and of damage what was expected there.
 pub fn opening_line(alloc: Global, fault: &AdministrationFault) -> Result<String, AllocError>
     ensures { IfOk result (λ line. string_bytes line ≡ opening_line fault.now) }
 {
     match fault {
         AdministrationFault::Damaged { file, line } => {
-            let file = path_text(file);
             let line = *line;
-            format!(in alloc; "damaged {file} {line}\n")
+            let expected = expectation(file.as_str().as_bytes(), line);
+            let file = path_text(file);
+            format!(in alloc; "damaged {file} {line}\nexpected: {expected}\n")
         }
         AdministrationFault::Device => String::from_str(alloc, "broken device\n"),
         AdministrationFault::NoMemory => String::from_str(alloc, "broken memory\n"),
