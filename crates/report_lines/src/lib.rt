@@ -5,4 +5,4 @@ mod faults;
 mod reports;
 
 pub use faults::opening_line;
-pub use reports::{report_status, report_text};
+pub use reports::{report_status, report_text, unit_text};

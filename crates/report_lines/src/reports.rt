@@ -223,6 +223,15 @@ fn add_units(alloc: Global, lines: &mut String, units: &[Unit]) -> Result<(), Al
     Ok(())
 }
 
+/// The lines of a unit.
+pub fn unit_text(alloc: Global, unit: &Unit) -> Result<String, AllocError>
+    ensures { IfOk result (λ text. string_bytes text ≡ unit_lines unit.now) }
+{
+    let mut lines = String::new(alloc);
+    add_unit(alloc, &mut lines, unit)?;
+    Ok(lines)
+}
+
 /// The lines of all units, the one that was broken off last.
 pub fn report_text(alloc: Global, report: &Report) -> Result<String, AllocError>
     ensures { IfOk result (λ text. string_bytes text ≡ report_lines report.now) }

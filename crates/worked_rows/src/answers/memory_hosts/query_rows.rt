@@ -101,8 +101,10 @@ fn damage_is_told_in_place_of_an_answer(rt: HostRuntime) -> Result<(), Fail> {
         "dpkg_cli search a",
     ];
     let row = "|damaged /var/lib/dpkg/diversions 4
+expected: three lines for each diversion: a path, its target, and a package or :
 |2
 |damaged /var/lib/dpkg/status 2
+expected: a field of a package's record, \"Name: value\", once and with a value that can be read
 |2
 |bad path a
 |2

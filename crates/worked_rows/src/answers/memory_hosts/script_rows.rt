@@ -298,11 +298,15 @@ Version: 1
 /// What the administrator does to a status file whose second line has no colon.
 pub(crate) const DAMAGING: &str = "write /var/lib/dpkg/status Package: alpha\nStatus\n";
 
+/// What is told of it.
+pub(crate) const DAMAGED: &str = "|damaged /var/lib/dpkg/status 2\n\
+expected: a field of a package's record, \"Name: value\", once and with a value that can be read\n|2\n";
+
 #[test]
 fn line_without_colon_is_damage(rt: HostRuntime) -> Result<(), Fail> {
     let lines = [DAMAGING, "dpkg_cli unpack a"];
-    let row = "|damaged /var/lib/dpkg/status 2\n|2\n|Package: alpha\nStatus\n|||||";
-    check(&rt, TREES, &[], &lines, row)
+    let row = format!(in rt.alloc(); "{DAMAGED}|Package: alpha\nStatus\n|||||")?;
+    check(&rt, TREES, &[], &lines, row.as_str())
 }
 
 // Status files of one record, and the line of the first value that can't be read.
@@ -329,11 +333,16 @@ const DAMAGES: &[(&str, u64)] = &[
     ),
 ];
 
+const FIELD: &str =
+    "expected: a field of a package's record, \"Name: value\", once and with a value that can be read";
+
 // Stops the test where a status file isn't told as damaged at this line, or is another then.
 fn check_damage(rt: &(impl Abort + AllocGlobal), status: &str, line: u64) -> Result<(), Fail> {
     let alloc = rt.alloc();
     let write = format!(in alloc; "write /var/lib/dpkg/status {status}")?;
-    let row = format!(in alloc; "|damaged /var/lib/dpkg/status {line}\n|2\n|{status}|||||")?;
+    let row = format!(in alloc;
+        "|damaged /var/lib/dpkg/status {line}\n{FIELD}\n|2\n|{status}|||||"
+    )?;
     let lines = [write.as_str(), "dpkg_cli unpack a"];
     check(rt, TREES, &[], &lines, row.as_str())
 }
