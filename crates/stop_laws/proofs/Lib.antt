@@ -1,0 +1,10 @@
+pub mod Moments
+pub mod Taken
+pub mod Noted
+pub mod Avoiding
+pub mod Places
+pub mod RemovalStages
+pub mod Removals
+pub mod Steps
+pub mod ConfigureStages
+pub mod Configures

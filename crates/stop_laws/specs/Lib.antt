@@ -1,0 +1,4 @@
+pub mod Left
+pub mod Removing
+pub mod RemovalSteps
+pub mod Configuring

@@ -1,0 +1,74 @@
+-- How far a removal or a purge is at a moment: what the next opening finds of the package's record, and what stands outside the
+-- administration's directory (Policy 6.8).
+use Rattle.std.specs.Prelude.{◌≡◌, ◌⊎◌, false, List, ◌++◌, Option, Some, None}
+use Rattle.host_core.specs.Paths.{Path}
+use Rattle.host_core.specs.World.{World, Change, changed}
+use Rattle.administration.specs.Places.{home_path, is_within}
+use Rattle.file_lists.specs.Owners.{paths_of}
+use Rattle.file_removal.specs.Clearing.{Cleared}
+use Rattle.file_removal.specs.Removal.{Removed}
+use Rattle.status_db.specs.declared.record.Record.{Record}
+use Rattle.status_db.specs.declared.words.State.TheVariants.{ConfigFiles}
+use Rattle.removal_engine.specs.Lists.{IsToCome, leaving_files}
+use Rattle.removal_engine.specs.Names.{cleared_names}
+use Rattle.removal_engine.specs.Records.{config_files, half_configured, losing_files, purged, without_files}
+use Rattle.removal_engine.specs.Units.{Given}
+use Rattle.removal_engine.specs.declared.extent.Extent.TheVariants.{Purge}
+use Rattle.stop_laws.specs.Left.{IsLeft, IsRecorded, IsScripted}
+use Rattle.stop_laws.specs.Removing.{GoesWithFiles, GoesWithPurge}
+
+-- the record as it was found, or as the prerm left it
+abbrev pub IsFirstRecord : Record → Option Record → Type 0
+IsFirstRecord r o = (o ≡ Some r) ⊎ (o ≡ Some (half_configured r))
+
+-- half-installed, and to be installed again
+abbrev pub IsLosingRecord : Record → Option Record → Type 0
+IsLosingRecord r o = o ≡ Some (losing_files r)
+
+-- without its files; or removed; or gone, of a package of which nothing is left then
+abbrev pub IsLostRecord : Record → Option Record → Type 0
+IsLostRecord r o = (o ≡ Some (without_files r)) ⊎ ((o ≡ Some (config_files r)) ⊎ (o ≡ None))
+
+-- of a removed package that is being purged; in the end gone
+abbrev pub IsPurgedRecord : Record → Option Record → Type 0
+IsPurgedRecord c o = (o ≡ Some (purged c)) ⊎ (o ≡ None)
+
+module _ (g : Given) (r : Record) where
+  -- the package's files have gone from a world: the listed paths, and then the names beside them
+  pub record HaveGone (before gone : World) : Type 0 where
+    pub to_come : List Path
+    pub comes : IsToCome r to_come
+    pub mid : World
+    pub removed : Removed (leaving_files g.entries g.before.lists r to_come) before mid
+    pub cleared : Cleared (cleared_names g.entries g.before.lists r) mid gone
+
+  module _ (old : World) where
+    -- outside the administration's directory its files went at some time, and script calls alone changed what stands there before and
+    -- since
+    pub record HasLost (change : Change) (now : World) : Type 0 where
+      pub early : Change
+      pub late : Change
+      pub changes : change ≡ early ++ late
+      pub before : World
+      pub gone : World
+      pub was : IsScripted early old before
+      pub files : HaveGone before gone
+      pub since : IsScripted late gone now
+
+    -- a purge began with this record and list: of a package that was found removed, or behind its removal
+    pub data HasBegunPurge (c : Record) (listed : List Path) (change : Change) (begun : World) : Type 0 where
+      found : r.state ≡ ConfigFiles → c ≡ r → listed ≡ paths_of g.before.lists r.name → IsScripted change old begun → HasBegunPurge c listed change begun
+      left : c ≡ config_files r → IsToCome r listed → HasLost change begun → HasBegunPurge c listed change begun
+
+    -- what stands there while files go: what scripts made of what stood there, or nothing where something goes with the files
+    abbrev pub IsLosing : Change → World → Type 0
+    IsLosing change now = (q : Path) → is_within home_path q ≡ false → (now q ≡ changed change old q) ⊎ (GoesWithFiles g r q × (now q ≡ None))
+
+    -- Nothing has gone; or files are going, and the package is marked; or they are gone; or a purge takes conffiles and directories away,
+    -- until the record goes.
+    pub data IsAtStep (change : Change) (now : World) : Type 0 where
+      begun : IsRecorded g.name (IsFirstRecord r) now → IsScripted change old now → IsAtStep change now
+      losing : IsRecorded g.name (IsLosingRecord r) now → IsLosing change now → IsAtStep change now
+      lost : IsRecorded g.name (IsLostRecord r) now → HasLost change now → IsAtStep change now
+      purging : g.extent ≡ Purge → (c : Record) (listed : List Path) → IsRecorded g.name (IsPurgedRecord c) now → (early late : Change) → change ≡ early ++ late → (start : World) → HasBegunPurge c listed early start
+          → ((q : Path) → is_within home_path q ≡ false → IsLeft q (GoesWithPurge g r c listed q) late start now) → IsAtStep change now

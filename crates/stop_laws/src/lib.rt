@@ -1,0 +1,13 @@
+//! What a stop at any moment leaves of a unit that configures, removes or purges a package, path by path (Policy 6.7, 6.8): laws of
+//! what the engines promise of each moment. Nothing here runs.
+#![tactic(auto)]
+
+mod configure_records;
+mod removal_paths;
+mod removal_records;
+mod removal_steps;
+
+pub use configure_records::what_configuring_leaves_at_each_moment;
+pub use removal_paths::what_a_removal_leaves_at_each_moment;
+pub use removal_records::what_the_next_opening_finds_of_a_removal;
+pub use removal_steps::what_each_step_of_a_removal_leaves;
