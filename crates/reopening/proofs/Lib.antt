@@ -1,0 +1,15 @@
+pub mod Inside
+pub mod Steps
+pub mod Names
+pub mod Entries
+pub mod Texts
+pub mod Rows
+pub mod Beginning
+pub mod Parts
+pub mod Stages
+pub mod Unpacks
+pub mod Removals
+pub mod Units
+pub mod Behind
+pub mod Sounds
+pub mod Turns

@@ -1,0 +1,141 @@
+-- Packages that are configured, removed or purged one after another: the next opening can read all at each moment.
+use Rattle.std.proofs.Common.{◌≡◌, inl, inr, ℕ, IsTrue, Bool, true, List, [], ◌∷◌, ◌++◌, Option, Some, None, refl, sym, ap, subst, ◌∙◌}
+use Rattle.conffiles.specs.declared.decisions.ConfPolicy.{ConfPolicy}
+use Rattle.configure_engine.specs.Units.{IsPlanOf as IsConfigurePlan}
+use Rattle.configure_run.specs.Run.{HasRun as HasConfigureRun}
+use Rattle.configure_run.specs.Turns.{ConfiguresTo, HaveTurned, IsAmidNext as IsAmidTurn, IsAmidUnit as IsAmidConfigure, IsConfigured, IsTurn, IsUnit, IsUnitFor, StopTurns, given_by as configure_given}
+use Rattle.dependency_check.specs.Waiting.{Waiting}
+use Rattle.file_lists.specs.Owners.{paths_of}
+use Rattle.host_core.specs.Events.{Event}
+use Rattle.host_core.specs.Host.{State}
+use Rattle.host_core.specs.Moments.{since_weaker_if}
+use Rattle.host_core.specs.World.{World}
+use Rattle.relation_index.specs.declared.package.Package.{Package}
+use Rattle.removal_engine.proofs.Tables.{is_named}
+use Rattle.removal_run.specs.Names.{without}
+use Rattle.removal_run.specs.Run.{HasRun as HasRemovalRun}
+use Rattle.removal_run.specs.Turns.{IsAmidNext as IsAmidRemovals, RemovesTo}
+use Rattle.removal_run.specs.Units.{IsAmidRemoval, IsRemoval, RunsRemoval, extent_of, given_by as removal_given, holding_of}
+use Rattle.status_db.specs.Records.{record_in}
+use Rattle.status_db.specs.declared.record.Record.{Record}
+use Rattle.unit_reports.specs.Held.{Held}
+use Rattle.unit_reports.specs.declared.report.Unit.{Unit as AUnit}
+use Rattle.unpack_engine.specs.Order.{record_names}
+use Rattle.reopening.proofs.Removals.{configure_plan_safe, removal_plan_safe}
+use Rattle.reopening.proofs.Sounds.{Goes, IsSound, Opened, goes_here, goes_reads, goes_refused, goes_same, goes_stages, goes_then, opened_here, opened_reads, opened_then, sound_held, sound_lists, sound_opens}
+use Rattle.reopening.proofs.Units.{configuring_opens, held_opens, removing_opens}
+use Rattle.reopening.specs.Opens.{CanBeOpened}
+
+-- what is known of a run of units: how it goes on, and its moments
+pub record Runs (before after : Held) (s t : State) : Type 0 where
+  pub goes : Goes before after s t
+  pub opened : (IsTrue s.honest → IsSound before s.world) → Opened s t
+
+pub runs_then : (before mid after : Held) (s m t : State) → Runs before mid s m → Runs mid after m t → Runs before after s t
+runs_then before mid after s m t first second = record {
+  goes = goes_then before mid after s m t first.goes second.goes;
+  opened = λ sound. opened_then s m t (first.opened sound) (second.opened (λ h. first.goes.sound h (sound (first.goes.falls h))));
+}
+
+pub runs_same : (before after : Held) (s t : State) → after ≡ before → t ≡ s → Runs before after s t
+runs_same before after s t held same = subst (λ (h : Held). Runs before h s t) (sym held)
+    (subst (Runs before before s) (sym same) (record { goes = goes_here before s; opened = λ sound. opened_here before s sound }))
+
+-- and of one that may have been broken off
+abbrev pub Ends : Held → State → State → Type 0
+Ends before s t = (IsTrue s.honest → IsSound before s.world) → Opened s t
+
+pub ends_then : (before mid : Held) (s m t : State) → Runs before mid s m → Ends mid m t → Ends before s t
+ends_then before mid s m t first second sound = opened_then s m t (first.opened sound) (second (λ h. first.goes.sound h (sound (first.goes.falls h))))
+
+-- a configure
+
+module _ (policy : ConfPolicy) where
+  configured_goes : (name : List ℕ) (before after : Held) (u : AUnit) (s t : State) → IsSound before s.world → IsConfigured policy name before after u s t → Goes before after s t
+  configured_goes name before after u s t sound is =
+      let whole = is.configured.unit in
+      let plan = whole.plan in
+      goes_stages name whole.stages is.failed before after s is.configured.left t [] u.calls.items
+      (λ r found. configure_plan_safe plan.entry policy (paths_of before.lists name) s.world is.configured.left.honest whole.stages name (is_named before.records.records name plan.entry plan.found) (sound_lists before s.world sound name) plan.plan)
+      plan.entry plan.found whole.run is.configured.flushed is.order is.entries
+
+  -- where what it begins with is sound
+  sound_goes : (before after : Held) (s t : State) → (IsTrue t.honest → IsTrue s.honest) → (IsSound before s.world → Goes before after s t) → Goes before after s t
+  sound_goes before after s t falls goes = record { falls = falls; sound = λ h sound. (goes sound).sound h sound }
+
+  for_goes : (name : List ℕ) (before after : Held) (u : AUnit) (s t : State) → (IsTrue t.honest → IsTrue s.honest) → IsUnitFor policy name before after u s t → Goes before after s t
+  for_goes name before after u s t falls (IsUnitFor.obstructed path there refused) = goes_refused _ name before after u s t refused
+  for_goes name before after u s t falls (IsUnitFor.configured looked looks quiet none is) =
+      sound_goes before after s t falls (λ sound. goes_then before before after s looked t (goes_reads before s looked looks) (configured_goes name before after u looked t (subst (IsSound before) (sym looks.world) sound) is))
+
+  unit_goes : (packages : List Package) (p : Package) (before after : Held) (u : AUnit) (s t : State) → (IsTrue t.honest → IsTrue s.honest) → IsUnit policy packages p before after u s t → Goes before after s t
+  unit_goes packages p before after u s t falls (IsUnit.broken y first refused) = goes_refused _ p.name before after u s t refused
+  unit_goes packages p before after u s t falls (IsUnit.unbroken none is) = for_goes p.name before after u s t falls is
+
+  configure_opens : (name : List ℕ) (before : Held) (old : World) (so_far : List Event) (now : World) → IsSound before old → IsAmidConfigure policy name before old so_far now → CanBeOpened now
+  configure_opens name before old so_far now sound (inl still) = subst CanBeOpened (sym still.same) (sound_opens before old sound)
+  configure_opens name before old so_far now sound (inr amid) =
+      configuring_opens (record_names before.records.records) before.entries (configure_given policy name before) old amid.during now (sound_held before old sound) (sound_opens before old sound) (sound_lists before old sound name) amid.holds
+
+  turn_runs : (silent : ℕ → Bool) (q later : Waiting) (before after : Held) (u : AUnit) (s t : State) → IsTurn policy silent q later before after u s t → Runs before after s t
+  turn_runs silent q later before after u s t turn = record {
+    goes = unit_goes q.packages turn.p before after u s t turn.moments.honest turn.is;
+    opened = λ sound. since_weaker_if _ _ s t (λ h so_far now amid. configure_opens turn.p.name before s.world so_far now (sound (turn.moments.honest h)) amid) turn.moments;
+  }
+
+  turns_run : (silent : ℕ → Bool) (start : Waiting) (before : Held) (s : State) (us : List AUnit) (q : Waiting) (after : Held) (t : State) → ConfiguresTo policy silent start before s us q after t → Runs before after s t
+  turns_run silent start before s us q after t ConfiguresTo.begun = runs_same before before s s refl refl
+  turns_run silent start before s us q after t (ConfiguresTo.turned done u mid_q later mid ends m end come turn) =
+      runs_then before mid after s m t (turns_run silent start before s done mid_q mid m come) (turn_runs silent mid_q q mid after u m t turn)
+
+  next_opens : (silent : ℕ → Bool) (q : Waiting) (before : Held) (old : World) (so_far : List Event) (now : World) → IsSound before old → IsAmidTurn policy silent q before old so_far now → CanBeOpened now
+  next_opens silent q before old so_far now sound (inl still) = subst CanBeOpened (sym still.same) (sound_opens before old sound)
+  next_opens silent q before old so_far now sound (inr next) = configure_opens next.1.name before old so_far now sound next.3
+
+  stop_ends : (silent : ℕ → Bool) (start : Waiting) (before : Held) (s : State) (first now : List AUnit) (last : Option AUnit) (t : State) → StopTurns policy silent start before s first now last t → Ends before s t
+  stop_ends silent start before s first now last t (StopTurns.turning q after m turned since broken) =
+      ends_then before after s m t (turns_run silent start before s turned.turned q after m turned.come)
+      (λ sound. since_weaker_if _ _ m t (λ h so_far w amid. next_opens silent q after m.world so_far w (sound (since.honest h)) amid) since)
+  stop_ends silent start before s first now last t (StopTurns.leaving q after front turned none refused broken) = (turns_run silent start before s turned.turned q after t turned.come).opened
+
+  pub configure_ends : (names : List (List ℕ)) (us : List AUnit) (last : Option AUnit) (before : Held) (s t : State) → HasConfigureRun names policy us last before s t → Ends before s t
+  configure_ends names us last before s t (HasConfigureRun.refusing refused reads broken) sound = opened_reads before s t sound reads
+  configure_ends names us last before s t (HasConfigureRun.turning first refused silent start looked begins stop) sound =
+      opened_then s looked t (opened_reads before s looked sound begins.looks)
+      (stop_ends silent start before looked first us last t stop (λ h. subst (IsSound before) (sym begins.looks.world) (sound (begins.looks.honest h))))
+
+-- a removal or a purge
+
+module _ (purge : Bool) where
+  removal_goes : (name : List ℕ) (before after : Held) (u : AUnit) (s t : State) → IsRemoval purge name before after u s t → Goes before after s t
+  removal_goes name before after u s t is =
+      let whole = is.removed.removed in
+      let plan = whole.plan in
+      goes_stages name whole.stages is.failed before after s is.removed.m t [] u.calls.items
+      (λ r found. removal_plan_safe before.entries before.lists plan.entry (extent_of purge) s.world is.removed.m.honest whole.stages name (is_named before.records.records name plan.entry plan.found) plan.plan)
+      plan.entry plan.found whole.run is.removed.disk is.order is.entries
+
+  removal_opens : (name : List ℕ) (before : Held) (old : World) (so_far : List Event) (now : World) → IsSound before old → IsAmidRemoval purge name before old so_far now → CanBeOpened now
+  removal_opens name before old so_far now sound amid =
+      removing_opens (record_names before.records.records) before.entries (removal_given purge name before) old amid.front now (sound_held before old sound) (λ same. subst CanBeOpened (sym same) (sound_opens before old sound)) amid.amid
+
+  removals_run : (waiting : List (List ℕ)) (before : Held) (s : State) (us : List AUnit) (left : List (List ℕ)) (after : Held) (t : State) → RemovesTo purge waiting before s us left after t → Runs before after s t
+  removals_run waiting before s [] left after t turns = runs_same before after s t turns.1 turns.2
+  removals_run waiting before s (u ∷ us) left after t turns =
+      runs_then before turns.1 after s turns.2 t
+      (record {
+        goes = removal_goes turns.0 before turns.1 u s turns.2 turns.4.is;
+        opened = λ sound. since_weaker_if _ _ s turns.2 (λ h so_far now amid. removal_opens turns.0 before s.world so_far now (sound (turns.4.moments.honest h)) amid) turns.4.moments;
+      })
+      (removals_run (without turns.0 waiting) turns.1 turns.2 us left after t turns.5)
+
+  next_removal_opens : (waiting : List (List ℕ)) (before : Held) (old : World) (so_far : List Event) (now : World) → IsSound before old → IsAmidRemovals purge waiting before old so_far now → CanBeOpened now
+  next_removal_opens waiting before old so_far now sound (inl same) = subst CanBeOpened (sym same) (sound_opens before old sound)
+  next_removal_opens waiting before old so_far now sound (inr next) = removal_opens next.0 before old so_far now sound next.2
+
+  pub removal_ends : (names : List (List ℕ)) (us : List AUnit) (last : Option AUnit) (before : Held) (s t : State) → HasRemovalRun names purge us last before s t → Ends before s t
+  removal_ends names us last before s t (inl none) sound = subst (Opened s) (sym none.here) (opened_here before s sound)
+  removal_ends names us last before s t (inr begun) sound =
+      let runs = begun.runs in
+      ends_then before runs.after s runs.end t (removals_run _ before s runs.removed runs.waiting runs.after runs.end runs.turns)
+      (λ there. since_weaker_if _ _ runs.end t (λ h so_far w amid. next_removal_opens runs.waiting runs.after runs.end.world so_far w (there (runs.since.honest h)) amid) runs.since) sound

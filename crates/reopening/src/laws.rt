@@ -1,0 +1,2 @@
+// Laws of moments of commands.
+pub fn nothing() {}
