@@ -13,3 +13,6 @@ pub mod Units
 pub mod Behind
 pub mod Sounds
 pub mod Turns
+pub mod Sessions
+pub mod Diverts
+pub mod Losses

@@ -68,6 +68,11 @@ of_own [] all = tt
 of_own (r ∷ rs) all =
     (record { stands = all.0; named = first_of r.name (record_names rs) }, of_more (record_names rs) (r.name ∷ record_names rs) rs (later_of r.name (record_names rs)) (of_own rs all.1))
 
+pub of_from : (names : List (List ℕ)) (rs : List Record) → AreStanding rs → ((q : List ℕ) → Contains (record_names rs) q → Contains names q) → AreOf names rs
+of_from names [] all known = tt
+of_from names (r ∷ rs) all known =
+    (record { stands = all.0; named = known r.name (first_of r.name (record_names rs)) }, of_from names rs all.1 (λ q has. known q (later_of r.name (record_names rs) q has)))
+
 -- nothing is left in `tmp.ci`
 
 abbrev pub IsEmptied : World → Type 0

@@ -1,0 +1,123 @@
+-- A diversion is added or taken away: the next opening can read all at each moment.
+use Rattle.std.proofs.Common.{◌≡◌, ◌≢◌, ◌⊎◌, ◌&&◌, inl, inr, ℕ, IsTrue, Bool, true, false, cond, not, List, [], ◌∷◌, ◌++◌, Option, Some, None, codes, get_or, refl, sym, ap, subst, ◌∙◌, arith}
+use Rattle.std.specs.Prelude.{IsSome}
+use Rattle.std.specs.Str.{bytes_eq}
+use Rattle.std.proofs.lemmas.Bool.{and_right}
+use Rattle.host_core.specs.Host.{AtEachMoment, State}
+use Rattle.host_core.specs.Moments.{since_weaker_if}
+use Rattle.host_core.specs.Paths.{Path, has_reserved_suffix, has_room, is_below_administration, is_path_text, is_ship_text}
+use Rattle.host_core.specs.World.{World, IsDirectory}
+use Rattle.host_core.specs.declared.node.Node.{Node}
+use Rattle.host_core.specs.declared.node.Node.TheVariants.{File, Dir, Link}
+use Rattle.administration.proofs.WholeFiles.{no_directory_at}
+use Rattle.administration.specs.Files.{KeepsBesideFile}
+use Rattle.administration.specs.Places.{diversions_path, home_path, info_path, status_path, temporary, tmp_path, updates_path, is_within}
+use Rattle.diversions.proofs.Moving.{moved_away, own_other}
+use Rattle.diversions.specs.Changes.{IsAdding, IsRecording, IsRemoving, IsTableReady, moved_if}
+use Rattle.diversions.specs.Entries.{IsTable, entry_of, without}
+use Rattle.diversions.specs.Lines.{HasDiversions, HasEntries, ReadsAs}
+use Rattle.diversions.specs.Places.{target_of, truename}
+use Rattle.diversions.specs.Sights.{moves_node, sight_of}
+use Rattle.diversions.specs.declared.entry.Diversion.{Diversion}
+use Rattle.diversions.specs.declared.refusal.Seen.{Seen}
+use Rattle.file_lists.specs.Info.{IsSound as IsSoundEntry, entry_path}
+use Rattle.status_db.proofs.NotedWorlds.{records_same}
+use Rattle.status_db.specs.Held.{CanOpenRecords, HasRecords}
+use Rattle.status_db.specs.Notes.{digits, limit, note_path}
+use Rattle.unit_reports.specs.Held.{Held}
+use Rattle.unpack_engine.specs.Order.{record_names}
+use Rattle.reopening.proofs.Entries.{IsSafe}
+use Rattle.reopening.proofs.Parts.{temporary_is}
+use Rattle.reopening.proofs.Sounds.{IsSound, Opened, sound_opens}
+use Rattle.reopening.proofs.Units.{emptied_incoming, of_own}
+use Rattle.reopening.proofs.Unpacks.{opened_by}
+use Rattle.reopening.specs.Opens.{CanBeOpened}
+
+-- no shipped path is below the administration's directory
+below_not_ship : (q : Path) → is_below_administration q ≡ true → is_ship_text q ≡ false
+below_not_ship q below =
+    and_right (is_path_text q) (has_room q && (not (bytes_eq q (codes "/")) && (not (has_reserved_suffix q) && not (is_below_administration q))))
+    (and_right (has_room q) (not (bytes_eq q (codes "/")) && (not (has_reserved_suffix q) && not (is_below_administration q)))
+    (and_right (not (bytes_eq q (codes "/"))) (not (has_reserved_suffix q) && not (is_below_administration q))
+    (and_right (not (has_reserved_suffix q)) (not (is_below_administration q)) (ap not below))))
+
+-- a node moved from one shipped path to another, and the table is being written
+module _ (h : Held) (old now : World) (sound : IsSound h old) (moves : Bool) (from to : Path) (ship_from : is_ship_text from ≡ true) (ship_to : is_ship_text to ≡ true)
+    (rest : KeepsBesideFile diversions_path (moved_if moves from to old) now) (ready : IsTableReady now) (entries : List Diversion) (has : HasDiversions now entries) where
+  same : (q : Path) → is_below_administration q ≡ true → get_or q 14 0 ≢ 100 → now q ≡ old q
+  same q below no_d =
+      rest q (λ e. no_d (ap (λ (l : Path). get_or l 14 0) e)) (λ e. no_d (ap (λ (l : Path). get_or l 14 0) e))
+      ∙ moved_away moves from to old q (λ t. own_other q from ship_from (below_not_ship q below)) (λ t. own_other q to ship_to (below_not_ship q below))
+
+  same_info : (more : Path) → now (info_path ++ more) ≡ old (info_path ++ more)
+  same_info more = same (info_path ++ more) refl (λ e. absurd (omega (arith, e)))
+
+  same_updates : (more : Path) → now (updates_path ++ more) ≡ old (updates_path ++ more)
+  same_updates more = same (updates_path ++ more) refl (λ e. absurd (omega (arith, e)))
+
+  same_status : (more : Path) → now (status_path ++ more) ≡ old (status_path ++ more)
+  same_status more = same (status_path ++ more) refl (λ e. absurd (omega (arith, e)))
+
+  still_records : HasRecords now h.records.records
+  still_records = records_same old now h.records.records (same_status []) (λ n lt. same_updates (47 ∷ digits n)) sound.order.kept.holds
+
+  still_opens : CanOpenRecords now
+  still_opens =
+      let was = sound.order.kept.unblocked in
+      record {
+        unblocked = record {
+          home = ready.home;
+          updates = subst IsDirectory (sym (same_updates [])) was.updates;
+          text = λ bad. was.text (bad.0, bad.1, bad.2, subst IsSome (same_updates (47 ∷ bad.0)) bad.3);
+          status_spare = no_directory_at (now (temporary status_path)) (old (temporary status_path)) (same_status (codes ".dpkg-inst")) was.status_spare;
+          spares = λ n lt. no_directory_at (now (temporary (note_path n))) (old (temporary (note_path n))) (same_updates (47 ∷ digits n ++ codes ".dpkg-inst")) (was.spares n lt);
+        };
+        table = h.records.records;
+        records = still_records;
+      }
+
+  still_safe : IsSafe (record_names h.records.records) entries now
+  still_safe = record {
+    info = subst IsDirectory (sym (same_info [])) sound.safe.info;
+    text = λ bad. sound.safe.text (bad.0, bad.1, bad.2, subst IsSome (same_info (47 ∷ bad.0)) bad.3);
+    sound = λ entry plain. subst (IsSoundEntry (record_names h.records.records) entry) (sym (same_info (47 ∷ entry))) (sound.safe.sound entry plain);
+    diversions = has;
+    spare = ready.spare;
+  }
+
+  recording_opens : CanBeOpened now
+  recording_opens = opened_by (record_names h.records.records) entries h.records.records now still_records still_opens sound.standing (λ q known. known) still_safe
+      (emptied_incoming now (λ q within. (let t = temporary_is q within in same q t.under (λ e. absurd (omega (arith, e, t.letter))) ∙ sound.empty q within)))
+
+-- of before, or the new one
+table_there : (old now : World) (before entries : List Diversion) → (now diversions_path ≡ old diversions_path) ⊎ HasDiversions now entries → HasDiversions old before → (l : List Diversion) × HasDiversions now l
+table_there old now before entries (inl same) has = (before, subst (λ (n : Option Node). HasEntries n before) (sym same) has)
+table_there old now before entries (inr new) has = (entries, new)
+
+pub adding_opens : (h : Held) (d : Diversion) (rename : Bool) (seen : Seen) (old now : World) → IsSound h old → is_ship_text d.path ≡ true → is_ship_text d.target ≡ true → IsAdding h.entries d rename seen old now → CanBeOpened now
+adding_opens h d rename seen old now sound path target (inl still) = subst CanBeOpened (sym still) (sound_opens h old sound)
+adding_opens h d rename seen old now sound path target (inr amid) =
+    let table = table_there old now h.entries (h.entries ++ d ∷ []) amid.table sound.safe.diversions in
+    recording_opens h old now sound (moves_node rename seen.listed (sight_of old d.path d.target)) d.path d.target path target amid.rest amid.ready table.0 table.1
+
+-- a truename is shipped, where the path is
+true_ships : (entries : List Diversion) (path : Path) → IsTable entries → is_ship_text path ≡ true → is_ship_text (truename entries path) ≡ true
+true_ships [] path table ships = ships
+true_ships (d ∷ entries) path table ships = by (bytes_eq path d.path) (true_ships entries path table.3 ships)
+  where
+    by : (b : Bool) → is_ship_text (truename entries path) ≡ true → is_ship_text (target_of (cond b (Some d) (entry_of entries path)) path) ≡ true
+    by true rest = table.0.target.path
+    by false rest = rest
+
+read_table : (node : Option Node) (entries : List Diversion) → HasEntries node entries → IsTable entries
+read_table None entries has = subst IsTable (sym has) tt
+read_table (Some (File bytes access)) entries has = has.table
+read_table (Some (Dir access)) entries has = absurd has
+read_table (Some (Link target)) entries has = absurd has
+
+pub removing_opens : (h : Held) (path : Path) (rename : Bool) (old now : World) → IsSound h old → is_ship_text path ≡ true → IsRemoving h.entries path rename old now → CanBeOpened now
+removing_opens h path rename old now sound ships (inl still) = subst CanBeOpened (sym still) (sound_opens h old sound)
+removing_opens h path rename old now sound ships (inr amid) =
+    let target = truename h.entries path in
+    let table = table_there old now h.entries (without path h.entries) amid.table sound.safe.diversions in
+    recording_opens h old now sound (moves_node rename false (sight_of old target path)) target path (true_ships h.entries path (read_table (old diversions_path) h.entries sound.safe.diversions) ships) ships amid.rest amid.ready table.0 table.1

@@ -1,0 +1,192 @@
+-- Unpacks one after another, and an install: the next opening can read all at each moment.
+use Rattle.std.proofs.Common.{◌≡◌, inl, inr, ℕ, zero, suc, IsTrue, Bool, true, List, [], ◌∷◌, ◌++◌, Option, Some, None, Result, Ok, Err, Contains, drop, length, take, refl, sym, ap, subst, ◌∙◌, arith}
+use Rattle.configure_run.specs.Run.{HasRun as HasConfigureRun}
+use Rattle.conffiles.specs.declared.decisions.ConfPolicy.{ConfPolicy}
+use Rattle.displaced_packages.specs.Losing.{losing_beside}
+use Rattle.diversions.specs.declared.entry.Diversion.{Diversion}
+use Rattle.file_lists.specs.Owners.{paths_of}
+use Rattle.file_lists.specs.declared.paths.PackageList.{PackageList}
+use Rattle.host_core.specs.Events.{Event}
+use Rattle.host_core.specs.Host.{Needs, State}
+use Rattle.host_core.specs.Moments.{since_weaker_if}
+use Rattle.host_core.specs.World.{World}
+use Rattle.host_core.specs.declared.call.Call.{Call}
+use Rattle.package_tree.specs.declared.fault.TreeFault.{TreeFault}
+use Rattle.package_tree.specs.declared.package.Package.{Package}
+use Rattle.removal_run.specs.Units.{holding_of}
+use Rattle.stack_run.specs.Ended.{ended_as}
+use Rattle.stack_run.specs.declared.unwinding.Unwinding.{Unwinding}
+use Rattle.status_db.specs.Held.{HasRecords}
+use Rattle.status_db.specs.Recorded.{Recorded}
+use Rattle.status_db.specs.Records.{AreStanding}
+use Rattle.status_db.specs.declared.record.Record.{Record}
+use Rattle.unit_reports.specs.Held.{Held, places_of}
+use Rattle.unit_reports.specs.declared.report.Report.{Report}
+use Rattle.unit_reports.specs.declared.report.Unit.{Unit as AUnit}
+use Rattle.unpack_engine.specs.Order.{IsInOrder, record_names}
+use Rattle.unpack_engine.specs.Units.{Given, IsAmidUnit, ground_of, job_of, package_name}
+use Rattle.unpack_relations.specs.declared.beside.Beside.{Beside}
+use Rattle.unpack_relations.specs.declared.checking.Checked.{Checked}
+use Rattle.unpack_relations.specs.declared.checking.Checked.TheVariants.{Planned as Unpacks, Refused}
+use Rattle.unwind_stack.specs.declared.rows.Called.{Called}
+use Rattle.dpkg_session.specs.Installs.{HasGoneOn}
+use Rattle.dpkg_session.specs.Run.{HasRun, IsAmidBehind, IsAmidBeside, IsAmidBy, IsAmidNext, IsAmidPackage, IsAmidUnitOf, IsAmidUnpack, IsRun, RunsUnit}
+use Rattle.dpkg_session.specs.Units.{HasDisplaced, HasUnpackedBeside, HaveRows, IsUnitBy, IsUnitOf, IsUnpacked, given_by, held_with, yielding}
+use Rattle.dpkg_session.specs.declared.report.Candidate.{Candidate}
+use Rattle.reopening.proofs.Behind.{displaced_lead, displacing_open}
+use Rattle.reopening.proofs.Entries.{IsSafe}
+use Rattle.reopening.proofs.Inside.{quiet_here}
+use Rattle.reopening.proofs.Parts.{AreOf}
+use Rattle.reopening.proofs.Sounds.{Goes, IsSound, Opened, goes_refused, goes_then, held_sound, opened_then, sound_lists, sound_opens}
+use Rattle.reopening.proofs.Turns.{Ends, Runs, configure_ends, ends_then, runs_same, runs_then}
+use Rattle.reopening.proofs.Units.{IsHeld, held_same, of_from}
+use Rattle.reopening.proofs.Unpacks.{ShipsText, amid_names, amid_standing, carried_from, ended_table, found_among, left_records, under_way_opens}
+use Rattle.reopening.specs.Opens.{CanBeOpened}
+
+-- the paths of each tree that was read are text
+abbrev pub IsTextTree : Result Package TreeFault → Type 0
+IsTextTree (Ok p) = ShipsText p
+IsTextTree (Err fault) = Unit {0}
+
+-- what is left of the unit of a package, before anything is displaced
+
+module _ (p : Package) (texts : ShipsText p) (beside : Beside) (before : Held) (unwinding : Option Unwinding) (records : Recorded) (lists : List PackageList) (s m : State) (told now : List Called)
+    (is : HasUnpackedBeside p beside before (places_of before) unwinding records lists s m told now) (h : IsTrue m.honest) (sound : IsSound before s.world) where
+  abbrev g : Given
+  g = given_by p before is.others (yielding beside)
+
+  abbrev unpacked_names : List (List ℕ)
+  unpacked_names = package_name (ground_of g (places_of before)) is.unpacked.plan ∷ record_names before.records.records
+
+  pub unpacked_held : IsHeld unpacked_names before.entries records.records m.world
+  unpacked_held =
+      let ground = ground_of g (places_of before) in
+      let plan = is.unpacked.plan in
+      let planned = is.unpacked.plan_for.planned in
+      let recorded = is.have_rows.apart.recorded in
+      let out = is.unpacked.carried_out in
+      let ended = ended_as unwinding in
+      let honest = out.since.honest h in
+      let at = out.ran.rows_end in
+      let begins = out.ran.begins_so honest in
+      let table = ended_table (job_of g is.unpacked.plan_for.stored) ground plan planned refl refl sound.standing recorded texts s.world before.records refl sound.order (sound_lists before s.world sound) ended out.mid out.ran.begun out.last at in
+      let from = carried_from (job_of g is.unpacked.plan_for.stored) ground plan planned refl refl sound.standing recorded texts s.world before.records refl sound.order (sound_lists before s.world sound) ended out.mid out.ran.begun out.last m.world begins at honest (out.leaves h) in
+      let has = left_records (job_of g is.unpacked.plan_for.stored) ground plan planned refl refl sound.standing recorded texts s.world before.records refl sound.order (sound_lists before s.world sound) ended out.mid out.ran.begun out.last m.world at honest (out.leaves h) in
+      record {
+        all = subst (AreOf _) (sym out.records) (of_from _ _ (amid_standing (job_of g is.unpacked.plan_for.stored) ground plan planned refl sound.standing recorded _ table) (amid_names (job_of g is.unpacked.plan_for.stored) ground plan planned refl sound.standing recorded _ table));
+        base = from.cleared;
+        safe = from.clears.1 (record_names before.records.records) before.entries (found_among (job_of g is.unpacked.plan_for.stored) ground plan planned refl sound.standing recorded) sound.safe;
+        quiet = from.quiet;
+        empty = (out.leaves h).removed.inside;
+        has = subst (HasRecords m.world) (sym out.records) has;
+      }
+
+-- and behind it
+
+displaced_held : (names : List (List ℕ)) (unwinding : Option Unwinding) (p : Package) (beside : Beside) (before : Held) (displaced : List (List ℕ)) (failed : Option Call) (mid after : Held) (m t : State) (told now : List Called) → mid.entries ≡ before.entries
+    → (IsTrue m.honest → IsHeld names before.entries mid.records.records m.world) → HasDisplaced unwinding p.name p.version (losing_beside before.lists beside) beside.conflicting displaced failed mid after m t told now
+    → IsTrue t.honest → IsHeld names before.entries after.records.records t.world
+displaced_held names (Some u) p beside before displaced failed mid after m t told now same held is h =
+    let here : m.honest ≡ t.honest = ap (λ (x : State). x.honest) (sym is.here) in
+    subst (λ (x : Held). IsHeld names before.entries x.records.records t.world) (sym is.held) (held_same names before.entries mid.records.records m.world t.world (ap (λ (x : State). x.world) is.here) (held (subst IsTrue (sym here) h)))
+displaced_held names None p beside before displaced failed mid after m t told now same held is h =
+    (displaced_lead names before.entries mid.entries p.name p.version (losing_beside before.lists beside) beside.conflicting displaced failed (holding_of mid) (holding_of after) m t told now held is).held h
+
+unpacked_goes : (p : Package) (beside : Beside) (before after : Held) (u : AUnit) (s t : State) → ShipsText p → (IsTrue t.honest → IsTrue s.honest) → IsUnpacked p beside before after u s t → Goes before after s t
+unpacked_goes p beside before after u s t texts falls is =
+    let whole = is.unpacked in
+    let names = package_name (ground_of (given_by p before whole.unpacked.others (yielding beside)) (places_of before)) whole.unpacked.unpacked.plan ∷ record_names before.records.records in
+    record {
+      falls = falls;
+      sound = λ h sound.
+          held_sound names after t.world
+          (subst (λ (l : List Diversion). IsHeld names l after.records.records t.world) (sym is.entries)
+          (displaced_held names is.unwinding p beside before is.displaced is.failed (held_with before whole.records whole.lists) after whole.m t whole.between u.calls.items refl
+          (λ at_m. unpacked_held p texts beside before is.unwinding whole.records whole.lists s whole.m [] whole.between whole.unpacked at_m sound) whole.behind h))
+          (is.order h);
+    }
+
+by_goes : (p : Package) (decision : Checked) (before after : Held) (u : AUnit) (s t : State) → ShipsText p → (IsTrue t.honest → IsTrue s.honest) → IsUnitBy p decision before after u s t → Goes before after s t
+by_goes p (Refused rule) before after u s t texts falls is = goes_refused rule p.name before after u s t is
+by_goes p (Unpacks beside) before after u s t texts falls is = unpacked_goes p beside before after u s t texts falls is
+
+unit_goes : (auto : Bool) (label : List ℕ) (tree : Result Package TreeFault) (before after : Held) (u : AUnit) (s t : State) → IsTextTree tree → (IsTrue t.honest → IsTrue s.honest) → IsUnitOf auto label tree before after u s t → Goes before after s t
+unit_goes auto label (Err fault) before after u s t texts falls is = goes_refused _ label before after u s t is
+unit_goes auto label (Ok p) before after u s t texts falls is = by_goes p is.0 before after u s t texts falls is.2
+
+-- at each moment
+
+still_opens : (before : Held) (old now : World) → IsSound before old → now ≡ old → CanBeOpened now
+still_opens before old now sound same = subst CanBeOpened (sym same) (sound_opens before old sound)
+
+module _ (p : Package) (texts : ShipsText p) (beside : Beside) (before : Held) (old : World) (sound : IsSound before old) where
+  beside_opens : (so_far : List Event) (now : World) → IsAmidBeside p beside before (places_of before) old so_far now → CanBeOpened now
+  beside_opens so_far now (inl still) = still_opens before old now sound still.0
+  beside_opens so_far now (inr (others, rows, inl looks)) = still_opens before old now sound looks.0
+  beside_opens so_far now (inr (others, rows, inr amid)) =
+      let g = given_by p before others (yielding beside) in
+      under_way_opens (job_of g amid.plan_for.stored) (ground_of g (places_of before)) amid.plan amid.plan_for.planned refl refl sound.standing rows.apart.recorded texts old before.records refl sound.order (sound_lists before old sound)
+      before.entries so_far now sound.safe amid.under_way
+
+  behind_opens : (so_far : List Event) (now : World) → IsAmidBehind p beside before old so_far now → CanBeOpened now
+  behind_opens so_far now amid =
+      displacing_open _ before.entries before.entries p.name p.version (losing_beside before.lists beside) beside.conflicting (holding_of (held_with before amid.records amid.lists)) amid.m amid.rest now
+      (λ h. unpacked_held p texts beside before None amid.records amid.lists amid.s amid.m [] amid.between amid.unpacked h (subst (IsSound before) (sym amid.from) sound)) amid.displacing
+
+  unpack_opens : (so_far : List Event) (now : World) → IsAmidUnpack p beside before old so_far now → CanBeOpened now
+  unpack_opens so_far now (inl amid) = beside_opens so_far now amid
+  unpack_opens so_far now (inr amid) = behind_opens so_far now amid
+
+by_opens : (p : Package) (decision : Checked) (before : Held) (old : World) (so_far : List Event) (now : World) → ShipsText p → IsSound before old → IsAmidBy p decision before old so_far now → CanBeOpened now
+by_opens p (Refused rule) before old so_far now texts sound same = still_opens before old now sound same
+by_opens p (Unpacks beside) before old so_far now texts sound amid = unpack_opens p texts beside before old sound so_far now amid
+
+package_opens : (auto : Bool) (p : Package) (before : Held) (old : World) (so_far : List Event) (now : World) → ShipsText p → IsSound before old → IsAmidPackage auto p before old so_far now → CanBeOpened now
+package_opens auto p before old so_far now texts sound (inl still) = still_opens before old now sound still.0
+package_opens auto p before old so_far now texts sound (inr decided) = by_opens p decided.0 before old so_far now texts sound decided.2
+
+unit_opens : (auto : Bool) (tree : Result Package TreeFault) (before : Held) (old : World) (so_far : List Event) (now : World) → IsTextTree tree → IsSound before old → IsAmidUnitOf auto tree before old so_far now → CanBeOpened now
+unit_opens auto (Err fault) before old so_far now texts sound same = still_opens before old now sound same
+unit_opens auto (Ok p) before old so_far now texts sound amid = package_opens auto p before old so_far now texts sound amid
+
+-- unit after unit
+
+abbrev pub AreTextTrees : List Candidate → Type 0
+AreTextTrees [] = Unit {0}
+AreTextTrees (c ∷ cs) = IsTextTree c.tree × AreTextTrees cs
+
+unit_runs : (auto : Bool) (c : Candidate) (before after : Held) (u : AUnit) (s t : State) → IsTextTree c.tree → RunsUnit auto c before after u s t → Runs before after s t
+unit_runs auto c before after u s t texts runs = record {
+  goes = unit_goes auto c.label c.tree before after u s t texts runs.moments.honest runs.is;
+  opened = λ sound. since_weaker_if _ _ s t (λ h so_far now amid. unit_opens auto c.tree before s.world so_far now texts (sound (runs.moments.honest h)) amid) runs.moments;
+}
+
+pub run_runs : (auto : Bool) (cs : List Candidate) (us : List AUnit) (before after : Held) (s t : State) → AreTextTrees cs → IsRun auto cs us before after s t → Runs before after s t
+run_runs auto [] [] before after s t texts run = runs_same before after s t run.1 run.0
+run_runs auto [] (u ∷ us) before after s t texts run = absurd run
+run_runs auto (c ∷ cs) [] before after s t texts run = absurd run
+run_runs auto (c ∷ cs) (u ∷ us) before after s t texts run = runs_then before run.1 after s run.0 t (unit_runs auto c before run.1 u s run.0 texts.0 run.2) (run_runs auto cs us run.1 after run.0 t texts.1 run.3)
+
+texts_take : (n : ℕ) (cs : List Candidate) → AreTextTrees cs → AreTextTrees (take n cs)
+texts_take zero cs texts = tt
+texts_take (suc n) [] texts = tt
+texts_take (suc n) (c ∷ cs) texts = (texts.0, texts_take n cs texts.1)
+
+texts_drop : (n : ℕ) (cs : List Candidate) → AreTextTrees cs → AreTextTrees (drop n cs)
+texts_drop zero cs texts = texts
+texts_drop (suc n) [] texts = tt
+texts_drop (suc n) (c ∷ cs) texts = texts_drop n cs texts.1
+
+next_opens : (auto : Bool) (cs : List Candidate) (before : Held) (old : World) (so_far : List Event) (now : World) → AreTextTrees cs → IsSound before old → IsAmidNext auto cs before old so_far now → CanBeOpened now
+next_opens auto [] before old so_far now texts sound same = still_opens before old now sound same
+next_opens auto (c ∷ cs) before old so_far now texts sound amid = unit_opens auto c.tree before old so_far now texts.0 sound amid
+
+pub run_ends : (auto : Bool) (cs : List Candidate) (us : List AUnit) (last : Option AUnit) (before : Held) (s t : State) → AreTextTrees cs → HasRun auto cs us last before s t → Ends before s t
+run_ends auto cs us last before s t texts has =
+    ends_then before has.after s has.end t (run_runs auto (take (length us) cs) us before has.after s has.end (texts_take (length us) cs texts) has.run)
+    (λ sound. since_weaker_if _ _ has.end t (λ h so_far now amid. next_opens auto (drop (length us) cs) has.after has.end.world so_far now (texts_drop (length us) cs texts) (sound (has.since.honest h)) amid) has.since)
+
+-- and then those that were done are configured
+pub install_ends : (auto : Bool) (cs : List Candidate) (policy : ConfPolicy) (unpacked : List AUnit) (configured : Report) (before : Held) (s t : State) → AreTextTrees cs → HasGoneOn auto cs policy unpacked configured before s t → Ends before s t
+install_ends auto cs policy unpacked configured before s t texts has =
+    ends_then before has.mid s has.m t (run_runs auto cs unpacked before has.mid s has.m texts has.unpacks) (configure_ends policy _ configured.units.items configured.last has.mid has.m t has.configures)
