@@ -16,3 +16,5 @@ pub mod Turns
 pub mod Sessions
 pub mod Diverts
 pub mod Losses
+mod Standings
+mod Undamaged

@@ -1,5 +1,6 @@
 -- Unpacks one after another, and an install: the next opening can read all at each moment.
 use Rattle.std.proofs.Common.{◌≡◌, inl, inr, ℕ, zero, suc, IsTrue, Bool, true, List, [], ◌∷◌, ◌++◌, Option, Some, None, Result, Ok, Err, Contains, drop, length, take, refl, sym, ap, subst, ◌∙◌, arith}
+use Rattle.std.specs.Str.{IsUtf8}
 use Rattle.configure_run.specs.Run.{HasRun as HasConfigureRun}
 use Rattle.conffiles.specs.declared.decisions.ConfPolicy.{ConfPolicy}
 use Rattle.displaced_packages.specs.Losing.{losing_beside}
@@ -9,10 +10,13 @@ use Rattle.file_lists.specs.declared.paths.PackageList.{PackageList}
 use Rattle.host_core.specs.Events.{Event}
 use Rattle.host_core.specs.Host.{Needs, State}
 use Rattle.host_core.specs.Moments.{since_weaker_if}
+use Rattle.host_core.specs.Paths.{Path}
 use Rattle.host_core.specs.World.{World}
 use Rattle.host_core.specs.declared.call.Call.{Call}
 use Rattle.package_tree.specs.declared.fault.TreeFault.{TreeFault}
+use Rattle.package_tree.specs.ShipMap.{paths_of as shipped_paths}
 use Rattle.package_tree.specs.declared.package.Package.{Package}
+use Rattle.package_tree.specs.declared.shipped.Shipped.{Shipped}
 use Rattle.removal_run.specs.Units.{holding_of}
 use Rattle.stack_run.specs.Ended.{ended_as}
 use Rattle.stack_run.specs.declared.unwinding.Unwinding.{Unwinding}
@@ -42,11 +46,16 @@ use Rattle.reopening.proofs.Turns.{Ends, Runs, configure_ends, ends_then, runs_s
 use Rattle.reopening.proofs.Units.{IsHeld, held_same, of_from}
 use Rattle.reopening.proofs.Unpacks.{ShipsText, amid_names, amid_standing, carried_from, ended_table, found_among, left_records, under_way_opens}
 use Rattle.reopening.specs.Opens.{CanBeOpened}
+use Rattle.reopening.specs.Trees.{AreTextFiles, AreTextTrees, IsTextTree}
 
--- the paths of each tree that was read are text
-abbrev pub IsTextTree : Result Package TreeFault → Type 0
-IsTextTree (Ok p) = ShipsText p
-IsTextTree (Err fault) = Unit {0}
+-- the paths that it ships, one by one
+ships_text : (p : Package) → AreTextFiles p.files → ShipsText p
+ships_text p texts = by p.files texts
+  where
+    by : (files : List Shipped) → AreTextFiles files → (q : Path) → Contains (shipped_paths files) q → IsUtf8 q
+    by [] all q has = absurd (omega (arith, has.1))
+    by (file ∷ files) all q (zero, lt, e) = subst IsUtf8 e all.0
+    by (file ∷ files) all q (suc k, lt, e) = by files all.1 q (k, omega (arith, lt), e)
 
 -- what is left of the unit of a package, before anything is displaced
 
@@ -112,7 +121,7 @@ by_goes p (Unpacks beside) before after u s t texts falls is = unpacked_goes p b
 
 unit_goes : (auto : Bool) (label : List ℕ) (tree : Result Package TreeFault) (before after : Held) (u : AUnit) (s t : State) → IsTextTree tree → (IsTrue t.honest → IsTrue s.honest) → IsUnitOf auto label tree before after u s t → Goes before after s t
 unit_goes auto label (Err fault) before after u s t texts falls is = goes_refused _ label before after u s t is
-unit_goes auto label (Ok p) before after u s t texts falls is = by_goes p is.0 before after u s t texts falls is.2
+unit_goes auto label (Ok p) before after u s t texts falls is = by_goes p is.0 before after u s t (ships_text p texts) falls is.2
 
 -- at each moment
 
@@ -147,13 +156,9 @@ package_opens auto p before old so_far now texts sound (inr decided) = by_opens 
 
 unit_opens : (auto : Bool) (tree : Result Package TreeFault) (before : Held) (old : World) (so_far : List Event) (now : World) → IsTextTree tree → IsSound before old → IsAmidUnitOf auto tree before old so_far now → CanBeOpened now
 unit_opens auto (Err fault) before old so_far now texts sound same = still_opens before old now sound same
-unit_opens auto (Ok p) before old so_far now texts sound amid = package_opens auto p before old so_far now texts sound amid
+unit_opens auto (Ok p) before old so_far now texts sound amid = package_opens auto p before old so_far now (ships_text p texts) sound amid
 
 -- unit after unit
-
-abbrev pub AreTextTrees : List Candidate → Type 0
-AreTextTrees [] = Unit {0}
-AreTextTrees (c ∷ cs) = IsTextTree c.tree × AreTextTrees cs
 
 unit_runs : (auto : Bool) (c : Candidate) (before after : Held) (u : AUnit) (s t : State) → IsTextTree c.tree → RunsUnit auto c before after u s t → Runs before after s t
 unit_runs auto c before after u s t texts runs = record {

@@ -1,2 +1,69 @@
-// Laws of moments of commands.
-pub fn nothing() {}
+// The next opening can read what a command left that was broken off.
+ghost use Rattle.std.specs.Prelude.{◌≡◌, ◌++◌, ℕ, Bool, IsTrue, List, Option, true};
+ghost use Rattle.conffiles.specs.declared.decisions.ConfPolicy.{ConfPolicy as APolicy};
+ghost use Rattle.configure_run.specs.Run.{HasRun as HasConfigured};
+ghost use Rattle.diversions.specs.Changes.{IsAdding, IsRemoving};
+ghost use Rattle.diversions.specs.declared.refusal.Seen.{Seen as ASeen};
+ghost use Rattle.dpkg_session.specs.Diversions.{asked_entry};
+ghost use Rattle.dpkg_session.specs.History.{Stands};
+ghost use Rattle.dpkg_session.specs.Installs.{HasGoneOn};
+ghost use Rattle.dpkg_session.specs.Run.{HasRun};
+ghost use Rattle.dpkg_session.specs.declared.asked.Diverting.{Diverting as ADiverting};
+ghost use Rattle.dpkg_session.specs.declared.asked.Undiverting.{Undiverting as AnUndiverting};
+ghost use Rattle.dpkg_session.specs.declared.report.Candidate.{Candidate as ACandidate};
+ghost use Rattle.host_core.specs.Events.{Event, changes_of};
+ghost use Rattle.host_core.specs.Host.{AtEachMoment, State};
+ghost use Rattle.host_core.specs.Loss.{LosesSince};
+ghost use Rattle.host_core.specs.Paths.{Path, is_own, is_ship_text};
+ghost use Rattle.host_core.specs.Tree.{IsTree};
+ghost use Rattle.host_core.specs.Unsynced.{IsSettled};
+ghost use Rattle.host_core.specs.World.{Avoids, World};
+ghost use Rattle.opening.specs.Parts.{parts, IsFirstFault};
+ghost use Rattle.opening.specs.Undamaged.{IsUndamaged};
+ghost use Rattle.removal_run.specs.Run.{HasRun as HasRemoved};
+ghost use Rattle.unit_reports.specs.Held.{Held};
+ghost use Rattle.unit_reports.specs.declared.report.Report.{Report as AReport};
+ghost use Rattle.unit_reports.specs.declared.report.Unit.{Unit as AUnit};
+ghost use Rattle.reopening.specs.Opens.{CanBeOpened, CanBeOpenedAmid, FindsStanding};
+ghost use Rattle.reopening.specs.Trees.{AreTextTrees};
+
+use opening::what_is_fine_has_no_fault;
+
+/// What can be opened isn't damaged: the next opening tells no fault of it.
+pub fn what_can_be_opened_is_undamaged()
+    ensures undamaged { (w : World) → IsTree w → CanBeOpened w → IsUndamaged w }
+    ensures no_fault { (w : World) (file : Path) (line : ℕ) → IsTree w → CanBeOpened w → IsFirstFault parts w file line → ⊥ }
+{
+    what_is_fine_has_no_fault();
+}
+
+/// At each moment of an unpack, also of one that was broken off, and of an install behind its unpacks, the next
+/// opening can read all parts of an administration that stood when it began.
+pub fn an_unpack_can_be_opened_amid()
+    ensures unpack { (auto_deconfigure : Bool) (cs : List ACandidate) (us : List AUnit) (last : Option AUnit) (before : Held) (s t : State) → AreTextTrees cs → FindsStanding before s → HasRun auto_deconfigure cs us last before s t → CanBeOpenedAmid s t }
+    ensures install { (auto_deconfigure : Bool) (cs : List ACandidate) (policy : APolicy) (unpacked : List AUnit) (configured : AReport) (before : Held) (s t : State) → AreTextTrees cs → FindsStanding before s → HasGoneOn auto_deconfigure cs policy unpacked configured before s t → CanBeOpenedAmid s t }
+{}
+
+/// At each moment of a configure, likewise.
+pub fn a_configure_can_be_opened_amid()
+    ensures { (names : List (List ℕ)) (policy : APolicy) (us : List AUnit) (last : Option AUnit) (before : Held) (s t : State) → FindsStanding before s → HasConfigured names policy us last before s t → CanBeOpenedAmid s t }
+{}
+
+/// At each moment of a removal or a purge, likewise.
+pub fn a_removal_can_be_opened_amid()
+    ensures { (names : List (List ℕ)) (purge : Bool) (us : List AUnit) (last : Option AUnit) (before : Held) (s t : State) → FindsStanding before s → HasRemoved names purge us last before s t → CanBeOpenedAmid s t }
+{}
+
+/// At each moment while a diversion is added or taken away, likewise.
+pub fn a_diversion_can_be_opened_amid()
+    ensures divert { (asked : ADiverting) (seen : ASeen) (before : Held) (s t : State) → is_ship_text asked.path ≡ true → is_ship_text asked.target ≡ true → FindsStanding before s → AtEachMoment (IsAdding before.entries (asked_entry asked) asked.rename seen) s t → CanBeOpenedAmid s t }
+    ensures undivert { (asked : AnUndiverting) (before : Held) (s t : State) → is_ship_text asked.path ≡ true → FindsStanding before s → AtEachMoment (IsRemoving before.entries asked.path asked.rename) s t → CanBeOpenedAmid s t }
+{}
+
+/// What holds of each moment holds after a loss of power too, where no script of the session wrote a file of the
+/// administration: the next opening can read what is left. Behind a command that has answered the administration stands
+/// as it was left, for the same records, lists and diversions.
+pub fn a_loss_can_be_opened()
+    ensures amid { (begun s t : State) (session : List Event) (left : World) → IsTrue t.honest → IsSettled t.events → t.events ≡ begun.events ++ session → Avoids is_own (changes_of session) → CanBeOpenedAmid s t → LosesSince begun s t left → CanBeOpened left }
+    ensures answered { (h : Held) (begun t : State) (session : List Event) (left : World) → IsTrue t.honest → IsSettled t.events → t.events ≡ begun.events ++ session → Avoids is_own (changes_of session) → Stands h t.world → LosesSince begun t t left → Stands h left }
+{}
