@@ -18,3 +18,4 @@ pub mod Diverts
 pub mod Losses
 mod Standings
 mod Undamaged
+mod Openings

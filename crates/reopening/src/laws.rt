@@ -12,12 +12,13 @@ ghost use Rattle.dpkg_session.specs.declared.asked.Diverting.{Diverting as ADive
 ghost use Rattle.dpkg_session.specs.declared.asked.Undiverting.{Undiverting as AnUndiverting};
 ghost use Rattle.dpkg_session.specs.declared.report.Candidate.{Candidate as ACandidate};
 ghost use Rattle.host_core.specs.Events.{Event, changes_of};
-ghost use Rattle.host_core.specs.Host.{AtEachMoment, State};
+ghost use Rattle.host_core.specs.Host.{AtEachMoment, Needs, State};
 ghost use Rattle.host_core.specs.Loss.{LosesSince};
 ghost use Rattle.host_core.specs.Paths.{Path, is_own, is_ship_text};
 ghost use Rattle.host_core.specs.Tree.{IsTree};
 ghost use Rattle.host_core.specs.Unsynced.{IsSettled};
 ghost use Rattle.host_core.specs.World.{Avoids, World};
+ghost use Rattle.opening.specs.Leaving.{IsOpeningOrMerging};
 ghost use Rattle.opening.specs.Parts.{parts, IsFirstFault};
 ghost use Rattle.opening.specs.Undamaged.{IsUndamaged};
 ghost use Rattle.removal_run.specs.Run.{HasRun as HasRemoved};
@@ -27,7 +28,7 @@ ghost use Rattle.unit_reports.specs.declared.report.Unit.{Unit as AUnit};
 ghost use Rattle.reopening.specs.Opens.{CanBeOpened, CanBeOpenedAmid, FindsStanding};
 ghost use Rattle.reopening.specs.Trees.{AreTextTrees};
 
-use opening::what_is_fine_has_no_fault;
+use opening::{a_stopped_opening_can_be_opened, what_is_fine_has_no_fault};
 
 /// What can be opened isn't damaged: the next opening tells no fault of it.
 pub fn what_can_be_opened_is_undamaged()
@@ -59,6 +60,13 @@ pub fn a_diversion_can_be_opened_amid()
     ensures divert { (asked : ADiverting) (seen : ASeen) (before : Held) (s t : State) → is_ship_text asked.path ≡ true → is_ship_text asked.target ≡ true → FindsStanding before s → AtEachMoment (IsAdding before.entries (asked_entry asked) asked.rename seen) s t → CanBeOpenedAmid s t }
     ensures undivert { (asked : AnUndiverting) (before : Held) (s t : State) → is_ship_text asked.path ≡ true → FindsStanding before s → AtEachMoment (IsRemoving before.entries asked.path asked.rename) s t → CanBeOpenedAmid s t }
 {}
+
+/// At each moment of an opening of what can be opened, as a stop or a loss of power left it, so can what is there.
+pub fn an_opening_can_be_opened_amid()
+    ensures { (s t : State) → Needs s CanBeOpened → AtEachMoment IsOpeningOrMerging s t → CanBeOpenedAmid s t }
+{
+    a_stopped_opening_can_be_opened();
+}
 
 /// What holds of each moment holds after a loss of power too, where no script of the session wrote a file of the
 /// administration: the next opening can read what is left. Behind a command that has answered the administration stands

@@ -14,10 +14,10 @@ fn is_text(path: &ShipPath)
 
 /// The paths that a package ships are text, as the laws of unpacks ask of trees: so it is of each
 /// package in memory.
-pub fn ships_texts(package: &Package)
-    ensures { AreTextFiles package.now.files }
+pub fn ships_texts(incoming: &Package)
+    ensures { AreTextFiles incoming.now.files }
 {
-    for file in package.files.as_slice() {
+    for file in incoming.files.as_slice() {
         is_text(&file.path);
     }
 }

@@ -1,0 +1,111 @@
+-- An opening of what can be opened leaves what can be opened, wherever it is broken off.
+use Rattle.std.proofs.Common.{◌≡◌, inl, inr, ℕ, IsTrue, Bool, true, false, List, [], ◌∷◌, ◌++◌, Option, None, refl, sym, ap, subst, ◌∙◌}
+use Rattle.std.specs.Prelude.{IsSome}
+use Rattle.std.proofs.lemmas.Bool.{true≢false}
+use Rattle.host_core.proofs.Nodes.{none_stands}
+use Rattle.host_core.specs.Host.{AtEachMoment, Needs, State}
+use Rattle.host_core.specs.Moments.{since_weaker_if}
+use Rattle.host_core.specs.Paths.{Path}
+use Rattle.host_core.specs.World.{World, IsDirectory, IsLoose}
+use Rattle.host_core.specs.declared.node.Node.{Node}
+use Rattle.administration.proofs.WholeFiles.{no_directory_at, no_directory_none}
+use Rattle.administration.specs.Places.{diversions_path, home_path, info_path, status_path, temporary, tmp_path, updates_path, is_within}
+use Rattle.control_members.specs.LaidOut.{IsIncoming, laid_path}
+use Rattle.diversions.specs.Lines.{HasEntries}
+use Rattle.file_lists.specs.Info.{IsSound, entry_path}
+use Rattle.opening.specs.Leaving.{IsOpening, IsOpeningOrMerging, is_way}
+use Rattle.opening.specs.Parts.{IsReadableInfo, names_of}
+use Rattle.status_db.proofs.NotedWorlds.{records_same}
+use Rattle.status_db.specs.Held.{CanOpenRecords, HasRecords}
+use Rattle.status_db.specs.Notes.{note_path}
+use Rattle.status_db.specs.Noting.{IsMerging}
+use Rattle.status_db.specs.declared.record.Record.{Record}
+use Rattle.reopening.specs.Opens.{CanBeOpened, CanBeOpenedAmid}
+
+-- the law of opening: it changes no record
+abbrev pub KeepsRecords : Type 0
+KeepsRecords = (old now : World) (table : List Record) → IsOpeningOrMerging old now → HasRecords old table → HasRecords now table
+
+module _ (old now : World) (is : IsOpening old now) (opens : CanBeOpened old) where
+  same_at : (q : Path) → is_within tmp_path q ≡ false → is_way q ≡ false → now q ≡ old q
+  same_at q out plain = elim (is.rest q out) [ inl same ↦ same | inr new ↦ absurd (true≢false (sym new.way ∙ plain)) ]
+
+  directory_at : (q : Path) → is_within tmp_path q ≡ false → IsDirectory (old q) → IsDirectory (now q)
+  directory_at q out there = elim (is.rest q out) [ inl same ↦ subst IsDirectory (sym same) there | inr new ↦ new.made ]
+
+  records_at : (table : List Record) → HasRecords old table → HasRecords now table
+  records_at table has = records_same old now table (same_at status_path refl refl) (λ n lt. same_at (note_path n) refl refl) has
+
+  opens_at : CanOpenRecords now
+  opens_at = record {
+    unblocked = record {
+      home = directory_at home_path refl opens.records.unblocked.home;
+      updates = directory_at updates_path refl opens.records.unblocked.updates;
+      text = λ bad. opens.records.unblocked.text (bad.0, bad.1, bad.2, subst IsSome (same_at (updates_path ++ 47 ∷ bad.0) refl refl) bad.3);
+      status_spare = no_directory_at (now (temporary status_path)) (old (temporary status_path)) (same_at (temporary status_path) refl refl) opens.records.unblocked.status_spare;
+      spares = λ n lt. no_directory_at (now (temporary (note_path n))) (old (temporary (note_path n))) (same_at (temporary (note_path n)) refl refl) (opens.records.unblocked.spares n lt);
+    };
+    table = opens.records.table;
+    records = records_at opens.records.table opens.records.records;
+  }
+
+  incoming_at : IsIncoming now
+  incoming_at = record {
+    place = λ loose. elim (is.left tmp_path refl) [
+      | inl same ↦ opens.incoming.place (subst IsLoose same loose)
+      | inr none ↦ none_stands (now tmp_path) none loose.0
+    ];
+    named = λ name plain some. elim (is.left (laid_path name) refl) [
+      | inl same ↦ opens.incoming.named name plain (subst IsSome same some)
+      | inr none ↦ absurd (none_stands (now (laid_path name)) none some)
+    ];
+    loose = λ name plain. elim (is.left (laid_path name) refl) [
+      | inl same ↦ no_directory_at (now (laid_path name)) (old (laid_path name)) same (opens.incoming.loose name plain)
+      | inr none ↦ no_directory_at (now (laid_path name)) None none no_directory_none
+    ];
+  }
+
+  pub opening_opens : CanBeOpened now
+  opening_opens = record {
+    records = opens_at;
+    info = directory_at info_path refl opens.info;
+    readable = record {
+      table = opens.readable.table;
+      is_table = record { records = records_at opens.readable.table opens.readable.is_table.records; standing = opens.readable.is_table.standing };
+      text = λ bad. opens.readable.text (bad.0, bad.1, bad.2, subst IsSome (same_at (info_path ++ 47 ∷ bad.0) refl refl) bad.3);
+      sound = λ entry plain. subst (IsSound (names_of opens.readable.table) entry) (sym (same_at (entry_path entry) refl refl)) (opens.readable.sound entry plain);
+    };
+    diversions = (opens.diversions.0, subst (λ (n : Option Node). HasEntries n opens.diversions.0) (sym (same_at diversions_path refl refl)) opens.diversions.1);
+    spare = no_directory_at (now (temporary diversions_path)) (old (temporary diversions_path)) (same_at (temporary diversions_path) refl refl) opens.spare;
+    incoming = incoming_at;
+  }
+
+merging_opens : (table : List Record) (old now : World) → IsMerging table old now → ((other : List Record) → HasRecords old other → HasRecords now other) → CanBeOpened old → CanBeOpened now
+merging_opens table old now merging keeps opens = record {
+  records = merging.opens;
+  info = subst IsDirectory (sym (merging.rest info_path refl)) opens.info;
+  readable = record {
+    table = opens.readable.table;
+    is_table = record { records = keeps opens.readable.table opens.readable.is_table.records; standing = opens.readable.is_table.standing };
+    text = λ bad. opens.readable.text (bad.0, bad.1, bad.2, subst IsSome (merging.rest (info_path ++ 47 ∷ bad.0) refl) bad.3);
+    sound = λ entry plain. subst (IsSound (names_of opens.readable.table) entry) (sym (merging.rest (entry_path entry) refl)) (opens.readable.sound entry plain);
+  };
+  diversions = (opens.diversions.0, subst (λ (n : Option Node). HasEntries n opens.diversions.0) (sym (merging.rest diversions_path refl)) opens.diversions.1);
+  spare = no_directory_at (now (temporary diversions_path)) (old (temporary diversions_path)) (merging.rest (temporary diversions_path) refl) opens.spare;
+  incoming = record {
+    place = λ loose. opens.incoming.place (subst IsLoose (merging.rest tmp_path refl) loose);
+    named = λ name plain some. opens.incoming.named name plain (subst IsSome (merging.rest (laid_path name) refl) some);
+    loose = λ name plain. no_directory_at (now (laid_path name)) (old (laid_path name)) (merging.rest (laid_path name) refl) (opens.incoming.loose name plain);
+  };
+}
+
+opening_start : (w : World) → IsOpening w w
+opening_start w = record { rest = λ q out. inl refl; left = λ q within. inl refl }
+
+reopened : KeepsRecords → (old now : World) → CanBeOpened old → IsOpeningOrMerging old now → CanBeOpened now
+reopened keeps old now opens (IsOpeningOrMerging.opening is) = opening_opens old now is opens
+reopened keeps old now opens (IsOpeningOrMerging.merging read table is has merging) =
+    merging_opens table read now merging (λ other found. keeps read now other (IsOpeningOrMerging.merging read table (opening_start read) has merging) found) (opening_opens old read is opens)
+
+pub opening_ends : KeepsRecords → (s t : State) → Needs s CanBeOpened → AtEachMoment IsOpeningOrMerging s t → CanBeOpenedAmid s t
+opening_ends keeps s t opens since = since_weaker_if _ _ s t (λ h so_far now is. reopened keeps s.world now (opens (since.honest h)) is) since
