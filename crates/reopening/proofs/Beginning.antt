@@ -1,16 +1,14 @@
 -- The beginning of an unpack, and what follows its rows: no opening refuses what stands in `info`.
-use Rattle.std.proofs.Common.{◌≡◌, ◌≢◌, ◌⊎◌, inl, inr, ℕ, zero, suc, Bool, true, false, List, [], ◌∷◌, Option, Some, None, Contains, refl, sym, ap, subst, ◌∙◌, arith}
+use Rattle.std.proofs.Common.{◌≡◌, inl, inr, ℕ, zero, suc, true, false, List, ◌∷◌, Option, Some, None, Contains, refl, sym, subst, arith}
 use Rattle.texts.specs.PackageNames.{is_package_name}
 use Rattle.host_core.proofs.Paths.{decide}
 use Rattle.host_core.specs.Outcome.{script_name}
 use Rattle.host_core.specs.Paths.{Path}
 use Rattle.host_core.specs.World.{World}
-use Rattle.host_core.specs.declared.call.Script.{Script}
 use Rattle.administration.specs.Places.{list_path, script_path}
 use Rattle.cleanup_stack.specs.Transcripts.{Ended, Committed, Unwound}
 use Rattle.control_members.proofs.MemberNames.{script_is_member}
 use Rattle.control_members.specs.Stored.{stored_member_path}
-use Rattle.control_members.specs.declared.member.Member.{Member}
 use Rattle.diversions.specs.declared.entry.Diversion.{Diversion}
 use Rattle.file_lists.specs.Info.{AreLoose, IsLink}
 use Rattle.file_lists.specs.Lists.{IsReadable}
@@ -25,11 +23,11 @@ use Rattle.unpack_commit.proofs.Left.{same_list}
 use Rattle.unpack_commit.specs.Commit.{Changes, HasCommitted, MayCommit, renewed_lists}
 use Rattle.unpack_commit.specs.Takeover.{put_records}
 use Rattle.unpack_engine.proofs.Cleared.{cleared_clearing}
-use Rattle.unpack_engine.specs.Units.{HasBegun, HasCleared, HasDropped, HasFollowed, HasLeft, IsBesideOwn, IsCleared, IsClearing, MayBegin, MayClear, MayDrop, MayLeave, MayLeaveBy}
+use Rattle.unpack_engine.specs.Units.{HasCleared, HasDropped, HasFollowed, HasLeft, IsClearing, MayBegin, MayClear, MayDrop, MayLeave, MayLeaveBy}
 use Rattle.unpack_moves.specs.Closing.{HasReleased, HasRenewed, MayRelease, MayRenew, SparesAdministration}
 use Rattle.unpack_moves.specs.Concluding.{AreElsewhere}
 use Rattle.reopening.proofs.Entries.{IsSafe, safe_fewer, safe_more, safe_quiet}
-use Rattle.reopening.proofs.Inside.{IsQuiet, quiet_here, quiet_laid, quiet_noted, quiet_outside, quiet_still, quiet_then}
+use Rattle.reopening.proofs.Inside.{IsQuiet, quiet_laid, quiet_noted, quiet_outside, quiet_still, quiet_then}
 use Rattle.reopening.proofs.Steps.{AreGood, dropped_quiet, dropping_quiet, member_no_list, no_link_none, one_dropped, own_links, released_quiet, releasing_quiet, replaced_quiet, replacing_quiet, script_no_list, script_others, stored_quiet, storing_quiet}
 
 -- what a name without a record left behind goes

@@ -1,18 +1,17 @@
 -- Packages that disappear behind an unpack, and conflicting ones that are removed (Policy 6.6, 7.4, 7.6.1).
-use Rattle.std.proofs.Common.{◌≡◌, inl, inr, ℕ, IsTrue, Bool, true, List, [], ◌∷◌, ◌++◌, Option, Some, None, Contains, map, refl, sym, ap, subst, ◌∙◌}
+use Rattle.std.proofs.Common.{◌≡◌, inl, inr, ℕ, IsTrue, List, [], ◌∷◌, Option, None, refl, sym, ap, subst, ◌∙◌}
 use Rattle.host_core.specs.Events.{Event}
 use Rattle.host_core.specs.Host.{State}
 use Rattle.host_core.specs.World.{World}
 use Rattle.host_core.specs.declared.call.Call.{Call}
-use Rattle.conflict_removal.specs.Removals.{HaveBeenRemoved, IsAmidNext as IsAmidNextRemoval, IsAmidRemovals, IsInOrderWith as IsInOrderThere, IsRemovedOrGone}
+use Rattle.conflict_removal.specs.Removals.{HaveBeenRemoved, IsAmidNext as IsAmidNextRemoval, IsAmidRemovals, IsRemovedOrGone}
 use Rattle.disappearance.specs.Runs.{HaveDisappeared, IsAmidDisappearances, IsAmidNext}
-use Rattle.disappearance.specs.Stages.{ArePlanned, disappear_row}
-use Rattle.disappearance.specs.Units.{IsAmidOne, IsDecided, IsInOrderWith, IsRunningBoth}
+use Rattle.disappearance.specs.Stages.{ArePlanned}
+use Rattle.disappearance.specs.Units.{IsAmidOne, IsDecided, IsRunningBoth}
 use Rattle.disappearance.specs.declared.losing.Losing.{Losing}
 use Rattle.displaced_packages.specs.Displacing.{AreGoing, HaveBeenDisplaced, HaveGone, IsAmidDisplacing, IsBroughtToDisk}
 use Rattle.diversions.specs.declared.entry.Diversion.{Diversion}
 use Rattle.removal_engine.proofs.Tables.{is_named}
-use Rattle.removal_engine.specs.Stages.{planned}
 use Rattle.removal_engine.specs.Units.{given}
 use Rattle.removal_engine.specs.declared.extent.Extent.TheVariants.{InFavour}
 use Rattle.status_db.specs.Held.{HasRecords}
@@ -22,10 +21,10 @@ use Rattle.unit_stages.specs.declared.stage.Stage.{Stage}
 use Rattle.unwind_stack.specs.declared.rows.Called.{Called}
 use Rattle.unwind_stack.specs.declared.rows.Row.{Row}
 use Rattle.reopening.proofs.Inside.{quiet_then}
-use Rattle.reopening.proofs.Parts.{AreOf, IsCalm, calm_then}
+use Rattle.reopening.proofs.Parts.{calm_then}
 use Rattle.reopening.proofs.Removals.{AreSafePlanned, gone_safe, planned_safe, removal_plan_safe}
 use Rattle.reopening.proofs.Stages.{AreSafeStages, run_calm, run_falls, run_of}
-use Rattle.reopening.proofs.Units.{IsHeld, found_has, found_is_named, held_opens, held_same, removing_opens, stages_amid, stages_held, stages_open}
+use Rattle.reopening.proofs.Units.{IsHeld, found_has, held_opens, held_same, removing_opens, stages_amid, stages_held, stages_open}
 use Rattle.reopening.specs.Opens.{CanBeOpened}
 
 call_safe : (name : List ℕ) (h : Holding) (row : Row) (call gone : List Stage) → ArePlanned name h row call gone → AreSafeStages name call

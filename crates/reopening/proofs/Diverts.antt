@@ -1,35 +1,33 @@
 -- A diversion is added or taken away: the next opening can read all at each moment.
-use Rattle.std.proofs.Common.{◌≡◌, ◌≢◌, ◌⊎◌, ◌&&◌, inl, inr, ℕ, IsTrue, Bool, true, false, cond, not, List, [], ◌∷◌, ◌++◌, Option, Some, None, codes, get_or, refl, sym, ap, subst, ◌∙◌, arith}
+use Rattle.std.proofs.Common.{◌≡◌, ◌≢◌, ◌⊎◌, ◌&&◌, inl, inr, Bool, true, false, cond, not, List, [], ◌∷◌, ◌++◌, Option, Some, None, codes, get_or, refl, sym, ap, subst, ◌∙◌, arith}
 use Rattle.std.specs.Prelude.{IsSome}
 use Rattle.std.specs.Str.{bytes_eq}
 use Rattle.std.proofs.lemmas.Bool.{and_right}
-use Rattle.host_core.specs.Host.{AtEachMoment, State}
-use Rattle.host_core.specs.Moments.{since_weaker_if}
 use Rattle.host_core.specs.Paths.{Path, has_reserved_suffix, has_room, is_below_administration, is_path_text, is_ship_text}
 use Rattle.host_core.specs.World.{World, IsDirectory}
 use Rattle.host_core.specs.declared.node.Node.{Node}
 use Rattle.host_core.specs.declared.node.Node.TheVariants.{File, Dir, Link}
 use Rattle.administration.proofs.WholeFiles.{no_directory_at}
 use Rattle.administration.specs.Files.{KeepsBesideFile}
-use Rattle.administration.specs.Places.{diversions_path, home_path, info_path, status_path, temporary, tmp_path, updates_path, is_within}
+use Rattle.administration.specs.Places.{diversions_path, info_path, status_path, temporary, updates_path}
 use Rattle.diversions.proofs.Moving.{moved_away, own_other}
-use Rattle.diversions.specs.Changes.{IsAdding, IsRecording, IsRemoving, IsTableReady, moved_if}
+use Rattle.diversions.specs.Changes.{IsAdding, IsRemoving, IsTableReady, moved_if}
 use Rattle.diversions.specs.Entries.{IsTable, entry_of, without}
-use Rattle.diversions.specs.Lines.{HasDiversions, HasEntries, ReadsAs}
+use Rattle.diversions.specs.Lines.{HasDiversions, HasEntries}
 use Rattle.diversions.specs.Places.{target_of, truename}
 use Rattle.diversions.specs.Sights.{moves_node, sight_of}
 use Rattle.diversions.specs.declared.entry.Diversion.{Diversion}
 use Rattle.diversions.specs.declared.refusal.Seen.{Seen}
-use Rattle.file_lists.specs.Info.{IsSound as IsSoundEntry, entry_path}
+use Rattle.file_lists.specs.Info.{IsSound as IsSoundEntry}
 use Rattle.status_db.proofs.NotedWorlds.{records_same}
 use Rattle.status_db.specs.Held.{CanOpenRecords, HasRecords}
-use Rattle.status_db.specs.Notes.{digits, limit, note_path}
+use Rattle.status_db.specs.Notes.{digits, note_path}
 use Rattle.unit_reports.specs.Held.{Held}
 use Rattle.unpack_engine.specs.Order.{record_names}
 use Rattle.reopening.proofs.Entries.{IsSafe}
 use Rattle.reopening.proofs.Parts.{temporary_is}
-use Rattle.reopening.proofs.Sounds.{IsSound, Opened, sound_opens}
-use Rattle.reopening.proofs.Units.{emptied_incoming, of_own}
+use Rattle.reopening.proofs.Sounds.{IsSound, sound_opens}
+use Rattle.reopening.proofs.Units.{emptied_incoming}
 use Rattle.reopening.proofs.Unpacks.{opened_by}
 use Rattle.reopening.specs.Opens.{CanBeOpened}
 

@@ -1,13 +1,12 @@
 -- After a loss of power the next opening can read all, where it could at each moment before.
-use Rattle.std.proofs.Common.{◌≡◌, ◌≢◌, ◌⊎◌, ◌-◌, inl, inr, ℕ, IsTrue, Bool, true, false, List, [], ◌∷◌, ◌++◌, Option, Some, None, codes, drop, length, take, nat_eq, refl, sym, ap, subst, ◌∙◌}
+use Rattle.std.proofs.Common.{◌≡◌, ◌⊎◌, ◌-◌, inl, inr, ℕ, IsTrue, Bool, true, false, List, ◌∷◌, ◌++◌, Option, Some, None, codes, drop, length, take, refl, sym, ap, subst, ◌∙◌}
 use Rattle.std.specs.Prelude.{IsSome}
-use Rattle.std.specs.Str.{bytes_eq}
 use Rattle.std.proofs.lemmas.Bool.{false_from_ne_true}
 use Rattle.std.proofs.lemmas.List.{take-append-drop}
 use Rattle.std.proofs.lemmas.Slice.Eq.{bytes_eq-Decides}
 use Rattle.host_core.specs.Events.{Event, changes_of}
 use Rattle.host_core.specs.Host.{State}
-use Rattle.host_core.specs.Loss.{IsBlurred, IsLike, IsLikeOne, LosesSince}
+use Rattle.host_core.specs.Loss.{IsBlurred, IsLike, LosesSince}
 use Rattle.host_core.specs.Losses.{avoid_added, since_loss_one}
 use Rattle.host_core.specs.Moments.{since_start}
 use Rattle.host_core.specs.Outcome.{script_name}
@@ -33,7 +32,7 @@ use Rattle.opening.specs.Opened.{IsFound}
 use Rattle.opening.specs.Parts.{IsReadableInfo, names_of}
 use Rattle.status_db.proofs.NotedWorlds.{records_same}
 use Rattle.status_db.specs.Held.{CanOpenRecords, HasRecords}
-use Rattle.status_db.specs.Notes.{limit, note_path}
+use Rattle.status_db.specs.Notes.{note_path}
 use Rattle.status_db.specs.declared.record.Record.{Record}
 use Rattle.unit_reports.specs.Held.{Held}
 use Rattle.reopening.proofs.Sounds.{Opened}

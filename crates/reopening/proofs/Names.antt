@@ -1,5 +1,5 @@
 -- The names under which a unit writes in `info`: no opening refuses them, and other entries are none of a package's.
-use Rattle.std.proofs.Common.{◌≡◌, ◌≢◌, ◌&&◌, ◌||◌, ◌⊎◌, inl, inr, ℕ, Bool, true, false, not, List, [], ◌∷◌, ◌++◌, codes, drop, nat_eq, get_or, refl, sym, ap, subst, ◌∙◌, arith}
+use Rattle.std.proofs.Common.{◌≡◌, ◌≢◌, ◌&&◌, ◌||◌, ◌⊎◌, inl, inr, ℕ, Bool, true, false, not, [], ◌∷◌, ◌++◌, codes, drop, nat_eq, get_or, refl, sym, ap, subst, ◌∙◌, arith}
 use Rattle.std.specs.List.{ends_with, list_all, list_any}
 use Rattle.std.specs.Str.{IsUtf8}
 use Rattle.std.proofs.lemmas.Bool.{and_parts, eqb-true, true≢false}
@@ -9,10 +9,9 @@ use Rattle.texts.specs.PackageNames.{is_name_sign, is_package_name}
 use Rattle.texts.proofs.PackageNames.{signs_ascii, signs_of_name}
 use Rattle.host_core.specs.Paths.{Path, is_path}
 use Rattle.host_core.specs.Tree.{IsOdd}
-use Rattle.administration.specs.Places.{diversions_path, info_path, list_name, list_path, temporary}
+use Rattle.administration.specs.Places.{diversions_path, info_path, list_name, temporary}
 use Rattle.administration.proofs.NamePaths.{list_is_path, list_spare_is_path}
 use Rattle.control_members.specs.Names.{is_member_name, is_member_sign}
-use Rattle.control_members.specs.Stored.{stored_member_path}
 use Rattle.control_members.proofs.MemberNames.{signs_of, stored_is_path, stored_spare_is_path, stored_utf8}
 use Rattle.file_lists.specs.Info.{entry_path, is_foreign}
 use Rattle.reopening.proofs.Inside.{IsInside, IsOthers, IsUnnamed}
@@ -103,7 +102,6 @@ strange_unnamed entry strange = record {
 }
 
 -- nor is the directory, or the file of the diversions, or its temporary name
-
 
 unnamed_by : (q : Path) → IsInside q → ((rest : Path) → q ≢ info_path ++ 47 ∷ rest) → IsUnnamed q
 unnamed_by q inside other = record {

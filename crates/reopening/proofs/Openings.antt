@@ -1,5 +1,5 @@
 -- An opening of what can be opened leaves what can be opened, wherever it is broken off.
-use Rattle.std.proofs.Common.{◌≡◌, inl, inr, ℕ, IsTrue, Bool, true, false, List, [], ◌∷◌, ◌++◌, Option, None, refl, sym, ap, subst, ◌∙◌}
+use Rattle.std.proofs.Common.{◌≡◌, inl, inr, false, List, ◌∷◌, ◌++◌, Option, None, refl, sym, subst, ◌∙◌}
 use Rattle.std.specs.Prelude.{IsSome}
 use Rattle.std.proofs.lemmas.Bool.{true≢false}
 use Rattle.host_core.proofs.Nodes.{none_stands}
@@ -14,7 +14,7 @@ use Rattle.control_members.specs.LaidOut.{IsIncoming, laid_path}
 use Rattle.diversions.specs.Lines.{HasEntries}
 use Rattle.file_lists.specs.Info.{IsSound, entry_path}
 use Rattle.opening.specs.Leaving.{IsOpening, IsOpeningOrMerging, is_way}
-use Rattle.opening.specs.Parts.{IsReadableInfo, names_of}
+use Rattle.opening.specs.Parts.{names_of}
 use Rattle.status_db.proofs.NotedWorlds.{records_same}
 use Rattle.status_db.specs.Held.{CanOpenRecords, HasRecords}
 use Rattle.status_db.specs.Notes.{note_path}

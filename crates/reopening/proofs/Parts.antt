@@ -1,5 +1,5 @@
 -- Parts of a unit, in the end and at each moment: no opening refuses what stands in `info`, and `tmp.ci` is left alone.
-use Rattle.std.proofs.Common.{◌≡◌, ◌≢◌, ◌⊎◌, inl, inr, ℕ, Bool, true, false, not, cond, List, [], ◌∷◌, ◌++◌, Contains, filter, get_or, refl, sym, ap, subst, ◌∙◌, arith}
+use Rattle.std.proofs.Common.{◌≡◌, ◌≢◌, inl, inr, ℕ, Bool, true, false, not, cond, List, [], ◌∷◌, ◌++◌, Contains, filter, get_or, refl, sym, ap, subst, ◌∙◌, arith}
 use Rattle.std.specs.List.{AllByRecursion}
 use Rattle.std.specs.Str.{bytes_eq}
 use Rattle.std.specs.Cmp.Lexicographic.{slice_cmp}
@@ -12,7 +12,6 @@ use Rattle.host_core.specs.Scripts.{only_kept}
 use Rattle.host_core.specs.World.{World, is_kept}
 use Rattle.administration.proofs.Within.{within_is}
 use Rattle.administration.specs.Places.{home_path, is_within, list_path, temporary, tmp_path}
-use Rattle.control_members.specs.Names.{is_member_name}
 use Rattle.control_members.specs.Stored.{goes, stored_member_path}
 use Rattle.status_db.specs.Held.{is_record_place}
 use Rattle.status_db.specs.Records.{drop_record, place_record, put_record}

@@ -1,13 +1,12 @@
 -- The stages of a removal or a purge, and of a configure, are of their package and write lists that are read back.
-use Rattle.std.proofs.Common.{◌≡◌, ℕ, Bool, true, false, cond, List, [], ◌∷◌, ◌++◌, Option, Some, Contains, map, refl, sym, ap, subst, arith}
-use Rattle.std.specs.List.{AllByRecursion, list_any}
-use Rattle.std.specs.Str.{bytes_eq}
+use Rattle.std.proofs.Common.{◌≡◌, ℕ, Bool, true, false, cond, List, [], ◌∷◌, ◌++◌, map, refl, sym, ap, subst, arith}
+use Rattle.std.specs.List.{AllByRecursion}
 use Rattle.host_core.specs.Paths.{Path}
 use Rattle.host_core.specs.World.{World}
 use Rattle.conffiles.specs.declared.decisions.ConfPolicy.{ConfPolicy}
 use Rattle.conffiles.specs.declared.entries.Settled.{Settled}
 use Rattle.configure_engine.specs.Settled.{settled}
-use Rattle.configure_engine.specs.Stages.{AreConfigureStages, AreFirstParts, SettlesThese, half, list_parts, listed_without}
+use Rattle.configure_engine.specs.Stages.{AreFirstParts, SettlesThese, half, list_parts}
 use Rattle.configure_engine.specs.Units.{IsPlanFor as IsConfigurePlanFor}
 use Rattle.configure_engine.specs.Waiting.{going_paths}
 use Rattle.diversions.specs.declared.entry.Diversion.{Diversion}
@@ -17,7 +16,7 @@ use Rattle.removal_engine.proofs.Elsewhere.{cleared_elsewhere, purged_elsewhere}
 use Rattle.removal_engine.proofs.Sparing.{leaving_spares}
 use Rattle.removal_engine.specs.Lists.{IsToCome}
 use Rattle.removal_engine.specs.Records.{config_files, entry_paths}
-use Rattle.removal_engine.specs.Stages.{Deed, Planned, deed, files_stage, files_stages, goes_at_once, gone_stage, last_stage, left_stage, planned, prerm_stage, purge_stage, purge_stages, removal_stages, stages_from}
+use Rattle.removal_engine.specs.Stages.{Deed, Planned, deed, files_stage, files_stages, goes_at_once, gone_stage, last_stage, left_stage, planned, prerm_stage, purge_stages, removal_stages, stages_from}
 use Rattle.removal_engine.specs.Stages.{Notes, Forgets, Settles, Removes, RemovesDirectories, Clears, Lists, DropsList, DropsMembers}
 use Rattle.removal_engine.specs.Units.{IsPlanFor}
 use Rattle.removal_engine.specs.declared.extent.Extent.{Extent}
@@ -33,7 +32,7 @@ use Rattle.unit_stages.specs.declared.stage.Stage.{Stage}
 use Rattle.unpack_moves.specs.Closing.{SparesAdministration}
 use Rattle.unpack_moves.specs.Concluding.{AreElsewhere}
 use Rattle.reopening.proofs.Parts.{AreSafeParts, IsSafePart}
-use Rattle.reopening.proofs.Stages.{AreSafeStages, IsSafeStage}
+use Rattle.reopening.proofs.Stages.{AreSafeStages}
 use Rattle.reopening.proofs.Steps.{AreGood, good_filter}
 use Rattle.reopening.proofs.Texts.{entries_text, good_none, good_paths, new_list_text}
 

@@ -1,11 +1,10 @@
 -- While the rows of an unpack run, no opening refuses what stands in `info`.
-use Rattle.std.proofs.Common.{◌≡◌, ◌≢◌, ◌⊎◌, inl, inr, Bool, true, List, Option, Some, refl, sym, ap, subst, ◌∙◌}
+use Rattle.std.proofs.Common.{◌≡◌, ◌≢◌, inl, inr, true, List, refl, sym, subst, ◌∙◌}
 use Rattle.texts.specs.PackageNames.{is_package_name}
 use Rattle.host_core.proofs.Paths.{decide}
 use Rattle.host_core.specs.Paths.{Path}
 use Rattle.host_core.specs.Scripts.{changed_kept}
 use Rattle.host_core.specs.World.{Change, World, is_kept}
-use Rattle.host_core.specs.declared.call.Script.{Script}
 use Rattle.administration.specs.Places.{list_path, script_path, temporary}
 use Rattle.cleanup_stack.specs.Place.{Place}
 use Rattle.control_members.proofs.Apart.{no_list_temporary}
@@ -28,7 +27,7 @@ use Rattle.unpack_run.proofs.Rearranged.{named_rearranged}
 use Rattle.unpack_run.specs.At.{AreWorksAt, IsAmid}
 use Rattle.unpack_run.specs.Task.{Task, all_places, name}
 use Rattle.unpack_run.specs.Trail.{Follows, HasCome, HasFiles, HasGoneBack}
-use Rattle.reopening.proofs.Inside.{IsInside, IsQuiet, IsUnnamed, kept_inside, list_inside, script_inside}
+use Rattle.reopening.proofs.Inside.{IsInside, IsQuiet, kept_inside, list_inside, script_inside}
 use Rattle.reopening.proofs.Steps.{AreGood, good_readable, one_written, script_no_list, script_no_spare}
 
 -- where all stays but one list

@@ -1,14 +1,12 @@
 -- Unpacks one after another, and an install: the next opening can read all at each moment.
-use Rattle.std.proofs.Common.{◌≡◌, inl, inr, ℕ, zero, suc, IsTrue, Bool, true, List, [], ◌∷◌, ◌++◌, Option, Some, None, Result, Ok, Err, Contains, drop, length, take, refl, sym, ap, subst, ◌∙◌, arith}
+use Rattle.std.proofs.Common.{◌≡◌, inl, inr, ℕ, zero, suc, IsTrue, Bool, List, [], ◌∷◌, Option, Some, None, Result, Ok, Err, Contains, drop, length, take, refl, sym, ap, subst, arith}
 use Rattle.std.specs.Str.{IsUtf8}
-use Rattle.configure_run.specs.Run.{HasRun as HasConfigureRun}
 use Rattle.conffiles.specs.declared.decisions.ConfPolicy.{ConfPolicy}
 use Rattle.displaced_packages.specs.Losing.{losing_beside}
 use Rattle.diversions.specs.declared.entry.Diversion.{Diversion}
-use Rattle.file_lists.specs.Owners.{paths_of}
 use Rattle.file_lists.specs.declared.paths.PackageList.{PackageList}
 use Rattle.host_core.specs.Events.{Event}
-use Rattle.host_core.specs.Host.{Needs, State}
+use Rattle.host_core.specs.Host.{State}
 use Rattle.host_core.specs.Moments.{since_weaker_if}
 use Rattle.host_core.specs.Paths.{Path}
 use Rattle.host_core.specs.World.{World}
@@ -22,26 +20,22 @@ use Rattle.stack_run.specs.Ended.{ended_as}
 use Rattle.stack_run.specs.declared.unwinding.Unwinding.{Unwinding}
 use Rattle.status_db.specs.Held.{HasRecords}
 use Rattle.status_db.specs.Recorded.{Recorded}
-use Rattle.status_db.specs.Records.{AreStanding}
-use Rattle.status_db.specs.declared.record.Record.{Record}
 use Rattle.unit_reports.specs.Held.{Held, places_of}
 use Rattle.unit_reports.specs.declared.report.Report.{Report}
 use Rattle.unit_reports.specs.declared.report.Unit.{Unit as AUnit}
-use Rattle.unpack_engine.specs.Order.{IsInOrder, record_names}
-use Rattle.unpack_engine.specs.Units.{Given, IsAmidUnit, ground_of, job_of, package_name}
+use Rattle.unpack_engine.specs.Order.{record_names}
+use Rattle.unpack_engine.specs.Units.{Given, ground_of, job_of, package_name}
 use Rattle.unpack_relations.specs.declared.beside.Beside.{Beside}
 use Rattle.unpack_relations.specs.declared.checking.Checked.{Checked}
 use Rattle.unpack_relations.specs.declared.checking.Checked.TheVariants.{Planned as Unpacks, Refused}
 use Rattle.unwind_stack.specs.declared.rows.Called.{Called}
 use Rattle.dpkg_session.specs.Installs.{HasGoneOn}
 use Rattle.dpkg_session.specs.Run.{HasRun, IsAmidBehind, IsAmidBeside, IsAmidBy, IsAmidNext, IsAmidPackage, IsAmidUnitOf, IsAmidUnpack, IsRun, RunsUnit}
-use Rattle.dpkg_session.specs.Units.{HasDisplaced, HasUnpackedBeside, HaveRows, IsUnitBy, IsUnitOf, IsUnpacked, given_by, held_with, yielding}
+use Rattle.dpkg_session.specs.Units.{HasDisplaced, HasUnpackedBeside, IsUnitBy, IsUnitOf, IsUnpacked, given_by, held_with, yielding}
 use Rattle.dpkg_session.specs.declared.report.Candidate.{Candidate}
 use Rattle.reopening.proofs.Behind.{displaced_lead, displacing_open}
-use Rattle.reopening.proofs.Entries.{IsSafe}
-use Rattle.reopening.proofs.Inside.{quiet_here}
 use Rattle.reopening.proofs.Parts.{AreOf}
-use Rattle.reopening.proofs.Sounds.{Goes, IsSound, Opened, goes_refused, goes_then, held_sound, opened_then, sound_lists, sound_opens}
+use Rattle.reopening.proofs.Sounds.{Goes, IsSound, goes_refused, held_sound, sound_lists, sound_opens}
 use Rattle.reopening.proofs.Turns.{Ends, Runs, configure_ends, ends_then, runs_same, runs_then}
 use Rattle.reopening.proofs.Units.{IsHeld, held_same, of_from}
 use Rattle.reopening.proofs.Unpacks.{ShipsText, amid_names, amid_standing, carried_from, ended_table, found_among, left_records, under_way_opens}

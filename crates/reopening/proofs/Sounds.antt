@@ -1,8 +1,7 @@
 -- What is held between two units: an administration that is in order, in which no opening refuses anything.
-use Rattle.std.proofs.Common.{◌≡◌, ℕ, IsTrue, Bool, true, List, [], ◌∷◌, Option, Some, Contains, refl, sym, ap, subst, ◌∙◌}
+use Rattle.std.proofs.Common.{◌≡◌, ℕ, IsTrue, List, [], ◌∷◌, Option, Some, refl, sym, subst, ◌∙◌}
 use Rattle.std.proofs.Math.Logic.{∥∥₁_map}
 use Rattle.std.proofs.lemmas.List.{append-nil}
-use Rattle.texts.specs.PackageNames.{is_package_name}
 use Rattle.host_core.specs.Events.{Event, Did, Finished, Cut, Failed}
 use Rattle.host_core.specs.Host.{AllFailed, Happens, Needs, Reads, Since, State, Throughout}
 use Rattle.host_core.specs.Moments.{since_then, unmoved}
@@ -10,7 +9,6 @@ use Rattle.host_core.specs.World.{Barrier, World}
 use Rattle.host_core.specs.declared.call.Call.{Call}
 use Rattle.diversions.specs.declared.entry.Diversion.{Diversion}
 use Rattle.file_lists.specs.Owners.{paths_of}
-use Rattle.file_lists.specs.declared.paths.PackageList.{PackageList}
 use Rattle.removal_run.specs.Units.{holding_of}
 use Rattle.status_db.specs.Held.{HasRecords}
 use Rattle.status_db.specs.Records.{AreStanding, record_in}
@@ -96,7 +94,7 @@ goes_stages name stages failed before after s left t told now safe r found run b
           let names = record_names before.records.records in
           let same : left.world ≡ t.world = sym behind.world in
           let ends = stages_held names before.entries name named (found_has names before.records.records held.all name r found) before.entries stages failed (holding_of before) (holding_of after) s left told now (safe r found) held run (behind.honest h)
-              (subst (λ (w : World). HasRecords w after.records.records) (sym same) there.kept.holds) in
+          (subst (λ (w : World). HasRecords w after.records.records) (sym same) there.kept.holds) in
           held_sound names after t.world
           (subst (λ (l : List Diversion). IsHeld names l after.records.records t.world) (sym entries) (subst (IsHeld names before.entries after.records.records) same ends)) (engine_order after t.world there));
     }

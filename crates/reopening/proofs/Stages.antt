@@ -1,17 +1,17 @@
 -- Stages of a unit, in the end and at each moment.
-use Rattle.std.proofs.Common.{◌≡◌, inl, inr, IsTrue, ℕ, Bool, true, List, [], ◌∷◌, ◌++◌, Option, Contains, refl, sym, ap, subst, ◌∙◌}
+use Rattle.std.proofs.Common.{◌≡◌, inl, inr, IsTrue, ℕ, true, List, [], ◌∷◌, ◌++◌, Option, Contains, sym, ap, subst, ◌∙◌}
 use Rattle.std.specs.List.{AllByRecursion}
 use Rattle.texts.specs.PackageNames.{is_package_name}
-use Rattle.host_core.specs.Events.{Event, Ran, changes_of}
+use Rattle.host_core.specs.Events.{Event, Ran}
 use Rattle.host_core.specs.Host.{Calls, State, finished}
 use Rattle.host_core.specs.Paths.{Path}
-use Rattle.host_core.specs.World.{World, is_kept}
+use Rattle.host_core.specs.World.{World}
 use Rattle.host_core.specs.declared.call.Call.{Call}
 use Rattle.diversions.specs.declared.entry.Diversion.{Diversion}
 use Rattle.file_lists.specs.Owners.{places_in}
 use Rattle.status_db.specs.declared.record.Record.{Record}
 use Rattle.unit_parts.specs.declared.part.Part.{Part}
-use Rattle.unit_stages.proofs.RunLaws.{follow_finished, run_later, undone_later}
+use Rattle.unit_stages.proofs.RunLaws.{follow_finished, run_later}
 use Rattle.unit_stages.specs.Holding.{Holding, after_parts, after_stages}
 use Rattle.unit_stages.specs.Running.{ArePast, AreRunning, IsCalling, IsInNext, IsInStage, IsNotedBy}
 use Rattle.unit_stages.specs.Runs.{HasFailed, HasPassed, HasRestored, HaveRun, kept_by}

@@ -1,5 +1,5 @@
 -- An administration that stands is sound.
-use Rattle.std.proofs.Common.{◌≡◌, IsTrue, List, refl, ap}
+use Rattle.std.proofs.Common.{IsTrue}
 use Rattle.host_core.proofs.Nodes.{directory_is}
 use Rattle.host_core.specs.Host.{State}
 use Rattle.host_core.specs.Tree.{IsTree}

@@ -1,7 +1,7 @@
 -- Lists are written, control files come and go, places leave lists: at each moment no opening refuses what stands in `info`.
-use Rattle.std.proofs.Common.{◌≡◌, ◌≢◌, ◌⊎◌, inl, inr, ℕ, Bool, true, false, cond, not, List, [], ◌∷◌, ◌++◌, Option, Some, None, Contains, filter, refl, sym, ap, subst, ◌∙◌}
-use Rattle.std.specs.List.{AllByRecursion, list_any}
-use Rattle.std.specs.Str.{IsUtf8, bytes_eq}
+use Rattle.std.proofs.Common.{◌≡◌, ◌≢◌, ◌⊎◌, inl, inr, Bool, true, false, cond, List, [], ◌∷◌, Option, Some, None, Contains, filter, refl, sym, ap, subst, ◌∙◌}
+use Rattle.std.specs.List.{AllByRecursion}
+use Rattle.std.specs.Str.{IsUtf8}
 use Rattle.texts.specs.PackageNames.{is_package_name}
 use Rattle.host_core.proofs.Paths.{decide}
 use Rattle.host_core.specs.Outcome.{script_name}
@@ -15,15 +15,15 @@ use Rattle.administration.specs.Places.{list_path, script_path, temporary}
 use Rattle.control_members.proofs.Apart.{no_list, no_list_temporary, no_temporary, same_stored}
 use Rattle.control_members.proofs.Lookup.{member_file}
 use Rattle.control_members.proofs.MemberNames.{script_is_member}
-use Rattle.control_members.specs.Members.{member_node, member_of, node_of}
+use Rattle.control_members.specs.Members.{member_of, node_of}
 use Rattle.control_members.specs.Names.{is_member_name}
-use Rattle.control_members.specs.Stored.{AreReplaced, AreReplacing, AreTaken, AreTaking, is_among, over, replaced_node, stored_member_path}
+use Rattle.control_members.specs.Stored.{AreReplaced, AreReplacing, AreTaken, AreTaking, is_among, over, stored_member_path}
 use Rattle.control_members.specs.declared.member.Member.{Member}
 use Rattle.diversions.specs.declared.entry.Diversion.{Diversion}
 use Rattle.file_lists.specs.Info.{IsLink}
 use Rattle.file_lists.specs.Lists.{IsReadable}
 use Rattle.file_lists.specs.Owners.{IsListable, paths_of}
-use Rattle.file_lists.specs.Taking.{HasTakenAll, IsTaking, left_file}
+use Rattle.file_lists.specs.Taking.{HasTakenAll, IsTaking}
 use Rattle.file_lists.specs.Writing.{left_paths, list_file}
 use Rattle.file_lists.specs.declared.paths.PackageList.{PackageList}
 use Rattle.unpack_commit.proofs.Left.{no_other, same_list}

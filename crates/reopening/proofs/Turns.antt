@@ -1,9 +1,8 @@
 -- Packages that are configured, removed or purged one after another: the next opening can read all at each moment.
-use Rattle.std.proofs.Common.{◌≡◌, inl, inr, ℕ, IsTrue, Bool, true, List, [], ◌∷◌, ◌++◌, Option, Some, None, refl, sym, ap, subst, ◌∙◌}
+use Rattle.std.proofs.Common.{◌≡◌, inl, inr, ℕ, IsTrue, Bool, List, [], ◌∷◌, Option, refl, sym, subst}
 use Rattle.conffiles.specs.declared.decisions.ConfPolicy.{ConfPolicy}
-use Rattle.configure_engine.specs.Units.{IsPlanOf as IsConfigurePlan}
 use Rattle.configure_run.specs.Run.{HasRun as HasConfigureRun}
-use Rattle.configure_run.specs.Turns.{ConfiguresTo, HaveTurned, IsAmidNext as IsAmidTurn, IsAmidUnit as IsAmidConfigure, IsConfigured, IsTurn, IsUnit, IsUnitFor, StopTurns, given_by as configure_given}
+use Rattle.configure_run.specs.Turns.{ConfiguresTo, IsAmidNext as IsAmidTurn, IsAmidUnit as IsAmidConfigure, IsConfigured, IsTurn, IsUnit, IsUnitFor, StopTurns, given_by as configure_given}
 use Rattle.dependency_check.specs.Waiting.{Waiting}
 use Rattle.file_lists.specs.Owners.{paths_of}
 use Rattle.host_core.specs.Events.{Event}
@@ -15,15 +14,13 @@ use Rattle.removal_engine.proofs.Tables.{is_named}
 use Rattle.removal_run.specs.Names.{without}
 use Rattle.removal_run.specs.Run.{HasRun as HasRemovalRun}
 use Rattle.removal_run.specs.Turns.{IsAmidNext as IsAmidRemovals, RemovesTo}
-use Rattle.removal_run.specs.Units.{IsAmidRemoval, IsRemoval, RunsRemoval, extent_of, given_by as removal_given, holding_of}
-use Rattle.status_db.specs.Records.{record_in}
-use Rattle.status_db.specs.declared.record.Record.{Record}
+use Rattle.removal_run.specs.Units.{IsAmidRemoval, IsRemoval, extent_of, given_by as removal_given}
 use Rattle.unit_reports.specs.Held.{Held}
 use Rattle.unit_reports.specs.declared.report.Unit.{Unit as AUnit}
 use Rattle.unpack_engine.specs.Order.{record_names}
 use Rattle.reopening.proofs.Removals.{configure_plan_safe, removal_plan_safe}
-use Rattle.reopening.proofs.Sounds.{Goes, IsSound, Opened, goes_here, goes_reads, goes_refused, goes_same, goes_stages, goes_then, opened_here, opened_reads, opened_then, sound_held, sound_lists, sound_opens}
-use Rattle.reopening.proofs.Units.{configuring_opens, held_opens, removing_opens}
+use Rattle.reopening.proofs.Sounds.{Goes, IsSound, Opened, goes_here, goes_reads, goes_refused, goes_stages, goes_then, opened_here, opened_reads, opened_then, sound_held, sound_lists, sound_opens}
+use Rattle.reopening.proofs.Units.{configuring_opens, removing_opens}
 use Rattle.reopening.specs.Opens.{CanBeOpened}
 
 -- what is known of a run of units: how it goes on, and its moments

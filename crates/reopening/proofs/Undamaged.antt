@@ -1,5 +1,5 @@
 -- What can be opened isn't damaged.
-use Rattle.std.proofs.Common.{◌≡◌, ◌<◌, inl, inr, ℕ, Bool, true, false, cond, List, [], ◌∷◌, ◌++◌, Option, None, codes, drop, length, refl, sym, ap, subst, ◌∙◌, arith}
+use Rattle.std.proofs.Common.{◌≡◌, inl, inr, ℕ, Bool, true, false, cond, List, [], ◌∷◌, ◌++◌, None, codes, refl, sym, subst, ◌∙◌, arith}
 use Rattle.std.specs.Prelude.{IsSome}
 use Rattle.std.specs.List.{AllByRecursion}
 use Rattle.std.specs.Str.{IsUtf8}
@@ -9,25 +9,23 @@ use Rattle.std.proofs.lemmas.Bool.{true≢false}
 use Rattle.std.proofs.lemmas.Str.{IsCharBoundary-after_ascii, IsUtf8-append, IsUtf8-drop, IsUtf8-from_ascii}
 use Rattle.texts.proofs.PackageNames.{signs_ascii}
 use Rattle.host_core.proofs.Nodes.{directory_stands, none_stands}
-use Rattle.host_core.specs.Paths.{Path, is_path}
-use Rattle.host_core.specs.Tree.{IsOdd, IsTree, has_slash}
+use Rattle.host_core.specs.Paths.{Path}
+use Rattle.host_core.specs.Tree.{IsOdd, IsTree}
 use Rattle.host_core.specs.World.{World, IsDirectory}
-use Rattle.host_core.specs.declared.node.Node.{Node}
 use Rattle.administration.proofs.Within.{within_is}
-use Rattle.administration.specs.Directories.{HasBadName}
-use Rattle.administration.specs.Places.{home_path, is_within, temporary, tmp_path}
+use Rattle.administration.specs.Places.{home_path, is_within, tmp_path}
 use Rattle.administration.specs.declared.fault.AdministrationFault.TheVariants.{Damaged}
 use Rattle.control_members.proofs.MemberNames.{laid_is_path, laid_spare_is_path, stored_utf8}
 use Rattle.control_members.specs.LaidOut.{IsIncoming, IsIncomingName}
 use Rattle.control_members.specs.Names.{is_member_name}
 use Rattle.file_lists.specs.Info.{IsInfoDamage}
 use Rattle.opening.specs.Leaving.{lib_path, root_path, var_path}
-use Rattle.opening.specs.Parts.{IsFaulty, IsFine, IsFirstFault, IsLeftoversFault, IsReadableInfo, IsTable, Leftovers, Part, names_of, parts}
-use Rattle.opening.specs.Parts.{Root, Way, Records, Spare, Info, Diversions}
+use Rattle.opening.specs.Parts.{IsFaulty, IsFine, IsFirstFault, IsReadableInfo, IsTable, Leftovers, Part, names_of, parts}
+use Rattle.opening.specs.Parts.{Records, Info, Diversions}
 use Rattle.opening.specs.Undamaged.{HasNoFault, IsUndamaged}
 use Rattle.status_db.proofs.NotedWorlds.{records_same}
-use Rattle.status_db.specs.Held.{CanOpenRecords, HasRecords, Holds}
-use Rattle.status_db.specs.NoteDamage.{AreNotesDamaged, AreNotesFine, AreRecordsDamaged, IsFineNumber}
+use Rattle.status_db.specs.Held.{HasRecords, Holds}
+use Rattle.status_db.specs.NoteDamage.{AreNotesDamaged, AreNotesFine, AreRecordsDamaged}
 use Rattle.status_db.specs.declared.record.Record.{Record}
 use Rattle.reopening.specs.Opens.{CanBeOpened}
 
@@ -139,12 +137,15 @@ module _ (law : IsLaw) (w : World) (tree : IsTree w) (opens : CanBeOpened w) (he
 
   notes_damaged : (file : Path) (line : ℕ) → AreNotesDamaged w file line → AreNotesDamaged v file line
   notes_damaged file line (inl bad) = inl bad
-  notes_damaged file line (inr first) = inr (first.0, record {
-    number = first.1.number;
-    within = first.1.within;
-    before = λ n lt. (let fine = first.1.before n lt in record { note = fine.note; is = fine.is; spare = fine.spare });
-    here = first.1.here;
-  })
+  notes_damaged file line (inr first) = inr (
+    first.0,
+    record {
+      number = first.1.number;
+      within = first.1.within;
+      before = λ n lt. (let fine = first.1.before n lt in record { note = fine.note; is = fine.is; spare = fine.spare });
+      here = first.1.here;
+    },
+  )
 
   records_damaged : (file : Path) (line : ℕ) → AreRecordsDamaged w file line → AreRecordsDamaged v file line
   records_damaged file line (inl status) = inl status
@@ -161,8 +162,31 @@ module _ (law : IsLaw) (w : World) (tree : IsTree w) (opens : CanBeOpened w) (he
   info_fine : HasNoFault w Info
   info_fine file line faulty =
       no_fault file line
-      (inr (root, inr (var, inr (lib, inr (home, inr (all_fine.1.1.1.1.0, inr (all_fine.1.1.1.1.1.0, inr (all_fine.1.1.1.1.1.1.0, inr (all_fine.1.1.1.1.1.1.1.0,
-      inl (faulty.0, table_there faulty.0 faulty.1, info_damaged (names_of faulty.0) file line faulty.2))))))))))
+      (inr (
+        root,
+        inr (
+          var,
+          inr (
+            lib,
+            inr (
+              home,
+              inr (
+                all_fine.1.1.1.1.0,
+                inr (
+                  all_fine.1.1.1.1.1.0,
+                  inr (
+                    all_fine.1.1.1.1.1.1.0,
+                    inr (
+                      all_fine.1.1.1.1.1.1.1.0,
+                      inl (faulty.0, table_there faulty.0 faulty.1, info_damaged (names_of faulty.0) file line faulty.2),
+                    ),
+                  ),
+                ),
+              ),
+            ),
+          ),
+        ),
+      ))
 
   diversions_fine : HasNoFault w Diversions
   diversions_fine file line faulty =

@@ -1,27 +1,24 @@
 -- What a unit finds and leaves: records that stand, `info` in which no opening refuses anything, and no `tmp.ci`; and that the next
 -- opening can read all of it at each moment between.
-use Rattle.std.proofs.Common.{◌≡◌, inl, inr, ℕ, zero, suc, IsTrue, Bool, true, List, [], ◌∷◌, ◌++◌, Option, Some, None, Contains, is_some, refl, sym, ap, subst, ◌∙◌, arith}
-use Rattle.std.specs.Prelude.{IsSome}
-use Rattle.std.specs.List.{AllByRecursion}
+use Rattle.std.proofs.Common.{◌≡◌, inl, inr, ℕ, zero, suc, IsTrue, true, List, [], ◌∷◌, ◌++◌, Option, Some, None, Contains, is_some, refl, sym, ap, subst, ◌∙◌, arith}
 use Rattle.texts.specs.PackageNames.{is_package_name}
 use Rattle.host_core.proofs.Nodes.{directory_stands, none_stands, none_there}
-use Rattle.host_core.specs.Events.{Event, scripts_of}
+use Rattle.host_core.specs.Events.{Event}
 use Rattle.host_core.specs.Host.{State}
 use Rattle.host_core.specs.Paths.{Path}
 use Rattle.host_core.specs.Tree.{IsTree}
 use Rattle.host_core.specs.World.{World, IsDirectory}
 use Rattle.host_core.specs.declared.call.Call.{Call}
-use Rattle.host_core.specs.declared.node.Node.{Node}
 use Rattle.administration.proofs.WholeFiles.{no_directory_none}
 use Rattle.administration.proofs.Within.{within_is}
 use Rattle.administration.specs.Places.{tmp_path, is_within}
-use Rattle.configure_engine.specs.Units.{Given as Configuring, IsAmidUnit as IsAmidConfiguring, IsPlanOf as IsConfigurePlan}
+use Rattle.configure_engine.specs.Units.{Given as Configuring, IsAmidUnit as IsAmidConfiguring}
 use Rattle.control_members.specs.LaidOut.{IsIncoming, laid_path}
 use Rattle.diversions.specs.declared.entry.Diversion.{Diversion}
 use Rattle.file_lists.specs.Info.{AreLoose}
 use Rattle.file_lists.specs.Owners.{paths_of}
 use Rattle.removal_engine.proofs.Tables.{is_named}
-use Rattle.removal_engine.specs.Units.{Given as Removing, IsAmidUnit as IsAmidRemoving, IsPlanOf as IsRemovalPlan}
+use Rattle.removal_engine.specs.Units.{Given as Removing, IsAmidUnit as IsAmidRemoving}
 use Rattle.status_db.proofs.NotedWorlds.{found_named}
 use Rattle.status_db.specs.Held.{CanOpenRecords, HasRecords}
 use Rattle.status_db.specs.Records.{AreStanding, record_in}
@@ -35,9 +32,9 @@ use Rattle.unpack_engine.proofs.EndRecords.{has_name}
 use Rattle.unpack_engine.specs.Order.{record_names}
 use Rattle.reopening.proofs.Entries.{IsSafe, safe_quiet}
 use Rattle.reopening.proofs.Inside.{IsQuiet, quiet_then}
-use Rattle.reopening.proofs.Parts.{AreOf, IsCalm, IsOneOf, calm_here, calm_then}
+use Rattle.reopening.proofs.Parts.{AreOf, IsCalm, calm_here, calm_then}
 use Rattle.reopening.proofs.Removals.{configure_plan_safe, removal_plan_safe}
-use Rattle.reopening.proofs.Stages.{AreSafeStages, run_calm, run_falls, run_of, running_calm, running_of}
+use Rattle.reopening.proofs.Stages.{AreSafeStages, run_calm, run_of, running_calm, running_of}
 use Rattle.reopening.proofs.Steps.{AreGood}
 use Rattle.reopening.proofs.Unpacks.{opened_by}
 use Rattle.reopening.specs.Opens.{CanBeOpened}

@@ -1,34 +1,24 @@
 -- At each moment of an unpack the next opening can read all parts of the administration.
-use Rattle.std.proofs.Common.{◌≡◌, ◌⊎◌, inl, inr, ℕ, zero, suc, IsTrue, Bool, true, false, List, [], ◌∷◌, ◌++◌, Option, Some, None, Contains, cond, length, refl, sym, ap, subst, ◌∙◌, arith}
-use Rattle.std.specs.Prelude.{IsSome}
+use Rattle.std.proofs.Common.{◌≡◌, ◌⊎◌, inl, inr, ℕ, zero, suc, IsTrue, Bool, true, false, List, [], ◌∷◌, ◌++◌, Some, Contains, cond, refl, sym, ap, subst, ◌∙◌, arith}
 use Rattle.std.specs.List.{AllByRecursion}
 use Rattle.std.specs.Str.{IsUtf8, bytes_eq}
 use Rattle.std.proofs.lemmas.List.{append-nil, map-append}
 use Rattle.std.proofs.lemmas.List.Elements.{Contains-append_cases, Contains-append_left}
 use Rattle.texts.specs.PackageNames.{is_package_name}
-use Rattle.host_core.specs.Events.{Event, changes_of, scripts_of}
+use Rattle.host_core.specs.Events.{Event, changes_of}
 use Rattle.host_core.specs.Host.{State}
 use Rattle.host_core.specs.Paths.{Path}
-use Rattle.host_core.specs.Tree.{IsTree}
-use Rattle.host_core.specs.World.{World, IsDirectory}
-use Rattle.administration.specs.Directories.{HasBadName}
-use Rattle.administration.specs.Files.{NoDirectory}
-use Rattle.administration.specs.Places.{info_path, tmp_path}
-use Rattle.cleanup_stack.specs.Place.{Place, Forward}
+use Rattle.host_core.specs.World.{World}
+use Rattle.cleanup_stack.specs.Place.{Place}
 use Rattle.cleanup_stack.specs.Transcripts.{Ended, Committed, Unwound}
-use Rattle.control_members.proofs.LaidOut.{incoming_absent}
 use Rattle.control_members.specs.LaidOut.{IsIncoming}
 use Rattle.diversions.specs.declared.entry.Diversion.{Diversion}
 use Rattle.file_lists.proofs.TakingAll.{paths_with}
 use Rattle.file_lists.specs.Info.{AreLoose}
-use Rattle.file_lists.specs.Lists.{HasLists}
 use Rattle.file_lists.specs.Owners.{paths_of}
 use Rattle.file_lists.specs.Writing.{with_list}
 use Rattle.file_lists.specs.declared.paths.PackageList.{PackageList}
-use Rattle.file_works.specs.Files.{Each}
-use Rattle.file_works.specs.Names.{IsNamed}
 use Rattle.file_works.specs.declared.work.Work.{Work}
-use Rattle.opening.specs.Parts.{IsReadableInfo, names_of}
 use Rattle.package_tree.specs.ShipMap.{paths_of as shipped_paths}
 use Rattle.package_tree.specs.declared.package.Package.{Package}
 use Rattle.status_db.proofs.Ordered.{put_standing, standing_same}
@@ -42,12 +32,11 @@ use Rattle.unpack_commit.specs.Takeover.{losing_records, put_records, taken_plac
 use Rattle.unpack_engine.proofs.Cleared.{beginning_kept, has_may, may_loose}
 use Rattle.unpack_engine.proofs.EndNames.{losing_named, puts_named}
 use Rattle.unpack_engine.proofs.EndRecords.{IsKnown, all_known, found_known, has_name, known_name, known_standing, recorded_known, rows_known}
-use Rattle.unpack_engine.proofs.Losing.{loser_named, loser_other}
-use Rattle.unpack_engine.proofs.Order.{directory_there, own_list, own_members}
+use Rattle.unpack_engine.proofs.Losing.{loser_named}
+use Rattle.unpack_engine.proofs.Order.{own_list, own_members}
 use Rattle.unpack_engine.specs.Order.{IsInOrder, record_names}
-use Rattle.unpack_engine.specs.Others.{AreOthers}
 use Rattle.unpack_engine.proofs.Dropping.{dropped_kept, laying_records}
-use Rattle.unpack_engine.specs.Units.{Begins, Ground, HasLeft, IsRunning, IsStage, IsTableAmid, IsUnderWay, changes, commit_records, end_table, last_place, lists_after, other_yields, package_name, table_after, task_from, unit_losers}
+use Rattle.unpack_engine.specs.Units.{Begins, Ground, HasLeft, IsRunning, IsStage, IsTableAmid, IsUnderWay, changes, commit_records, end_table, last_place, lists_after, package_name, table_after, task_from, unit_losers}
 use Rattle.unpack_plan.specs.Planned.{IsPlanned, Job, Planned, name_of}
 use Rattle.unpack_rows.specs.EndStates.{AreRecorded}
 use Rattle.unpack_rows.specs.ForwardRows.{records_of}
@@ -60,7 +49,7 @@ use Rattle.reopening.proofs.Entries.{IsSafe, safe_fewer, safe_quiet}
 use Rattle.reopening.proofs.Inside.{IsQuiet, quiet_laid, quiet_then}
 use Rattle.reopening.proofs.Rows.{amid_quiet, come_quiet}
 use Rattle.reopening.proofs.Steps.{AreGood}
-use Rattle.reopening.proofs.Texts.{entries_text, good_listed, good_paths, new_list_text}
+use Rattle.reopening.proofs.Texts.{entries_text, good_paths, new_list_text}
 use Rattle.reopening.specs.Opens.{CanBeOpened}
 
 -- what has been found: records that stand for a table of these names, entries without a fault, and what can be taken away

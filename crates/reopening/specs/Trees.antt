@@ -1,5 +1,5 @@
 -- Trees whose paths are text, as each path in memory is.
-use Rattle.std.specs.Prelude.{List, [], ◌∷◌, Result, Ok, Err}
+use Rattle.std.specs.Prelude.{List, Result, Ok, Err}
 use Rattle.std.specs.List.{AllByRecursion}
 use Rattle.std.specs.Str.{IsUtf8}
 use Rattle.dpkg_session.specs.declared.report.Candidate.{Candidate}

@@ -6,6 +6,7 @@ mod tree_texts;
 
 pub use laws::{
     a_configure_can_be_opened_amid, a_diversion_can_be_opened_amid, a_loss_can_be_opened,
-    a_removal_can_be_opened_amid, an_opening_can_be_opened_amid, an_unpack_can_be_opened_amid, what_can_be_opened_is_undamaged,
+    a_removal_can_be_opened_amid, an_opening_can_be_opened_amid, an_unpack_can_be_opened_amid,
+    what_can_be_opened_is_undamaged,
 };
 pub use tree_texts::ships_texts;
