@@ -2,7 +2,7 @@
 ghost use Rattle.std.specs.Prelude.{◌≡◌, ⊤, IsTrue, Some, option_map};
 ghost use Rattle.host_memory.specs.Memory.{memory_state};
 
-use command_line::{Hosts, run_words};
+use command_line::{Hosts, RootFault, run_words};
 use host_core::{Access, Host, HostFault, Node, RootPath};
 use host_memory::{Ending, Entry, MemoryHost, Planned};
 use std::alloc::{AllocError, Global};
@@ -181,10 +181,13 @@ impl Hosts for Machine {
 
     ghost unopened = { λ old new. option_map memory_state new.root ≡ option_map memory_state old.root };
 
-    fn open_root(&mut self, _directory: &str) -> Result<MemoryHost, HostFault> {
+    // no other program has the root
+    ghost locked = { λ _ _. ⊥ };
+
+    fn open_root(&mut self, _directory: &str) -> Result<MemoryHost, RootFault> {
         match self.root.take() {
             Some(host) => Ok(host),
-            None => Err(HostFault::NoMemory),
+            None => Err(RootFault::Host(HostFault::NoMemory)),
         }
     }
 

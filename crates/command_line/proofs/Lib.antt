@@ -2,3 +2,4 @@ mod Trees
 mod Held
 mod Named
 mod Changed
+mod Helped

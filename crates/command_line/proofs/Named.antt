@@ -12,14 +12,16 @@ use Rattle.command_words.specs.Unpacks.{unpacking_of}
 use Rattle.command_words.specs.Diversions.{owner_from, owner_of, undiverting_from, undiverting_of, with_target}
 use Rattle.command_words.specs.Given.{is_absolute, is_set}
 use Rattle.command_words.specs.Queries.{query_of}
+use Rattle.command_words.specs.Topics.{topic_in}
 use Rattle.command_words.specs.declared.diverting.Diverting.{Diverting}
 use Rattle.command_words.specs.declared.diverting.Undiverting.{Undiverting}
 use Rattle.command_words.specs.declared.words.Asked.{Asked}
-use Rattle.command_words.specs.declared.words.Asked.TheVariants.{CompareVersions, Configure, Divert, Install, Names, Purge, Query, Remove, Undivert, Unpack}
+use Rattle.command_words.specs.declared.words.Asked.TheVariants.{CompareVersions, Configure, Divert, Help, Install, Names, Purge, Query, Remove, Undivert, Unpack}
 use Rattle.command_line.specs.Changes.{owner_in}
 
 abbrev IsNamed : Asked → Type 0
 IsNamed Names = Unit {0}
+IsNamed (Help topic) = Unit {0}
 IsNamed (CompareVersions c) = Unit {0}
 IsNamed (Divert d) = is_owner (owner_in d.owner) ≡ true
 IsNamed (Undivert u) = is_owner (owner_in u.owner) ≡ true
@@ -88,12 +90,13 @@ by_named name rows =
     if_named (bytes_eq name (codes "compare-versions")) _ _ (map_named CompareVersions (comparison_of rows) (λ c. tt))
     (if_named (bytes_eq name (codes "configure")) _ _ (map_named Configure (configuring_of rows) (λ c. tt))
     (if_named (bytes_eq name (codes "divert")) _ _ (divert_asked (first_of (codes "divert") rows) (undiverting_of rows) undivert)
+    (if_named (bytes_eq name (codes "help")) _ _ (map_named Help (topic_in (first_of (codes "COMMAND") rows)) (λ t. tt))
     (if_named (bytes_eq name (codes "install")) _ _ (map_named Install (unpacking_of rows) (λ u. tt))
     (if_named (bytes_eq name (codes "purge")) _ _ (map_named Purge (removing_of rows) (λ r. tt))
     (if_named (bytes_eq name (codes "remove")) _ _ (map_named Remove (removing_of rows) (λ r. tt))
     (if_named (bytes_eq name (codes "undivert")) _ _ (undivert_asked (undiverting_of rows) undivert)
     (if_named (bytes_eq name (codes "unpack")) _ _ (map_named Unpack (unpacking_of rows) (λ u. tt))
-    (map_named Query (query_of name rows) (λ q. tt)))))))))
+    (map_named Query (query_of name rows) (λ q. tt))))))))))
 
 in_named : (sub : Option (Text × List Row)) → Named (asked_in sub)
 in_named None = tt

@@ -12,7 +12,7 @@ use Rattle.package_tree.specs.declared.package.Package.{Package}
 use Rattle.unit_reports.specs.Held.{Held, held}
 use Rattle.dpkg_session.specs.declared.report.Candidate.{Candidate}
 use Rattle.command_line.specs.declared.unpacking.Done.{Done}
-use Rattle.administration.specs.declared.fault.AdministrationFault.{AdministrationFault}
+use Rattle.command_line.specs.declared.fault.NotOpened.{NotOpened}
 use Rattle.command_words.specs.declared.unpacking.Unpacking.{Unpacking}
 use Rattle.command_line.specs.Reports.{HasEndedAs}
 use Rattle.command_line.specs.Roots.{Around, held_anew}
@@ -76,5 +76,5 @@ opened_anew database lists diversions number noting =
     ∙ ap (λ (b : Bool). record { records = record { records = database.records; notes = 0; closed = b }; lists = lists.lists; entries = diversions.entries }) noting
 
 -- the same policy by another word
-pub with_policy : (a : Around) (p q : ConfPolicy) (u : Unpacking) (ended : Result Done AdministrationFault) → p ≡ q → HasEndedAs a (Some p) u ended → HasEndedAs a (Some q) u ended
+pub with_policy : (a : Around) (p q : ConfPolicy) (u : Unpacking) (ended : Result Done NotOpened) → p ≡ q → HasEndedAs a (Some p) u ended → HasEndedAs a (Some q) u ended
 with_policy a p q u ended e h = subst (λ (x : ConfPolicy). HasEndedAs a (Some x) u ended) e h

@@ -3,7 +3,7 @@ use Rattle.std.specs.Prelude.{◌≡◌, ℕ, Bool, not, IsNone, is_some, List, 
 use Rattle.host_core.specs.Host.{AtEachMoment, Silent, State}
 use Rattle.host_core.specs.Paths.{is_ship_text}
 use Rattle.host_core.specs.World.{World}
-use Rattle.administration.specs.declared.fault.AdministrationFault.{AdministrationFault}
+use Rattle.command_line.specs.declared.fault.NotOpened.{NotOpened}
 use Rattle.diversions.specs.Changes.{IsAdding, IsRemoving}
 use Rattle.diversions.specs.declared.entry.Diversion.{Diversion}
 use Rattle.diversions.specs.declared.entry.Owner.{Owner}
@@ -96,6 +96,6 @@ abbrev pub HasChangedUnder : Around → List ℕ → Change → Report → Type 
 HasChangedUnder a word asked done = (begun : State) × a.root word begun × IsChangedOn a.left begun asked done
 
 -- what came of a change: its report, or why the root couldn't be opened
-abbrev pub HasEndedChange : Around → List ℕ → Change → Result Report AdministrationFault → Type 0
+abbrev pub HasEndedChange : Around → List ℕ → Change → Result Report NotOpened → Type 0
 HasEndedChange a word asked (Ok done) = HasChangedUnder a word asked done
 HasEndedChange a word asked (Err fault) = IsRootFault a word fault

@@ -3,7 +3,7 @@ use Rattle.std.specs.Prelude.{ℕ, Bool, true, false, IsNone, List, Option, Resu
 use Rattle.host_core.specs.Events.{Event}
 use Rattle.host_core.specs.Host.{Since, State}
 use Rattle.host_core.specs.World.{World}
-use Rattle.administration.specs.declared.fault.AdministrationFault.{AdministrationFault}
+use Rattle.command_line.specs.declared.fault.NotOpened.{NotOpened}
 use Rattle.diversions.specs.declared.entry.Diversion.{Diversion}
 use Rattle.file_lists.specs.declared.paths.PackageList.{PackageList}
 use Rattle.status_db.specs.declared.record.Record.{Record}
@@ -82,6 +82,6 @@ abbrev pub HasWorkedUnder : Around → List ℕ → Work → Report → Type 0
 HasWorkedUnder a word asked done = (begun : State) × a.root word begun × IsWorkedOn a.left begun asked done
 
 -- what came of it: its report, or why the root couldn't be opened
-abbrev pub HasEndedWork : Around → List ℕ → Work → Result Report AdministrationFault → Type 0
+abbrev pub HasEndedWork : Around → List ℕ → Work → Result Report NotOpened → Type 0
 HasEndedWork a word asked (Ok done) = HasWorkedUnder a word asked done
 HasEndedWork a word asked (Err fault) = IsRootFault a word fault

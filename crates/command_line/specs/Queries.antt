@@ -2,7 +2,7 @@
 use Rattle.std.specs.Prelude.{◌≡◌, ◌⊎◌, ℕ, List, [], ◌∷◌, ◌++◌, Option, Some, None, Result, Ok, Err, codes, if◌then◌else◌}
 use Rattle.host_core.specs.Host.{State}
 use Rattle.host_core.specs.Paths.{Path, is_path_text, path_of}
-use Rattle.administration.specs.declared.fault.AdministrationFault.{AdministrationFault}
+use Rattle.command_line.specs.declared.fault.NotOpened.{NotOpened}
 use Rattle.diversions.specs.declared.entry.Diversion.{Diversion}
 use Rattle.file_lists.specs.declared.paths.PackageList.{PackageList}
 use Rattle.status_db.specs.declared.record.Record.{Record}
@@ -76,7 +76,7 @@ HasInquired a word asked answer = (begun : State) × a.root word begun × IsInqu
 -- the answer under a root, or why this can't be opened
 abbrev pub IsInquired : Around → List ℕ → Inquiry → Answer → Type 0
 IsInquired a word asked answer = HasInquired a word asked answer
-    ⊎ ((fault : AdministrationFault) × IsRootFault a word fault × (answer ≡ opening_answer fault))
+    ⊎ ((fault : NotOpened) × IsRootFault a word fault × (answer ≡ opening_answer word fault))
 
 -- the path of a question is read first, and only where it names one is the root opened
 abbrev pub IsReadAnswer : Around → List ℕ → Result Inquiry (List ℕ) → Answer → Type 0

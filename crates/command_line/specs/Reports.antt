@@ -4,7 +4,7 @@ use Rattle.std.specs.Option.{option_map_or}
 use Rattle.std.specs.Io.KnownBytes.{Appends, Keeps}
 use Rattle.version_order.specs.VersionOrder.{version_order}
 use Rattle.version_order.specs.declared.fault.VersionFault.{VersionFault}
-use Rattle.administration.specs.declared.fault.AdministrationFault.{AdministrationFault}
+use Rattle.command_line.specs.declared.fault.NotOpened.{NotOpened}
 use Rattle.unit_reports.specs.declared.report.Report.{Report}
 use Rattle.report_lines.specs.Reports.{report_lines, report_status}
 use Rattle.command_words.specs.Comparisons.{bad_version, bad_version_line, holds}
@@ -14,7 +14,7 @@ use Rattle.command_line.specs.Packages.{HasEndedWork, policy_of, work_of}
 use Rattle.command_line.specs.declared.packages.Work.{Work}
 use Rattle.command_line.specs.declared.packages.Work.TheVariants as work
 use Rattle.conffiles.specs.declared.decisions.ConfPolicy.{ConfPolicy}
-use Rattle.command_line.specs.Queries.{IsQueryAnswer, bad_path_answer, inquiry_of}
+use Rattle.command_line.specs.Queries.{IsQueryAnswer, bad_path_answer, inquiry_of, text_answer}
 use Rattle.command_line.specs.declared.changing.Change.{Change}
 use Rattle.command_line.specs.Roots.{Around, IsRootFault, opening_answer}
 use Rattle.command_line.specs.Unpacks.{HasUnpacked}
@@ -22,9 +22,11 @@ use Rattle.command_line.specs.declared.unpacking.Done.{Done}
 use Rattle.command_line.specs.declared.unpacking.Done.TheVariants as done
 use Rattle.dpkg_session.specs.declared.installing.Installed.{Installed}
 use Rattle.command_words.specs.CommandLine.{lines, subcommand_names}
+use Rattle.command_words.specs.Topics.{HasScreen, IsScreen}
 use Rattle.command_words.specs.declared.comparison.Comparison.{Comparison}
+use Rattle.command_words.specs.declared.help.Topic.{Topic}
 use Rattle.command_words.specs.declared.words.Asked.{Asked}
-use Rattle.command_words.specs.declared.words.Asked.TheVariants.{Names, CompareVersions, Configure, Divert, Install, Purge, Query, Remove, Undivert, Unpack}
+use Rattle.command_words.specs.declared.words.Asked.TheVariants.{Names, CompareVersions, Help, Configure, Divert, Install, Purge, Query, Remove, Undivert, Unpack}
 use Rattle.command_words.specs.declared.unpacking.Unpacking.{Unpacking}
 
 -- the names of the subcommands, one a line
@@ -59,22 +61,22 @@ done_answer (done.Installed reports) = install_answer reports
 
 -- what came of trees, whose packages are configured too where a policy for conffiles is given: reports, or why the root
 -- couldn't be opened
-abbrev pub HasEndedAs : Around → Option ConfPolicy → Unpacking → Result Done AdministrationFault → Type 0
+abbrev pub HasEndedAs : Around → Option ConfPolicy → Unpacking → Result Done NotOpened → Type 0
 HasEndedAs a policy u (Ok came) = HasUnpacked a policy u came
 HasEndedAs a policy u (Err fault) = IsRootFault a u.root fault
 
-abbrev pub trees_answer : Result Done AdministrationFault → Answer
-trees_answer (Ok came) = done_answer came
-trees_answer (Err fault) = opening_answer fault
+abbrev pub trees_answer : List ℕ → Result Done NotOpened → Answer
+trees_answer word (Ok came) = done_answer came
+trees_answer word (Err fault) = opening_answer word fault
 
--- what came of a command: its report, or why the root couldn't be opened
-abbrev pub ended_answer : Result Report AdministrationFault → Answer
-ended_answer (Ok done) = report_answer done
-ended_answer (Err fault) = opening_answer fault
+-- what came of a command under the root of a word: its report, or why the root couldn't be opened
+abbrev pub ended_answer : List ℕ → Result Report NotOpened → Answer
+ended_answer word (Ok done) = report_answer done
+ended_answer word (Err fault) = opening_answer word fault
 
 -- a change of the diversions has ended as its answer tells
 abbrev pub IsChangeAnswer : Around → List ℕ → Change → Answer → Type 0
-IsChangeAnswer a word asked answer = (ended : Result Report AdministrationFault) × HasEndedChange a word asked ended × (answer ≡ ended_answer ended)
+IsChangeAnswer a word asked answer = (ended : Result Report NotOpened) × HasEndedChange a word asked ended × (answer ≡ ended_answer word ended)
 
 -- its paths are read first, and only where each names one is the root opened, for a change as it is asked for
 abbrev pub IsReadChange : Around → List ℕ → Option (List ℕ) → (Change → Type 0) → Answer → Type 0
@@ -83,15 +85,20 @@ IsReadChange a word (Some text) P answer = answer ≡ bad_path_answer text
 
 -- packages are unpacked, or installed, and this has ended as its answer tells
 abbrev pub IsTreesAnswer : Around → Option ConfPolicy → Unpacking → Answer → Type 0
-IsTreesAnswer a policy u answer = (ended : Result Done AdministrationFault) × HasEndedAs a policy u ended × (answer ≡ trees_answer ended)
+IsTreesAnswer a policy u answer = (ended : Result Done NotOpened) × HasEndedAs a policy u ended × (answer ≡ trees_answer u.root ended)
 
 -- work on packages by their names has ended as its answer tells
 abbrev pub IsWorkAnswer : Around → List ℕ → Work → Answer → Type 0
-IsWorkAnswer a word asked answer = (ended : Result Report AdministrationFault) × HasEndedWork a word asked ended × (answer ≡ ended_answer ended)
+IsWorkAnswer a word asked answer = (ended : Result Report NotOpened) × HasEndedWork a word asked ended × (answer ≡ ended_answer word ended)
+
+-- help is the screen of the topic, on standard output
+abbrev pub IsHelpAnswer : Topic → Answer → Type 0
+IsHelpAnswer topic answer = (text : List ℕ) × IsScreen topic text × (answer ≡ text_answer text)
 
 -- the answer to what is asked for
 abbrev pub IsAnswerTo : Around → Asked → Answer → Type 0
 IsAnswerTo a Names answer = answer ≡ names_answer
+IsAnswerTo a (Help topic) answer = IsHelpAnswer topic answer
 IsAnswerTo a (CompareVersions c) answer = answer ≡ comparison_answer c
 IsAnswerTo a (Query q) answer = IsQueryAnswer a q answer
 IsAnswerTo a (Divert d) answer = IsReadChange a d.root (bad_of_divert d) (IsDivertOf d) answer
@@ -110,14 +117,16 @@ memory_answer = record { output = []; error = codes "broken memory\n"; status = 
 abbrev pub usage_answer : List ℕ → Answer
 usage_answer text = record { output = []; error = text; status = 2 }
 
--- What the words are answered with: the answer to what they ask for or, where they ask for nothing, a text on their use.
-abbrev pub IsAnswerOf : Around → Option Asked → Answer → Type 0
-IsAnswerOf a (Some asked) answer = IsAnswerTo a asked answer
-IsAnswerOf a None answer = (text : List ℕ) × (answer ≡ usage_answer text)
+-- What the words are answered with: the answer to what they ask for or, where they ask for nothing, a text on their use, which
+-- ends with the screen of the topic that they name.
+abbrev pub IsAnswerOf : Around → Topic → Option Asked → Answer → Type 0
+IsAnswerOf a named (Some asked) answer = IsAnswerTo a asked answer
+IsAnswerOf a named None answer = (text : List ℕ) × HasScreen named text × (answer ≡ usage_answer text)
 
 -- only to these is anything written to standard output
 abbrev pub prints : Option Asked → Bool
 prints (Some Names) = true
+prints (Some (Help topic)) = true
 prints (Some (CompareVersions c)) = false
 prints (Some (Query q)) = is_ok (inquiry_of q.question)
 prints (Some (Divert d)) = is_good (bad_of_divert d)
@@ -132,6 +141,7 @@ prints None = false
 -- only for these is a root opened: not for a question about a text that names no path, nor for such a diversion
 abbrev pub opens_root : Option Asked → Bool
 opens_root (Some Names) = false
+opens_root (Some (Help topic)) = false
 opens_root (Some (CompareVersions c)) = false
 opens_root (Some (Query q)) = is_ok (inquiry_of q.question)
 opens_root (Some (Divert d)) = is_good (bad_of_divert d)

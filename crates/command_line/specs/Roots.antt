@@ -1,7 +1,9 @@
 -- How the root of a command is opened, and what is known of its hosts.
-use Rattle.std.specs.Prelude.{◌≡◌, ◌⊎◌, ℕ, false, List, [], Some, None}
+use Rattle.std.specs.Prelude.{◌≡◌, ◌⊎◌, ℕ, false, List, [], ◌++◌, Some, None, codes}
 use Rattle.host_core.specs.Host.{AtEachMoment, Needs, Silent, State}
 use Rattle.administration.specs.declared.fault.AdministrationFault.{AdministrationFault}
+use Rattle.command_line.specs.declared.fault.NotOpened.{NotOpened}
+use Rattle.command_line.specs.declared.fault.NotOpened.TheVariants.{Locked, Opening}
 use Rattle.administration.specs.declared.fault.AdministrationFault.TheVariants as opening_faults
 use Rattle.diversions.specs.declared.entry.Diversion.{Diversion}
 use Rattle.file_lists.specs.declared.paths.PackageList.{PackageList}
@@ -22,7 +24,8 @@ abbrev pub Given : Type 1
 Given = State → Type 0
 
 -- What is known of the hosts of a command: the states behind words for the root and for trees before it, the states in
--- which they were given back by its end, and whether the device failed on opening one and no root was opened.
+-- which they were given back by its end, whether the device failed on opening one and no root was opened, and whether another
+-- program held the root behind a word before it.
 pub record Around : Type 1 where
   pub root : Behind
   pub tree : Behind
@@ -30,9 +33,10 @@ pub record Around : Type 1 where
   pub seen : Given
   pub failed : Type 0
   pub unopened : Type 0
+  pub locked : List ℕ → Type 0
 
-abbrev pub around : Behind → Behind → Given → Given → Type 0 → Type 0 → Around
-around root tree left seen failed unopened = record { root = root; tree = tree; left = left; seen = seen; failed = failed; unopened = unopened }
+abbrev pub around : Behind → Behind → Given → Given → Type 0 → Type 0 → (List ℕ → Type 0) → Around
+around root tree left seen failed unopened locked = record { root = root; tree = tree; left = left; seen = seen; failed = failed; unopened = unopened; locked = locked }
 
 -- The administration on a host was opened: no script was called, and nothing but what opening changes has changed. These are
 -- its records, the lists of their packages, and its diversions.
@@ -59,15 +63,22 @@ pub record IsStoppedOn (left : Given) (begun : State) : Type 0 where
   pub opens : OpensAll None begun end
   pub opening : AtEachMoment IsOpeningOrMerging begun end
 
--- so it went on a host behind the root's word, unless none could be opened: the device failed, or memory was wanting
-abbrev pub IsRootFault : Around → List ℕ → AdministrationFault → Type 0
-IsRootFault a word fault =
+-- so it went on a host behind the root's word, unless none was opened: another program held the root, the device failed, or
+-- memory was wanting
+abbrev pub IsRootFault : Around → List ℕ → NotOpened → Type 0
+IsRootFault a word Locked = a.unopened × a.locked word
+IsRootFault a word (Opening fault) =
     ((begun : State) × a.root word begun × (IsRefusedOn a.left begun fault ⊎ ((fault ≡ opening_faults.NoMemory) × IsStoppedOn a.left begun)))
     ⊎ (a.unopened × (((fault ≡ opening_faults.Device) × a.failed) ⊎ (fault ≡ opening_faults.NoMemory)))
 
--- why the root can't be opened is told on standard error
-abbrev pub opening_answer : AdministrationFault → Answer
-opening_answer fault = record { output = []; error = opening_line fault; status = 2 }
+-- the line that tells that another program holds the root
+abbrev pub locked_line : List ℕ → List ℕ
+locked_line word = codes "locked " ++ (word ++ codes "\n")
+
+-- why the root of a word can't be opened is told on standard error
+abbrev pub opening_answer : List ℕ → NotOpened → Answer
+opening_answer word Locked = record { output = []; error = locked_line word; status = 2 }
+opening_answer word (Opening fault) = record { output = []; error = opening_line fault; status = 2 }
 
 -- what is held of an administration that was just opened, where no note stands
 abbrev pub held_anew : List Record → List PackageList → List Diversion → Held

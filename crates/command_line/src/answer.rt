@@ -1,26 +1,27 @@
 // What the words ask for, carried out, and what is to be written for it.
 ghost use Rattle.std.specs.Prelude.{◌≡◌, ◌<◌, ◌≤◌, ◌⊎◌, IfOk, Result, is_ok, map, string_bytes, true, []};
 ghost use Rattle.command_words.specs.Commands.{asked_of};
-ghost use Rattle.administration.specs.declared.fault.AdministrationFault.{AdministrationFault as AFault};
+ghost use Rattle.command_words.specs.Topics.{named_in};
+ghost use Rattle.command_line.specs.declared.fault.NotOpened.{NotOpened as ANotOpened};
 ghost use Rattle.unit_reports.specs.declared.report.Report.{Report as AReport};
 ghost use Rattle.command_line.specs.declared.answer.Answer.{Answer as AnAnswer};
 ghost use Rattle.command_line.specs.declared.unpacking.Done.{Done as ADone};
 ghost use Rattle.command_line.specs.Packages.{HasEndedWork, work_of};
 ghost use Rattle.command_line.specs.Queries.{IsInquired, IsQueryAnswer, bad_path_answer, inquiry_of};
-ghost use Rattle.command_line.specs.Reports.{HasEndedAs, IsAnswerOf, IsReadChange, comparison_answer, done_answer, ended_answer, install_answer, memory_answer, names_answer, opens_root, prints, report_answer, trees_answer};
+ghost use Rattle.command_line.specs.Reports.{HasEndedAs, IsAnswerOf, IsHelpAnswer, IsReadChange, comparison_answer, done_answer, ended_answer, install_answer, memory_answer, names_answer, opens_root, prints, report_answer, trees_answer};
 ghost use Rattle.command_line.specs.Changes.{HasEndedChange, IsDivertOf, IsUndivertOf, bad_of_divert, bad_of_undivert, is_good, owner_in};
 ghost use Rattle.diversions.specs.Entries.{is_owner};
-ghost use Rattle.command_line.specs.Roots.{around, opening_answer};
+ghost use Rattle.command_line.specs.Roots.{around, locked_line, opening_answer};
 
 use crate::changing::{Change, change_under, diverting_in, undiverting_in};
+use crate::fault::NotOpened;
 use crate::hosts::Hosts;
 use crate::packages::{Work, policy_of, work_under};
 use crate::questions::{Inquiry, bad_path, inquire_under, inquiry_of};
 use crate::unpacking::{Done, unpack};
-use administration::AdministrationFault;
 use command_words::{
-    Asked, Comparison, Configuring, Diverting, Query, Removing, Undiverting, Unpacking, Verdict,
-    WordsFault, bad_version_line, command_of, subcommand_names,
+    Asked, Comparison, Configuring, Diverting, Query, Removing, Topic, Undiverting, Unpacking,
+    Verdict, WordsFault, bad_version_line, command_of, help_text, subcommand_names,
 };
 use conffiles::ConfPolicy;
 use dpkg_session::{Installed, Report};
@@ -80,6 +81,12 @@ fn names(alloc: Global) -> Result<Answer, AllocError>
     Ok(printed(alloc, subcommand_names(alloc)?, 0))
 }
 
+fn helped(alloc: Global, topic: Topic) -> Result<Answer, AllocError>
+    ensures { IfOk result (IsHelpAnswer topic) }
+{
+    Ok(printed(alloc, help_text(alloc, topic)?, 0))
+}
+
 fn compared(alloc: Global, comparison: &Comparison) -> Result<Answer, AllocError>
     ensures { IfOk result (λ answer. answer ≡ comparison_answer comparison.now) }
 {
@@ -124,11 +131,27 @@ fn done_answer(alloc: Global, done: &Done) -> Result<Answer, AllocError>
     }
 }
 
-fn not_opened(alloc: Global, fault: &AdministrationFault) -> Result<Answer, AllocError>
-    ensures { IfOk result (λ answer. answer ≡ opening_answer fault.now) }
+// The line that tells that another program holds the root.
+fn locked_line(alloc: Global, root: &Text) -> Result<String, AllocError>
+    ensures { IfOk result (λ line. string_bytes line ≡ locked_line root.now) }
 {
-    let line = opening_line(alloc, fault)?;
-    Ok(complained(alloc, line))
+    let root = root.as_str();
+    format!(in alloc; "locked {root}\n")
+}
+
+fn not_opened(alloc: Global, root: &Text, fault: &NotOpened) -> Result<Answer, AllocError>
+    ensures { IfOk result (λ answer. answer ≡ opening_answer root.now fault.now) }
+{
+    match fault {
+        NotOpened::Locked => {
+            let line = locked_line(alloc, root)?;
+            Ok(complained(alloc, line))
+        }
+        NotOpened::Opening(fault) => {
+            let line = opening_line(alloc, fault)?;
+            Ok(complained(alloc, line))
+        }
+    }
 }
 
 fn unpacked<S: Hosts>(
@@ -137,14 +160,14 @@ fn unpacked<S: Hosts>(
     unpacking: &Unpacking,
     policy: Option<ConfPolicy>,
 ) -> Result<Answer, AllocError>
-    ensures ended { (ended : Result ADone AFault)
-        × HasEndedAs (around (S.root hosts.old) (S.tree hosts.old) (S.left hosts.new) (S.seen hosts.new) (S.faults hosts.old < S.faults hosts.new) (S.unopened hosts.old hosts.new)) policy unpacking.now ended
-        × IfOk result (λ answer. answer ≡ trees_answer ended) }
+    ensures ended { (ended : Result ADone ANotOpened)
+        × HasEndedAs (around (S.root hosts.old) (S.tree hosts.old) (S.left hosts.new) (S.seen hosts.new) (S.faults hosts.old < S.faults hosts.new) (S.unopened hosts.old hosts.new) (S.locked hosts.old)) policy unpacking.now ended
+        × IfOk result (λ answer. answer ≡ trees_answer unpacking.now.root ended) }
     ensures bound { IfOk result (λ answer. answer.status ≤ 2) }
 {
     match unpack(alloc, hosts, unpacking, policy) {
         Ok(done) => done_answer(alloc, &done),
-        Err(fault) => not_opened(alloc, &fault),
+        Err(fault) => not_opened(alloc, &unpacking.root, &fault),
     }
 }
 
@@ -154,14 +177,14 @@ fn changed<S: Hosts>(
     root: &Text,
     asked: &Change,
 ) -> Result<Answer, AllocError>
-    ensures ended { (ended : Result AReport AFault)
-        × HasEndedChange (around (S.root hosts.old) (S.tree hosts.old) (S.left hosts.new) (S.seen hosts.new) (S.faults hosts.old < S.faults hosts.new) (S.unopened hosts.old hosts.new)) root.now asked.now ended
-        × IfOk result (λ answer. answer ≡ ended_answer ended) }
+    ensures ended { (ended : Result AReport ANotOpened)
+        × HasEndedChange (around (S.root hosts.old) (S.tree hosts.old) (S.left hosts.new) (S.seen hosts.new) (S.faults hosts.old < S.faults hosts.new) (S.unopened hosts.old hosts.new) (S.locked hosts.old)) root.now asked.now ended
+        × IfOk result (λ answer. answer ≡ ended_answer root.now ended) }
     ensures bound { IfOk result (λ answer. answer.status ≤ 2) }
 {
     match change_under(alloc, hosts, root, asked) {
         Ok(done) => reported(alloc, &done),
-        Err(fault) => not_opened(alloc, &fault),
+        Err(fault) => not_opened(alloc, root, &fault),
     }
 }
 
@@ -171,14 +194,14 @@ fn worked<S: Hosts>(
     root: &Text,
     asked: &Work,
 ) -> Result<Answer, AllocError>
-    ensures ended { (ended : Result AReport AFault)
-        × HasEndedWork (around (S.root hosts.old) (S.tree hosts.old) (S.left hosts.new) (S.seen hosts.new) (S.faults hosts.old < S.faults hosts.new) (S.unopened hosts.old hosts.new)) root.now asked.now ended
-        × IfOk result (λ answer. answer ≡ ended_answer ended) }
+    ensures ended { (ended : Result AReport ANotOpened)
+        × HasEndedWork (around (S.root hosts.old) (S.tree hosts.old) (S.left hosts.new) (S.seen hosts.new) (S.faults hosts.old < S.faults hosts.new) (S.unopened hosts.old hosts.new) (S.locked hosts.old)) root.now asked.now ended
+        × IfOk result (λ answer. answer ≡ ended_answer root.now ended) }
     ensures bound { IfOk result (λ answer. answer.status ≤ 2) }
 {
     match work_under(alloc, hosts, root, asked) {
         Ok(done) => reported(alloc, &done),
-        Err(fault) => not_opened(alloc, &fault),
+        Err(fault) => not_opened(alloc, root, &fault),
     }
 }
 
@@ -187,9 +210,9 @@ fn configured<S: Hosts>(
     hosts: &mut S,
     asked: Configuring,
 ) -> Result<Answer, AllocError>
-    ensures ended { (ended : Result AReport AFault)
-        × HasEndedWork (around (S.root hosts.old) (S.tree hosts.old) (S.left hosts.new) (S.seen hosts.new) (S.faults hosts.old < S.faults hosts.new) (S.unopened hosts.old hosts.new)) asked.root (work_of asked) ended
-        × IfOk result (λ answer. answer ≡ ended_answer ended) }
+    ensures ended { (ended : Result AReport ANotOpened)
+        × HasEndedWork (around (S.root hosts.old) (S.tree hosts.old) (S.left hosts.new) (S.seen hosts.new) (S.faults hosts.old < S.faults hosts.new) (S.unopened hosts.old hosts.new) (S.locked hosts.old)) asked.root (work_of asked) ended
+        × IfOk result (λ answer. answer ≡ ended_answer asked.root ended) }
     ensures bound { IfOk result (λ answer. answer.status ≤ 2) }
 {
     let Configuring {
@@ -202,9 +225,9 @@ fn configured<S: Hosts>(
 }
 
 fn removed<S: Hosts>(alloc: Global, hosts: &mut S, asked: Removing) -> Result<Answer, AllocError>
-    ensures ended { (ended : Result AReport AFault)
-        × HasEndedWork (around (S.root hosts.old) (S.tree hosts.old) (S.left hosts.new) (S.seen hosts.new) (S.faults hosts.old < S.faults hosts.new) (S.unopened hosts.old hosts.new)) asked.root (Work.Remove asked.names) ended
-        × IfOk result (λ answer. answer ≡ ended_answer ended) }
+    ensures ended { (ended : Result AReport ANotOpened)
+        × HasEndedWork (around (S.root hosts.old) (S.tree hosts.old) (S.left hosts.new) (S.seen hosts.new) (S.faults hosts.old < S.faults hosts.new) (S.unopened hosts.old hosts.new) (S.locked hosts.old)) asked.root (Work.Remove asked.names) ended
+        × IfOk result (λ answer. answer ≡ ended_answer asked.root ended) }
     ensures bound { IfOk result (λ answer. answer.status ≤ 2) }
 {
     let Removing { root, names } = asked;
@@ -213,9 +236,9 @@ fn removed<S: Hosts>(alloc: Global, hosts: &mut S, asked: Removing) -> Result<An
 }
 
 fn purged<S: Hosts>(alloc: Global, hosts: &mut S, asked: Removing) -> Result<Answer, AllocError>
-    ensures ended { (ended : Result AReport AFault)
-        × HasEndedWork (around (S.root hosts.old) (S.tree hosts.old) (S.left hosts.new) (S.seen hosts.new) (S.faults hosts.old < S.faults hosts.new) (S.unopened hosts.old hosts.new)) asked.root (Work.Purge asked.names) ended
-        × IfOk result (λ answer. answer ≡ ended_answer ended) }
+    ensures ended { (ended : Result AReport ANotOpened)
+        × HasEndedWork (around (S.root hosts.old) (S.tree hosts.old) (S.left hosts.new) (S.seen hosts.new) (S.faults hosts.old < S.faults hosts.new) (S.unopened hosts.old hosts.new) (S.locked hosts.old)) asked.root (Work.Purge asked.names) ended
+        × IfOk result (λ answer. answer ≡ ended_answer asked.root ended) }
     ensures bound { IfOk result (λ answer. answer.status ≤ 2) }
 {
     let Removing { root, names } = asked;
@@ -226,7 +249,7 @@ fn purged<S: Hosts>(alloc: Global, hosts: &mut S, asked: Removing) -> Result<Ans
 fn diverted<S: Hosts>(alloc: Global, hosts: &mut S, asked: &Diverting) -> Result<Answer, AllocError>
     requires { is_owner (owner_in asked.now.owner) ≡ true }
     ensures answered { (answer : AnAnswer)
-        × (IsReadChange (around (S.root hosts.old) (S.tree hosts.old) (S.left hosts.new) (S.seen hosts.new) (S.faults hosts.old < S.faults hosts.new) (S.unopened hosts.old hosts.new)) asked.now.root (bad_of_divert asked.now) (IsDivertOf asked.now) answer ⊎ ((answer ≡ memory_answer) × (hosts.new ≡ hosts.old)))
+        × (IsReadChange (around (S.root hosts.old) (S.tree hosts.old) (S.left hosts.new) (S.seen hosts.new) (S.faults hosts.old < S.faults hosts.new) (S.unopened hosts.old hosts.new) (S.locked hosts.old)) asked.now.root (bad_of_divert asked.now) (IsDivertOf asked.now) answer ⊎ ((answer ≡ memory_answer) × (hosts.new ≡ hosts.old)))
         × IfOk result (λ told. told ≡ answer) }
     ensures bound { IfOk result (λ answer. answer.status ≤ 2) }
     ensures quiet { IfOk result (λ answer. (answer.output ≡ []) ⊎ (is_good (bad_of_divert asked.now) ≡ true)) }
@@ -245,7 +268,7 @@ fn undiverted<S: Hosts>(
     asked: &Undiverting,
 ) -> Result<Answer, AllocError>
     ensures answered { (answer : AnAnswer)
-        × (IsReadChange (around (S.root hosts.old) (S.tree hosts.old) (S.left hosts.new) (S.seen hosts.new) (S.faults hosts.old < S.faults hosts.new) (S.unopened hosts.old hosts.new)) asked.now.root (bad_of_undivert asked.now) (IsUndivertOf asked.now) answer ⊎ ((answer ≡ memory_answer) × (hosts.new ≡ hosts.old)))
+        × (IsReadChange (around (S.root hosts.old) (S.tree hosts.old) (S.left hosts.new) (S.seen hosts.new) (S.faults hosts.old < S.faults hosts.new) (S.unopened hosts.old hosts.new) (S.locked hosts.old)) asked.now.root (bad_of_undivert asked.now) (IsUndivertOf asked.now) answer ⊎ ((answer ≡ memory_answer) × (hosts.new ≡ hosts.old)))
         × IfOk result (λ told. told ≡ answer) }
     ensures bound { IfOk result (λ answer. answer.status ≤ 2) }
     ensures quiet { IfOk result (λ answer. (answer.output ≡ []) ⊎ (is_good (bad_of_undivert asked.now) ≡ true)) }
@@ -265,19 +288,19 @@ fn inquired<S: Hosts>(
     asked: &Inquiry,
 ) -> Result<Answer, AllocError>
     ensures answered { (answer : AnAnswer)
-        × IsInquired (around (S.root hosts.old) (S.tree hosts.old) (S.left hosts.new) (S.seen hosts.new) (S.faults hosts.old < S.faults hosts.new) (S.unopened hosts.old hosts.new)) root.now asked.now answer
+        × IsInquired (around (S.root hosts.old) (S.tree hosts.old) (S.left hosts.new) (S.seen hosts.new) (S.faults hosts.old < S.faults hosts.new) (S.unopened hosts.old hosts.new) (S.locked hosts.old)) root.now asked.now answer
         × IfOk result (λ told. told ≡ answer) }
     ensures bound { IfOk result (λ answer. answer.status ≤ 2) }
 {
     match inquire_under(alloc, hosts, root, asked) {
         Ok(answer) => Ok(answer),
-        Err(fault) => not_opened(alloc, &fault),
+        Err(fault) => not_opened(alloc, root, &fault),
     }
 }
 
 fn queried<S: Hosts>(alloc: Global, hosts: &mut S, query: Query) -> Result<Answer, AllocError>
     ensures answered { (answer : AnAnswer)
-        × (IsQueryAnswer (around (S.root hosts.old) (S.tree hosts.old) (S.left hosts.new) (S.seen hosts.new) (S.faults hosts.old < S.faults hosts.new) (S.unopened hosts.old hosts.new)) query answer ⊎ ((answer ≡ memory_answer) × (hosts.new ≡ hosts.old)))
+        × (IsQueryAnswer (around (S.root hosts.old) (S.tree hosts.old) (S.left hosts.new) (S.seen hosts.new) (S.faults hosts.old < S.faults hosts.new) (S.unopened hosts.old hosts.new) (S.locked hosts.old)) query answer ⊎ ((answer ≡ memory_answer) × (hosts.new ≡ hosts.old)))
         × IfOk result (λ told. told ≡ answer) }
     ensures bound { IfOk result (λ answer. answer.status ≤ 2) }
     ensures quiet { IfOk result (λ answer. (answer.output ≡ []) ⊎ (is_ok (inquiry_of query.question) ≡ true)) }
@@ -298,7 +321,7 @@ pub(crate) fn answer_to<S: Hosts>(
     words: &[String],
 ) -> Result<Answer, AllocError>
     ensures answered { (answer : AnAnswer)
-        × (IsAnswerOf (around (S.root hosts.old) (S.tree hosts.old) (S.left hosts.new) (S.seen hosts.new) (S.faults hosts.old < S.faults hosts.new) (S.unopened hosts.old hosts.new)) (asked_of (map string_bytes words.now)) answer ⊎ ((answer ≡ memory_answer) × (hosts.new ≡ hosts.old)))
+        × (IsAnswerOf (around (S.root hosts.old) (S.tree hosts.old) (S.left hosts.new) (S.seen hosts.new) (S.faults hosts.old < S.faults hosts.new) (S.unopened hosts.old hosts.new) (S.locked hosts.old)) (named_in (map string_bytes words.now)) (asked_of (map string_bytes words.now)) answer ⊎ ((answer ≡ memory_answer) × (hosts.new ≡ hosts.old)))
         × IfOk result (λ told. told ≡ answer) }
     ensures bound { IfOk result (λ answer. answer.status ≤ 2) }
     ensures quiet { IfOk result (λ answer. (answer.output ≡ []) ⊎ (prints (asked_of (map string_bytes words.now)) ≡ true)) }
@@ -306,6 +329,7 @@ pub(crate) fn answer_to<S: Hosts>(
 {
     match command_of(alloc, words) {
         Ok(Asked::Names) => names(alloc),
+        Ok(Asked::Help(topic)) => helped(alloc, topic),
         Ok(Asked::CompareVersions(comparison)) => compared(alloc, &comparison),
         Ok(Asked::Divert(asked)) => diverted(alloc, hosts, &asked),
         Ok(Asked::Undivert(asked)) => undiverted(alloc, hosts, &asked),

@@ -5,6 +5,7 @@ ghost use Rattle.diversions.specs.Entries.{is_owner};
 ghost use Rattle.command_line.specs.Changes.{HasChanged, HasChangedUnder, IsChangedOn, IsDivertOf, IsRead, IsUndivertOf, bad_of_divert, bad_of_undivert, owner_in, target_in};
 ghost use Rattle.command_line.specs.Roots.{IsRefusedOn, IsRootFault, IsStoppedOn, around};
 
+use crate::fault::{NotOpened, RootFault};
 use crate::hosts::Hosts;
 use administration::AdministrationFault;
 use diversions::Owner;
@@ -124,10 +125,16 @@ pub(crate) fn change_under<S: Hosts>(
     hosts: &mut S,
     root: &Text,
     asked: &Change,
-) -> Result<Report, AdministrationFault>
-    ensures done { IfOk result (HasChangedUnder (around (S.root hosts.old) (S.tree hosts.old) (S.left hosts.new) (S.seen hosts.new) (S.faults hosts.old < S.faults hosts.new) (S.unopened hosts.old hosts.new)) root.now asked.now) }
-    ensures refused { IfErr result (IsRootFault (around (S.root hosts.old) (S.tree hosts.old) (S.left hosts.new) (S.seen hosts.new) (S.faults hosts.old < S.faults hosts.new) (S.unopened hosts.old hosts.new)) root.now) }
+) -> Result<Report, NotOpened>
+    ensures done { IfOk result (HasChangedUnder (around (S.root hosts.old) (S.tree hosts.old) (S.left hosts.new) (S.seen hosts.new) (S.faults hosts.old < S.faults hosts.new) (S.unopened hosts.old hosts.new) (S.locked hosts.old)) root.now asked.now) }
+    ensures refused { IfErr result (IsRootFault (around (S.root hosts.old) (S.tree hosts.old) (S.left hosts.new) (S.seen hosts.new) (S.faults hosts.old < S.faults hosts.new) (S.unopened hosts.old hosts.new) (S.locked hosts.old)) root.now) }
 {
-    let host = hosts.open_root(root.as_str())?;
-    change_on(alloc, hosts, host, asked)
+    match hosts.open_root(root.as_str()) {
+        Ok(host) => match change_on(alloc, hosts, host, asked) {
+            Ok(done) => Ok(done),
+            Err(fault) => Err(NotOpened::Opening(fault)),
+        },
+        Err(RootFault::Locked) => Err(NotOpened::Locked),
+        Err(RootFault::Host(fault)) => Err(NotOpened::Opening(AdministrationFault::from(fault))),
+    }
 }

@@ -2,7 +2,9 @@
 ghost use Rattle.std.specs.Prelude.{◌≡◌, ◌≤◌, ◌<◌, ℕ, List, IfOk, IsErrOf, OnErr};
 ghost use Rattle.host_core.specs.Host.{State};
 ghost use Rattle.host_core.specs.declared.fault.HostFault.TheVariants.{Device};
+ghost use Rattle.command_line.specs.declared.fault.RootFault.TheVariants.{Host as OfHost, Locked};
 
+use crate::fault::RootFault;
 use host_core::{Host, HostFault};
 
 /// Opens the root and the trees that words name, and takes them back.
@@ -27,14 +29,18 @@ pub trait Hosts {
     /// Whether no root was opened from one moment to another.
     ghost unopened: { Self → Self → Type 0 };
 
-    /// The host for the directory of `--root`.
-    fn open_root(&mut self, directory: &str) -> Result<Self::Opened, HostFault>
+    /// Whether another program holds the root behind a word.
+    ghost locked: { Self → List ℕ → Type 0 };
+
+    /// The host for the directory of `--root`, which is held until it is given back, so that no other program opens it.
+    fn open_root(&mut self, directory: &str) -> Result<Self::Opened, RootFault>
         ensures opened { IfOk result (λ host. root self.old directory.now (Self.Opened.state host)) }
         ensures unopened { OnErr result (unopened self.old self.new) }
         ensures trees { (word : List ℕ) (s : State) → tree self.new word s → tree self.old word s }
         ensures seen { (s : State) → seen self.old s → seen self.new s }
         ensures faults { faults self.old ≤ faults self.new }
-        ensures cause { IsErrOf result Device → faults self.old < faults self.new };
+        ensures cause { IsErrOf result (OfHost Device) → faults self.old < faults self.new }
+        ensures locked { IsErrOf result Locked → locked self.old directory.now };
 
     /// The host for a TREE as it was given.
     fn open_tree(&mut self, directory: &str) -> Result<Self::Opened, HostFault>

@@ -4,6 +4,7 @@
 mod answer;
 mod changing;
 mod command;
+mod fault;
 mod hosts;
 mod packages;
 mod questions;
@@ -12,4 +13,5 @@ mod writing;
 
 pub use answer::FAILED;
 pub use command::run_words;
+pub use fault::RootFault;
 pub use hosts::Hosts;

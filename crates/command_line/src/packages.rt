@@ -5,6 +5,7 @@ ghost use Rattle.unit_reports.specs.Held.{held};
 ghost use Rattle.command_line.specs.Packages.{HasWorked, HasWorkedUnder, IsWorkedOn, changed_of, policy_of};
 ghost use Rattle.command_line.specs.Roots.{IsRefusedOn, IsRootFault, IsStoppedOn, around};
 
+use crate::fault::{NotOpened, RootFault};
 use crate::hosts::Hosts;
 use administration::AdministrationFault;
 use command_words::Forced;
@@ -118,10 +119,16 @@ pub(crate) fn work_under<S: Hosts>(
     hosts: &mut S,
     root: &Text,
     asked: &Work,
-) -> Result<Report, AdministrationFault>
-    ensures done { IfOk result (HasWorkedUnder (around (S.root hosts.old) (S.tree hosts.old) (S.left hosts.new) (S.seen hosts.new) (S.faults hosts.old < S.faults hosts.new) (S.unopened hosts.old hosts.new)) root.now asked.now) }
-    ensures refused { IfErr result (IsRootFault (around (S.root hosts.old) (S.tree hosts.old) (S.left hosts.new) (S.seen hosts.new) (S.faults hosts.old < S.faults hosts.new) (S.unopened hosts.old hosts.new)) root.now) }
+) -> Result<Report, NotOpened>
+    ensures done { IfOk result (HasWorkedUnder (around (S.root hosts.old) (S.tree hosts.old) (S.left hosts.new) (S.seen hosts.new) (S.faults hosts.old < S.faults hosts.new) (S.unopened hosts.old hosts.new) (S.locked hosts.old)) root.now asked.now) }
+    ensures refused { IfErr result (IsRootFault (around (S.root hosts.old) (S.tree hosts.old) (S.left hosts.new) (S.seen hosts.new) (S.faults hosts.old < S.faults hosts.new) (S.unopened hosts.old hosts.new) (S.locked hosts.old)) root.now) }
 {
-    let host = hosts.open_root(root.as_str())?;
-    work_on(alloc, hosts, host, asked)
+    match hosts.open_root(root.as_str()) {
+        Ok(host) => match work_on(alloc, hosts, host, asked) {
+            Ok(done) => Ok(done),
+            Err(fault) => Err(NotOpened::Opening(fault)),
+        },
+        Err(RootFault::Locked) => Err(NotOpened::Locked),
+        Err(RootFault::Host(fault)) => Err(NotOpened::Opening(AdministrationFault::from(fault))),
+    }
 }

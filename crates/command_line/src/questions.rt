@@ -8,6 +8,7 @@ ghost use Rattle.command_line.specs.Roots.{IsRefusedOn, IsRootFault, IsStoppedOn
 ghost use Rattle.command_line.specs.declared.questions.Inquiry.TheVariants.{Search, Truename};
 
 use crate::answer::{Answer, complained, printed, told};
+use crate::fault::{NotOpened, RootFault};
 use crate::hosts::Hosts;
 use administration::AdministrationFault;
 use command_words::Question;
@@ -172,10 +173,16 @@ pub(crate) fn inquire_under<S: Hosts>(
     hosts: &mut S,
     root: &Text,
     asked: &Inquiry,
-) -> Result<Answer, AdministrationFault>
-    ensures answer { IfOk result (HasInquired (around (S.root hosts.old) (S.tree hosts.old) (S.left hosts.new) (S.seen hosts.new) (S.faults hosts.old < S.faults hosts.new) (S.unopened hosts.old hosts.new)) root.now asked.now) }
-    ensures refused { IfErr result (IsRootFault (around (S.root hosts.old) (S.tree hosts.old) (S.left hosts.new) (S.seen hosts.new) (S.faults hosts.old < S.faults hosts.new) (S.unopened hosts.old hosts.new)) root.now) }
+) -> Result<Answer, NotOpened>
+    ensures answer { IfOk result (HasInquired (around (S.root hosts.old) (S.tree hosts.old) (S.left hosts.new) (S.seen hosts.new) (S.faults hosts.old < S.faults hosts.new) (S.unopened hosts.old hosts.new) (S.locked hosts.old)) root.now asked.now) }
+    ensures refused { IfErr result (IsRootFault (around (S.root hosts.old) (S.tree hosts.old) (S.left hosts.new) (S.seen hosts.new) (S.faults hosts.old < S.faults hosts.new) (S.unopened hosts.old hosts.new) (S.locked hosts.old)) root.now) }
 {
-    let host = hosts.open_root(root.as_str())?;
-    inquire_on(alloc, hosts, host, asked)
+    match hosts.open_root(root.as_str()) {
+        Ok(host) => match inquire_on(alloc, hosts, host, asked) {
+            Ok(done) => Ok(done),
+            Err(fault) => Err(NotOpened::Opening(fault)),
+        },
+        Err(RootFault::Locked) => Err(NotOpened::Locked),
+        Err(RootFault::Host(fault)) => Err(NotOpened::Opening(AdministrationFault::from(fault))),
+    }
 }

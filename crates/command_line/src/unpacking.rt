@@ -7,6 +7,7 @@ ghost use Rattle.std.specs.List.{All};
 ghost use Rattle.host_core.specs.Host.{State};
 ghost use Rattle.administration.specs.declared.fault.AdministrationFault.TheVariants.{NoMemory};
 
+use crate::fault::{NotOpened, RootFault};
 use crate::hosts::Hosts;
 use administration::AdministrationFault;
 use command_words::Unpacking;
@@ -25,7 +26,7 @@ pub(crate) enum Done {
 
 // What a tree gives; one that can't be opened has the host's fault.
 fn read_package<S: Hosts>(alloc: Global, hosts: &mut S, tree: &str) -> Result<Package, TreeFault>
-    ensures read { IsReadFor (around (S.root hosts.old) (S.tree hosts.old) (S.left hosts.new) (S.seen hosts.new) (S.faults hosts.old < S.faults hosts.new) (S.unopened hosts.old hosts.new)) tree.now result }
+    ensures read { IsReadFor (around (S.root hosts.old) (S.tree hosts.old) (S.left hosts.new) (S.seen hosts.new) (S.faults hosts.old < S.faults hosts.new) (S.unopened hosts.old hosts.new) (S.locked hosts.old)) tree.now result }
     ensures trees { (word : List ℕ) (s : State) → S.tree hosts.new word s → S.tree hosts.old word s }
     ensures seen { (s : State) → S.seen hosts.old s → S.seen hosts.new s }
     ensures faults { S.faults hosts.old ≤ S.faults hosts.new }
@@ -48,7 +49,7 @@ fn read_trees<S: Hosts>(
     trees: &[Text],
 ) -> Result<Vec<Candidate>, AllocError>
     ensures labels { IfOk result (λ candidates. map (λ c. c.label) candidates.items ≡ trees.now) }
-    ensures read { IfOk result (λ candidates. All (IsLabelled (around (S.root hosts.old) (S.tree hosts.old) (S.left hosts.new) (S.seen hosts.new) (S.faults hosts.old < S.faults hosts.new) (S.unopened hosts.old hosts.new))) candidates.items) }
+    ensures read { IfOk result (λ candidates. All (IsLabelled (around (S.root hosts.old) (S.tree hosts.old) (S.left hosts.new) (S.seen hosts.new) (S.faults hosts.old < S.faults hosts.new) (S.unopened hosts.old hosts.new) (S.locked hosts.old))) candidates.items) }
     ensures trees { (word : List ℕ) (s : State) → S.tree hosts.new word s → S.tree hosts.old word s }
     ensures seen { (s : State) → S.seen hosts.old s → S.seen hosts.new s }
     ensures faults { S.faults hosts.old ≤ S.faults hosts.new }
@@ -70,7 +71,7 @@ fn run_trees<S: Hosts>(
     policy: Option<ConfPolicy>,
 ) -> Result<Done, AllocError>
     requires { session.old.closed ≡ false }
-    ensures done { IfOk result (λ done. HasRunTrees (around (S.root hosts.old) (S.tree hosts.old) (S.left hosts.new) (S.seen hosts.new) (S.faults hosts.old < S.faults hosts.new) (S.unopened hosts.old hosts.new)) policy unpacking.now done (held session.old.database session.old.lists session.old.diversions) (S.Opened.state session.old.host) (S.Opened.state session.new.host)) }
+    ensures done { IfOk result (λ done. HasRunTrees (around (S.root hosts.old) (S.tree hosts.old) (S.left hosts.new) (S.seen hosts.new) (S.faults hosts.old < S.faults hosts.new) (S.unopened hosts.old hosts.new) (S.locked hosts.old)) policy unpacking.now done (held session.old.database session.old.lists session.old.diversions) (S.Opened.state session.old.host) (S.Opened.state session.new.host)) }
     ensures unread { OnErr result (S.Opened.state session.new.host ≡ S.Opened.state session.old.host) }
     ensures seen { (s : State) → S.seen hosts.old s → S.seen hosts.new s }
     ensures faults { S.faults hosts.old ≤ S.faults hosts.new }
@@ -94,7 +95,7 @@ fn unpack_on<S: Hosts>(
     unpacking: &Unpacking,
     policy: Option<ConfPolicy>,
 ) -> Result<Done, AdministrationFault>
-    ensures done { IfOk result (IsUnpackedOn (around (S.root hosts.old) (S.tree hosts.old) (S.left hosts.new) (S.seen hosts.new) (S.faults hosts.old < S.faults hosts.new) (S.unopened hosts.old hosts.new)) (S.Opened.state host) policy unpacking.now) }
+    ensures done { IfOk result (IsUnpackedOn (around (S.root hosts.old) (S.tree hosts.old) (S.left hosts.new) (S.seen hosts.new) (S.faults hosts.old < S.faults hosts.new) (S.unopened hosts.old hosts.new) (S.locked hosts.old)) (S.Opened.state host) policy unpacking.now) }
     ensures refused { IfErr result (λ fault. IsRefusedOn (S.left hosts.new) (S.Opened.state host) fault ⊎ ((fault ≡ NoMemory) × IsStoppedOn (S.left hosts.new) (S.Opened.state host))) }
     ensures faults { S.faults hosts.old ≤ S.faults hosts.new }
 {
@@ -118,11 +119,17 @@ pub(crate) fn unpack<S: Hosts>(
     hosts: &mut S,
     unpacking: &Unpacking,
     policy: Option<ConfPolicy>,
-) -> Result<Done, AdministrationFault>
-    ensures done { IfOk result (HasUnpacked (around (S.root hosts.old) (S.tree hosts.old) (S.left hosts.new) (S.seen hosts.new) (S.faults hosts.old < S.faults hosts.new) (S.unopened hosts.old hosts.new)) policy unpacking.now) }
-    ensures refused { IfErr result (IsRootFault (around (S.root hosts.old) (S.tree hosts.old) (S.left hosts.new) (S.seen hosts.new) (S.faults hosts.old < S.faults hosts.new) (S.unopened hosts.old hosts.new)) unpacking.now.root) }
+) -> Result<Done, NotOpened>
+    ensures done { IfOk result (HasUnpacked (around (S.root hosts.old) (S.tree hosts.old) (S.left hosts.new) (S.seen hosts.new) (S.faults hosts.old < S.faults hosts.new) (S.unopened hosts.old hosts.new) (S.locked hosts.old)) policy unpacking.now) }
+    ensures refused { IfErr result (IsRootFault (around (S.root hosts.old) (S.tree hosts.old) (S.left hosts.new) (S.seen hosts.new) (S.faults hosts.old < S.faults hosts.new) (S.unopened hosts.old hosts.new) (S.locked hosts.old)) unpacking.now.root) }
     ensures faults { S.faults hosts.old ≤ S.faults hosts.new }
 {
-    let host = hosts.open_root(unpacking.root.as_str())?;
-    unpack_on(alloc, hosts, host, unpacking, policy)
+    match hosts.open_root(unpacking.root.as_str()) {
+        Ok(host) => match unpack_on(alloc, hosts, host, unpacking, policy) {
+            Ok(done) => Ok(done),
+            Err(fault) => Err(NotOpened::Opening(fault)),
+        },
+        Err(RootFault::Locked) => Err(NotOpened::Locked),
+        Err(RootFault::Host(fault)) => Err(NotOpened::Opening(AdministrationFault::from(fault))),
+    }
 }

@@ -10,6 +10,10 @@ use Rattle.clap.specs.declared.builder.ArgAction.TheVariants.{Append, Set, SetTr
 abbrev pub word_rule : Text → Rule
 word_rule id = record (new_rule id) { action = Some Set; required = true }
 
+-- a word that may be given, at its place
+abbrev pub maybe_word_rule : Text → Rule
+maybe_word_rule id = record (new_rule id) { action = Some Set }
+
 -- `--root DIR`, `/` if it isn't given
 abbrev pub root_rule : Rule
 root_rule = record (new_rule (codes "root")) { long = Some (codes "root"); action = Some Set; defaults = codes "/" ∷ [] }
@@ -29,6 +33,10 @@ words_rule id required = record (new_rule id) { action = Some Append; required =
 -- `compare-versions A OP B`
 abbrev pub compare_versions_app : App
 compare_versions_app = with_rule (with_rule (with_rule (new_app (codes "compare-versions")) (word_rule (codes "A"))) (word_rule (codes "OP"))) (word_rule (codes "B"))
+
+-- `help [COMMAND]`
+abbrev pub help_app : App
+help_app = with_rule (new_app (codes "help")) (maybe_word_rule (codes "COMMAND"))
 
 -- a subcommand that has a root
 abbrev pub rooted_app : Text → App
@@ -74,7 +82,7 @@ configure_app = with_rule (with_forced (rooted_app (codes "configure"))) (words_
 abbrev pub removing_app : Text → App
 removing_app name = with_rule (rooted_app name) (words_rule (codes "PKG") true)
 
--- no flag and no subcommand asks for help
+-- clap's own flag and subcommand for help are none of ours
 abbrev pub without_help : App → App
 without_help a = record a { top = record a.top { disable_help_flag = true; disable_help_subcommand = true } }
 
@@ -87,7 +95,7 @@ abbrev pub first_apps : List App
 first_apps = rooted_app (codes "audit") ∷ compare_versions_app ∷ configure_app ∷ []
 
 abbrev pub second_apps : List App
-second_apps = rooted_app (codes "diversions") ∷ divert_app ∷ trees_app (codes "install") ∷ []
+second_apps = rooted_app (codes "diversions") ∷ divert_app ∷ help_app ∷ trees_app (codes "install") ∷ []
 
 abbrev pub third_apps : List App
 third_apps = rooted_app (codes "list") ∷ asking_app (codes "listfiles") (codes "PKG") ∷ removing_app (codes "purge") ∷ []
@@ -99,7 +107,7 @@ abbrev pub last_apps : List App
 last_apps = truename_app ∷ undivert_app ∷ trees_app (codes "unpack") ∷ []
 
 abbrev pub whole_app : App
-whole_app = with_all (with_all (with_all (with_all (with_all (without_help (new_app (codes "dpkg_cli"))) first_apps) second_apps) third_apps) fourth_apps) last_apps
+whole_app = with_all (with_all (with_all (with_all (with_all (without_help (new_app (codes "coizkerra"))) first_apps) second_apps) third_apps) fourth_apps) last_apps
 
 -- the names that clap knows the subcommands by
 abbrev pub subcommand_names : List Text

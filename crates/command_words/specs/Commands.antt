@@ -7,11 +7,12 @@ use Rattle.command_words.specs.Comparisons.{operator_of}
 use Rattle.command_words.specs.Queries.{query_of}
 use Rattle.command_words.specs.Diversions.{diverting_of, undiverting_of}
 use Rattle.command_words.specs.Packages.{configuring_of, removing_of}
+use Rattle.command_words.specs.Topics.{topic_in}
 use Rattle.command_words.specs.Unpacks.{unpacking_of}
 use Rattle.command_words.specs.declared.comparison.Comparison.{Comparison}
 use Rattle.command_words.specs.declared.words.Asked.{Asked}
 use Rattle.command_words.specs.declared.words.Compared.{Compared}
-use Rattle.command_words.specs.declared.words.Asked.TheVariants.{Names, CompareVersions, Divert, Undivert, Unpack, Install, Configure, Remove, Purge, Query}
+use Rattle.command_words.specs.declared.words.Asked.TheVariants.{Names, Help, CompareVersions, Divert, Undivert, Unpack, Install, Configure, Remove, Purge, Query}
 
 -- the subcommand that the words enter, with the texts of its arguments
 abbrev pub entered : List Text → Option (Text × List Row)
@@ -36,6 +37,7 @@ asked_by name rows =
     if bytes_eq name (codes "compare-versions") then option_map CompareVersions (comparison_of rows)
     else if bytes_eq name (codes "configure") then option_map Configure (configuring_of rows)
     else if bytes_eq name (codes "divert") then option_map Divert (diverting_of rows)
+    else if bytes_eq name (codes "help") then option_map Help (topic_in (first_of (codes "COMMAND") rows))
     else if bytes_eq name (codes "install") then option_map Install (unpacking_of rows)
     else if bytes_eq name (codes "purge") then option_map Purge (removing_of rows)
     else if bytes_eq name (codes "remove") then option_map Remove (removing_of rows)

@@ -1,6 +1,7 @@
 pub mod CommandLine
 pub mod Comparisons
 pub mod Given
+pub mod Topics
 pub mod Queries
 pub mod Forced
 pub mod Unpacks

@@ -2,14 +2,14 @@
 ghost use Rattle.std.specs.Prelude.{◌≡◌, IfOk, codes, false, string_bytes, true};
 ghost use Rattle.clap.specs.Words.{app_of, new_app, rule_of, with_rule, with_subcommand};
 ghost use Rattle.clap.specs.declared.builder.command.Command.TheViews.{out-Command as fields_of};
-ghost use Rattle.command_words.specs.CommandLine.{are_ascending, asking_app, compare_versions_app, configure_app, divert_app, first_apps, flag_rule, fourth_apps, last_apps, lines, option_rule, removing_app, root_rule, rooted_app, second_apps, subcommand_names, third_apps, trees_app, truename_app, undivert_app, whole_app, with_all, with_diverted, with_forced, with_owner, without_help, word_rule, words_rule};
+ghost use Rattle.command_words.specs.CommandLine.{are_ascending, asking_app, compare_versions_app, configure_app, divert_app, first_apps, flag_rule, fourth_apps, help_app, last_apps, lines, maybe_word_rule, option_rule, removing_app, root_rule, rooted_app, second_apps, subcommand_names, third_apps, trees_app, truename_app, undivert_app, whole_app, with_all, with_diverted, with_forced, with_owner, without_help, word_rule, words_rule};
 
 use clap::{Arg, ArgAction, Command};
 use std::alloc::{AllocError, Global};
 
 // The names of the subcommands that the command below has, one a line.
-const NAMES: &str = "audit\ncompare-versions\nconfigure\ndiversions\ndivert\ninstall\nlist\n\
-listfiles\npurge\nremove\nsearch\nstatus\ntruename\nundivert\nunpack\n";
+const NAMES: &str = "audit\ncompare-versions\nconfigure\ndiversions\ndivert\nhelp\ninstall\n\
+list\nlistfiles\npurge\nremove\nsearch\nstatus\ntruename\nundivert\nunpack\n";
 
 /// The names of the subcommands, one a line, in the order of their bytes.
 pub fn subcommand_names(alloc: Global) -> Result<String, AllocError>
@@ -24,6 +24,13 @@ fn word<'a>(alloc: Global, id: &'a str) -> Arg<'a>
     ensures { rule_of result ≡ word_rule id.entry.now }
 {
     Arg::new(alloc, id).required(true).action(ArgAction::Set)
+}
+
+// A word that may be given.
+fn maybe_word<'a>(alloc: Global, id: &'a str) -> Arg<'a>
+    ensures { rule_of result ≡ maybe_word_rule id.entry.now }
+{
+    Arg::new(alloc, id).action(ArgAction::Set)
 }
 
 // The root is the whole system's if it isn't given.
@@ -74,6 +81,13 @@ fn compare_versions_command<'a>(alloc: Global) -> Result<Command<'a>, AllocError
     let command = with_arg(Command::new(alloc, "compare-versions"), word(alloc, "A"))?;
     let command = with_arg(command, word(alloc, "OP"))?;
     with_arg(command, word(alloc, "B"))
+}
+
+fn help_command<'a>(alloc: Global) -> Result<Command<'a>, AllocError>
+    ensures app { IfOk result (λ c. app_of c ≡ help_app) }
+    ensures local { IfOk result (λ c. (fields_of c).has_globals ≡ false) }
+{
+    with_arg(Command::new(alloc, "help"), maybe_word(alloc, "COMMAND"))
 }
 
 // A subcommand under a root.
@@ -175,7 +189,7 @@ fn removing<'a>(alloc: Global, name: &'a str) -> Result<Command<'a>, AllocError>
     with_arg(rooted(alloc, name)?, words(alloc, "PKG", true))
 }
 
-// Help is no subcommand and no flag, so a call for it is a usage fault.
+// Clap makes no flag and no subcommand for help: the subcommand is ours, and a flag for it is a usage fault.
 fn without_help<'a>(command: Command<'a>) -> Command<'a>
     ensures { app_of result ≡ without_help (app_of command.entry) }
 {
@@ -204,6 +218,7 @@ fn with_second<'a>(alloc: Global, whole: Command<'a>) -> Result<Command<'a>, All
 {
     let whole = with(whole, rooted(alloc, "diversions")?)?;
     let whole = with(whole, divert_command(alloc)?)?;
+    let whole = with(whole, help_command(alloc)?)?;
     with(whole, taking_trees(alloc, "install")?)
 }
 
@@ -235,7 +250,7 @@ fn with_last<'a>(alloc: Global, whole: Command<'a>) -> Result<Command<'a>, Alloc
 pub(crate) fn whole_command<'a>(alloc: Global) -> Result<Command<'a>, AllocError>
     ensures { IfOk result (λ c. app_of c ≡ whole_app) }
 {
-    let whole = with_first(alloc, without_help(Command::new(alloc, "dpkg_cli")))?;
+    let whole = with_first(alloc, without_help(Command::new(alloc, "coizkerra")))?;
     let whole = with_third(alloc, with_second(alloc, whole)?)?;
     with_last(alloc, with_fourth(alloc, whole)?)
 }

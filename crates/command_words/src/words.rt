@@ -1,11 +1,12 @@
 // What the words of a command line ask for.
-ghost use Rattle.std.specs.Prelude.{◌≡◌, ◌⊎◌, IfErr, IfOk, None, Some, map, option_map, string_bytes};
-ghost use Rattle.clap.specs.Words.{found_of, kind_of, rows_of, subcommand_rows_of};
+ghost use Rattle.std.specs.Prelude.{◌≡◌, ◌⊎◌, IfErr, IfOk, None, Some, codes, map, option_map, string_bytes};
+ghost use Rattle.clap.specs.Words.{first_of, found_of, kind_of, rows_of, subcommand_rows_of};
 ghost use Rattle.clap.specs.declared.error.kind.ErrorKind.TheVariants.{OutOfMemory};
 ghost use Rattle.command_words.specs.Commands.{asked_by, asked_in, asked_of, comparison_from, comparison_in, comparison_of};
 ghost use Rattle.command_words.specs.Diversions.{diverting_of, undiverting_of};
 ghost use Rattle.command_words.specs.Packages.{configuring_of, removing_of};
 ghost use Rattle.command_words.specs.Queries.{query_of};
+ghost use Rattle.command_words.specs.Topics.{IsToldOf, named_in, topic_in};
 ghost use Rattle.command_words.specs.Unpacks.{unpacking_of};
 ghost use Rattle.command_words.specs.declared.words.WordsFault.TheVariants.{NoMemory};
 
@@ -13,6 +14,7 @@ use crate::command::whole_command;
 use crate::comparison::{Comparison, Operator};
 use crate::diverting::{Diverting, Undiverting, diverting_of, undiverting_of};
 use crate::found::text_of;
+use crate::help::{Topic, named_in, topic_in, usage_text};
 use crate::packages::{Configuring, Removing, configuring_of, removing_of};
 use crate::query::{Query, query_of};
 use crate::unpacking::{Unpacking, unpacking_of};
@@ -22,60 +24,28 @@ use std::alloc::{AllocError, Global};
 use texts::Text;
 use thiserror::Error;
 
-// What follows the words that clap has no fault in, but that ask for nothing.
-const SUBCOMMAND_USAGE: &str = "error: a subcommand is wanted\n\nUsage: dpkg_cli <COMMAND>\n";
+// Why words ask for nothing in which clap has no fault.
+const NO_SUBCOMMAND: &str = "error: a subcommand is wanted";
 
-const COMPARE_VERSIONS_USAGE: &str =
-    "error: OP is one of lt, le, eq, ne, ge, gt\n\nUsage: dpkg_cli compare-versions <A> <OP> <B>\n";
+const NO_OPERATOR: &str = "error: OP is one of lt, le, eq, ne, ge, gt";
 
-const UNPACK_USAGE: &str = "error: DIR is an absolute path, and --force-confold and \
---force-confnew exclude each other\n\nUsage: dpkg_cli unpack [--root <DIR>] \
-[--auto-deconfigure] [--force-confold | --force-confnew] [--force-confmiss] <TREE>...\n";
+const NO_TOPIC: &str = "error: no subcommand has this name";
 
-const INSTALL_USAGE: &str = "error: DIR is an absolute path, and --force-confold and \
---force-confnew exclude each other\n\nUsage: dpkg_cli install [--root <DIR>] \
-[--auto-deconfigure] [--force-confold | --force-confnew] [--force-confmiss] <TREE>...\n";
+const ROOT: &str = "error: DIR is an absolute path";
 
-const CONFIGURE_USAGE: &str = "error: DIR is an absolute path, and --force-confold and \
---force-confnew exclude each other\n\nUsage: dpkg_cli configure [--root <DIR>] \
-[--force-confold | --force-confnew] [--force-confmiss] [PKG]...\n";
+const ROOT_AND_FORCED: &str =
+    "error: DIR is an absolute path, and --force-confold and --force-confnew exclude each other";
 
-const REMOVE_USAGE: &str =
-    "error: DIR is an absolute path\n\nUsage: dpkg_cli remove [--root <DIR>] <PKG>...\n";
+const ROOT_AND_OWNER: &str = "error: DIR is an absolute path, P the name of a package, and of \
+--package and --local one is wanted";
 
-const PURGE_USAGE: &str =
-    "error: DIR is an absolute path\n\nUsage: dpkg_cli purge [--root <DIR>] <PKG>...\n";
+const ROOT_AND_PACKAGE: &str = "error: DIR is an absolute path, and P the name of a package";
 
-const DIVERT_USAGE: &str = "error: DIR is an absolute path, P the name of a package, and of \
---package and --local one is wanted\n\nUsage: dpkg_cli divert [--root <DIR>] \
-(--package <P> | --local) [--divert <TARGET>] [--rename] <PATH>\n";
-
-const UNDIVERT_USAGE: &str = "error: DIR is an absolute path, P the name of a package, and of \
---package and --local one is wanted\n\nUsage: dpkg_cli undivert [--root <DIR>] \
-(--package <P> | --local) [--rename] <PATH>\n";
-
-// What follows a query whose words ask for nothing.
-fn query_usage(name: &str) -> &'static str {
+// Why the words of a question ask for nothing.
+fn query_fault(name: &str) -> &'static str {
     match name {
-        "audit" => "error: DIR is an absolute path\n\nUsage: dpkg_cli audit [--root <DIR>]\n",
-        "diversions" => {
-            "error: DIR is an absolute path\n\nUsage: dpkg_cli diversions [--root <DIR>]\n"
-        }
-        "list" => "error: DIR is an absolute path\n\nUsage: dpkg_cli list [--root <DIR>]\n",
-        "listfiles" => {
-            "error: DIR is an absolute path\n\nUsage: dpkg_cli listfiles [--root <DIR>] <PKG>\n"
-        }
-        "search" => {
-            "error: DIR is an absolute path\n\nUsage: dpkg_cli search [--root <DIR>] <PATH>\n"
-        }
-        "status" => {
-            "error: DIR is an absolute path\n\nUsage: dpkg_cli status [--root <DIR>] <PKG>\n"
-        }
-        "truename" => {
-            "error: DIR is an absolute path, and P the name of a package\n\n\
-Usage: dpkg_cli truename [--root <DIR>] [--package <P>] <PATH>\n"
-        }
-        _ => SUBCOMMAND_USAGE,
+        "truename" => ROOT_AND_PACKAGE,
+        _ => ROOT,
     }
 }
 
@@ -84,6 +54,8 @@ Usage: dpkg_cli truename [--root <DIR>] [--package <P>] <PATH>\n"
 pub enum Asked {
     /// The names of the subcommands.
     Names,
+    /// The screen of a topic.
+    Help(Topic),
     CompareVersions(Comparison),
     Divert(Diverting),
     Undivert(Undiverting),
@@ -113,10 +85,18 @@ impl From<AllocError> for WordsFault {
     }
 }
 
-fn usage(alloc: Global, text: &str) -> WordsFault {
-    match String::from_str(alloc, text) {
+fn usage(alloc: Global, why: &str) -> WordsFault {
+    match String::from_str(alloc, why) {
         Ok(text) => WordsFault::Usage(text),
         Err(_) => WordsFault::NoMemory,
+    }
+}
+
+// What clap tells before the usage, in whose place the screen comes.
+fn before_usage(text: &str) -> &str {
+    match text.split_once("\n\nUsage: ") {
+        Some((before, _)) => before,
+        None => text,
     }
 }
 
@@ -127,7 +107,7 @@ fn fault_of(alloc: Global, error: &clap::Error) -> WordsFault
         return WordsFault::NoMemory;
     }
     match format!(in alloc; "{error}") {
-        Ok(text) => WordsFault::Usage(text),
+        Ok(text) => usage(alloc, before_usage(text.as_str())),
         Err(_) => WordsFault::NoMemory,
     }
 }
@@ -196,7 +176,7 @@ fn comparison_asked(alloc: Global, found: &ArgMatches<'_>) -> Result<Asked, Word
         Some(c) => Ok(Asked::CompareVersions(owned_comparison(
             alloc, c.first, c.operator, c.second,
         )?)),
-        None => Err(usage(alloc, COMPARE_VERSIONS_USAGE)),
+        None => Err(usage(alloc, NO_OPERATOR)),
     }
 }
 
@@ -206,7 +186,7 @@ fn unpack_asked(alloc: Global, found: &ArgMatches<'_>) -> Result<Asked, WordsFau
 {
     match unpacking_of(alloc, found)? {
         Some(asked) => Ok(Asked::Unpack(asked)),
-        None => Err(usage(alloc, UNPACK_USAGE)),
+        None => Err(usage(alloc, ROOT_AND_FORCED)),
     }
 }
 
@@ -216,7 +196,7 @@ fn install_asked(alloc: Global, found: &ArgMatches<'_>) -> Result<Asked, WordsFa
 {
     match unpacking_of(alloc, found)? {
         Some(asked) => Ok(Asked::Install(asked)),
-        None => Err(usage(alloc, INSTALL_USAGE)),
+        None => Err(usage(alloc, ROOT_AND_FORCED)),
     }
 }
 
@@ -226,7 +206,7 @@ fn configure_asked(alloc: Global, found: &ArgMatches<'_>) -> Result<Asked, Words
 {
     match configuring_of(alloc, found)? {
         Some(asked) => Ok(Asked::Configure(asked)),
-        None => Err(usage(alloc, CONFIGURE_USAGE)),
+        None => Err(usage(alloc, ROOT_AND_FORCED)),
     }
 }
 
@@ -236,7 +216,7 @@ fn remove_asked(alloc: Global, found: &ArgMatches<'_>) -> Result<Asked, WordsFau
 {
     match removing_of(alloc, found)? {
         Some(asked) => Ok(Asked::Remove(asked)),
-        None => Err(usage(alloc, REMOVE_USAGE)),
+        None => Err(usage(alloc, ROOT)),
     }
 }
 
@@ -246,7 +226,7 @@ fn purge_asked(alloc: Global, found: &ArgMatches<'_>) -> Result<Asked, WordsFaul
 {
     match removing_of(alloc, found)? {
         Some(asked) => Ok(Asked::Purge(asked)),
-        None => Err(usage(alloc, PURGE_USAGE)),
+        None => Err(usage(alloc, ROOT)),
     }
 }
 
@@ -256,7 +236,7 @@ fn divert_asked(alloc: Global, found: &ArgMatches<'_>) -> Result<Asked, WordsFau
 {
     match diverting_of(alloc, found)? {
         Some(asked) => Ok(Asked::Divert(asked)),
-        None => Err(usage(alloc, DIVERT_USAGE)),
+        None => Err(usage(alloc, ROOT_AND_OWNER)),
     }
 }
 
@@ -266,7 +246,17 @@ fn undivert_asked(alloc: Global, found: &ArgMatches<'_>) -> Result<Asked, WordsF
 {
     match undiverting_of(alloc, found)? {
         Some(asked) => Ok(Asked::Undivert(asked)),
-        None => Err(usage(alloc, UNDIVERT_USAGE)),
+        None => Err(usage(alloc, ROOT_AND_OWNER)),
+    }
+}
+
+fn help_asked(alloc: Global, found: &ArgMatches<'_>) -> Result<Asked, WordsFault>
+    ensures asked { IfOk result (λ asked. option_map Asked.Help (topic_in (first_of (codes "COMMAND") (rows_of (found_of found.now)))) ≡ Some asked) }
+    ensures usage { IfErr result (λ fault. (fault ≡ NoMemory) ⊎ (topic_in (first_of (codes "COMMAND") (rows_of (found_of found.now))) ≡ None)) }
+{
+    match topic_in(text_of(found, "COMMAND")) {
+        Some(topic) => Ok(Asked::Help(topic)),
+        None => Err(usage(alloc, NO_TOPIC)),
     }
 }
 
@@ -276,7 +266,7 @@ fn query_asked(alloc: Global, name: &str, found: &ArgMatches<'_>) -> Result<Aske
 {
     match query_of(alloc, name, found)? {
         Some(query) => Ok(Asked::Query(query)),
-        None => Err(usage(alloc, query_usage(name))),
+        None => Err(usage(alloc, query_fault(name))),
     }
 }
 
@@ -289,6 +279,7 @@ fn asked_by(alloc: Global, name: &str, found: &ArgMatches<'_>) -> Result<Asked, 
         "compare-versions" => comparison_asked(alloc, found),
         "configure" => configure_asked(alloc, found),
         "divert" => divert_asked(alloc, found),
+        "help" => help_asked(alloc, found),
         "install" => install_asked(alloc, found),
         "purge" => purge_asked(alloc, found),
         "remove" => remove_asked(alloc, found),
@@ -304,12 +295,12 @@ fn asked_in(alloc: Global, matches: &ArgMatches<'_>) -> Result<Asked, WordsFault
 {
     match matches.subcommand() {
         Some((name, found)) => asked_by(alloc, name, found),
-        None => Err(usage(alloc, SUBCOMMAND_USAGE)),
+        None => Err(usage(alloc, NO_SUBCOMMAND)),
     }
 }
 
-/// What the words ask for, the first of which is the program's name. A text of usage ends with a newline.
-pub fn command_of(alloc: Global, words: &[String]) -> Result<Asked, WordsFault>
+// What the words ask for, or why they ask for nothing.
+fn read_words(alloc: Global, words: &[String]) -> Result<Asked, WordsFault>
     ensures asked { IfOk result (λ asked. asked_of (map string_bytes words.now) ≡ Some asked) }
     ensures usage { IfErr result (λ fault. (fault ≡ NoMemory) ⊎ (asked_of (map string_bytes words.now) ≡ None)) }
 {
@@ -319,5 +310,31 @@ pub fn command_of(alloc: Global, words: &[String]) -> Result<Asked, WordsFault>
     match whole_command(alloc)?.try_get_matches_from(words) {
         Ok(matches) => asked_in(alloc, &matches),
         Err(error) => Err(fault_of(alloc, &error)),
+    }
+}
+
+// Behind why words ask for nothing stands the screen of a topic.
+fn with_screen(alloc: Global, fault: WordsFault, topic: Topic) -> WordsFault
+    ensures memory { fault ≡ NoMemory → result ≡ NoMemory }
+    ensures screen { IsToldOf topic result }
+{
+    let WordsFault::Usage(why) = fault else {
+        return WordsFault::NoMemory;
+    };
+    match usage_text(alloc, why.as_str(), topic) {
+        Ok(text) => WordsFault::Usage(text),
+        Err(_) => WordsFault::NoMemory,
+    }
+}
+
+/// What the words ask for, the first of which is the program's name. A text of usage ends with a newline.
+pub fn command_of(alloc: Global, words: &[String]) -> Result<Asked, WordsFault>
+    ensures asked { IfOk result (λ asked. asked_of (map string_bytes words.now) ≡ Some asked) }
+    ensures usage { IfErr result (λ fault. (fault ≡ NoMemory) ⊎ (asked_of (map string_bytes words.now) ≡ None)) }
+    ensures screen { IfErr result (IsToldOf (named_in (map string_bytes words.now))) }
+{
+    match read_words(alloc, words) {
+        Ok(asked) => Ok(asked),
+        Err(fault) => Err(with_screen(alloc, fault, named_in(words))),
     }
 }

@@ -28,7 +28,11 @@ fn main(rt: HostRuntime) -> ExitCode {
     let mut err = io::writer(&stderr);
     match words_of(&rt) {
         Ok(words) => {
-            let mut hosts = Directories { rt, faults: 0 };
+            let mut hosts = Directories {
+                rt,
+                faults: 0,
+                lock: None,
+            };
             let mut out = io::writer(&rt);
             let status = run_words(rt.alloc(), &mut hosts, words.as_slice(), &mut out, &mut err);
             ExitCode::from(status)

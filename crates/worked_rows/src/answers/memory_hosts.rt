@@ -16,7 +16,7 @@ mod upgrade_rows;
 mod word_rows;
 
 use super::{answer, expect, path_of, text_of};
-use command_line::Hosts;
+use command_line::{Hosts, RootFault};
 use host_core::{Access, Host, HostFault, Node, Outcome, RootPath};
 use host_memory::{Ending, Entry, MemoryHost, Planned};
 use std::alloc::{AllocError, Global};
@@ -273,7 +273,7 @@ fn worded(alloc: Global, line: &str) -> Result<String, AllocError> {
 
 // Nothing on standard output, the usage on standard error, and status 2.
 fn is_usage(text: &str) -> bool {
-    text.starts_with("|error: ") && text.contains("Usage: dpkg_cli") && text.ends_with("\n|2\n")
+    text.starts_with("|error: ") && text.contains("Usage: coizkerra") && text.ends_with("\n|2\n")
 }
 
 // Stops the test where a line of words isn't answered as a fault of usage.
@@ -301,10 +301,13 @@ impl Hosts for MemoryHosts {
 
     ghost unopened = { λ old new. option_map memory_state new.root ≡ option_map memory_state old.root };
 
-    fn open_root(&mut self, _directory: &str) -> Result<MemoryHost, HostFault> {
+    // no other program has the root
+    ghost locked = { λ _ _. ⊥ };
+
+    fn open_root(&mut self, _directory: &str) -> Result<MemoryHost, RootFault> {
         match self.root.take() {
             Some(host) => Ok(host),
-            None => Err(HostFault::NoMemory),
+            None => Err(RootFault::Host(HostFault::NoMemory)),
         }
     }
 

@@ -7,7 +7,7 @@ mod link_rows;
 mod package_rows;
 
 use super::{answer, is_refusing, is_want, text_of};
-use command_line::Hosts;
+use command_line::{Hosts, RootFault};
 use host_core::HostFault;
 use host_files::{FilesHost, Unknown};
 use std::alloc::AllocError;
@@ -54,17 +54,20 @@ impl Hosts for RealHosts {
 
     ghost unopened = { λ _ _. ⊤ };
 
+    // these tests have their roots to themselves
+    ghost locked = { λ _ _. ⊥ };
+
+    fn open_root(&mut self, directory: &str) -> Result<RealHost, RootFault> {
+        Ok(self.open_tree(directory)?)
+    }
+
     // With a full count nothing is opened any more.
-    fn open_root(&mut self, directory: &str) -> Result<RealHost, HostFault> {
+    fn open_tree(&mut self, tree: &str) -> Result<RealHost, HostFault> {
         if self.opened == u64::MAX {
             return Err(HostFault::NoMemory);
         }
         self.opened += 1;
-        FilesHost::open(self.rt, directory)
-    }
-
-    fn open_tree(&mut self, tree: &str) -> Result<RealHost, HostFault> {
-        self.open_root(tree)
+        FilesHost::open(self.rt, tree)
     }
 
     fn close_root(&mut self, host: RealHost) {

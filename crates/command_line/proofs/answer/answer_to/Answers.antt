@@ -1,9 +1,11 @@
-use Rattle.std.proofs.Common.{rules, ◌≡◌, ◌<◌, map, string_bytes, Some, refl, inl, inr}
+use Rattle.std.proofs.Common.{rules, ◌≡◌, ◌<◌, map, string_bytes, None, Some, refl, inl, inr}
 use Rattle.command_words.specs.Commands.{asked_of}
-use Rattle.command_words.specs.declared.words.Asked.TheVariants.{CompareVersions, Configure, Divert, Install, Names, Purge, Query, Remove, Undivert, Unpack}
-use Rattle.command_line.specs.Reports.{comparison_answer, ended_answer, memory_answer, names_answer, trees_answer}
+use Rattle.command_words.specs.Topics.{HasScreen, named_in}
+use Rattle.command_words.specs.declared.words.Asked.TheVariants.{CompareVersions, Configure, Divert, Help, Install, Names, Purge, Query, Remove, Undivert, Unpack}
+use Rattle.command_line.specs.Reports.{comparison_answer, ended_answer, memory_answer, names_answer, trees_answer, usage_answer}
 use Rattle.command_line.specs.Packages.{policy_of}
 use Rattle.command_line.specs.Roots.{Around, around}
+use Rattle.command_line.proofs.Helped.{help_told}
 use Rattle.command_line.proofs.Named.{divert_owner}
 use Rattle.command_line.proofs.Trees.{with_policy}
 use Rattle.command_line.proofs.answer.answer_to.Goals as goal
@@ -12,6 +14,11 @@ pub returns-in-Ok-Names-clause-answered : goal.returns-in-Ok-Names-clause-answer
 returns-in-Ok-Names-clause-answered g c =
     let asked : asked_of (map string_bytes c.args.words.now) ≡ Some Names = search rules in
     (names_answer, rw asked (inl refl), c.names.ensures)
+
+pub returns-in-Ok-Help-clause-answered : goal.returns-in-Ok-Help-clause-answered
+returns-in-Ok-Help-clause-answered g c =
+    let asked : asked_of (map string_bytes c.args.words.now) ≡ Some (Help c.in-Ok-Help.topic) = search rules in
+    rw asked (help_told c.in-Ok-Help.topic c.args.hosts.now c.helped.result c.helped.ensures)
 
 pub returns-in-Ok-CompareVersions-clause-answered : goal.returns-in-Ok-CompareVersions-clause-answered
 returns-in-Ok-CompareVersions-clause-answered g c =
@@ -45,7 +52,7 @@ pub returns-in-Ok-Unpack-clause-answered : goal.returns-in-Ok-Unpack-clause-answ
 returns-in-Ok-Unpack-clause-answered g c =
     let asked : asked_of (map string_bytes c.args.words.now) ≡ Some (Unpack c.in-Ok-Unpack.unpacking) = search rules in
     let ended = c.unpacked.ensures.ended in
-    (trees_answer ended.0, rw asked (inl (ended.0, ended.1, refl)), ended.2)
+    (trees_answer c.in-Ok-Unpack.unpacking.root ended.0, rw asked (inl (ended.0, ended.1, refl)), ended.2)
 
 pub returns-in-Ok-Install-clause-answered : goal.returns-in-Ok-Install-clause-answered
 returns-in-Ok-Install-clause-answered g c =
@@ -53,28 +60,34 @@ returns-in-Ok-Install-clause-answered g c =
     let asked : asked_of (map string_bytes c.args.words.now) ≡ Some (Install unpacking) = search rules in
     let old = c.args.hosts.now in
     let new = c.unpacked-in-Ok-Install.new.hosts in
-    let a : Around = around (g.S.Hosts.root old) (g.S.Hosts.tree old) (g.S.Hosts.left new) (g.S.Hosts.seen new) (g.S.Hosts.faults old < g.S.Hosts.faults new) (g.S.Hosts.unopened old new) in
+    let a : Around = around (g.S.Hosts.root old) (g.S.Hosts.tree old) (g.S.Hosts.left new) (g.S.Hosts.seen new) (g.S.Hosts.faults old < g.S.Hosts.faults new) (g.S.Hosts.unopened old new) (g.S.Hosts.locked old) in
     let ended = c.unpacked-in-Ok-Install.ensures.ended in
     let as_forced = with_policy a c.policy_of.result (policy_of unpacking.forced) unpacking ended.0 c.policy_of.ensures ended.1 in
-    (trees_answer ended.0, rw asked (inl (ended.0, as_forced, refl)), ended.2)
+    (trees_answer unpacking.root ended.0, rw asked (inl (ended.0, as_forced, refl)), ended.2)
 
 pub returns-in-Ok-Configure-clause-answered : goal.returns-in-Ok-Configure-clause-answered
 returns-in-Ok-Configure-clause-answered g c =
     let asked : asked_of (map string_bytes c.args.words.now) ≡ Some (Configure c.in-Ok-Configure.asked) = search rules in
     let ended = c.configured.ensures.ended in
-    (ended_answer ended.0, rw asked (inl (ended.0, ended.1, refl)), ended.2)
+    (ended_answer c.in-Ok-Configure.asked.root ended.0, rw asked (inl (ended.0, ended.1, refl)), ended.2)
 
 pub returns-in-Ok-Remove-clause-answered : goal.returns-in-Ok-Remove-clause-answered
 returns-in-Ok-Remove-clause-answered g c =
     let asked : asked_of (map string_bytes c.args.words.now) ≡ Some (Remove c.in-Ok-Remove.asked) = search rules in
     let ended = c.removed.ensures.ended in
-    (ended_answer ended.0, rw asked (inl (ended.0, ended.1, refl)), ended.2)
+    (ended_answer c.in-Ok-Remove.asked.root ended.0, rw asked (inl (ended.0, ended.1, refl)), ended.2)
 
 pub returns-in-Ok-Purge-clause-answered : goal.returns-in-Ok-Purge-clause-answered
 returns-in-Ok-Purge-clause-answered g c =
     let asked : asked_of (map string_bytes c.args.words.now) ≡ Some (Purge c.in-Ok-Purge.asked) = search rules in
     let ended = c.purged.ensures.ended in
-    (ended_answer ended.0, rw asked (inl (ended.0, ended.1, refl)), ended.2)
+    (ended_answer c.in-Ok-Purge.asked.root ended.0, rw asked (inl (ended.0, ended.1, refl)), ended.2)
+
+pub returns-in-Err-Usage-clause-answered : goal.returns-in-Err-Usage-clause-answered
+returns-in-Err-Usage-clause-answered g c =
+    let none : asked_of (map string_bytes c.args.words.now) ≡ None = search rules in
+    let screen : HasScreen (named_in (map string_bytes c.args.words.now)) (string_bytes c.in-Err-Usage.text) = search rules in
+    (usage_answer (string_bytes c.in-Err-Usage.text), rw none (inl (string_bytes c.in-Err-Usage.text, screen, refl)), c.complained.ensures)
 
 pub returns-in-Err-NoMemory-clause-answered : goal.returns-in-Err-NoMemory-clause-answered
 returns-in-Err-NoMemory-clause-answered g c = (memory_answer, inr (refl, refl), tt)

@@ -11,9 +11,9 @@ loop-tree-preserved g c =
     let new = c.read_package-tree.new.hosts in
     let old = c.loop-tree.hosts in
     let fn = c.args.hosts.now in
-    let outer : Around = around (g.S.Hosts.root fn) (g.S.Hosts.tree fn) (g.S.Hosts.left new) (g.S.Hosts.seen new) (g.S.Hosts.faults fn < g.S.Hosts.faults new) (g.S.Hosts.unopened fn new) in
-    let before : Around = around (g.S.Hosts.root fn) (g.S.Hosts.tree fn) (g.S.Hosts.left old) (g.S.Hosts.seen old) (g.S.Hosts.faults fn < g.S.Hosts.faults old) (g.S.Hosts.unopened fn old) in
-    let this : Around = around (g.S.Hosts.root old) (g.S.Hosts.tree old) (g.S.Hosts.left new) (g.S.Hosts.seen new) (g.S.Hosts.faults old < g.S.Hosts.faults new) (g.S.Hosts.unopened old new) in
+    let outer : Around = around (g.S.Hosts.root fn) (g.S.Hosts.tree fn) (g.S.Hosts.left new) (g.S.Hosts.seen new) (g.S.Hosts.faults fn < g.S.Hosts.faults new) (g.S.Hosts.unopened fn new) (g.S.Hosts.locked fn) in
+    let before : Around = around (g.S.Hosts.root fn) (g.S.Hosts.tree fn) (g.S.Hosts.left old) (g.S.Hosts.seen old) (g.S.Hosts.faults fn < g.S.Hosts.faults old) (g.S.Hosts.unopened fn old) (g.S.Hosts.locked fn) in
+    let this : Around = around (g.S.Hosts.root old) (g.S.Hosts.tree old) (g.S.Hosts.left new) (g.S.Hosts.seen new) (g.S.Hosts.faults old < g.S.Hosts.faults new) (g.S.Hosts.unopened old new) (g.S.Hosts.locked old) in
     record {
       labels = grind (arith, common_steps);
       read = labelled_push outer before this c.loop-tree.candidates.items c.push.new.self.items (record { label = c.in_ok-label.label; tree = c.read_package-tree.result }) c.in_ok-push.ensures.items

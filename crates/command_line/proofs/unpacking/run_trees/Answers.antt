@@ -10,7 +10,7 @@ pub returns-in-Some-clause-done : goal.returns-in-Some-clause-done
 returns-in-Some-clause-done g c =
     let old = c.args.hosts.now in
     let new = c.read_trees.new.hosts in
-    let a : Around = around (g.S.Hosts.root old) (g.S.Hosts.tree old) (g.S.Hosts.left new) (g.S.Hosts.seen new) (g.S.Hosts.faults old < g.S.Hosts.faults new) (g.S.Hosts.unopened old new) in
+    let a : Around = around (g.S.Hosts.root old) (g.S.Hosts.tree old) (g.S.Hosts.left new) (g.S.Hosts.seen new) (g.S.Hosts.faults old < g.S.Hosts.faults new) (g.S.Hosts.unopened old new) (g.S.Hosts.locked old) in
     let session = c.args.session.now in
     let left = c.install.new.self in
     let done = c.install.ensures in
@@ -31,7 +31,7 @@ pub returns-in-None-clause-done : goal.returns-in-None-clause-done
 returns-in-None-clause-done g c =
     let old = c.args.hosts.now in
     let new = c.read_trees.new.hosts in
-    let a : Around = around (g.S.Hosts.root old) (g.S.Hosts.tree old) (g.S.Hosts.left new) (g.S.Hosts.seen new) (g.S.Hosts.faults old < g.S.Hosts.faults new) (g.S.Hosts.unopened old new) in
+    let a : Around = around (g.S.Hosts.root old) (g.S.Hosts.tree old) (g.S.Hosts.left new) (g.S.Hosts.seen new) (g.S.Hosts.faults old < g.S.Hosts.faults new) (g.S.Hosts.unopened old new) (g.S.Hosts.locked old) in
     let session = c.args.session.now in
     let left = c.run.new.self in
     let done = c.run.ensures in

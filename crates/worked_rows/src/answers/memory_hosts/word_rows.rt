@@ -1,5 +1,5 @@
 // What words ask for: the names of the subcommands, comparisons of versions, and faults of usage.
-use super::{check, check_usage};
+use super::{check, check_usage, worded};
 use std::test::Fail;
 
 const COMPARISONS: &[&str] = &[
@@ -34,6 +34,8 @@ pub(crate) const FAULTS: &[&str] = &[
     "dpkg_cli divert /usr/bin/v",
     "dpkg_cli undivert --local --package a /usr/bin/v",
     "dpkg_cli --help",
+    "dpkg_cli help fetch",
+    "dpkg_cli help install unpack",
 ];
 
 /// The names of the subcommands, and nothing on standard error.
@@ -42,6 +44,7 @@ compare-versions
 configure
 diversions
 divert
+help
 install
 list
 listfiles
@@ -72,6 +75,26 @@ fn versions_are_compared(rt: HostRuntime) -> Result<(), Fail> {
 fn faults_of_usage_are_told(rt: HostRuntime) -> Result<(), Fail> {
     for line in FAULTS {
         check_usage(&rt, line)?;
+    }
+    Ok(())
+}
+
+// Each answer to these is a screen on standard output.
+const ASKED_FOR_HELP: &[&str] = &[
+    "dpkg_cli help",
+    "dpkg_cli help install",
+    "dpkg_cli help help",
+];
+
+#[test]
+fn help_is_told(rt: HostRuntime) -> Result<(), Fail> {
+    for line in ASKED_FOR_HELP {
+        let answer = worded(rt.alloc(), line)?;
+        let answer = answer.as_str();
+        assert!(rt;
+            answer.starts_with("Usage: coizkerra ") && answer.ends_with("\n||0\n"),
+            "{line}"
+        );
     }
     Ok(())
 }

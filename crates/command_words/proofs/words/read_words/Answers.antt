@@ -3,7 +3,7 @@ use Rattle.std.proofs.lemmas.List.{length-map}
 use Rattle.std.proofs.lemmas.Result.{IfOk-weaker, IfErr-weaker}
 use Rattle.clap.specs.Words.{app_of}
 use Rattle.command_words.proofs.Asking.{asked_names, asked_taken, asked_refused, whole_is_simple}
-use Rattle.command_words.proofs.words.command_of.Goals as goal
+use Rattle.command_words.proofs.words.read_words.Goals as goal
 
 pub returns-then-words-le1-clause-asked : goal.returns-then-words-le1-clause-asked
 returns-then-words-le1-clause-asked c = asked_names (map string_bytes c.args.words.now) (rw (length-map c.args.words.now string_bytes) c.if-words-le1.true)

@@ -1,0 +1,310 @@
+// What help is asked on, and a screen for it.
+ghost use Rattle.std.specs.Prelude.{◌≡◌, ◌++◌, IfOk, codes, map, option_map, string_bytes};
+ghost use Rattle.command_words.specs.Topics.{HasScreen, IsScreen, named_in, topic_in, topic_of, usage_words};
+
+use std::alloc::{AllocError, Global};
+
+/// The whole program, or one of its subcommands.
+#[derive(Clone, Copy)]
+pub enum Topic {
+    Program,
+    Audit,
+    CompareVersions,
+    Configure,
+    Diversions,
+    Divert,
+    Help,
+    Install,
+    List,
+    ListFiles,
+    Purge,
+    Remove,
+    Search,
+    Status,
+    Truename,
+    Undivert,
+    Unpack,
+}
+
+const PROGRAM: &str =
+    "Installs, configures and removes Debian packages that are given as directories.
+
+  unpack TREE.., install TREE..  put the files of packages in place; install configures them too
+  configure [PKG..]              settle conffiles and call postinst
+  remove PKG.., purge PKG..      take packages away; with purge their conffiles too
+  list, audit                    all packages; those with which something has to be done
+  status PKG, listfiles PKG      the record of a package; the paths that it lists
+  search PATH, truename PATH     who has a path; where a path is
+  divert PATH, undivert PATH     files of packages go to another place; or no longer
+  diversions                     all diversions
+  compare-versions A OP B        whether it holds, by the status
+  help [COMMAND]                 this screen, or that of a subcommand
+
+Example: dpkg-deb -R hello.deb hello && coizkerra install --root /srv/root hello
+";
+
+const AUDIT: &str =
+    "Lists the packages with which something has to be done: PKG STATE FLAG, a line each.
+
+  --root DIR  the root, an absolute directory; / if it isn't given
+
+Example: coizkerra audit --root /srv/root
+";
+
+const COMPARE_VERSIONS: &str = "Ends with status 0 where A OP B holds, and with 1 where it doesn't.
+
+  OP  one of lt le eq ne ge gt
+
+Example: coizkerra compare-versions 1.0~rc1 lt 1.0
+";
+
+const CONFIGURE: &str =
+    "Settles the conffiles of packages and calls their postinst, in the order that relations ask for;
+of all that wait for it where none is named.
+
+  --root DIR        the root, an absolute directory; / if it isn't given
+  --force-confold   an edited conffile stays, as without a flag
+  --force-confnew   the package's takes the place of an edited conffile
+  --force-confmiss  a deleted conffile is made again
+
+Example: coizkerra configure --root /srv/root hello
+";
+
+const DIVERSIONS: &str =
+    "Lists the diversions: local or the package, the path, the target, a line each.
+
+  --root DIR  the root, an absolute directory; / if it isn't given
+
+Example: coizkerra diversions --root /srv/root
+";
+
+const DIVERT: &str = "Files at PATH of all packages but P go to TARGET from now on.
+
+  --root DIR       the root, an absolute directory; / if it isn't given
+  --package P      whose own file stays at PATH
+  --local          the administrator's: no package's file stays there
+  --divert TARGET  PATH.distrib if it isn't given
+  --rename         the file that is there is moved
+
+Example: coizkerra divert --root /srv/root --local --rename /usr/bin/vi
+";
+
+const HELP: &str = "Tells what the program does, or a subcommand, with its flags and an example.
+
+Example: coizkerra help install
+";
+
+const INSTALL: &str =
+    "Unpacks the packages of trees, which dpkg-deb -R makes, and then configures them.
+
+  --root DIR          the root, an absolute directory; / if it isn't given
+  --auto-deconfigure  installed packages may be deconfigured in their favour
+  --force-confold     an edited conffile stays, as without a flag
+  --force-confnew     the package's takes the place of an edited conffile
+  --force-confmiss    a deleted conffile is made again
+
+Example: dpkg-deb -R hello.deb hello && coizkerra install --root /srv/root hello
+";
+
+const LIST: &str = "Lists the packages: PKG VERSION STATE, a line each.
+
+  --root DIR  the root, an absolute directory; / if it isn't given
+
+Example: coizkerra list --root /srv/root
+";
+
+const LISTFILES: &str = "Lists the paths of a package.
+
+  --root DIR  the root, an absolute directory; / if it isn't given
+
+Example: coizkerra listfiles --root /srv/root hello
+";
+
+const PURGE: &str = "Removes packages with their conffiles, in the order that relations ask for.
+
+  --root DIR  the root, an absolute directory; / if it isn't given
+
+Example: coizkerra purge --root /srv/root hello
+";
+
+const REMOVE: &str = "Removes packages but their conffiles, in the order that relations ask for.
+
+  --root DIR  the root, an absolute directory; / if it isn't given
+
+Example: coizkerra remove --root /srv/root hello
+";
+
+const SEARCH: &str =
+    "Tells which packages have the file at PATH, a line each; status 1 where none has.
+
+  --root DIR  the root, an absolute directory; / if it isn't given
+
+Example: coizkerra search --root /srv/root /usr/bin/hello
+";
+
+const STATUS: &str = "Prints the record of a package.
+
+  --root DIR  the root, an absolute directory; / if it isn't given
+
+Example: coizkerra status --root /srv/root hello
+";
+
+const TRUENAME: &str = "Tells where a file for PATH stands: at PATH, or where a diversion leads.
+
+  --root DIR   the root, an absolute directory; / if it isn't given
+  --package P  for this package
+
+Example: coizkerra truename --root /srv/root /usr/bin/vi
+";
+
+const UNDIVERT: &str = "Takes the diversion of PATH away.
+
+  --root DIR   the root, an absolute directory; / if it isn't given
+  --package P  the package whose diversion it is
+  --local      it is the administrator's
+  --rename     the file at its target is moved back
+
+Example: coizkerra undivert --root /srv/root --local --rename /usr/bin/vi
+";
+
+const UNPACK: &str =
+    "Puts the files of trees, which dpkg-deb -R makes, in place; configure makes the packages ready.
+
+  --root DIR          the root, an absolute directory; / if it isn't given
+  --auto-deconfigure  installed packages may be deconfigured in their favour
+
+The flags for conffiles are taken, and not needed.
+
+Example: dpkg-deb -R hello.deb hello && coizkerra unpack --root /srv/root hello
+";
+
+impl Topic {
+    /// The subcommand of this name.
+    pub(crate) fn read(word: &str) -> Option<Topic>
+        ensures { result ≡ topic_of word.now }
+    {
+        match word {
+            "audit" => Some(Topic::Audit),
+            "compare-versions" => Some(Topic::CompareVersions),
+            "configure" => Some(Topic::Configure),
+            "diversions" => Some(Topic::Diversions),
+            "divert" => Some(Topic::Divert),
+            "help" => Some(Topic::Help),
+            "install" => Some(Topic::Install),
+            "list" => Some(Topic::List),
+            "listfiles" => Some(Topic::ListFiles),
+            "purge" => Some(Topic::Purge),
+            "remove" => Some(Topic::Remove),
+            "search" => Some(Topic::Search),
+            "status" => Some(Topic::Status),
+            "truename" => Some(Topic::Truename),
+            "undivert" => Some(Topic::Undivert),
+            "unpack" => Some(Topic::Unpack),
+            _ => None,
+        }
+    }
+
+    // How its words are put.
+    fn usage(self) -> &'static str
+        ensures { result.now ≡ usage_words self }
+    {
+        match self {
+            Topic::Program => "COMMAND ..",
+            Topic::Audit => "audit [--root DIR]",
+            Topic::CompareVersions => "compare-versions A OP B",
+            Topic::Configure =>
+                "configure [--root DIR] [--force-confold | --force-confnew] [--force-confmiss] [PKG..]",
+            Topic::Diversions => "diversions [--root DIR]",
+            Topic::Divert =>
+                "divert [--root DIR] (--package P | --local) [--divert TARGET] [--rename] PATH",
+            Topic::Help => "help [COMMAND]",
+            Topic::Install =>
+                "install [--root DIR] [--auto-deconfigure] [--force-confold | --force-confnew] [--force-confmiss] TREE..",
+            Topic::List => "list [--root DIR]",
+            Topic::ListFiles => "listfiles [--root DIR] PKG",
+            Topic::Purge => "purge [--root DIR] PKG..",
+            Topic::Remove => "remove [--root DIR] PKG..",
+            Topic::Search => "search [--root DIR] PATH",
+            Topic::Status => "status [--root DIR] PKG",
+            Topic::Truename => "truename [--root DIR] [--package P] PATH",
+            Topic::Undivert => "undivert [--root DIR] (--package P | --local) [--rename] PATH",
+            Topic::Unpack =>
+                "unpack [--root DIR] [--auto-deconfigure] [--force-confold | --force-confnew] [--force-confmiss] TREE..",
+        }
+    }
+
+    // What it does, its flags and an example.
+    fn about(self) -> &'static str {
+        match self {
+            Topic::Program => PROGRAM,
+            Topic::Audit => AUDIT,
+            Topic::CompareVersions => COMPARE_VERSIONS,
+            Topic::Configure => CONFIGURE,
+            Topic::Diversions => DIVERSIONS,
+            Topic::Divert => DIVERT,
+            Topic::Help => HELP,
+            Topic::Install => INSTALL,
+            Topic::List => LIST,
+            Topic::ListFiles => LISTFILES,
+            Topic::Purge => PURGE,
+            Topic::Remove => REMOVE,
+            Topic::Search => SEARCH,
+            Topic::Status => STATUS,
+            Topic::Truename => TRUENAME,
+            Topic::Undivert => UNDIVERT,
+            Topic::Unpack => UNPACK,
+        }
+    }
+}
+
+/// What help is asked on: the program where no subcommand is named.
+pub(crate) fn topic_in(word: Option<&str>) -> Option<Topic>
+    ensures { result ≡ topic_in (option_map (λ s. s.now) word.entry) }
+{
+    match word {
+        Some(word) => Topic::read(word),
+        None => Some(Topic::Program),
+    }
+}
+
+/// The subcommand that words name, the first of which is the program's name; the program where they name none.
+pub(crate) fn named_in(words: &[String]) -> Topic
+    ensures { result ≡ named_in (map string_bytes words.now) }
+{
+    let Some(word) = words.get(1) else {
+        return Topic::Program;
+    };
+    match Topic::read(word.as_str()) {
+        Some(topic) => topic,
+        None => Topic::Program,
+    }
+}
+
+fn screen_text(alloc: Global, usage: &str, about: &str) -> Result<String, AllocError>
+    ensures { IfOk result (λ text. string_bytes text ≡ codes "Usage: coizkerra " ++ (usage.now ++ (codes "\n\n" ++ about.now))) }
+{
+    format!(in alloc; "Usage: coizkerra {usage}\n\n{about}")
+}
+
+/// The screen of a topic: how its words are put, what it does, its flags and an example.
+pub fn help_text(alloc: Global, topic: Topic) -> Result<String, AllocError>
+    ensures { IfOk result (λ text. IsScreen topic (string_bytes text)) }
+{
+    let usage = topic.usage();
+    let about = topic.about();
+    screen_text(alloc, usage, about)
+}
+
+fn both(alloc: Global, why: &str, screen: &str) -> Result<String, AllocError>
+    ensures { IfOk result (λ text. string_bytes text ≡ why.now ++ (codes "\n\n" ++ screen.now)) }
+{
+    format!(in alloc; "{why}\n\n{screen}")
+}
+
+/// Why words ask for nothing, and the screen of a topic.
+pub(crate) fn usage_text(alloc: Global, why: &str, topic: Topic) -> Result<String, AllocError>
+    ensures { IfOk result (λ text. HasScreen topic (string_bytes text)) }
+{
+    let screen = help_text(alloc, topic)?;
+    both(alloc, why, screen.as_str())
+}
