@@ -92,7 +92,7 @@ module _ (g : Given) (r : Record) (found : record_in g.before.records g.name ≡
     -- records
 
     abbrev IsNoted : Option Record → Type 0
-    IsNoted o = IsWaitingRecord g r o ⊎ IsSettledRecord g r o
+    IsNoted o = IsWaitingRecord r o ⊎ IsSettledRecord r o
 
     abbrev Notes : Deed → Type 0
     Notes = NotesOwn g.name g.before.records IsNoted

@@ -8,3 +8,4 @@ pub mod Removals
 pub mod Steps
 pub mod ConfigureStages
 pub mod Configures
+pub mod ConffileSteps

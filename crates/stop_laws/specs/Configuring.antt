@@ -27,26 +27,30 @@ is_settling_name r q = list_any (λ x. is_conffile_name x q) (settling_paths r)
 abbrev pub IsScriptedElsewhere : Change → World → World → Type 0
 IsScriptedElsewhere change old now = (q : Path) → is_below_administration q ≡ false → now q ≡ changed change old q
 
+-- as it was found, or half-configured, with the shipped digests that aren't settled yet
+abbrev pub IsWaitingRecord : Record → Option Record → Type 0
+IsWaitingRecord r o = (o ≡ Some r) ⊎ (o ≡ Some (half r))
+
+abbrev pub IsHalfRecord : Record → Option Record → Type 0
+IsHalfRecord r o = o ≡ Some (half r)
+
+-- half-configured with the settled digests, or configured; or half-configured as it was found, where nothing is to be settled
+pub data IsSettledRecord (r : Record) (o : Option Record) : Type 0 where
+  settled_half : o ≡ Some (half (settled r)) → IsSettledRecord r o
+  nothing : settling_paths r ≡ [] → o ≡ Some (half r) → IsSettledRecord r o
+  installed : o ≡ Some (configured (settled r)) → IsSettledRecord r o
+
+-- nothing but files of conffiles that are to be settled is changed
+abbrev pub AreOthersSame : Record → World → World → Type 0
+AreOthersSame r old now = (q : Path) → is_below_administration q ≡ false → is_settling_name r q ≡ false → now q ≡ old q
+
 module _ (g : Given) (r : Record) where
-  -- as it was found, or half-configured, with the shipped digests that aren't settled yet
-  abbrev pub IsWaitingRecord : Option Record → Type 0
-  IsWaitingRecord o = (o ≡ Some r) ⊎ (o ≡ Some (half r))
-
-  abbrev pub IsHalfRecord : Option Record → Type 0
-  IsHalfRecord o = o ≡ Some (half r)
-
-  -- half-configured with the settled digests, or configured; or half-configured as it was found, where nothing is to be settled
-  pub data IsSettledRecord (o : Option Record) : Type 0 where
-    settled_half : o ≡ Some (half (settled r)) → IsSettledRecord o
-    nothing : settling_paths r ≡ [] → o ≡ Some (half r) → IsSettledRecord o
-    installed : o ≡ Some (configured (settled r)) → IsSettledRecord o
-
   -- the records at a moment: its own is one of these, and those of other packages are as before
   pub record HasRecordsAmid (now : World) : Type 0 where
     pub table : List Record
     pub records : HasRecords now table
     pub opens : CanOpenRecords now
-    pub own : IsWaitingRecord (record_in table g.name) ⊎ IsSettledRecord (record_in table g.name)
+    pub own : IsWaitingRecord r (record_in table g.name) ⊎ IsSettledRecord r (record_in table g.name)
     pub others : (q : List ℕ) → q ≢ g.name → record_in table q ≡ record_in g.before.records q
 
   -- its list: that of before, or that without the paths that go
@@ -70,13 +74,9 @@ module _ (g : Given) (r : Record) where
       pub decided : IsFirstDecided x decision
       pub files : files_at now x ≡ settled_files decision (files_at old x)
 
-    -- nothing but files of conffiles that are to be settled is changed
-    abbrev pub AreOthersSame : World → Type 0
-    AreOthersSame now = (q : Path) → is_below_administration q ≡ false → is_settling_name r q ≡ false → now q ≡ old q
-
     -- Nothing is changed outside the administration; or conffiles are being settled, and the package is half-configured; or all are
     -- settled and noted so, and script calls alone changed anything since.
     pub data IsAtStep (change : Change) (now : World) : Type 0 where
-      waiting : change ≡ [] → IsRecorded g.name IsWaitingRecord now → IsScriptedElsewhere [] old now → IsAtStep change now
-      settling : change ≡ [] → IsRecorded g.name IsHalfRecord now → ((x : Path) → Contains (settling_paths r) x → IsConffileAmid now x) → AreOthersSame now → IsAtStep change now
-      settled_then : IsRecorded g.name IsSettledRecord now → (done : World) → ((x : Path) → Contains (settling_paths r) x → IsConffileSettled done x) → AreOthersSame done → IsScriptedElsewhere change done now → IsAtStep change now
+      waiting : change ≡ [] → IsRecorded g.name (IsWaitingRecord r) now → IsScriptedElsewhere [] old now → IsAtStep change now
+      settling : change ≡ [] → IsRecorded g.name (IsHalfRecord r) now → ((x : Path) → Contains (settling_paths r) x → IsConffileAmid now x) → AreOthersSame r old now → IsAtStep change now
+      settled_then : IsRecorded g.name (IsSettledRecord r) now → (done : World) → ((x : Path) → Contains (settling_paths r) x → IsConffileSettled done x) → AreOthersSame r old done → IsScriptedElsewhere change done now → IsAtStep change now
