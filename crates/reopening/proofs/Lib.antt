@@ -19,3 +19,4 @@ pub mod Losses
 mod Standings
 mod Undamaged
 mod Openings
+mod LostOpenings

@@ -40,11 +40,11 @@ use Rattle.reopening.specs.Opens.{CanBeOpened}
 
 -- blurred, a node is still a node, and a directory one
 
-blurred_some : (n m : Option Node) → IsBlurred n m → IsSome m → IsSome n
+pub blurred_some : (n m : Option Node) → IsBlurred n m → IsSome m → IsSome n
 blurred_some None m blurred some = subst IsSome blurred some
 blurred_some (Some n) m blurred some = refl
 
-blurred_directory : (n m : Option Node) → IsBlurred n m → IsDirectory m → IsDirectory n
+pub blurred_directory : (n m : Option Node) → IsBlurred n m → IsDirectory m → IsDirectory n
 blurred_directory None m blurred is = subst IsDirectory blurred is
 blurred_directory (Some (File bytes access)) m blurred is = (let e : Some (File blurred.0 access) ≡ Some (Dir is.0) = sym blurred.1 ∙ is.1 in cc)
 blurred_directory (Some (Dir access)) m blurred is = (access, refl)
@@ -65,7 +65,7 @@ pub script_proper : (owner : Path) (script : Script) → is_temporary (script_pa
 script_proper owner script =
     false_from_ne_true (is_temporary (script_path owner script)) (λ is. (let t = is_suffixed (script_path owner script) is in no_temporary owner (script_name script) t.0 (script_is_member script) t.1))
 
-bool_cases : (b : Bool) → (b ≡ true) ⊎ (b ≡ false)
+pub bool_cases : (b : Bool) → (b ≡ true) ⊎ (b ≡ false)
 bool_cases true = inl refl
 bool_cases false = inr refl
 

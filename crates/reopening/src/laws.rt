@@ -1,5 +1,5 @@
 // The next opening can read what a command left that was broken off.
-ghost use Rattle.std.specs.Prelude.{◌≡◌, ◌++◌, ℕ, Bool, IsTrue, List, Option, true};
+ghost use Rattle.std.specs.Prelude.{◌≡◌, ◌++◌, [], ℕ, Bool, IsTrue, List, Option, true};
 ghost use Rattle.conffiles.specs.declared.decisions.ConfPolicy.{ConfPolicy as APolicy};
 ghost use Rattle.configure_run.specs.Run.{HasRun as HasConfigured};
 ghost use Rattle.diversions.specs.Changes.{IsAdding, IsRemoving};
@@ -61,9 +61,11 @@ pub fn a_diversion_can_be_opened_amid()
     ensures undivert { (asked : AnUndiverting) (before : Held) (s t : State) → is_ship_text asked.path ≡ true → FindsStanding before s → AtEachMoment (IsRemoving before.entries asked.path asked.rename) s t → CanBeOpenedAmid s t }
 {}
 
-/// At each moment of an opening of what can be opened, as a stop or a loss of power left it, so can what is there.
+/// At each moment of an opening of what can be opened, as a stop or a loss of power left it, so can what is there. Of any
+/// administration that isn't damaged, as of a root without its directories, a loss of power during an opening leaves one that isn't.
 pub fn an_opening_can_be_opened_amid()
-    ensures { (s t : State) → Needs s CanBeOpened → AtEachMoment IsOpeningOrMerging s t → CanBeOpenedAmid s t }
+    ensures amid { (s t : State) → Needs s CanBeOpened → AtEachMoment IsOpeningOrMerging s t → CanBeOpenedAmid s t }
+    ensures lost { (begun s t : State) (session : List Event) (left : World) → IsTrue t.honest → IsSettled t.events → t.events ≡ begun.events ++ session → changes_of session ≡ [] → Needs s IsUndamaged → AtEachMoment IsOpeningOrMerging s t → LosesSince begun s t left → IsUndamaged left }
 {
     a_stopped_opening_can_be_opened();
 }
