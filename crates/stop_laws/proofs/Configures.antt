@@ -5,7 +5,7 @@ use Rattle.std.proofs.lemmas.Bool.{false_from_ne_true, true≢false}
 use Rattle.host_core.specs.Paths.{Path, is_below_administration, is_own}
 use Rattle.host_core.specs.World.{World, Avoids, changed}
 use Rattle.host_core.specs.Events.{Event, changes_of}
-use Rattle.host_core.specs.Scripts.{no_change}
+use Rattle.host_core.specs.Scripts.{changed_kept, no_change}
 use Rattle.host_core.specs.declared.node.Node.{Node}
 use Rattle.administration.specs.Places.{list_path, temporary}
 use Rattle.conffiles.specs.Settling.{is_conffile_name, is_name_of_some}
@@ -15,6 +15,7 @@ use Rattle.control_members.specs.Stored.{stored_member_path}
 use Rattle.control_members.proofs.Apart.{no_list_temporary}
 use Rattle.file_lists.specs.Owners.{paths_of}
 use Rattle.file_lists.specs.Writing.{list_file}
+use Rattle.list_changes.specs.Leaving.{has_other_owner}
 use Rattle.status_db.specs.Held.{HasRecords, is_record_place}
 use Rattle.status_db.specs.Recorded.{Recorded}
 use Rattle.status_db.specs.Records.{record_in}
@@ -37,6 +38,7 @@ use Rattle.stop_laws.proofs.Avoiding.{own_avoided}
 use Rattle.stop_laws.proofs.ConfigureStages.{first_deeds, last_deeds, names_of_decided, stage_with, stages_all, stages_deeds}
 use Rattle.stop_laws.proofs.Moments.{AllIn, AmidStages, stages_amid}
 use Rattle.stop_laws.proofs.Noted.{NotesOwn, stages_good}
+use Rattle.stop_laws.proofs.Others.{others_avoided}
 use Rattle.stop_laws.proofs.Places.{set_kept}
 use Rattle.stop_laws.proofs.Taken.{IsSet, Sets, stages_set}
 
@@ -192,3 +194,11 @@ module _ (g : Given) (old now : World) (so_far : List Event) where
   pub configure_member : (q : List ℕ) (member : Path) → is_member_name member ≡ true → IsAmidUnit g old so_far now → now (stored_member_path q member) ≡ old (stored_member_path q member)
   configure_member q member is (inl looks) = ap (λ (w : World). w (stored_member_path q member)) looks.0
   configure_member q member is (inr amid) = each_member g amid.plan.entry amid.plan.found old now so_far amid q member is
+
+module _ (g : Given) (r : Record) (found : record_in g.before.records g.name ≡ Some r) (q : Path) (owned : has_other_owner g.entries g.before.lists g.name q ≡ true) where
+  -- neither the unit nor a script call changes what stands at a place of another package
+  pub configure_keeps : is_below_administration q ≡ false → is_settling_name r q ≡ false → (old now : World) (so_far : List Event) → IsAmidUnit g old so_far now → now q ≡ old q
+  configure_keeps out none old now so_far (inl looks) = ap (λ (w : World). w q) looks.0
+  configure_keeps out none old now so_far (inr amid) =
+      configure_paths g r found old now so_far q out none (inr amid)
+      ∙ changed_kept (has_other_owner g.entries g.before.lists g.name) (changes_of so_far) old (others_avoided g.name g.entries amid.stages g.before old so_far now amid.running) q owned

@@ -9,3 +9,5 @@ pub mod Steps
 pub mod ConfigureStages
 pub mod Configures
 pub mod ConffileSteps
+pub mod Others
+pub mod OtherPlaces

@@ -4,12 +4,14 @@
 
 mod configure_records;
 mod configure_steps;
+mod owned;
 mod removal_paths;
 mod removal_records;
 mod removal_steps;
 
 pub use configure_records::what_configuring_leaves_at_each_moment;
 pub use configure_steps::what_each_step_of_configuring_leaves;
+pub use owned::what_stands_at_places_of_other_packages;
 pub use removal_paths::what_a_removal_leaves_at_each_moment;
 pub use removal_records::what_the_next_opening_finds_of_a_removal;
 pub use removal_steps::what_each_step_of_a_removal_leaves;
