@@ -7,7 +7,7 @@ use Rattle.host_core.specs.World.{World, Avoids, changed}
 use Rattle.host_core.specs.Events.{Event, changes_of}
 use Rattle.host_core.specs.Scripts.{changed_kept, no_change}
 use Rattle.host_core.specs.declared.node.Node.{Node}
-use Rattle.administration.specs.Places.{list_path, temporary}
+use Rattle.administration.specs.Places.{diversions_path, list_path, temporary}
 use Rattle.conffiles.specs.Settling.{is_conffile_name, is_name_of_some}
 use Rattle.conffiles.specs.declared.entries.Settled.{Settled}
 use Rattle.control_members.specs.Names.{is_member_name}
@@ -39,7 +39,7 @@ use Rattle.stop_laws.proofs.ConfigureStages.{first_deeds, last_deeds, names_of_d
 use Rattle.stop_laws.proofs.Moments.{AllIn, AmidStages, stages_amid}
 use Rattle.stop_laws.proofs.Noted.{NotesOwn, stages_good}
 use Rattle.stop_laws.proofs.Others.{others_avoided}
-use Rattle.stop_laws.proofs.Places.{set_kept}
+use Rattle.stop_laws.proofs.Places.{beside_list, beside_spare, set_kept}
 use Rattle.stop_laws.proofs.Taken.{IsSet, Sets, stages_set}
 
 -- what isn't below the administration's directory
@@ -154,6 +154,9 @@ module _ (g : Given) (r : Record) (found : record_in g.before.records g.name ≡
     other_list : (q : List ℕ) → q ≢ g.name → now (list_path q) ≡ old (list_path q)
     other_list q other = unchanged (list_path q) (value_amid (list_path q) Never (list_below q) refl refl ((λ e. no_list_temporary q (list_path g.name) e), λ e. other (same_list q g.name e)))
 
+    diversions_amid : now diversions_path ≡ old diversions_path
+    diversions_amid = unchanged diversions_path (value_amid diversions_path Never refl refl refl ((λ e. beside_spare g.name e), λ e. beside_list g.name e))
+
     each_member : (q : List ℕ) (member : Path) → is_member_name member ≡ true → now (stored_member_path q member) ≡ old (stored_member_path q member)
     each_member q member is =
         let off = member_is_no_list q member g.name is in
@@ -190,6 +193,10 @@ module _ (g : Given) (old now : World) (so_far : List Event) where
   pub configure_other_list : (q : List ℕ) → q ≢ g.name → IsAmidUnit g old so_far now → now (list_path q) ≡ old (list_path q)
   configure_other_list q other (inl looks) = ap (λ (w : World). w (list_path q)) looks.0
   configure_other_list q other (inr amid) = other_list g amid.plan.entry amid.plan.found old now so_far amid q other
+
+  pub configure_diversions : IsAmidUnit g old so_far now → now diversions_path ≡ old diversions_path
+  configure_diversions (inl looks) = ap (λ (w : World). w diversions_path) looks.0
+  configure_diversions (inr amid) = diversions_amid g amid.plan.entry amid.plan.found old now so_far amid
 
   pub configure_member : (q : List ℕ) (member : Path) → is_member_name member ≡ true → IsAmidUnit g old so_far now → now (stored_member_path q member) ≡ old (stored_member_path q member)
   configure_member q member is (inl looks) = ap (λ (w : World). w (stored_member_path q member)) looks.0

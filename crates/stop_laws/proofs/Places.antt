@@ -1,11 +1,11 @@
 -- Which places the deeds of a unit leave alone: those outside the administration, and those of other packages in it.
-use Rattle.std.proofs.Common.{◌≡◌, ◌≢◌, ◌⊎◌, inl, inr, ℕ, Bool, true, false, List, [], ◌∷◌, ◌++◌, Option, refl, sym, ap, subst, ◌∙◌}
+use Rattle.std.proofs.Common.{◌≡◌, ◌≢◌, ◌⊎◌, inl, inr, ℕ, Bool, true, false, List, [], ◌∷◌, ◌++◌, Option, refl, sym, ap, subst, ◌∙◌, get_or, arith}
 use Rattle.std.proofs.lemmas.Bool.{false_from_ne_true, true≢false}
 use Rattle.host_core.specs.Paths.{Path, is_own}
 use Rattle.host_core.specs.World.{World, Avoids, Change}
 use Rattle.host_core.specs.Scripts.{changed_kept}
 use Rattle.host_core.specs.declared.node.Node.{Node}
-use Rattle.administration.specs.Places.{home_path, is_within, list_path, temporary}
+use Rattle.administration.specs.Places.{diversions_path, home_path, is_within, list_path, temporary}
 use Rattle.control_members.specs.Stored.{stored_member_path}
 use Rattle.status_db.specs.Held.{is_record_place}
 use Rattle.unpack_commit.proofs.Left.{list_within, member_within}
@@ -29,6 +29,20 @@ outside_spare q out name = outside_is q (temporary (list_path name)) out refl
 
 pub outside_member : (q : Path) → is_within home_path q ≡ false → (owner name : Path) → q ≢ stored_member_path owner name
 outside_member q out owner name = outside_is q (stored_member_path owner name) out (member_within owner name)
+
+-- the diversions, which stand beside `info`
+
+beside_info : (q : Path) → get_or q 14 0 ≡ 105 → diversions_path ≢ q
+beside_info q at e = let same : ◌≡◌ {A = ℕ} 100 105 = ap (λ (l : Path). get_or l 14 0) e ∙ at in absurd (omega arith)
+
+pub beside_list : (name : List ℕ) → diversions_path ≢ list_path name
+beside_list name = beside_info (list_path name) refl
+
+pub beside_spare : (name : List ℕ) → diversions_path ≢ temporary (list_path name)
+beside_spare name = beside_info (temporary (list_path name)) refl
+
+pub beside_member : (owner member : Path) → diversions_path ≢ stored_member_path owner member
+beside_member owner member = beside_info (stored_member_path owner member) refl
 
 -- the program's own places, which scripts leave alone
 

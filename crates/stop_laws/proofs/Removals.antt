@@ -6,7 +6,7 @@ use Rattle.host_core.specs.World.{World, Avoids, changed}
 use Rattle.host_core.specs.Events.{Event, changes_of}
 use Rattle.host_core.specs.Scripts.{no_change}
 use Rattle.host_core.specs.declared.node.Node.{Node}
-use Rattle.administration.specs.Places.{home_path, is_within, list_path}
+use Rattle.administration.specs.Places.{diversions_path, home_path, is_within, list_path}
 use Rattle.control_members.specs.Names.{is_member_name}
 use Rattle.control_members.specs.Stored.{stored_member_path}
 use Rattle.control_members.proofs.Apart.{no_list_temporary, same_stored}
@@ -39,7 +39,7 @@ use Rattle.stop_laws.specs.Removing.{GoesWithFiles, GoesWithPurge, HasRecordsAmi
 use Rattle.stop_laws.proofs.Avoiding.{own_avoided}
 use Rattle.stop_laws.proofs.Moments.{AllIn, AmidStages, stages_amid}
 use Rattle.stop_laws.proofs.Noted.{NotesOwn, stages_good}
-use Rattle.stop_laws.proofs.Places.{outside_list, outside_member, outside_records, outside_spare, set_kept}
+use Rattle.stop_laws.proofs.Places.{beside_list, beside_member, beside_spare, outside_list, outside_member, outside_records, outside_spare, set_kept}
 use Rattle.stop_laws.proofs.RemovalStages.{OfEnds, OfFiles, OfPrerm, OfPurge, removal_all}
 use Rattle.stop_laws.proofs.Taken.{IsSet, Sets, stages_set}
 
@@ -192,6 +192,14 @@ module _ (g : Given) (removable : IsRemovable g.extent g.before.records g.name) 
         (λ e. other (same_list q g.name e))
         (λ keep. inl (λ member is. (list_is_no_member g.name q member is).0))))
 
+    diversions_amid : now diversions_path ≡ old diversions_path
+    diversions_amid =
+        unchanged diversions_path (value_amid diversions_path Never refl
+        (all_within stored_then list_then comes_then diversions_path Never refl refl
+        (λ paths is. ((λ e. beside_spare g.name e), λ e. beside_list g.name e))
+        (λ e. beside_list g.name e)
+        (λ keep. inl (λ member is. beside_member g.name member))))
+
     other_member : (q : List ℕ) (member : Path) → q ≢ g.name → is_member_name member ≡ true → now (stored_member_path q member) ≡ old (stored_member_path q member)
     other_member q member other is =
         let off = member_is_no_list q member g.name is in
@@ -253,6 +261,10 @@ module _ (g : Given) (removable : IsRemovable g.extent g.before.records g.name) 
     pub removal_other_member : (q : List ℕ) (member : Path) → q ≢ g.name → is_member_name member ≡ true → IsAmidUnit g old so_far now → now (stored_member_path q member) ≡ old (stored_member_path q member)
     removal_other_member q member other is (inl looks) = ap (λ (w : World). w (stored_member_path q member)) looks.0
     removal_other_member q member other is (inr amid) = other_member old now so_far amid q member other is
+
+    pub removal_diversions : IsAmidUnit g old so_far now → now diversions_path ≡ old diversions_path
+    removal_diversions (inl looks) = ap (λ (w : World). w diversions_path) looks.0
+    removal_diversions (inr amid) = diversions_amid old now so_far amid
 
     pub removal_list : IsAmidUnit g old so_far now → IsOwnList g own (old (list_path g.name)) (now (list_path g.name))
     removal_list (inl looks) = IsOwnList.stood (ap (λ (w : World). w (list_path g.name)) looks.0)

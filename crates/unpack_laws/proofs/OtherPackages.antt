@@ -1,10 +1,10 @@
 -- What packages and paths keep that a unit doesn't have in hand.
-use Rattle.std.proofs.Common.{◌≡◌, ◌≢◌, inl, inr, ℕ, true, List, refl, sym, ap, ◌∙◌}
+use Rattle.std.proofs.Common.{◌≡◌, ◌≢◌, inl, inr, ℕ, true, List, get_or, refl, sym, ap, ◌∙◌, arith}
 use Rattle.host_core.specs.Paths.{Path}
 use Rattle.host_core.specs.World.{World, changed, is_kept}
 use Rattle.host_core.specs.Events.{Event, changes_of}
 use Rattle.host_core.specs.Scripts.{changed_kept, no_change}
-use Rattle.administration.specs.Places.{list_path}
+use Rattle.administration.specs.Places.{diversions_path, list_path, temporary}
 use Rattle.control_members.specs.Names.{is_member_name}
 use Rattle.control_members.specs.Stored.{stored_member_path}
 use Rattle.control_members.proofs.Apart.{no_list_temporary, no_temporary, same_stored}
@@ -16,6 +16,20 @@ use Rattle.unpack_engine.specs.Units.{Given, IsAmid, IsAmidUnit, ground_of, pack
 use Rattle.unpack_laws.specs.InHand.{IsPassedBy, KeepsPlaces, unit_name}
 use Rattle.unpack_laws.proofs.Alone.{IsAlone, stage_avoids, stage_there}
 use Rattle.unpack_laws.proofs.Passing.{no_loser, passed_alone, unnamed}
+
+-- the diversions stand beside `info`
+
+pub no_list_there : (name : List ℕ) → (diversions_path ≢ list_path name) × (diversions_path ≢ temporary (list_path name))
+no_list_there name = (apart (list_path name) refl, apart (temporary (list_path name)) refl)
+  where
+    apart : (q : Path) → get_or q 14 0 ≡ 105 → diversions_path ≢ q
+    apart q at e = let same : ◌≡◌ {A = ℕ} 100 105 = ap (λ (l : Path). get_or l 14 0) e ∙ at in absurd (omega arith)
+
+pub no_member_there : (owner member : Path) → (diversions_path ≢ stored_member_path owner member) × (diversions_path ≢ temporary (stored_member_path owner member))
+no_member_there owner member = (apart (stored_member_path owner member) refl, apart (temporary (stored_member_path owner member)) refl)
+  where
+    apart : (q : Path) → get_or q 14 0 ≡ 105 → diversions_path ≢ q
+    apart q at e = let same : ◌≡◌ {A = ℕ} 100 105 = ap (λ (l : Path). get_or l 14 0) e ∙ at in absurd (omega arith)
 
 module _ (g : Given) (places : List Path) (old now : World) (so_far : List Event) where
   -- at each moment of a planned unit
@@ -60,6 +74,26 @@ module _ (g : Given) (places : List Path) (old now : World) (so_far : List Event
           missed = all_miss amid.plan.works (stored_member_path q member) plan.works_are.named refl;
         }
 
+    diversions_alone : IsAlone (ground_of g places) amid.plan diversions_path
+    diversions_alone =
+        let plan = amid.plan_for.planned in
+        let own = package_name (ground_of g places) amid.plan in
+        record {
+          aside = record {
+            unnoted = refl;
+            tmp = refl;
+            list = no_list_there own;
+            no_member = λ name m. no_member_there own name;
+            stays = no_leaving_place amid.plan.leaving diversions_path plan.lists_are.spares refl;
+            uncleared = plan.names_are.elsewhere diversions_path refl;
+            unlost = λ works begun stage moved n has. no_list_there n;
+          };
+          missed = all_miss amid.plan.works diversions_path plan.works_are.named refl;
+        }
+
+    diversions_amid : now diversions_path ≡ old diversions_path
+    diversions_amid = there diversions_path diversions_alone ∙ kept diversions_path refl
+
     list_amid : (q : List ℕ) → q ≢ unit_name g → KeepsPlaces g q → now (list_path q) ≡ old (list_path q)
     list_amid q other keeps = there (list_path q) (list_alone q other keeps) ∙ kept (list_path q) refl
 
@@ -81,6 +115,10 @@ module _ (g : Given) (places : List Path) (old now : World) (so_far : List Event
   pub member_kept : (q : List ℕ) (member : Path) → q ≢ unit_name g → is_member_name member ≡ true → IsAmidUnit g places old so_far now → now (stored_member_path q member) ≡ old (stored_member_path q member)
   member_kept q member other is (inl looks) = ap (λ (w : World). w (stored_member_path q member)) looks.0
   member_kept q member other is (inr amid) = member_amid amid q member other is
+
+  pub diversions_kept : IsAmidUnit g places old so_far now → now diversions_path ≡ old diversions_path
+  diversions_kept (inl looks) = ap (λ (w : World). w diversions_path) looks.0
+  diversions_kept (inr amid) = diversions_amid amid
 
   pub passed_by_scripts : (q : Path) → IsPassedBy g q → IsAmidUnit g places old so_far now → now q ≡ changed (changes_of so_far) old q
   passed_by_scripts q passed (inl looks) = ap (λ (w : World). w q) looks.0 ∙ ap (λ c. changed c old q) (sym (no_change so_far looks.1))

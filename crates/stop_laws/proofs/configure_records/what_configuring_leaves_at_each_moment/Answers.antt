@@ -1,4 +1,4 @@
-use Rattle.stop_laws.proofs.Configures.{configure_list, configure_member, configure_other_list, configure_paths, configure_records as records_then}
+use Rattle.stop_laws.proofs.Configures.{configure_diversions, configure_list, configure_member, configure_other_list, configure_paths, configure_records as records_then}
 use Rattle.stop_laws.proofs.configure_records.what_configuring_leaves_at_each_moment.Goals as goal
 
 pub returns-clause-records : goal.returns-clause-records
@@ -9,6 +9,9 @@ returns-clause-lists c = λ given old now so_far q other amid. configure_other_l
 
 pub returns-clause-members : goal.returns-clause-members
 returns-clause-members c = λ given old now so_far q member is amid. configure_member given old now so_far q member is amid
+
+pub returns-clause-diversions : goal.returns-clause-diversions
+returns-clause-diversions c = λ given old now so_far amid. configure_diversions given old now so_far amid
 
 pub returns-clause-own_list : goal.returns-clause-own_list
 returns-clause-own_list c = λ given r old now so_far found amid. configure_list given r found old now so_far amid
