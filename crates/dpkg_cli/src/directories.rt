@@ -3,6 +3,7 @@ ghost use Rattle.std.specs.Prelude.{◌≡◌, ◌≤◌, ◌<◌, [], ⊤, IfOk
 ghost use Rattle.host_core.specs.declared.fault.HostFault.TheVariants.{Device};
 ghost use Rattle.command_line.specs.declared.fault.RootFault.TheVariants.{Host as OfHost};
 
+use crate::progress::Line;
 use command_line::{Hosts, RootFault};
 use host_core::HostFault;
 use host_files::{FilesHost, Unknown};
@@ -18,6 +19,9 @@ pub(crate) struct Directories {
     pub(crate) faults: u64,
     /// The root's directory, locked: one program at a time. The system frees it when this program ends, however it ends.
     pub(crate) lock: Option<File>,
+    pub(crate) line: Line,
+    /// How many trees were opened.
+    pub(crate) trees: usize,
 }
 
 // The fault for the system's error, which a person is told beside the fixed lines, with the directory.
@@ -69,6 +73,7 @@ impl Directories {
         match FilesHost::open(self.rt, directory) {
             Ok(host) => Ok(host),
             Err(HostFault::Device) => {
+                self.line.clear();
                 tell(&self.rt, directory);
                 self.faults += 1;
                 Err(HostFault::Device)
@@ -140,6 +145,8 @@ impl Hosts for Directories {
     }
 
     fn open_tree(&mut self, tree: &str) -> Result<FilesHost<Unknown>, HostFault> {
+        self.line.show_tree(tree, self.trees);
+        self.trees = self.trees.saturating_add(1);
         self.open(tree)
     }
 

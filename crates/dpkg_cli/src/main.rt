@@ -2,10 +2,12 @@
 #![tactic(auto)]
 
 mod directories;
+mod progress;
 
 use command_line::{FAILED, run_words};
 use directories::Directories;
-use std::io::{ErrorKind, Write};
+use progress::{Beside, Line, going_through};
+use std::io::{ErrorKind, IsTerminal, Write};
 use std::process::ExitCode;
 use std::rt::Env;
 use std::{env, io};
@@ -22,21 +24,44 @@ fn complaint(error: &io::Error) -> &'static str {
     }
 }
 
+// What the words ask for, with the line of progress beside it where a person looks on.
+fn run(rt: HostRuntime, words: &[String]) -> u8 {
+    let stderr = rt.stderr();
+    let going = if stderr.is_terminal() {
+        going_through(rt.alloc(), words)
+    } else {
+        None
+    };
+    let line = Line { rt, going };
+    let mut hosts = Directories {
+        rt,
+        faults: 0,
+        lock: None,
+        line,
+        trees: 0,
+    };
+    let mut out = Beside {
+        line,
+        writer: io::writer(&rt),
+        told: Some(0),
+    };
+    let mut err = Beside {
+        line,
+        writer: io::writer(&stderr),
+        told: None,
+    };
+    line.show_next(0);
+    let status = run_words(rt.alloc(), &mut hosts, words, &mut out, &mut err);
+    line.clear();
+    status
+}
+
 /// Words that are not text are a usage fault.
 fn main(rt: HostRuntime) -> ExitCode {
     let stderr = rt.stderr();
     let mut err = io::writer(&stderr);
     match words_of(&rt) {
-        Ok(words) => {
-            let mut hosts = Directories {
-                rt,
-                faults: 0,
-                lock: None,
-            };
-            let mut out = io::writer(&rt);
-            let status = run_words(rt.alloc(), &mut hosts, words.as_slice(), &mut out, &mut err);
-            ExitCode::from(status)
-        }
+        Ok(words) => ExitCode::from(run(rt, words.as_slice())),
         Err(error) => {
             let _ = err.write_all(complaint(&error).as_bytes());
             ExitCode::from(FAILED)
