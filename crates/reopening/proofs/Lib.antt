@@ -20,3 +20,4 @@ mod Standings
 mod Undamaged
 mod Openings
 mod LostOpenings
+mod Answered

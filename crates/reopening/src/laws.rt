@@ -5,7 +5,7 @@ ghost use Rattle.configure_run.specs.Run.{HasRun as HasConfigured};
 ghost use Rattle.diversions.specs.Changes.{IsAdding, IsRemoving};
 ghost use Rattle.diversions.specs.declared.refusal.Seen.{Seen as ASeen};
 ghost use Rattle.dpkg_session.specs.Diversions.{asked_entry};
-ghost use Rattle.dpkg_session.specs.History.{Stands};
+ghost use Rattle.dpkg_session.specs.History.{HasDone, Ran as ARan, Stands};
 ghost use Rattle.dpkg_session.specs.Installs.{HasGoneOn};
 ghost use Rattle.dpkg_session.specs.Run.{HasRun};
 ghost use Rattle.dpkg_session.specs.declared.asked.Diverting.{Diverting as ADiverting};
@@ -28,6 +28,7 @@ ghost use Rattle.unit_reports.specs.declared.report.Unit.{Unit as AUnit};
 ghost use Rattle.reopening.specs.Opens.{CanBeOpened, CanBeOpenedAmid, FindsStanding};
 ghost use Rattle.reopening.specs.Trees.{AreTextTrees};
 
+use dpkg_session::history_stands;
 use opening::{a_stopped_opening_can_be_opened, what_is_fine_has_no_fault};
 
 /// What can be opened isn't damaged: the next opening tells no fault of it.
@@ -71,9 +72,12 @@ pub fn an_opening_can_be_opened_amid()
 }
 
 /// What holds of each moment holds after a loss of power too, where no script of the session wrote a file of the
-/// administration: the next opening can read what is left. Behind a command that has answered the administration stands
-/// as it was left, for the same records, lists and diversions.
+/// administration: the next opening can read what is left. Behind a command that has answered, with all on the disk, the
+/// administration stands as it was left, for the same records, lists and diversions.
 pub fn a_loss_can_be_opened()
     ensures amid { (begun s t : State) (session : List Event) (left : World) → IsTrue t.honest → IsSettled t.events → t.events ≡ begun.events ++ session → Avoids is_own (changes_of session) → CanBeOpenedAmid s t → LosesSince begun s t left → CanBeOpened left }
     ensures answered { (h : Held) (begun t : State) (session : List Event) (left : World) → IsTrue t.honest → IsSettled t.events → t.events ≡ begun.events ++ session → Avoids is_own (changes_of session) → Stands h t.world → LosesSince begun t t left → Stands h left }
-{}
+    ensures command { (ran : ARan) (before after : Held) (begun s t : State) (session : List Event) (left : World) → IsTrue t.honest → IsSettled t.events → t.events ≡ begun.events ++ session → Avoids is_own (changes_of session) → Stands before s.world → HasDone ran before after s t → LosesSince begun t t left → Stands after left }
+{
+    history_stands();
+}
