@@ -12,3 +12,4 @@ pub mod MarksLeaving
 pub mod Lasting
 pub mod OtherLists
 pub mod OwnMembers
+pub mod Behind

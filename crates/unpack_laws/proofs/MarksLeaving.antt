@@ -125,7 +125,7 @@ module _ (g : Given) (stored : Present) (p : Planned) (plan : IsPlanned (job_of 
       ∙ as_many p.found p.incoming stored (scripts_in g.«package».scripts) g.others
       ∙ ap (λ (rs : List Record). length (kinds_of p.found rs)) (sym plan.rows_are.others_are)
 
-  wrote_then : stage_of kinds (last_place here p Committed) ≡ Wrote
+  pub wrote_then : stage_of kinds (last_place here p Committed) ≡ Wrote
   wrote_then = wrote_all (has_files (take (length p.rows) kinds))
       (ap (λ n. has_files (take n kinds)) as_many_rows ∙ ap has_files (take_all (length kinds) kinds (omega arith)) ∙ in_first (has_prerm (state_of p.found)) p.others (is_upgrade (state_of p.found)))
 

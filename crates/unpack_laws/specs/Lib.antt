@@ -3,3 +3,4 @@ pub mod NextOpening
 pub mod Whole
 pub mod Marked
 pub mod Info
+pub mod Done

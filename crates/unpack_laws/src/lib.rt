@@ -1,7 +1,8 @@
-//! What a stop at any moment of an unpack leaves, path by path (Policy 6.6): laws of what the engine promises of each moment.
-//! Nothing here runs.
+//! What a stop at any moment of an unpack leaves, path by path (Policy 6.6), and what the next unpack leaves of that: laws of what the
+//! engine promises. Nothing here runs.
 #![tactic(auto)]
 
+mod done;
 mod files;
 mod info;
 mod marked;
@@ -9,6 +10,7 @@ mod packages;
 mod paths;
 mod records;
 
+pub use done::what_an_unpack_that_is_done_leaves;
 pub use files::what_stands_of_the_package;
 pub use info::what_stands_in_info;
 pub use marked::what_is_marked;
