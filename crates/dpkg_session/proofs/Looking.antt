@@ -88,10 +88,10 @@ module _ (p : Package) (beside : Beside) (h : Held) (places : List Path) (s m : 
   -- with the rows that were seen
   module _ (others : List OtherPackage) (yields : List (List ℕ)) (are : yields ≡ yielding beside) (have : HaveRows p beside h.records.records s.world m.honest others) (t : State) (falls : IsTrue t.honest → IsTrue m.honest) where
     rows_then : HaveRows p beside h.records.records s.world t.honest others
-    rows_then = record { rows = λ honest. have.rows (falls honest); apart = have.apart }
+    rows_then = record { rows = λ honest. have.rows (falls honest); shaped = have.shaped; apart = have.apart }
 
     rows_true : IsTrue t.honest → HaveRows p beside h.records.records s.world true others
-    rows_true honest = record { rows = λ is. have.rows (falls honest); apart = have.apart }
+    rows_true honest = record { rows = λ is. have.rows (falls honest); shaped = have.shaped; apart = have.apart }
 
     none_added : scripts_of looking.added ≡ []
     none_added = silent_added s m looking.added silent looking.events

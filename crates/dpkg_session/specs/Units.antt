@@ -9,7 +9,8 @@ use Rattle.host_core.specs.Paths.{Path}
 use Rattle.host_core.specs.World.{World}
 use Rattle.host_core.specs.declared.call.Call.{Call}
 use Rattle.file_lists.specs.declared.paths.PackageList.{PackageList}
-use Rattle.other_rows.specs.Rows.{AreRowsBeside}
+use Rattle.other_rows.specs.Entries.{entries_of}
+use Rattle.other_rows.specs.Rows.{AreRowsBeside, AreRowsOf}
 use Rattle.removal_run.specs.Units.{holding_of}
 use Rattle.package_tree.specs.declared.package.Package.{Package}
 use Rattle.package_tree.specs.declared.fault.TreeFault.{TreeFault}
@@ -46,9 +47,11 @@ given_by p h others yields = given_beside p h.records.records h.lists h.entries 
 abbrev pub yielding : Beside → List (List ℕ)
 yielding beside = beside.conflicting ++ beside.replaced
 
--- the other packages that have rows, by the scripts that are stored in this world
+-- the other packages that have rows, by the scripts that are stored in this world; where the host wasn't honest each still has the
+-- row of its role
 pub record HaveRows (p : Package) (beside : Beside) (records : List Record) (w : World) (honest : Bool) (others : List OtherPackage) : Type 0 where
   pub rows : IsTrue honest → AreRowsBeside p.name p.version records beside w others
+  pub shaped : AreRowsOf p.name p.version (entries_of records beside) others
   pub apart : AreOthers p.name records others
 
 -- the reply to a unit whose rows were unwound for a cause, or succeeded; then by the first call behind the commit that failed

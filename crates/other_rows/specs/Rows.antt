@@ -59,12 +59,23 @@ module _ (name version : List ℕ) where
   row_of stored owner Conflicting =
       row_with stored owner (codes "remove" ∷ in_favour) (codes "abort-remove" ∷ in_favour)
 
-  -- a package with its row, by the scripts that are stored
-  abbrev pub other_package : World → Entry → OtherPackage
-  other_package w e = record {
+  -- a package with its row, where these scripts are stored
+  abbrev pub package_with : Stored → Entry → OtherPackage
+  package_with stored e = record {
     «record» = e.«record»;
-    row = row_of (stored_in w e.«record».name) e.«record».name e.role;
+    row = row_of stored e.«record».name e.role;
   }
+
+  -- each has the row of its role, whichever of its scripts are stored
+  abbrev pub AreRowsOf : List Entry → List OtherPackage → Type 0
+  AreRowsOf [] [] = Unit {0}
+  AreRowsOf [] (o ∷ os) = ⊥
+  AreRowsOf (e ∷ es) [] = ⊥
+  AreRowsOf (e ∷ es) (o ∷ os) = ((stored : Stored) × (o ≡ package_with stored e)) × AreRowsOf es os
+
+  -- by the scripts that are stored in this world
+  abbrev pub other_package : World → Entry → OtherPackage
+  other_package w e = package_with (stored_in w e.«record».name) e
 
   -- the packages that have a row, each with it
   abbrev pub AreRowsBeside : List Record → Beside → World → List OtherPackage → Type 0

@@ -7,7 +7,7 @@ use Rattle.unwind_stack.specs.declared.rows.Owner.TheVariants.{Package as OfPack
 use Rattle.unpack_rows.specs.ForwardRows.{records_of}
 use Rattle.other_rows.specs.Rows.{other_package}
 use Rattle.other_rows.specs.declared.entries.Entry.{Entry}
-use Rattle.other_rows.proofs.Pushed.{mapped_more, own_more}
+use Rattle.other_rows.proofs.Pushed.{mapped_more, own_more, shaped_more}
 use Rattle.other_rows.proofs.others.push_others.Goals as goal
 
 pub returns-in_err-other_package-clause-reads : goal.returns-in_err-other_package-clause-reads
@@ -33,6 +33,7 @@ loop-entry-preserved g c =
     record {
       same = rw (pushed, map-append) (mapped_more (λ (x : Entry). x.«record») entries i e (records_of made) o.«record» lt c.entry-item.is same before.same);
       own = rw pushed (own_more made o before.own (c.in_ok-other_package.ensures.own ∙ ap (λ (r : Record). OfPackage r.name) (sym same)));
+      shaped = rw pushed (shaped_more name version entries i e made o lt c.entry-item.is (c.in_ok-other_package.ensures.shaped) before.shaped);
       rows = λ h.
           rw pushed (mapped_more (other_package name version w) entries i e made o lt c.entry-item.is
           (subst (λ (v : World). o ≡ other_package name version v e) before.reads.world (c.in_ok-other_package.ensures.row h))

@@ -2,7 +2,7 @@ use Rattle.std.proofs.Common.{◌≡◌, map, take, IsTrue}
 use Rattle.host_core.specs.Host.{Reads, Silent, faults}
 use Rattle.unpack_rows.specs.ForwardRows.{AreOwn, records_of}
 use Rattle.other_rows.specs.Entries.{entry_records}
-use Rattle.other_rows.specs.Rows.{other_package}
+use Rattle.other_rows.specs.Rows.{AreRowsOf, other_package}
 use Rattle.other_rows.proofs.others.push_others.Given as goal
 
 abbrev pub invariant-loop-entry : goal.invariant-loop-entry
@@ -12,6 +12,7 @@ invariant-loop-entry g l =
     record {
       same : records_of l.others.items ≡ entry_records (take l.entry-index l.entries);
       own : AreOwn l.others.items;
+      shaped : AreRowsOf l.incoming.name l.incoming.version (take l.entry-index l.entries) l.others.items;
       rows : IsTrue now.honest → l.others.items ≡ map (other_package l.incoming.name l.incoming.version old.world) (take l.entry-index l.entries);
       reads : Reads old now;
       silent : Silent old now;
