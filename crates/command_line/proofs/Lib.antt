@@ -1,4 +1,6 @@
 mod Trees
+mod Steps
+mod Printed
 mod Held
 mod Named
 mod Changed

@@ -4,3 +4,5 @@ pub mod Queries
 pub mod Changes
 pub mod Packages
 pub mod Reports
+pub mod Reading
+pub mod Printing

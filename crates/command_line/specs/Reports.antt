@@ -1,5 +1,5 @@
 -- What a command writes, and the status that it ends with.
-use Rattle.std.specs.Prelude.{ℕ, List, [], ◌++◌, ◌⊎◌, ◌≡◌, ◌≢◌, max, Bool, true, false, Option, Some, None, Result, Ok, Err, codes, if◌then◌else◌, is_ok}
+use Rattle.std.specs.Prelude.{ℕ, List, [], ◌++◌, ◌⊎◌, ◌≡◌, max, Bool, true, false, Option, Some, None, Result, Ok, Err, codes, if◌then◌else◌, is_ok}
 use Rattle.std.specs.Option.{option_map_or}
 use Rattle.std.specs.Io.KnownBytes.{Appends, Keeps}
 use Rattle.version_order.specs.VersionOrder.{version_order}
@@ -16,6 +16,7 @@ use Rattle.command_line.specs.declared.packages.Work.TheVariants as work
 use Rattle.conffiles.specs.declared.decisions.ConfPolicy.{ConfPolicy}
 use Rattle.command_line.specs.Queries.{IsQueryAnswer, bad_path_answer, inquiry_of, text_answer}
 use Rattle.command_line.specs.declared.changing.Change.{Change}
+use Rattle.command_line.specs.Printing.{AppendsPart}
 use Rattle.command_line.specs.Roots.{Around, IsRootFault, opening_answer}
 use Rattle.command_line.specs.Unpacks.{HasUnpacked}
 use Rattle.command_line.specs.declared.unpacking.Done.{Done}
@@ -159,10 +160,6 @@ pub record IsWritten (answer : Answer) (output_old output_new error_old error_ne
   pub output : Appends output_old output_new answer.output
   pub error : Appends error_old error_new answer.error
 
--- a front of a text was written, but not all of it
-abbrev pub AppendsPart : Option (List ℕ) → Option (List ℕ) → List ℕ → Type 0
-AppendsPart old new text = (front rest : List ℕ) × (text ≡ front ++ rest) × (rest ≢ []) × Appends old new front
-
 -- the writing of an answer was cut short: on standard output, or after that on standard error
 abbrev pub IsCut : Answer → Option (List ℕ) → Option (List ℕ) → Option (List ℕ) → Option (List ℕ) → Type 0
 IsCut answer output_old output_new error_old error_new = (AppendsPart output_old output_new answer.output × Keeps error_old error_new)
@@ -172,3 +169,27 @@ IsCut answer output_old output_new error_old error_new = (AppendsPart output_old
 abbrev pub IsGiven : Answer → Option (List ℕ) → Option (List ℕ) → Option (List ℕ) → Option (List ℕ) → ℕ → Type 0
 IsGiven answer output_old output_new error_old error_new ended = IsWritten answer output_old output_new error_old error_new ended
     ⊎ ((ended ≡ 2) × IsCut answer output_old output_new error_old error_new)
+
+-- these have units, each of which is told as it is finished
+abbrev pub has_units : Option Asked → Bool
+has_units (Some Names) = false
+has_units (Some (Help topic)) = false
+has_units (Some (CompareVersions c)) = false
+has_units (Some (Query q)) = false
+has_units (Some (Divert d)) = false
+has_units (Some (Undivert u)) = false
+has_units (Some (Unpack u)) = true
+has_units (Some (Install u)) = true
+has_units (Some (Configure c)) = true
+has_units (Some (Remove r)) = true
+has_units (Some (Purge r)) = true
+has_units None = false
+
+-- memory was wanting behind the first lines of an answer
+abbrev pub wanting_answer : List ℕ → Answer
+wanting_answer front = record { output = front; error = codes "broken memory\n"; status = 2 }
+
+-- the first lines of an answer were written, and in place of the others that memory was wanting for them
+abbrev pub IsGivenInPart : Answer → Option (List ℕ) → Option (List ℕ) → Option (List ℕ) → Option (List ℕ) → ℕ → Type 0
+IsGivenInPart answer output_old output_new error_old error_new ended = (front rest : List ℕ) × (answer.output ≡ front ++ rest)
+    × IsGiven (wanting_answer front) output_old output_new error_old error_new ended

@@ -1,22 +1,28 @@
 // What the words ask for, carried out, and what is to be written for it.
-ghost use Rattle.std.specs.Prelude.{◌≡◌, ◌<◌, ◌≤◌, ◌⊎◌, IfOk, Result, is_ok, map, string_bytes, true, []};
+ghost use Rattle.std.specs.Prelude.{◌≡◌, ◌<◌, ◌≤◌, ◌⊎◌, ℕ, List, Option, IfErr, IfOk, Ok, OnErr, Result, is_ok, map, option_to_list, string_bytes, true, []};
+ghost use Rattle.std.specs.List.{flat_map};
+ghost use Rattle.diversions.specs.Entries.{is_owner};
+ghost use Rattle.unit_reports.specs.declared.report.Report.{Report as AReport};
+ghost use Rattle.report_lines.specs.Reports.{unit_lines};
 ghost use Rattle.command_words.specs.Commands.{asked_of};
 ghost use Rattle.command_words.specs.Topics.{named_in};
-ghost use Rattle.command_line.specs.declared.fault.NotOpened.{NotOpened as ANotOpened};
-ghost use Rattle.unit_reports.specs.declared.report.Report.{Report as AReport};
-ghost use Rattle.command_line.specs.declared.answer.Answer.{Answer as AnAnswer};
-ghost use Rattle.command_line.specs.declared.unpacking.Done.{Done as ADone};
-ghost use Rattle.command_line.specs.Packages.{HasEndedWork, work_of};
-ghost use Rattle.command_line.specs.Queries.{IsInquired, IsQueryAnswer, bad_path_answer, inquiry_of};
-ghost use Rattle.command_line.specs.Reports.{HasEndedAs, IsAnswerOf, IsHelpAnswer, IsReadChange, comparison_answer, done_answer, ended_answer, install_answer, memory_answer, names_answer, opens_root, prints, report_answer, trees_answer};
 ghost use Rattle.command_line.specs.Changes.{HasEndedChange, IsDivertOf, IsUndivertOf, bad_of_divert, bad_of_undivert, is_good, owner_in};
-ghost use Rattle.diversions.specs.Entries.{is_owner};
-ghost use Rattle.command_line.specs.Roots.{around, locked_line, opening_answer};
+ghost use Rattle.command_line.specs.Packages.{HasEndedWork, HasWorkedUnder, work_of};
+ghost use Rattle.command_line.specs.Printing.{HasPrinted, IsLeft, output_left, status_left, units_answer, units_of};
+ghost use Rattle.command_line.specs.Queries.{IsInquired, IsQueryAnswer, bad_path_answer, inquiry_of};
+ghost use Rattle.command_line.specs.Reports.{HasEndedAs, IsAnswerOf, IsHelpAnswer, IsReadChange, comparison_answer, done_answer, ended_answer, has_units, memory_answer, names_answer, opens_root, prints, report_answer, trees_answer};
+ghost use Rattle.command_line.specs.Roots.{IsRootFault, around, locked_line, opening_answer};
+ghost use Rattle.command_line.specs.Unpacks.{HasUnpacked};
+ghost use Rattle.command_line.specs.declared.answer.Answer.{Answer as AnAnswer};
+ghost use Rattle.command_line.specs.declared.fault.NotOpened.{NotOpened as ANotOpened};
+ghost use Rattle.command_line.specs.declared.printing.Flow.TheVariants.{Whole};
+ghost use Rattle.command_line.specs.declared.unpacking.Done.{Done as ADone};
 
 use crate::changing::{Change, change_under, diverting_in, undiverting_in};
 use crate::fault::NotOpened;
 use crate::hosts::Hosts;
 use crate::packages::{Work, policy_of, work_under};
+use crate::printing::{Flow, Printer};
 use crate::questions::{Inquiry, bad_path, inquire_under, inquiry_of};
 use crate::unpacking::{Done, unpack};
 use command_words::{
@@ -24,9 +30,10 @@ use command_words::{
     Verdict, WordsFault, bad_version_line, command_of, help_text, subcommand_names,
 };
 use conffiles::ConfPolicy;
-use dpkg_session::{Installed, Report};
-use report_lines::{opening_line, report_status, report_text};
+use dpkg_session::{Report, Unit};
+use report_lines::{opening_line, report_status, report_text, unit_text};
 use std::alloc::{AllocError, Global};
+use std::io::Write;
 use texts::{Bytes, Text};
 
 /// The status of usage faults, bad texts, roots that can't be opened, want of memory and writes that fail.
@@ -38,6 +45,14 @@ pub(crate) struct Answer {
     pub(crate) output: Bytes,
     pub(crate) error: Text,
     pub(crate) status: u8,
+}
+
+/// What is left of an answer of which a front may be written already.
+#[derive(Drop)]
+pub(crate) enum Left {
+    Rest(Answer),
+    /// A part of what it has for standard output is written, and the output takes no more.
+    Cut,
 }
 
 /// Bytes for standard output alone.
@@ -109,25 +124,57 @@ fn reported(alloc: Global, done: &Report) -> Result<Answer, AllocError>
     Ok(printed(alloc, text, report_status(done)))
 }
 
-// The two reports of an install.
-fn installed(alloc: Global, done: &Installed) -> Result<Answer, AllocError>
-    ensures answer { IfOk result (λ answer. answer ≡ install_answer done.now) }
-    ensures bound { IfOk result (λ answer. answer.status ≤ 2) }
-{
-    let mut text = report_text(alloc, &done.unpacked)?;
-    let configured = report_text(alloc, &done.configured)?;
-    text.push_str(configured.as_str())?;
-    let status = report_status(&done.unpacked).max(report_status(&done.configured));
-    Ok(printed(alloc, text, status))
-}
-
-fn done_answer(alloc: Global, done: &Done) -> Result<Answer, AllocError>
-    ensures answer { IfOk result (λ answer. answer ≡ done_answer done.now) }
-    ensures bound { IfOk result (λ answer. answer.status ≤ 2) }
+fn done_status(done: &Done) -> u8
+    ensures value { result ≡ (done_answer done.now).status }
+    ensures bound { result ≤ 2 }
 {
     match done {
-        Done::Unpacked(report) => reported(alloc, report),
-        Done::Installed(reports) => installed(alloc, reports),
+        Done::Unpacked(report) => report_status(report),
+        Done::Installed(reports) => {
+            report_status(&reports.unpacked).max(report_status(&reports.configured))
+        }
+    }
+}
+
+// The lines of the unit that was broken off.
+fn last_text(alloc: Global, last: &Option<Unit>) -> Result<String, AllocError>
+    ensures { IfOk result (λ text. string_bytes text ≡ flat_map unit_lines (option_to_list last.now)) }
+{
+    match last {
+        Some(unit) => unit_text(alloc, unit),
+        None => Ok(String::new(alloc)),
+    }
+}
+
+// What is left of the answer on units whose lines were written as they were finished.
+fn units_left(
+    alloc: Global,
+    flow: Flow,
+    last: &Option<Unit>,
+    status: u8,
+) -> Result<Left, AllocError>
+    ensures left { (lines : List ℕ) (old new : Option (List ℕ)) → HasPrinted lines flow old new → IsLeft (units_answer lines last.now status) old new result }
+    ensures bound { status ≤ 2 → IfOk result (λ left. status_left left ≤ 2) }
+{
+    match flow {
+        Flow::Whole => {
+            let text = last_text(alloc, last)?;
+            Ok(Left::Rest(printed(alloc, text, status)))
+        }
+        Flow::Cut => Ok(Left::Cut),
+        Flow::Wanting => Err(AllocError),
+    }
+}
+
+// An answer of which nothing is written.
+fn whole(answer: Result<Answer, AllocError>) -> Result<Left, AllocError>
+    ensures left { (wanted : AnAnswer) (held : Option (List ℕ)) → IfOk answer (λ told. told ≡ wanted) → IsLeft wanted held held result }
+    ensures bound { IfOk answer (λ told. told.status ≤ 2) → IfOk result (λ left. status_left left ≤ 2) }
+    ensures output { IfOk result (λ left. (told : AnAnswer) × (answer ≡ Ok told) × (output_left left ≡ told.output)) }
+{
+    match answer {
+        Ok(answer) => Ok(Left::Rest(answer)),
+        Err(fault) => Err(fault),
     }
 }
 
@@ -154,20 +201,45 @@ fn not_opened(alloc: Global, root: &Text, fault: &NotOpened) -> Result<Answer, A
     }
 }
 
-fn unpacked<S: Hosts>(
+// The units of trees are told as they are finished. Its caller learns here that the output is still the same.
+fn unpack_telling<S: Hosts, O: Write>(
     alloc: Global,
     hosts: &mut S,
     unpacking: &Unpacking,
     policy: Option<ConfPolicy>,
-) -> Result<Answer, AllocError>
+    printer: &mut Printer<'_, O>,
+) -> Result<Done, NotOpened>
+    ensures same_output { printer.new.out.ghost_name ≡ printer.old.out.ghost_name }
+    ensures done { IfOk result (HasUnpacked (around (S.root hosts.old) (S.tree hosts.old) (S.left hosts.new) (S.seen hosts.new) (S.faults hosts.old < S.faults hosts.new) (S.unopened hosts.old hosts.new) (S.locked hosts.old)) policy unpacking.now) }
+    ensures refused { IfErr result (IsRootFault (around (S.root hosts.old) (S.tree hosts.old) (S.left hosts.new) (S.seen hosts.new) (S.faults hosts.old < S.faults hosts.new) (S.unopened hosts.old hosts.new) (S.locked hosts.old)) unpacking.now.root) }
+    ensures told { printer.old.flow ≡ Whole → IfOk result (λ done. HasPrinted (flat_map unit_lines (units_of done)) printer.new.flow (O.contents printer.old.out.now) (O.contents printer.new.out.now)) }
+    ensures untold { OnErr result (printer.new ≡ printer.old) }
+{
+    unpack(alloc, hosts, unpacking, policy, printer)
+}
+
+fn unpacked<S: Hosts, O: Write>(
+    alloc: Global,
+    hosts: &mut S,
+    unpacking: &Unpacking,
+    policy: Option<ConfPolicy>,
+    out: &mut O,
+) -> Result<Left, AllocError>
     ensures ended { (ended : Result ADone ANotOpened)
         × HasEndedAs (around (S.root hosts.old) (S.tree hosts.old) (S.left hosts.new) (S.seen hosts.new) (S.faults hosts.old < S.faults hosts.new) (S.unopened hosts.old hosts.new) (S.locked hosts.old)) policy unpacking.now ended
-        × IfOk result (λ answer. answer ≡ trees_answer unpacking.now.root ended) }
-    ensures bound { IfOk result (λ answer. answer.status ≤ 2) }
+        × IsLeft (trees_answer unpacking.now.root ended) (O.contents out.old) (O.contents out.new) result }
+    ensures bound { IfOk result (λ left. status_left left ≤ 2) }
 {
-    match unpack(alloc, hosts, unpacking, policy) {
-        Ok(done) => done_answer(alloc, &done),
-        Err(fault) => not_opened(alloc, &unpacking.root, &fault),
+    let mut printer = Printer {
+        alloc,
+        out,
+        flow: Flow::Whole,
+    };
+    let ended = unpack_telling(alloc, hosts, unpacking, policy, &mut printer);
+    let flow = printer.flow;
+    match ended {
+        Ok(done) => units_left(alloc, flow, done.last(), done_status(&done)),
+        Err(fault) => whole(not_opened(alloc, &unpacking.root, &fault)),
     }
 }
 
@@ -188,32 +260,58 @@ fn changed<S: Hosts>(
     }
 }
 
-fn worked<S: Hosts>(
+// The units of packages are told as they are finished. Its caller learns here that the output is still the same.
+fn work_telling<S: Hosts, O: Write>(
     alloc: Global,
     hosts: &mut S,
     root: &Text,
     asked: &Work,
-) -> Result<Answer, AllocError>
+    printer: &mut Printer<'_, O>,
+) -> Result<Report, NotOpened>
+    ensures same_output { printer.new.out.ghost_name ≡ printer.old.out.ghost_name }
+    ensures done { IfOk result (HasWorkedUnder (around (S.root hosts.old) (S.tree hosts.old) (S.left hosts.new) (S.seen hosts.new) (S.faults hosts.old < S.faults hosts.new) (S.unopened hosts.old hosts.new) (S.locked hosts.old)) root.now asked.now) }
+    ensures refused { IfErr result (IsRootFault (around (S.root hosts.old) (S.tree hosts.old) (S.left hosts.new) (S.seen hosts.new) (S.faults hosts.old < S.faults hosts.new) (S.unopened hosts.old hosts.new) (S.locked hosts.old)) root.now) }
+    ensures told { printer.old.flow ≡ Whole → IfOk result (λ done. HasPrinted (flat_map unit_lines done.units.items) printer.new.flow (O.contents printer.old.out.now) (O.contents printer.new.out.now)) }
+    ensures untold { OnErr result (printer.new ≡ printer.old) }
+{
+    work_under(alloc, hosts, root, asked, printer)
+}
+
+fn worked<S: Hosts, O: Write>(
+    alloc: Global,
+    hosts: &mut S,
+    root: &Text,
+    asked: &Work,
+    out: &mut O,
+) -> Result<Left, AllocError>
     ensures ended { (ended : Result AReport ANotOpened)
         × HasEndedWork (around (S.root hosts.old) (S.tree hosts.old) (S.left hosts.new) (S.seen hosts.new) (S.faults hosts.old < S.faults hosts.new) (S.unopened hosts.old hosts.new) (S.locked hosts.old)) root.now asked.now ended
-        × IfOk result (λ answer. answer ≡ ended_answer root.now ended) }
-    ensures bound { IfOk result (λ answer. answer.status ≤ 2) }
+        × IsLeft (ended_answer root.now ended) (O.contents out.old) (O.contents out.new) result }
+    ensures bound { IfOk result (λ left. status_left left ≤ 2) }
 {
-    match work_under(alloc, hosts, root, asked) {
-        Ok(done) => reported(alloc, &done),
-        Err(fault) => not_opened(alloc, root, &fault),
+    let mut printer = Printer {
+        alloc,
+        out,
+        flow: Flow::Whole,
+    };
+    let ended = work_telling(alloc, hosts, root, asked, &mut printer);
+    let flow = printer.flow;
+    match ended {
+        Ok(done) => units_left(alloc, flow, &done.last, report_status(&done)),
+        Err(fault) => whole(not_opened(alloc, root, &fault)),
     }
 }
 
-fn configured<S: Hosts>(
+fn configured<S: Hosts, O: Write>(
     alloc: Global,
     hosts: &mut S,
     asked: Configuring,
-) -> Result<Answer, AllocError>
+    out: &mut O,
+) -> Result<Left, AllocError>
     ensures ended { (ended : Result AReport ANotOpened)
         × HasEndedWork (around (S.root hosts.old) (S.tree hosts.old) (S.left hosts.new) (S.seen hosts.new) (S.faults hosts.old < S.faults hosts.new) (S.unopened hosts.old hosts.new) (S.locked hosts.old)) asked.root (work_of asked) ended
-        × IfOk result (λ answer. answer ≡ ended_answer asked.root ended) }
-    ensures bound { IfOk result (λ answer. answer.status ≤ 2) }
+        × IsLeft (ended_answer asked.root ended) (O.contents out.old) (O.contents out.new) result }
+    ensures bound { IfOk result (λ left. status_left left ≤ 2) }
 {
     let Configuring {
         root,
@@ -221,29 +319,39 @@ fn configured<S: Hosts>(
         forced,
     } = asked;
     let work = Work::Configure(names, policy_of(forced));
-    worked(alloc, hosts, &root, &work)
+    worked(alloc, hosts, &root, &work, out)
 }
 
-fn removed<S: Hosts>(alloc: Global, hosts: &mut S, asked: Removing) -> Result<Answer, AllocError>
+fn removed<S: Hosts, O: Write>(
+    alloc: Global,
+    hosts: &mut S,
+    asked: Removing,
+    out: &mut O,
+) -> Result<Left, AllocError>
     ensures ended { (ended : Result AReport ANotOpened)
         × HasEndedWork (around (S.root hosts.old) (S.tree hosts.old) (S.left hosts.new) (S.seen hosts.new) (S.faults hosts.old < S.faults hosts.new) (S.unopened hosts.old hosts.new) (S.locked hosts.old)) asked.root (Work.Remove asked.names) ended
-        × IfOk result (λ answer. answer ≡ ended_answer asked.root ended) }
-    ensures bound { IfOk result (λ answer. answer.status ≤ 2) }
+        × IsLeft (ended_answer asked.root ended) (O.contents out.old) (O.contents out.new) result }
+    ensures bound { IfOk result (λ left. status_left left ≤ 2) }
 {
     let Removing { root, names } = asked;
     let work = Work::Remove(names);
-    worked(alloc, hosts, &root, &work)
+    worked(alloc, hosts, &root, &work, out)
 }
 
-fn purged<S: Hosts>(alloc: Global, hosts: &mut S, asked: Removing) -> Result<Answer, AllocError>
+fn purged<S: Hosts, O: Write>(
+    alloc: Global,
+    hosts: &mut S,
+    asked: Removing,
+    out: &mut O,
+) -> Result<Left, AllocError>
     ensures ended { (ended : Result AReport ANotOpened)
         × HasEndedWork (around (S.root hosts.old) (S.tree hosts.old) (S.left hosts.new) (S.seen hosts.new) (S.faults hosts.old < S.faults hosts.new) (S.unopened hosts.old hosts.new) (S.locked hosts.old)) asked.root (Work.Purge asked.names) ended
-        × IfOk result (λ answer. answer ≡ ended_answer asked.root ended) }
-    ensures bound { IfOk result (λ answer. answer.status ≤ 2) }
+        × IsLeft (ended_answer asked.root ended) (O.contents out.old) (O.contents out.new) result }
+    ensures bound { IfOk result (λ left. status_left left ≤ 2) }
 {
     let Removing { root, names } = asked;
     let work = Work::Purge(names);
-    worked(alloc, hosts, &root, &work)
+    worked(alloc, hosts, &root, &work, out)
 }
 
 fn diverted<S: Hosts>(alloc: Global, hosts: &mut S, asked: &Diverting) -> Result<Answer, AllocError>
@@ -314,34 +422,38 @@ fn queried<S: Hosts>(alloc: Global, hosts: &mut S, query: Query) -> Result<Answe
     }
 }
 
-/// The answer to the words, the first of which is the program's name.
-pub(crate) fn answer_to<S: Hosts>(
+/// What is left of the answer to the words, the first of which is the program's name. The lines of units are written as these
+/// are finished.
+pub(crate) fn answer_to<S: Hosts, O: Write>(
     alloc: Global,
     hosts: &mut S,
     words: &[String],
-) -> Result<Answer, AllocError>
+    out: &mut O,
+) -> Result<Left, AllocError>
     ensures answered { (answer : AnAnswer)
         × (IsAnswerOf (around (S.root hosts.old) (S.tree hosts.old) (S.left hosts.new) (S.seen hosts.new) (S.faults hosts.old < S.faults hosts.new) (S.unopened hosts.old hosts.new) (S.locked hosts.old)) (named_in (map string_bytes words.now)) (asked_of (map string_bytes words.now)) answer ⊎ ((answer ≡ memory_answer) × (hosts.new ≡ hosts.old)))
-        × IfOk result (λ told. told ≡ answer) }
-    ensures bound { IfOk result (λ answer. answer.status ≤ 2) }
-    ensures quiet { IfOk result (λ answer. (answer.output ≡ []) ⊎ (prints (asked_of (map string_bytes words.now)) ≡ true)) }
+        × IsLeft answer (O.contents out.old) (O.contents out.new) result }
+    ensures bound { IfOk result (λ left. status_left left ≤ 2) }
+    ensures quiet { IfOk result (λ left. (output_left left ≡ []) ⊎ (prints (asked_of (map string_bytes words.now)) ≡ true)) }
+    ensures unprinted { (out.new ≡ out.old) ⊎ (has_units (asked_of (map string_bytes words.now)) ≡ true) }
     ensures unopened { (hosts.new ≡ hosts.old) ⊎ (opens_root (asked_of (map string_bytes words.now)) ≡ true) }
 {
     match command_of(alloc, words) {
-        Ok(Asked::Names) => names(alloc),
-        Ok(Asked::Help(topic)) => helped(alloc, topic),
-        Ok(Asked::CompareVersions(comparison)) => compared(alloc, &comparison),
-        Ok(Asked::Divert(asked)) => diverted(alloc, hosts, &asked),
-        Ok(Asked::Undivert(asked)) => undiverted(alloc, hosts, &asked),
-        Ok(Asked::Query(query)) => queried(alloc, hosts, query),
-        Ok(Asked::Unpack(unpacking)) => unpacked(alloc, hosts, &unpacking, None),
+        Ok(Asked::Names) => whole(names(alloc)),
+        Ok(Asked::Help(topic)) => whole(helped(alloc, topic)),
+        Ok(Asked::CompareVersions(comparison)) => whole(compared(alloc, &comparison)),
+        Ok(Asked::Divert(asked)) => whole(diverted(alloc, hosts, &asked)),
+        Ok(Asked::Undivert(asked)) => whole(undiverted(alloc, hosts, &asked)),
+        Ok(Asked::Query(query)) => whole(queried(alloc, hosts, query)),
+        Ok(Asked::Unpack(unpacking)) => unpacked(alloc, hosts, &unpacking, None, out),
         Ok(Asked::Install(unpacking)) => {
-            unpacked(alloc, hosts, &unpacking, Some(policy_of(unpacking.forced)))
+            let policy = policy_of(unpacking.forced);
+            unpacked(alloc, hosts, &unpacking, Some(policy), out)
         }
-        Ok(Asked::Configure(asked)) => configured(alloc, hosts, asked),
-        Ok(Asked::Remove(asked)) => removed(alloc, hosts, asked),
-        Ok(Asked::Purge(asked)) => purged(alloc, hosts, asked),
-        Err(WordsFault::Usage(text)) => Ok(complained(alloc, text)),
+        Ok(Asked::Configure(asked)) => configured(alloc, hosts, asked, out),
+        Ok(Asked::Remove(asked)) => removed(alloc, hosts, asked, out),
+        Ok(Asked::Purge(asked)) => purged(alloc, hosts, asked, out),
+        Err(WordsFault::Usage(text)) => Ok(Left::Rest(complained(alloc, text))),
         Err(WordsFault::NoMemory) => Err(AllocError),
     }
 }

@@ -3,10 +3,10 @@ ghost use Rattle.std.specs.Prelude.{◌≡◌, ◌<◌, ◌≤◌, ◌⊎◌, ma
 ghost use Rattle.command_words.specs.Commands.{asked_of};
 ghost use Rattle.command_words.specs.Topics.{named_in};
 ghost use Rattle.command_line.specs.declared.answer.Answer.{Answer};
-ghost use Rattle.command_line.specs.Reports.{IsAnswerOf, IsGiven, memory_answer, opens_root, prints};
+ghost use Rattle.command_line.specs.Reports.{IsAnswerOf, IsGiven, IsGivenInPart, has_units, memory_answer, opens_root, prints};
 ghost use Rattle.command_line.specs.Roots.{around};
 
-use crate::answer::answer_to;
+use crate::answer::{FAILED, Left, answer_to};
 use crate::hosts::Hosts;
 use crate::writing::{give, give_want_of_memory};
 use std::alloc::Global;
@@ -23,12 +23,15 @@ pub fn run_words<S: Hosts, O: Write, E: Write>(
     ensures bound { result ≤ 2 }
     ensures answered { (answer : Answer)
         × (IsAnswerOf (around (S.root hosts.old) (S.tree hosts.old) (S.left hosts.new) (S.seen hosts.new) (S.faults hosts.old < S.faults hosts.new) (S.unopened hosts.old hosts.new) (S.locked hosts.old)) (named_in (map string_bytes words.now)) (asked_of (map string_bytes words.now)) answer ⊎ ((answer ≡ memory_answer) × (hosts.new ≡ hosts.old)))
-        × (IsGiven answer (O.contents out.old) (O.contents out.new) (E.contents err.old) (E.contents err.new) result ⊎ IsGiven memory_answer (O.contents out.old) (O.contents out.new) (E.contents err.old) (E.contents err.new) result) }
+        × (IsGiven answer (O.contents out.old) (O.contents out.new) (E.contents err.old) (E.contents err.new) result
+        ⊎ (IsGiven memory_answer (O.contents out.old) (O.contents out.new) (E.contents err.old) (E.contents err.new) result
+        ⊎ ((has_units (asked_of (map string_bytes words.now)) ≡ true) × IsGivenInPart answer (O.contents out.old) (O.contents out.new) (E.contents err.old) (E.contents err.new) result))) }
     ensures quiet { (out.new ≡ out.old) ⊎ (prints (asked_of (map string_bytes words.now)) ≡ true) }
     ensures unopened { (hosts.new ≡ hosts.old) ⊎ (opens_root (asked_of (map string_bytes words.now)) ≡ true) }
 {
-    match answer_to(alloc, hosts, words) {
-        Ok(answer) => give(&answer, out, err),
+    match answer_to(alloc, hosts, words, out) {
+        Ok(Left::Rest(answer)) => give(&answer, out, err),
+        Ok(Left::Cut) => FAILED,
         Err(_) => give_want_of_memory(err),
     }
 }

@@ -7,7 +7,9 @@ mod command;
 mod fault;
 mod hosts;
 mod packages;
+mod printing;
 mod questions;
+mod reading;
 mod unpacking;
 mod writing;
 

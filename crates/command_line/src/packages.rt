@@ -2,6 +2,7 @@
 ghost use Rattle.std.specs.Prelude.{◌≡◌, ◌<◌, ◌≤◌, ◌⊎◌, false, IfErr, IfOk, OnErr, option_map};
 ghost use Rattle.administration.specs.declared.fault.AdministrationFault.TheVariants.{NoMemory};
 ghost use Rattle.unit_reports.specs.Held.{held};
+ghost use Rattle.unit_reports.specs.Watching.{IsTold};
 ghost use Rattle.command_line.specs.Packages.{HasWorked, HasWorkedUnder, IsWorkedOn, changed_of, policy_of};
 ghost use Rattle.command_line.specs.Roots.{IsRefusedOn, IsRootFault, IsStoppedOn, around};
 
@@ -10,7 +11,7 @@ use crate::hosts::Hosts;
 use administration::AdministrationFault;
 use command_words::Forced;
 use conffiles::{Changed, ConfPolicy};
-use dpkg_session::{Report, Session};
+use dpkg_session::{Report, Session, Watcher};
 use host_core::Host;
 use std::alloc::{AllocError, Global};
 use texts::{Text, Texts};
@@ -43,7 +44,8 @@ pub(crate) fn policy_of(forced: Forced) -> ConfPolicy
     }
 }
 
-fn listed(alloc: Global, names: &[Text]) -> Result<Vec<Text>, AllocError>
+/// Copies of texts.
+pub(crate) fn listed(alloc: Global, names: &[Text]) -> Result<Vec<Text>, AllocError>
     ensures { IfOk result (λ copies. copies.items ≡ names.now) }
 {
     let mut copies = Vec::new(alloc);
@@ -63,45 +65,51 @@ fn listed_if_named(alloc: Global, names: &Option<Texts>) -> Result<Option<Vec<Te
 }
 
 // The report of an open session.
-fn carry_out<H: Host>(
+fn carry_out<H: Host, W: Watcher>(
     alloc: Global,
     session: &mut Session<H>,
     asked: &Work,
+    watcher: &mut W,
 ) -> Result<Report, AllocError>
     requires { session.old.closed ≡ false }
     ensures done { IfOk result (λ done. HasWorked asked.now done (held session.old.database session.old.lists session.old.diversions) (H.state session.old.host) (H.state session.new.host)) }
     ensures unmoved { OnErr result (H.state session.new.host ≡ H.state session.old.host) }
+    ensures watched { IfOk result (λ done. IsTold W.tells watcher.old done.units.items watcher.new) }
+    ensures unwatched { OnErr result (watcher.new ≡ watcher.old) }
 {
     match asked {
         Work::Configure(names, policy) => {
             let names = listed_if_named(alloc, names)?;
-            Ok(session.configure(names, *policy))
+            Ok(session.configure(names, *policy, watcher))
         }
         Work::Remove(names) => {
             let names = listed(alloc, names.as_slice())?;
-            Ok(session.remove(names))
+            Ok(session.remove(names, watcher))
         }
         Work::Purge(names) => {
             let names = listed(alloc, names.as_slice())?;
-            Ok(session.purge(names))
+            Ok(session.purge(names, watcher))
         }
     }
 }
 
 // The work on the host of the root, which is given back.
-fn work_on<S: Hosts>(
+fn work_on<S: Hosts, W: Watcher>(
     alloc: Global,
     hosts: &mut S,
     host: S::Opened,
     asked: &Work,
+    watcher: &mut W,
 ) -> Result<Report, AdministrationFault>
     ensures done { IfOk result (IsWorkedOn (S.left hosts.new) (S.Opened.state host) asked.now) }
     ensures refused { IfErr result (λ fault. IsRefusedOn (S.left hosts.new) (S.Opened.state host) fault ⊎ ((fault ≡ NoMemory) × IsStoppedOn (S.left hosts.new) (S.Opened.state host))) }
     ensures faults { S.faults hosts.old ≤ S.faults hosts.new }
+    ensures watched { IfOk result (λ done. IsTold W.tells watcher.old done.units.items watcher.new) }
+    ensures unwatched { OnErr result (watcher.new ≡ watcher.old) }
 {
     match Session::open(alloc, host) {
         Ok(mut session) => {
-            let done = carry_out(alloc, &mut session, asked);
+            let done = carry_out(alloc, &mut session, asked, watcher);
             hosts.close_root(session.into_host());
             Ok(done?)
         }
@@ -114,17 +122,20 @@ fn work_on<S: Hosts>(
 
 /// Does the work under the root, or tells why the root can't be opened. Want of memory outside of the units is told
 /// likewise.
-pub(crate) fn work_under<S: Hosts>(
+pub(crate) fn work_under<S: Hosts, W: Watcher>(
     alloc: Global,
     hosts: &mut S,
     root: &Text,
     asked: &Work,
+    watcher: &mut W,
 ) -> Result<Report, NotOpened>
     ensures done { IfOk result (HasWorkedUnder (around (S.root hosts.old) (S.tree hosts.old) (S.left hosts.new) (S.seen hosts.new) (S.faults hosts.old < S.faults hosts.new) (S.unopened hosts.old hosts.new) (S.locked hosts.old)) root.now asked.now) }
     ensures refused { IfErr result (IsRootFault (around (S.root hosts.old) (S.tree hosts.old) (S.left hosts.new) (S.seen hosts.new) (S.faults hosts.old < S.faults hosts.new) (S.unopened hosts.old hosts.new) (S.locked hosts.old)) root.now) }
+    ensures watched { IfOk result (λ done. IsTold W.tells watcher.old done.units.items watcher.new) }
+    ensures unwatched { OnErr result (watcher.new ≡ watcher.old) }
 {
     match hosts.open_root(root.as_str()) {
-        Ok(host) => match work_on(alloc, hosts, host, asked) {
+        Ok(host) => match work_on(alloc, hosts, host, asked, watcher) {
             Ok(done) => Ok(done),
             Err(fault) => Err(NotOpened::Opening(fault)),
         },

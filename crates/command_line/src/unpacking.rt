@@ -1,21 +1,23 @@
-// Trees: the root is opened, they are read, and their packages are unpacked or installed.
-ghost use Rattle.std.specs.Prelude.{◌≡◌, ◌<◌, ◌≤◌, ◌⊎◌, IfOk, map, List, ℕ, IfErr, OnErr, false};
-ghost use Rattle.command_line.specs.Roots.{around, IsRefusedOn, IsRootFault, IsStoppedOn};
-ghost use Rattle.command_line.specs.Unpacks.{HasRunTrees, HasUnpacked, IsLabelled, IsReadFor, IsUnpackedOn};
-ghost use Rattle.unit_reports.specs.Held.{held};
-ghost use Rattle.std.specs.List.{All};
-ghost use Rattle.host_core.specs.Host.{State};
+// Trees: the root is opened, they are read one after another, and their packages are unpacked or installed.
+ghost use Rattle.std.specs.Prelude.{◌≡◌, ◌<◌, ◌≤◌, ◌⊎◌, IfErr, IfOk, OnErr, false};
+ghost use Rattle.std.specs.Vec.Iter.{into_iter_items};
 ghost use Rattle.administration.specs.declared.fault.AdministrationFault.TheVariants.{NoMemory};
+ghost use Rattle.unit_reports.specs.Held.{held};
+ghost use Rattle.unit_reports.specs.Watching.{IsTold};
+ghost use Rattle.command_line.specs.Printing.{last_in, units_of};
+ghost use Rattle.command_line.specs.Reading.{HaveGoneOn};
+ghost use Rattle.command_line.specs.Roots.{around, IsRefusedOn, IsRootFault, IsStoppedOn};
+ghost use Rattle.command_line.specs.Unpacks.{HasRunTrees, HasUnpacked, IsUnpackedOn};
 
 use crate::fault::{NotOpened, RootFault};
 use crate::hosts::Hosts;
+use crate::packages::listed;
+use crate::reading::TreeWords;
 use administration::AdministrationFault;
 use command_words::Unpacking;
 use conffiles::ConfPolicy;
-use dpkg_session::{Candidate, Command, Installed, Report, Session, Unpack};
-use package_tree::{Package, TreeFault, read_tree};
+use dpkg_session::{Installed, Report, Session, Unit, Watcher};
 use std::alloc::{AllocError, Global};
-use texts::Text;
 
 /// What came of trees: a report of their unpacks, or of these and of what was configured then.
 #[derive(Drop)]
@@ -24,84 +26,87 @@ pub(crate) enum Done {
     Installed(Installed),
 }
 
-// What a tree gives; one that can't be opened has the host's fault.
-fn read_package<S: Hosts>(alloc: Global, hosts: &mut S, tree: &str) -> Result<Package, TreeFault>
-    ensures read { IsReadFor (around (S.root hosts.old) (S.tree hosts.old) (S.left hosts.new) (S.seen hosts.new) (S.faults hosts.old < S.faults hosts.new) (S.unopened hosts.old hosts.new) (S.locked hosts.old)) tree.now result }
-    ensures trees { (word : List ℕ) (s : State) → S.tree hosts.new word s → S.tree hosts.old word s }
-    ensures seen { (s : State) → S.seen hosts.old s → S.seen hosts.new s }
-    ensures faults { S.faults hosts.old ≤ S.faults hosts.new }
-{
-    match hosts.open_tree(tree) {
-        Ok(mut host) => {
-            let read = read_tree(alloc, &mut host);
-            hosts.close_tree(host);
-            return read;
-        }
-        Err(fault) => {
-            return Err(TreeFault::from(fault));
+impl Done {
+    /// The unit that was broken off.
+    pub(crate) fn last(&self) -> &Option<Unit>
+        ensures { result.now ≡ last_in self.now }
+    {
+        match self {
+            Done::Unpacked(report) => &report.last,
+            Done::Installed(reports) => match &reports.unpacked.last {
+                Some(_) => &reports.unpacked.last,
+                None => &reports.configured.last,
+            },
         }
     }
 }
 
-fn read_trees<S: Hosts>(
-    alloc: Global,
-    hosts: &mut S,
-    trees: &[Text],
-) -> Result<Vec<Candidate>, AllocError>
-    ensures labels { IfOk result (λ candidates. map (λ c. c.label) candidates.items ≡ trees.now) }
-    ensures read { IfOk result (λ candidates. All (IsLabelled (around (S.root hosts.old) (S.tree hosts.old) (S.left hosts.new) (S.seen hosts.new) (S.faults hosts.old < S.faults hosts.new) (S.unopened hosts.old hosts.new) (S.locked hosts.old))) candidates.items) }
-    ensures trees { (word : List ℕ) (s : State) → S.tree hosts.new word s → S.tree hosts.old word s }
-    ensures seen { (s : State) → S.seen hosts.old s → S.seen hosts.new s }
-    ensures faults { S.faults hosts.old ≤ S.faults hosts.new }
+// What a session makes of trees. Its caller learns here that the hosts are still the same.
+fn run_session<S: Hosts, W: Watcher>(
+    session: &mut Session<S::Opened>,
+    trees: &mut TreeWords<'_, S>,
+    auto_deconfigure: bool,
+    policy: Option<ConfPolicy>,
+    watcher: &mut W,
+) -> Done
+    requires { session.old.closed ≡ false }
+    ensures same_hosts { trees.new.hosts.ghost_name ≡ trees.old.hosts.ghost_name }
+    ensures done { HasRunTrees (around (S.root trees.old.hosts.now) (S.tree trees.old.hosts.now) (S.left trees.new.hosts.now) (S.seen trees.new.hosts.now) (S.faults trees.old.hosts.now < S.faults trees.new.hosts.now) (S.unopened trees.old.hosts.now trees.new.hosts.now) (S.locked trees.old.hosts.now)) policy (into_iter_items trees.old.left.now) auto_deconfigure result (held session.old.database session.old.lists session.old.diversions) (S.Opened.state session.old.host) (S.Opened.state session.new.host) }
+    ensures on { HaveGoneOn (S.tree trees.old.hosts.now) (S.tree trees.new.hosts.now) (S.seen trees.old.hosts.now) (S.seen trees.new.hosts.now) (S.faults trees.old.hosts.now) (S.faults trees.new.hosts.now) }
+    ensures watched { IsTold W.tells watcher.old (units_of result) watcher.new }
 {
-    let mut candidates = Vec::new(alloc);
-    for tree in trees {
-        let label = tree.copy()?;
-        let tree = read_package(alloc, hosts, tree.as_str());
-        candidates.push(Candidate { label, tree })?;
+    match policy {
+        Some(policy) => {
+            Done::Installed(session.install(trees, auto_deconfigure, policy, watcher))
+        }
+        None => Done::Unpacked(session.run(trees, auto_deconfigure, watcher)),
     }
-    Ok(candidates)
 }
 
-fn run_trees<S: Hosts>(
+// What a session makes of the trees behind words, whose copies are taken from a list in turn.
+fn run_trees<S: Hosts, W: Watcher>(
     alloc: Global,
     hosts: &mut S,
     session: &mut Session<S::Opened>,
     unpacking: &Unpacking,
     policy: Option<ConfPolicy>,
+    watcher: &mut W,
 ) -> Result<Done, AllocError>
     requires { session.old.closed ≡ false }
-    ensures done { IfOk result (λ done. HasRunTrees (around (S.root hosts.old) (S.tree hosts.old) (S.left hosts.new) (S.seen hosts.new) (S.faults hosts.old < S.faults hosts.new) (S.unopened hosts.old hosts.new) (S.locked hosts.old)) policy unpacking.now done (held session.old.database session.old.lists session.old.diversions) (S.Opened.state session.old.host) (S.Opened.state session.new.host)) }
+    ensures done { IfOk result (λ done. HasRunTrees (around (S.root hosts.old) (S.tree hosts.old) (S.left hosts.new) (S.seen hosts.new) (S.faults hosts.old < S.faults hosts.new) (S.unopened hosts.old hosts.new) (S.locked hosts.old)) policy unpacking.now.trees unpacking.now.auto_deconfigure done (held session.old.database session.old.lists session.old.diversions) (S.Opened.state session.old.host) (S.Opened.state session.new.host)) }
     ensures unread { OnErr result (S.Opened.state session.new.host ≡ S.Opened.state session.old.host) }
-    ensures seen { (s : State) → S.seen hosts.old s → S.seen hosts.new s }
-    ensures faults { S.faults hosts.old ≤ S.faults hosts.new }
+    ensures on { HaveGoneOn (S.tree hosts.old) (S.tree hosts.new) (S.seen hosts.old) (S.seen hosts.new) (S.faults hosts.old) (S.faults hosts.new) }
+    ensures watched { IfOk result (λ done. IsTold W.tells watcher.old (units_of done) watcher.new) }
+    ensures unwatched { OnErr result (watcher.new ≡ watcher.old) }
 {
-    let candidates = read_trees(alloc, hosts, unpacking.trees.as_slice())?;
-    let unpack = Unpack {
-        candidates,
-        auto_deconfigure: unpacking.auto_deconfigure,
+    let mut left = listed(alloc, unpacking.trees.as_slice())?.into_iter();
+    let mut trees = TreeWords {
+        alloc,
+        hosts,
+        left: &mut left,
     };
-    match policy {
-        Some(policy) => Ok(Done::Installed(session.install(unpack, policy))),
-        None => Ok(Done::Unpacked(session.run(Command::Unpack(unpack)))),
-    }
+    let auto_deconfigure = unpacking.auto_deconfigure;
+    Ok(run_session(session, &mut trees, auto_deconfigure, policy, watcher))
 }
 
 // The units on the host of the root, which is given back.
-fn unpack_on<S: Hosts>(
+fn unpack_on<S: Hosts, W: Watcher>(
     alloc: Global,
     hosts: &mut S,
     host: S::Opened,
     unpacking: &Unpacking,
     policy: Option<ConfPolicy>,
+    watcher: &mut W,
 ) -> Result<Done, AdministrationFault>
     ensures done { IfOk result (IsUnpackedOn (around (S.root hosts.old) (S.tree hosts.old) (S.left hosts.new) (S.seen hosts.new) (S.faults hosts.old < S.faults hosts.new) (S.unopened hosts.old hosts.new) (S.locked hosts.old)) (S.Opened.state host) policy unpacking.now) }
     ensures refused { IfErr result (λ fault. IsRefusedOn (S.left hosts.new) (S.Opened.state host) fault ⊎ ((fault ≡ NoMemory) × IsStoppedOn (S.left hosts.new) (S.Opened.state host))) }
     ensures faults { S.faults hosts.old ≤ S.faults hosts.new }
+    ensures watched { IfOk result (λ done. IsTold W.tells watcher.old (units_of done) watcher.new) }
+    ensures unwatched { OnErr result (watcher.new ≡ watcher.old) }
 {
     match Session::open(alloc, host) {
         Ok(mut session) => {
-            let done = run_trees(alloc, hosts, &mut session, unpacking, policy);
+            let done = run_trees(alloc, hosts, &mut session, unpacking, policy, watcher);
             hosts.close_root(session.into_host());
             Ok(done?)
         }
@@ -114,18 +119,21 @@ fn unpack_on<S: Hosts>(
 
 /// Unpacks the trees under the root, and configures their packages where a policy for conffiles is given; or tells why the root
 /// can't be opened. Want of memory outside of the units is told likewise.
-pub(crate) fn unpack<S: Hosts>(
+pub(crate) fn unpack<S: Hosts, W: Watcher>(
     alloc: Global,
     hosts: &mut S,
     unpacking: &Unpacking,
     policy: Option<ConfPolicy>,
+    watcher: &mut W,
 ) -> Result<Done, NotOpened>
     ensures done { IfOk result (HasUnpacked (around (S.root hosts.old) (S.tree hosts.old) (S.left hosts.new) (S.seen hosts.new) (S.faults hosts.old < S.faults hosts.new) (S.unopened hosts.old hosts.new) (S.locked hosts.old)) policy unpacking.now) }
     ensures refused { IfErr result (IsRootFault (around (S.root hosts.old) (S.tree hosts.old) (S.left hosts.new) (S.seen hosts.new) (S.faults hosts.old < S.faults hosts.new) (S.unopened hosts.old hosts.new) (S.locked hosts.old)) unpacking.now.root) }
     ensures faults { S.faults hosts.old ≤ S.faults hosts.new }
+    ensures watched { IfOk result (λ done. IsTold W.tells watcher.old (units_of done) watcher.new) }
+    ensures unwatched { OnErr result (watcher.new ≡ watcher.old) }
 {
     match hosts.open_root(unpacking.root.as_str()) {
-        Ok(host) => match unpack_on(alloc, hosts, host, unpacking, policy) {
+        Ok(host) => match unpack_on(alloc, hosts, host, unpacking, policy, watcher) {
             Ok(done) => Ok(done),
             Err(fault) => Err(NotOpened::Opening(fault)),
         },

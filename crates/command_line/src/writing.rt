@@ -1,7 +1,8 @@
 // Writing an answer: to standard output first, and only where that was written whole, to standard error.
 ghost use Rattle.std.specs.Prelude.{◌≡◌, ◌++◌, ◌≤◌, MatchBool, MatchOption, [], Option, ℕ, List};
 ghost use Rattle.std.specs.Io.KnownBytes.{Appends, Keeps};
-ghost use Rattle.command_line.specs.Reports.{AppendsPart, IsCut, IsGiven, memory_answer};
+ghost use Rattle.command_line.specs.Printing.{AppendsPart};
+ghost use Rattle.command_line.specs.Reports.{IsCut, IsGiven, wanting_answer};
 
 use crate::answer::{Answer, FAILED};
 use std::io::{ErrorKind, Write};
@@ -18,9 +19,9 @@ fn write_some<'a, W: Write>(writer: &mut W, text: &'a [u8]) -> Option<&'a [u8]>
     }
 }
 
-// Whether all of a text could be written. Each turn writes a byte or more, but for a write that was
-// interrupted: the bound on the turns is there for a writer that is interrupted for ever.
-fn write_whole<W: Write>(writer: &mut W, text: &[u8]) -> bool
+/// Whether all of a text could be written. Each turn writes a byte or more, but for a write that was
+/// interrupted: the bound on the turns is there for a writer that is interrupted for ever.
+pub(crate) fn write_whole<W: Write>(writer: &mut W, text: &[u8]) -> bool
     ensures written { MatchBool result (Appends (W.contents writer.old) (W.contents writer.new) text.now) (AppendsPart (W.contents writer.old) (W.contents writer.new) text.now) }
     ensures idle { text.now ≡ [] → writer.new ≡ writer.old }
 {
@@ -60,9 +61,9 @@ pub(crate) fn give<O: Write, E: Write>(answer: &Answer, out: &mut O, err: &mut E
     FAILED
 }
 
-/// Writes to standard error that memory was wanting for the answer, and gives status 2.
+/// Writes to standard error that memory was wanting for the answer, of which the first lines may be written, and gives status 2.
 pub(crate) fn give_want_of_memory<E: Write>(err: &mut E) -> u8
-    ensures given { (held : Option (List ℕ)) → IsGiven memory_answer held held (E.contents err.old) (E.contents err.new) result }
+    ensures given { (front : List ℕ) (old new : Option (List ℕ)) → Appends old new front → IsGiven (wanting_answer front) old new (E.contents err.old) (E.contents err.new) result }
     ensures status { result ≡ 2 }
 {
     let _ = write_whole(err, b"broken memory\n");

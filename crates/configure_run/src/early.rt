@@ -1,13 +1,15 @@
 // What is refused before anything is configured.
 ghost use Rattle.std.specs.Prelude.{◌≡◌, [], OnErr, OnOk, option_copied};
 ghost use Rattle.status_db.specs.Records.{record_in};
+ghost use Rattle.unit_reports.specs.Watching.{AddsTold};
 ghost use Rattle.configure_run.specs.Early.{AreRefused, AreSomeRefused, HasRefused, early_refusals, early_rule, refusal_by, rule_by_flag};
 
 use crate::asked::is_unconfigured;
+use crate::telling::add_finished;
 use status_db::{Flag, NotedDatabase, Record};
 use std::alloc::{AllocError, Global};
 use texts::Text;
-use unit_reports::{Rule, Unit, refused};
+use unit_reports::{Rule, Unit, Watcher, refused, what_is_told_in_turn};
 
 fn rule_by_flag(flag: Flag) -> Option<Rule>
     ensures { result ≡ rule_by_flag flag }
@@ -35,18 +37,20 @@ fn early_rule(entry: Option<&Record>) -> Option<Rule>
 }
 
 // The refused unit of a package, where a rule refuses it.
-fn push_refusal(
+fn push_refusal<W: Watcher>(
     alloc: Global,
     rule: Option<Rule>,
     name: &Text,
     units: &mut Vec<Unit>,
+    watcher: &mut W,
 ) -> Result<(), AllocError>
     ensures ok { OnOk result (HasRefused (refusal_by name.now rule) units.old.items units.new.items) }
     ensures err { OnErr result (units.new.items ≡ units.old.items) }
+    ensures watched { AddsTold W.tells units.old.items units.new.items watcher.old watcher.new }
 {
     match rule {
         Some(rule) => {
-            units.push(refused(alloc, rule, name.copy()?))?;
+            add_finished(refused(alloc, rule, name.copy()?), units, watcher)?;
             Ok(())
         }
         None => Ok(()),
@@ -54,18 +58,21 @@ fn push_refusal(
 }
 
 /// Refuses the packages that can't wait, in the order of these names; where memory is wanting the first of them are.
-pub(crate) fn refuse_early(
+pub(crate) fn refuse_early<W: Watcher>(
     alloc: Global,
     database: &NotedDatabase,
     names: &[Text],
     units: &mut Vec<Unit>,
+    watcher: &mut W,
 ) -> Result<(), AllocError>
     requires none { units.old.items ≡ [] }
     ensures ok { OnOk result (AreRefused (early_refusals database.now.records names.now) units.new.items) }
     ensures err { OnErr result (AreSomeRefused (early_refusals database.now.records names.now) units.new.items) }
+    ensures watched { AddsTold W.tells units.old.items units.new.items watcher.old watcher.new }
 {
+    what_is_told_in_turn::<W>();
     for name in names {
-        push_refusal(alloc, early_rule(database.get(name)), name, units)?;
+        push_refusal(alloc, early_rule(database.get(name)), name, units, watcher)?;
     }
     Ok(())
 }

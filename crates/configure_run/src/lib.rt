@@ -6,6 +6,7 @@ mod early;
 mod left_over;
 mod run;
 mod starting;
+mod telling;
 mod turn;
 mod turns;
 mod unit;

@@ -8,6 +8,7 @@ ghost use Rattle.unit_parts.specs.Order.{IsInOrder};
 ghost use Rattle.unit_reports.specs.Held.{held};
 ghost use Rattle.unit_reports.specs.Units.{CountsLast, CountsReply, IsBrokenBy, TellsCalls, calls_of};
 ghost use Rattle.unit_reports.specs.declared.report.Breakage.TheVariants.{Closed};
+ghost use Rattle.unit_reports.specs.Watching.{AddsTold, IsTold};
 ghost use Rattle.unwind_stack.specs.Transcript.{TellsAll};
 ghost use Rattle.configure_run.specs.Asked.{each_once};
 ghost use Rattle.configure_run.specs.Early.{AreRefused, AreSomeRefused, early_refusals};
@@ -27,21 +28,23 @@ use host_core::{Host, HostFault, Places};
 use status_db::NotedDatabase;
 use std::alloc::{AllocError, Global};
 use texts::Text;
-use unit_reports::{Report, Unit, breakage_of, broken};
+use unit_reports::{Report, Unit, Watcher, breakage_of, broken, what_is_told_in_turn};
 
 // Refuses the packages that can't wait, each once.
-fn refuse_first(
+fn refuse_first<W: Watcher>(
     alloc: Global,
     database: &NotedDatabase,
     names: &[Text],
     units: &mut Vec<Unit>,
+    watcher: &mut W,
 ) -> Result<(), AllocError>
     requires none { units.old.items ≡ [] }
     ensures ok { OnOk result (AreRefused (early_refusals database.now.records (each_once names.now)) units.new.items) }
     ensures err { OnErr result (AreSomeRefused (early_refusals database.now.records (each_once names.now)) units.new.items) }
+    ensures watched { AddsTold W.tells units.old.items units.new.items watcher.old watcher.new }
 {
     let list = each_once(alloc, names)?;
-    refuse_early(alloc, database, list.as_slice(), units)?;
+    refuse_early(alloc, database, list.as_slice(), units, watcher)?;
     Ok(())
 }
 
@@ -66,7 +69,7 @@ fn begun<H: Host>(
 }
 
 // All units of a configure, or the one that was broken off.
-fn run_all<H: Host>(
+fn run_all<H: Host, W: Watcher>(
     alloc: Global,
     host: &mut H,
     database: &mut NotedDatabase,
@@ -76,6 +79,7 @@ fn run_all<H: Host>(
     names: &[Text],
     policy: ConfPolicy,
     units: &mut Vec<Unit>,
+    watcher: &mut W,
 ) -> Result<(), Unit>
     requires none { units.old.items ≡ [] }
     requires noting { database.old.closed ≡ false }
@@ -95,9 +99,11 @@ fn run_all<H: Host>(
     ensures no_fault { OnOk result (faults (H.state host.new) ≡ faults (H.state host.old)) }
     ensures counts { IfErr result (λ unit. CountsReply (H.state host.old) (H.state host.new) unit.reply) }
     ensures not_closed { IfErr result (λ unit. IsBrokenBy Closed unit.reply → ⊥) }
+    ensures watched { AddsTold W.tells units.old.items units.new.items watcher.old watcher.new }
 {
+    what_is_told_in_turn::<W>();
     database.law();
-    match refuse_first(alloc, database, names, units) {
+    match refuse_first(alloc, database, names, units, watcher) {
         Ok(()) => match begun(alloc, host, database, names) {
             Ok((turns, silent)) => match run_turns(
                 alloc,
@@ -110,6 +116,7 @@ fn run_all<H: Host>(
                 turns,
                 silent.as_slice(),
                 units,
+                watcher,
             ) {
                 Ok(()) => Ok(()),
                 Err(unit) => Err(unit),
@@ -121,8 +128,9 @@ fn run_all<H: Host>(
 }
 
 /// Configures packages: those that can't wait are refused, in the order in which they are named; then each is
-/// configured at its turn, as what it depends on is; and those that are left over are refused.
-pub fn configure_packages<H: Host>(
+/// configured at its turn, as what it depends on is; and those that are left over are refused. Each unit is told as it is
+/// finished; the one that was broken off is not.
+pub fn configure_packages<H: Host, W: Watcher>(
     alloc: Global,
     host: &mut H,
     database: &mut NotedDatabase,
@@ -131,6 +139,7 @@ pub fn configure_packages<H: Host>(
     diversions: &Diversions,
     names: Vec<Text>,
     policy: ConfPolicy,
+    watcher: &mut W,
 ) -> Report
     requires noting { database.old.closed ≡ false }
     requires listing { lists.old.closed ≡ false }
@@ -147,6 +156,7 @@ pub fn configure_packages<H: Host>(
     ensures kept { IsNone result.last → places.new ≡ places_in diversions.now.entries lists.new.lists }
     ensures counts { CountsLast (H.state host.old) (H.state host.new) result.last }
     ensures not_closed { IfSome result.last (λ unit. IsBrokenBy Closed unit.reply → ⊥) }
+    ensures watched { IsTold W.tells watcher.old result.units.items watcher.new }
 {
     let mut units = Vec::new(alloc);
     match run_all(
@@ -159,6 +169,7 @@ pub fn configure_packages<H: Host>(
         names.as_slice(),
         policy,
         &mut units,
+        watcher,
     ) {
         Ok(()) => Report { units, last: None },
         Err(unit) => Report {

@@ -9,6 +9,7 @@ ghost use Rattle.unit_parts.specs.Order.{IsInOrder};
 ghost use Rattle.unit_reports.specs.Held.{held};
 ghost use Rattle.unit_reports.specs.Units.{CountsReply, IsBrokenBy, calls_of};
 ghost use Rattle.unit_reports.specs.declared.report.Breakage.TheVariants.{Closed};
+ghost use Rattle.unit_reports.specs.Watching.{AddsTold};
 ghost use Rattle.unwind_stack.specs.Transcript.{TellsAll};
 ghost use Rattle.configure_run.specs.Starting.{AreWaiting};
 ghost use Rattle.configure_run.specs.Turns.{EndTurns, HaveTurned, IsAmidNext, IsAmidTurns, IsBrokenOff, StopTurns, after_turn};
@@ -23,10 +24,10 @@ use file_lists::FileLists;
 use host_core::{Host, Places};
 use status_db::NotedDatabase;
 use std::alloc::Global;
-use unit_reports::{Unit, is_broken};
+use unit_reports::{Unit, Watcher, is_broken, what_is_told_in_turn};
 
 // The unit of the package of a number more, or the unit that was broken off. The answer is whether it was configured.
-fn take_turn<H: Host>(
+fn take_turn<H: Host, W: Watcher>(
     alloc: Global,
     host: &mut H,
     database: &mut NotedDatabase,
@@ -37,6 +38,7 @@ fn take_turn<H: Host>(
     turns: &Turns,
     number: usize,
     units: &mut Vec<Unit>,
+    watcher: &mut W,
 ) -> Result<bool, Unit>
     requires noting { database.old.closed ≡ false }
     requires listing { lists.old.closed ≡ false }
@@ -58,6 +60,7 @@ fn take_turn<H: Host>(
     ensures no_fault { OnOk result (faults (H.state host.new) ≡ faults (H.state host.old)) }
     ensures counts { IfErr result (λ unit. CountsReply (H.state host.old) (H.state host.new) unit.reply) }
     ensures not_closed { IfErr result (λ unit. IsBrokenBy Closed unit.reply → ⊥) }
+    ensures watched { AddsTold W.tells units.old.items units.new.items watcher.old watcher.new }
 {
     if units.reserve(1).is_err() {
         return Err(no_memory(alloc));
@@ -72,12 +75,13 @@ fn take_turn<H: Host>(
         return Err(unit);
     }
     let done = is_done(&unit);
+    watcher.finished(&unit);
     units.push(unit).unwrap();
     Ok(done)
 }
 
 // The same of the next package; the answer has its number too, and is none where no turn is left.
-fn take_next<H: Host>(
+fn take_next<H: Host, W: Watcher>(
     alloc: Global,
     host: &mut H,
     database: &mut NotedDatabase,
@@ -88,6 +92,7 @@ fn take_next<H: Host>(
     turns: &Turns,
     silent: &[bool],
     units: &mut Vec<Unit>,
+    watcher: &mut W,
 ) -> Result<Option<(usize, bool)>, Unit>
     requires noting { database.old.closed ≡ false }
     requires listing { lists.old.closed ≡ false }
@@ -110,10 +115,11 @@ fn take_next<H: Host>(
     ensures no_fault { OnOk result (faults (H.state host.new) ≡ faults (H.state host.old)) }
     ensures counts { IfErr result (λ unit. CountsReply (H.state host.old) (H.state host.new) unit.reply) }
     ensures not_closed { IfErr result (λ unit. IsBrokenBy Closed unit.reply → ⊥) }
+    ensures watched { AddsTold W.tells units.old.items units.new.items watcher.old watcher.new }
 {
     match turns.next(alloc, silent) {
         Ok(Some(number)) => match take_turn(
-            alloc, host, database, lists, places, diversions, policy, turns, number, units,
+            alloc, host, database, lists, places, diversions, policy, turns, number, units, watcher,
         ) {
             Ok(done) => Ok(Some((number, done))),
             Err(unit) => Err(unit),
@@ -124,7 +130,7 @@ fn take_next<H: Host>(
 }
 
 // All turns, up to a unit that is broken off. The answer is what is left over.
-fn take_turns<H: Host>(
+fn take_turns<H: Host, W: Watcher>(
     alloc: Global,
     host: &mut H,
     database: &mut NotedDatabase,
@@ -135,6 +141,7 @@ fn take_turns<H: Host>(
     turns: Turns,
     silent: &[bool],
     units: &mut Vec<Unit>,
+    watcher: &mut W,
 ) -> Result<Turns, Unit>
     requires noting { database.old.closed ≡ false }
     requires listing { lists.old.closed ≡ false }
@@ -156,11 +163,14 @@ fn take_turns<H: Host>(
     ensures no_fault { OnOk result (faults (H.state host.new) ≡ faults (H.state host.old)) }
     ensures counts { IfErr result (λ unit. CountsReply (H.state host.old) (H.state host.new) unit.reply) }
     ensures not_closed { IfErr result (λ unit. IsBrokenBy Closed unit.reply → ⊥) }
+    ensures watched { AddsTold W.tells units.old.items units.new.items watcher.old watcher.new }
 {
+    what_is_told_in_turn::<W>();
     let mut turns = turns;
     loop {
         match take_next(
             alloc, host, database, lists, places, diversions, policy, &turns, silent, units,
+            watcher,
         ) {
             Ok(Some(taken)) => match turns.after(taken.0, taken.1) {
                 Ok(left) => turns = left,
@@ -173,7 +183,7 @@ fn take_turns<H: Host>(
 }
 
 /// All turns, and the refusals of those left over; or the unit that was broken off.
-pub(crate) fn run_turns<H: Host>(
+pub(crate) fn run_turns<H: Host, W: Watcher>(
     alloc: Global,
     host: &mut H,
     database: &mut NotedDatabase,
@@ -184,6 +194,7 @@ pub(crate) fn run_turns<H: Host>(
     turns: Turns,
     silent: &[bool],
     units: &mut Vec<Unit>,
+    watcher: &mut W,
 ) -> Result<(), Unit>
     requires noting { database.old.closed ≡ false }
     requires listing { lists.old.closed ≡ false }
@@ -203,11 +214,13 @@ pub(crate) fn run_turns<H: Host>(
     ensures no_fault { OnOk result (faults (H.state host.new) ≡ faults (H.state host.old)) }
     ensures counts { IfErr result (λ unit. CountsReply (H.state host.old) (H.state host.new) unit.reply) }
     ensures not_closed { IfErr result (λ unit. IsBrokenBy Closed unit.reply → ⊥) }
+    ensures watched { AddsTold W.tells units.old.items units.new.items watcher.old watcher.new }
 {
+    what_is_told_in_turn::<W>();
     match take_turns(
-        alloc, host, database, lists, places, diversions, policy, turns, silent, units,
+        alloc, host, database, lists, places, diversions, policy, turns, silent, units, watcher,
     ) {
-        Ok(left) => match refuse_left(alloc, &left, units) {
+        Ok(left) => match refuse_left(alloc, &left, units, watcher) {
             Ok(()) => Ok(()),
             Err(_) => Err(no_memory(alloc)),
         },

@@ -1,21 +1,21 @@
 -- An install: unpacks, and then what is configured.
-use Rattle.std.proofs.Common.{◌≡◌, inl, inr, ℕ, Bool, List, [], ◌++◌, Option, Some, None, refl, ap, subst, ◌∙◌}
-use Rattle.std.specs.Prelude.{IfSome, IsNone, is_some, true, map}
+use Rattle.std.proofs.Common.{◌≡◌, inl, inr, ℕ, Bool, IsTrue, List, [], ◌++◌, Option, Some, None, refl, ap, subst, ◌∙◌}
+use Rattle.std.specs.Prelude.{IsNone, is_some, true, map}
 use Rattle.conffiles.specs.declared.decisions.ConfPolicy.{ConfPolicy}
-use Rattle.configure_run.specs.Run.{IsAmidRun as IsAmidConfigure}
+use Rattle.configure_run.specs.Run.{HasRun as HasConfigured, IsAmidRun as IsAmidConfigure, IsConfigureRun}
 use Rattle.host_core.specs.Host.{State, Since}
 use Rattle.host_core.specs.Loss.{IsAnswered}
 use Rattle.host_core.specs.Moments.{since_then, since_weaker}
+use Rattle.host_core.specs.Unsynced.{IsSettled}
 use Rattle.unit_reports.specs.Held.{Held}
 use Rattle.unit_reports.specs.Units.{CountsLast, TellsCalls, calls_of, calls_told, last_calls}
 use Rattle.unit_reports.specs.declared.report.Report.{Report}
 use Rattle.unit_reports.specs.declared.report.Unit.{Unit as AUnit}
 use Rattle.unwind_stack.proofs.Makes.{tells_none, tells_then}
-use Rattle.dpkg_session.specs.Diversions.{HasBroken, IsBrokenDiversion}
-use Rattle.dpkg_session.specs.Installs.{HasInstalled, IsAmidInstall, IsEmptyReport, TellsBoth, label_of, last_of, names_done, packages_done}
-use Rattle.dpkg_session.specs.Run.{HasRun, IsAmidRun, IsRun}
+use Rattle.dpkg_session.specs.Installs.{HasGoneOn, HasInstalled, HasInstalledThrough, IsAmidInstall, IsEmptyReport, TellsBoth, label_of, last_of, names_done, packages_done}
+use Rattle.dpkg_session.specs.Run.{HasRun, HasRunThrough, IsAmidRun, IsRun}
 use Rattle.dpkg_session.specs.declared.report.Candidate.{Candidate}
-use Rattle.dpkg_session.proofs.Outlasting.{answered_then, run_answered}
+use Rattle.dpkg_session.proofs.Outlasting.{answered_then, loses_like, run_answered}
 use Rattle.dpkg_session.proofs.Runs.{counts_from}
 
 -- the moments
@@ -57,18 +57,62 @@ none_both (Some u) second none both = cc
 
 -- how far an install came
 
-pub broken_installed : (auto : Bool) (cs : List Candidate) (policy : ConfPolicy) (us : List AUnit) (last : Option AUnit) (configured : Report) (before : Held) (s t : State) → is_some last ≡ true
+broken_installed : (auto : Bool) (cs : List Candidate) (policy : ConfPolicy) (us : List AUnit) (last : Option AUnit) (configured : Report) (before : Held) (s t : State) → is_some last ≡ true
     → HasRun auto cs us last before s t → IsEmptyReport configured → HasInstalled auto cs policy us last configured before s t
 broken_installed auto cs policy us None configured before s t some run empty = cc
-broken_installed auto cs policy us (Some u) configured before s t some run empty = (inl run, empty)
+broken_installed auto cs policy us (Some u) configured before s t some run empty = (run, empty)
 
-pub not_begun_installed : (auto : Bool) (cs : List Candidate) (policy : ConfPolicy) (report configured : Report) (before : Held) (s : State) → is_some report.last ≡ true → HasBroken report → IsEmptyReport configured
-    → HasInstalled auto cs policy report.units.items report.last configured before s s
-not_begun_installed auto cs policy report configured before s some broken empty = by report.last some broken
-  where
-    by : (last : Option AUnit) → is_some last ≡ true → IfSome last (λ u. (report.units.items ≡ []) × IsBrokenDiversion u) → HasInstalled auto cs policy report.units.items last configured before s s
-    by None there is = cc
-    by (Some u) there is = (inr (record { units = is.0; here = refl; broken = is.1.broken; calls = is.1.calls; touched = is.1.touched }), empty)
+gone_on : (auto : Bool) (cs : List Candidate) (policy : ConfPolicy) (us : List AUnit) (last : Option AUnit) (configured : Report) (before : Held) (s t : State) → IsNone last
+    → HasGoneOn auto cs policy us configured before s t → HasInstalled auto cs policy us last configured before s t
+gone_on auto cs policy us None configured before s t none gone = gone
+gone_on auto cs policy us (Some u) configured before s t none gone = cc
+
+some_not_none : (first second : Option AUnit) → is_some first ≡ true → IsNone (last_of first second) → ⊥
+some_not_none None second some none = cc
+some_not_none (Some u) second some none = cc
+
+module _ (auto : Bool) (cs : List Candidate) (left : List (List ℕ)) (policy : ConfPolicy) (unpacked configured : Report) where
+  -- an unpack was broken off
+  pub installed_part : (before after : Held) (s t : State) → is_some unpacked.last ≡ true → IsEmptyReport configured → (IsTrue t.honest → IsSettled t.events) → HasRunThrough auto cs left unpacked before after s t
+      → HasInstalledThrough auto cs left policy unpacked configured before after s t
+  installed_part before after s t some empty settled run =
+      let since = amid_unpacks auto cs policy before s t run.any_moment in
+      record {
+        whole = λ none. absurd (some_not_none unpacked.last configured.last some none);
+        all = run.all;
+        part = broken_installed auto cs policy unpacked.units.items unpacked.last configured before s t some run.part empty;
+        read = run.read;
+        any_moment = since;
+        loss = loses_like (IsAmidInstall auto cs policy before s) s t settled since;
+      }
+
+  -- all were unpacked, and then packages were configured
+  pub installed_both : (told : List AUnit) (labels : List (List ℕ)) (before mid after : Held) (s m t : State) → labels ≡ map label_of cs → told ≡ unpacked.units.items → IsNone unpacked.last → (IsTrue t.honest → IsSettled t.events)
+      → HasRunThrough auto cs left unpacked before mid s m → (IsNone configured.last → IsConfigureRun (names_done labels told) policy configured.units.items mid after m t)
+      → HasConfigured (names_done labels told) policy configured.units.items configured.last mid m t → Since (IsAmidConfigure (names_done labels told) policy mid m) m t
+      → HasInstalledThrough auto cs left policy unpacked configured before after s t
+  installed_both told labels before mid after s m t named same none settled run whole part moments =
+      let us = unpacked.units.items in
+      let names : names_done labels told ≡ packages_done cs us = ap (λ ls. names_done ls told) named ∙ ap (names_done (map label_of cs)) same in
+      let since = amid_both auto cs policy us told before mid labels s m t named same (run.whole none) run.any_moment moments in
+      record {
+        whole = λ both. record {
+          mid = mid;
+          m = m;
+          unpacks = run.whole none;
+          configures = subst (λ (ns : List (List ℕ)). IsConfigureRun ns policy configured.units.items mid after m t) names (whole (none_both unpacked.last configured.last none both));
+        };
+        all = run.all;
+        part = gone_on auto cs policy us unpacked.last configured before s t none (record {
+          mid = mid;
+          m = m;
+          unpacks = run.whole none;
+          configures = subst (λ (ns : List (List ℕ)). HasConfigured ns policy configured.units.items configured.last mid m t) names part;
+        });
+        read = run.read;
+        any_moment = since;
+        loss = loses_like (IsAmidInstall auto cs policy before s) s t settled since;
+      }
 
 -- all of it only looked or is on the disk
 pub answered_both : (auto : Bool) (cs : List Candidate) (us : List AUnit) (before mid : Held) (s m t : State) → IsRun auto cs us before mid s m → IsAnswered m t → IsAnswered s t

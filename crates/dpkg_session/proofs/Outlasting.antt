@@ -1,5 +1,5 @@
 -- A loss of power leaves what a stop leaves.
-use Rattle.std.proofs.Common.{◌≡◌, inl, inr, Bool, IsTrue, List, [], ◌∷◌, ◌++◌, append_assoc, sym, ap, subst, ◌∙◌}
+use Rattle.std.proofs.Common.{inl, inr, Bool, IsTrue, List, [], ◌∷◌, ◌++◌, append_assoc, sym, ap, subst, ◌∙◌}
 use Rattle.host_core.specs.World.{World, Barrier}
 use Rattle.host_core.specs.Events.{Event, Did, changes_of}
 use Rattle.host_core.specs.Host.{State, Since}
@@ -9,20 +9,14 @@ use Rattle.host_core.specs.Moments.{faults_then, reads_then, since_weaker}
 use Rattle.host_core.specs.Unsynced.{IsSettled}
 use Rattle.unit_reports.specs.Held.{Held}
 use Rattle.dpkg_session.specs.declared.report.Candidate.{Candidate}
-use Rattle.dpkg_session.specs.declared.report.Unpack.{Unpack}
 use Rattle.unit_reports.specs.declared.report.Unit.{Unit as AUnit}
 use Rattle.dpkg_session.specs.PowerLoss.{LosesLikeAStop, StandsOnceAnswered}
-use Rattle.dpkg_session.specs.Run.{IsAmidRun, IsRun}
+use Rattle.dpkg_session.specs.Run.{IsRun}
 use Rattle.dpkg_session.proofs.Barriers.{answered_here}
 
 pub loses_like : (P : List Event → World → Type 0) (old new : State) → (IsTrue new.honest → IsSettled new.events) → Since P old new → LosesLikeAStop P old new
 loses_like P old new settled since = λ kept begun session left h is loses.
     since_loss_one (unwritten kept (changes_of session)) P begun old new left h (settled h) (avoid_session kept begun new session is) since loses
-
-pub run_loses : (given asked : Unpack) (before : Held) (old new : State) → given ≡ asked → (IsTrue new.honest → IsSettled new.events) → Since (IsAmidRun given.auto_deconfigure given.candidates.items before old) old new
-    → LosesLikeAStop (IsAmidRun asked.auto_deconfigure asked.candidates.items before old) old new
-run_loses given asked before old new same settled since =
-    loses_like (IsAmidRun asked.auto_deconfigure asked.candidates.items before old) old new settled (subst (λ (u : Unpack). Since (IsAmidRun u.auto_deconfigure u.candidates.items before old) old new) same since)
 
 -- all is on the disk behind what was answered, where it was before
 pub answered_disk : (s t : State) → IsAnswered s t → IsOnDisk s.events → IsOnDisk t.events

@@ -1,6 +1,6 @@
 -- How a run goes on with one unit more.
 use Rattle.std.specs.Prelude.{MatchBool, IfSome, length, take, drop}
-use Rattle.std.proofs.Common.{◌≡◌, ◌⊎◌, inl, inr, ℕ, Bool, true, false, List, [], ◌∷◌, ◌++◌, Option, Some, None, Result, Ok, Err, IsTrue, refl, sym, ap, subst, ◌∙◌, ◌+◌, arith}
+use Rattle.std.proofs.Common.{◌≡◌, ◌⊎◌, inl, inr, ℕ, Bool, true, false, List, [], ◌∷◌, ◌++◌, Option, Some, None, Result, Ok, Err, IsTrue, refl, sym, ap, subst, ◌∙◌, ◌+◌}
 use Rattle.std.proofs.Math.Seq.{take-append_seam, drop-append_seam}
 use Rattle.std.proofs.lemmas.Bool.{true≢false}
 use Rattle.host_core.specs.Host.{State, Counts, Needs, Since, faults}
@@ -36,10 +36,6 @@ run_more auto [] [] c u before mid after s m t so_far unit =
 run_more auto [] (v ∷ us) c u before mid after s m t so_far unit = absurd so_far
 run_more auto (q ∷ cs) [] c u before mid after s m t so_far unit = absurd so_far
 run_more auto (q ∷ cs) (v ∷ us) c u before mid after s m t so_far unit = (so_far.0, so_far.1, so_far.2, run_more auto cs us c u so_far.1 mid after so_far.0 m t so_far.3 unit)
-
-pub none_left : (cs : List Candidate) → length cs ≡ 0 → cs ≡ []
-none_left [] none = refl
-none_left (c ∷ cs) none = absurd (omega (arith, none))
 
 -- the run of the first candidates, and what holds of the rest
 pub has_run : (auto : Bool) (cs done rest : List Candidate) (us : List AUnit) (last : Option AUnit) (before mid : Held) (s m t : State) → cs ≡ done ++ rest → length us ≡ length done → IsRun auto done us before mid s m

@@ -1,23 +1,24 @@
 -- An install: an unpack, and then the packages that were unpacked are configured, and those that were deconfigured for them.
-use Rattle.std.specs.Prelude.{◌≡◌, ◌⊎◌, ℕ, Bool, false, List, [], ◌∷◌, ◌++◌, Option, Some, None, Result, Ok, Err, cond, filter, length, map, nat_lt, slice_index_or}
+use Rattle.std.specs.Prelude.{◌≡◌, ◌⊎◌, ℕ, Bool, false, List, [], ◌∷◌, ◌++◌, Option, Some, None, IsNone, Result, Ok, Err, cond, filter, length, map, nat_lt, slice_index_or}
 use Rattle.conffiles.specs.declared.decisions.ConfPolicy.{ConfPolicy}
 use Rattle.configure_run.specs.Run.{IsConfigureRun, HasRun as HasConfigured, IsAmidRun as IsAmidConfigure}
 use Rattle.host_core.specs.Events.{Event}
-use Rattle.host_core.specs.Host.{State}
+use Rattle.host_core.specs.Host.{State, Since}
 use Rattle.host_core.specs.World.{World}
 use Rattle.package_tree.specs.declared.fault.TreeFault.{TreeFault}
 use Rattle.package_tree.specs.declared.package.Package.{Package}
 use Rattle.status_db.specs.declared.record.Record.{Record}
 use Rattle.unpack_engine.specs.Touched.{is_half_configured}
 use Rattle.unit_reports.specs.Held.{Held}
-use Rattle.unit_reports.specs.Units.{IsBroken, calls_told}
+use Rattle.unit_reports.specs.Units.{calls_told}
 use Rattle.unit_reports.specs.declared.report.Reply.{Reply}
 use Rattle.unit_reports.specs.declared.report.Reply.TheVariants.{Done, Refused, Failed, Broken}
 use Rattle.unit_reports.specs.declared.report.Report.{Report}
 use Rattle.unit_reports.specs.declared.report.Touched.{Touched}
 use Rattle.unit_reports.specs.declared.report.Unit.{Unit as AUnit}
 use Rattle.unwind_stack.specs.Transcript.{TellsAll}
-use Rattle.dpkg_session.specs.Run.{HasRun, IsAmidRun, IsRun}
+use Rattle.dpkg_session.specs.PowerLoss.{LosesLikeAStop}
+use Rattle.dpkg_session.specs.Run.{AreReadInTurn, HasRun, IsAmidRun, IsRun}
 use Rattle.dpkg_session.specs.declared.report.Candidate.{Candidate}
 
 -- the package of a tree, or the word that named one that can't be read
@@ -84,19 +85,10 @@ pub record HasGoneOn (auto_deconfigure : Bool) (cs : List Candidate) (policy : C
   pub unpacks : IsRun auto_deconfigure cs unpacked before mid s m
   pub configures : HasConfigured (packages_done cs unpacked) policy configured.units.items configured.last mid m t
 
--- memory was wanting before anything was done
-pub record HasNotBegun (unpacked : List AUnit) (u : AUnit) (s t : State) : Type 0 where
-  pub units : unpacked ≡ []
-  pub here : t ≡ s
-  pub broken : IsBroken u.reply
-  pub calls : u.calls.items ≡ []
-  pub touched : u.touched.items ≡ []
-
--- How far an install came: up to an unpack that was broken off, or not even there, and then nothing is configured; or behind all
--- unpacks.
+-- How far an install came: up to an unpack that was broken off, and then nothing is configured; or behind all unpacks.
 abbrev pub HasInstalled : Bool → List Candidate → ConfPolicy → List AUnit → Option AUnit → Report → Held → State → State → Type 0
 HasInstalled auto_deconfigure cs policy unpacked (Some u) configured before s t =
-    (HasRun auto_deconfigure cs unpacked (Some u) before s t ⊎ HasNotBegun unpacked u s t) × IsEmptyReport configured
+    HasRun auto_deconfigure cs unpacked (Some u) before s t × IsEmptyReport configured
 HasInstalled auto_deconfigure cs policy unpacked None configured before s t = HasGoneOn auto_deconfigure cs policy unpacked configured before s t
 
 -- the unpacks are done, and what was done since then is this
@@ -119,3 +111,12 @@ IsAmidInstall auto_deconfigure cs policy before s so_far now =
 -- the calls of both reports are those by which the host's own list has grown
 abbrev pub TellsBoth : State → State → Report → Report → Type 0
 TellsBoth s t first second = TellsAll s t [] (calls_told first ++ calls_told second)
+
+-- The reports of an install over trees of which these were read, and those of the other words were not.
+pub record HasInstalledThrough (auto_deconfigure : Bool) (cs : List Candidate) (left : List (List ℕ)) (policy : ConfPolicy) (unpacked configured : Report) (before after : Held) (s t : State) : Type 0 where
+  pub whole : IsNone (last_of unpacked.last configured.last) → IsInstall auto_deconfigure cs policy unpacked.units.items configured.units.items before after s t
+  pub all : IsNone unpacked.last → left ≡ []
+  pub part : HasInstalled auto_deconfigure cs policy unpacked.units.items unpacked.last configured before s t
+  pub read : AreReadInTurn cs unpacked.units.items unpacked.last
+  pub any_moment : Since (IsAmidInstall auto_deconfigure cs policy before s) s t
+  pub loss : LosesLikeAStop (IsAmidInstall auto_deconfigure cs policy before s) s t

@@ -1,10 +1,10 @@
 -- A run of units, one after another.
-use Rattle.std.specs.Prelude.{◌≡◌, ◌⊎◌, Bool, true, IsTrue, List, [], ◌∷◌, ◌++◌, length, take, drop, Option, None, IfSome, Result, Ok, Err}
+use Rattle.std.specs.Prelude.{◌≡◌, ◌⊎◌, ◌+◌, ℕ, Bool, true, IsTrue, List, [], ◌∷◌, ◌++◌, length, take, drop, Option, Some, None, IfSome, IsNone, Result, Ok, Err}
 use Rattle.displaced_packages.specs.Displacing.{IsAmidDisplacing}
 use Rattle.displaced_packages.specs.Losing.{losing_beside}
 use Rattle.file_lists.specs.declared.paths.PackageList.{PackageList}
 use Rattle.host_core.specs.Events.{Event, scripts_of}
-use Rattle.host_core.specs.Host.{State, AtEachMomentOf}
+use Rattle.host_core.specs.Host.{State, AtEachMomentOf, Since}
 use Rattle.host_core.specs.Loss.{IsAnswered}
 use Rattle.host_core.specs.Paths.{Path}
 use Rattle.host_core.specs.World.{World}
@@ -18,10 +18,12 @@ use Rattle.unpack_relations.specs.declared.beside.Beside.{Beside}
 use Rattle.unpack_relations.specs.declared.checking.Checked.{Checked}
 use Rattle.unpack_relations.specs.declared.checking.Checked.TheVariants.{Refused, Planned}
 use Rattle.unpack_rows.specs.declared.rows.OtherPackage.{OtherPackage}
+use Rattle.dpkg_session.specs.PowerLoss.{LosesLikeAStop}
 use Rattle.dpkg_session.specs.Refusals.{IsDecisionFor}
 use Rattle.unwind_stack.specs.declared.rows.Called.{Called}
 use Rattle.dpkg_session.specs.Units.{HasUnpackedBeside, HaveRows, IsBrokenOff, IsUnit, given_by, held_with, yielding}
 use Rattle.dpkg_session.specs.declared.report.Candidate.{Candidate}
+use Rattle.unit_reports.specs.declared.report.Report.{Report}
 use Rattle.unit_reports.specs.declared.report.Unit.{Unit as AUnit}
 
 -- one unit more
@@ -115,3 +117,19 @@ IsAmidRun auto_deconfigure [] before s so_far now = now ≡ s.world
 IsAmidRun auto_deconfigure (c ∷ cs) before s so_far now = IsAmidUnitOf auto_deconfigure c.tree before s.world so_far now
     ⊎ ((unit : AUnit) × (m : State) × (mid : Held) × IsUnit auto_deconfigure c before mid unit s m
     × ((front rest : List Event) × (so_far ≡ front ++ rest) × (m.events ≡ s.events ++ front) × IsAmidRun auto_deconfigure cs mid m rest now))
+
+-- A tree is read only once the units of those before it are told: each that was read has its unit, the last of them that which was
+-- broken off, if one was.
+abbrev pub AreReadInTurn : List Candidate → List AUnit → Option AUnit → Type 0
+AreReadInTurn cs us None = length cs ≡ length us
+AreReadInTurn cs us (Some u) = length cs ≡ length us + 1
+
+-- The report of a run over trees of which these were read, and those of the other words were not: all are read where no unit was
+-- broken off.
+pub record HasRunThrough (auto_deconfigure : Bool) (cs : List Candidate) (left : List (List ℕ)) (report : Report) (before after : Held) (s t : State) : Type 0 where
+  pub whole : IsNone report.last → IsRun auto_deconfigure cs report.units.items before after s t
+  pub all : IsNone report.last → left ≡ []
+  pub part : HasRun auto_deconfigure cs report.units.items report.last before s t
+  pub read : AreReadInTurn cs report.units.items report.last
+  pub any_moment : Since (IsAmidRun auto_deconfigure cs before s) s t
+  pub loss : LosesLikeAStop (IsAmidRun auto_deconfigure cs before s) s t

@@ -7,6 +7,7 @@ ghost use Rattle.host_core.specs.Loss.{IsAnswered};
 ghost use Rattle.unit_parts.specs.Order.{IsInOrder};
 ghost use Rattle.unit_reports.specs.Held.{held};
 ghost use Rattle.unit_reports.specs.Units.{CountsLast, IsBrokenBy, IsClosedReport, TellsCalls};
+ghost use Rattle.unit_reports.specs.Watching.{IsTold};
 ghost use Rattle.unit_reports.specs.declared.report.Breakage.TheVariants.{Closed};
 ghost use Rattle.dpkg_session.specs.Asked.{names_asked};
 ghost use Rattle.dpkg_session.specs.PowerLoss.{LosesLikeAStop, StandsOnceAnswered};
@@ -21,7 +22,7 @@ use host_core::{Host, Places};
 use status_db::NotedDatabase;
 use std::alloc::{AllocError, Global};
 use texts::Text;
-use unit_reports::Report;
+use unit_reports::{Report, Watcher};
 
 // The names that are given, or those of all packages that wait.
 fn names_asked(
@@ -38,7 +39,7 @@ fn names_asked(
 }
 
 // The report of what is configured.
-fn configure_on<H: Host>(
+fn configure_on<H: Host, W: Watcher>(
     alloc: Global,
     host: &mut H,
     database: &mut NotedDatabase,
@@ -47,6 +48,7 @@ fn configure_on<H: Host>(
     diversions: &Diversions,
     names: Option<Vec<Text>>,
     policy: ConfPolicy,
+    watcher: &mut W,
 ) -> Report
     requires order { Needs (H.state host.old) (IsInOrder database.old lists.old.lists) }
     requires noting { database.old.closed ≡ false }
@@ -63,11 +65,12 @@ fn configure_on<H: Host>(
     ensures noting { IsNone result.last → database.new.closed ≡ false }
     ensures listing { IsNone result.last → lists.new.closed ≡ false }
     ensures kept { IsNone result.last → places.new ≡ places_in diversions.now.entries lists.new.lists }
+    ensures watched { IsTold W.tells watcher.old result.units.items watcher.new }
 {
     match names_asked(alloc, database, names) {
         Ok(asked) => {
             return configure_packages(
-                alloc, host, database, lists, places, diversions, asked, policy,
+                alloc, host, database, lists, places, diversions, asked, policy, watcher,
             );
         }
         Err(_) => {
@@ -78,8 +81,13 @@ fn configure_on<H: Host>(
 
 impl<H: Host> Session<H> {
     /// Configures packages: those of these names, or all that wait where none are given. Its units are in the order that their
-    /// relations ask for; one that is broken off closes the session.
-    pub fn configure(&mut self, names: Option<Vec<Text>>, policy: ConfPolicy) -> Report
+    /// relations ask for, and each is told as it is finished; one that is broken off closes the session.
+    pub fn configure<W: Watcher>(
+        &mut self,
+        names: Option<Vec<Text>>,
+        policy: ConfPolicy,
+        watcher: &mut W,
+    ) -> Report
         ensures whole { self.old.closed ≡ false → IsNone result.last → IsConfigureRun (names_asked (option_map (λ list. list.items) names) self.old.database.records) policy result.units.items (held self.old.database self.old.lists self.old.diversions) (held self.new.database self.new.lists self.new.diversions) (H.state self.old.host) (H.state self.new.host) }
         ensures part { self.old.closed ≡ false → HasRun (names_asked (option_map (λ list. list.items) names) self.old.database.records) policy result.units.items result.last (held self.old.database self.old.lists self.old.diversions) (H.state self.old.host) (H.state self.new.host) }
         ensures told { TellsCalls (H.state self.old.host) (H.state self.new.host) result }
@@ -95,6 +103,7 @@ impl<H: Host> Session<H> {
         ensures honest { Falls (H.state self.old.host) (H.state self.new.host) }
         ensures counts { self.old.closed ≡ false → CountsLast (H.state self.old.host) (H.state self.new.host) result.last }
         ensures not_closed { self.old.closed ≡ false → IfSome result.last (λ unit. IsBrokenBy Closed unit.reply → ⊥) }
+        ensures watched { IsTold W.tells watcher.old result.units.items watcher.new }
     {
         if self.closed {
             return closed_report(self.alloc);
@@ -108,6 +117,7 @@ impl<H: Host> Session<H> {
             &self.diversions,
             names,
             policy,
+            watcher,
         );
         self.closed = report.last.is_some();
         report

@@ -1,31 +1,21 @@
 // Which packages of an unpack are configured then.
-ghost use Rattle.std.specs.Prelude.{◌≡◌, ◌++◌, IfOk, OnOk, map};
+ghost use Rattle.std.specs.Prelude.{◌≡◌, ◌++◌, IfOk, OnOk};
 ghost use Rattle.dpkg_session.specs.Installs.{done_at, half_configured, is_half, label_of, names_done};
 
 use crate::report::Candidate;
 use status_db::State;
 use std::alloc::{AllocError, Global};
-use texts::{Text, Texts};
+use texts::Text;
 use unit_reports::{Reply, Touched, Unit};
 
-// The package of a candidate, or the word that named a tree that can't be read.
-fn label_of(candidate: &Candidate) -> &Text
+/// The package of a candidate, or the word that named a tree that can't be read.
+pub(crate) fn label_of(candidate: &Candidate) -> &Text
     ensures { result.now ≡ label_of candidate.now }
 {
     match &candidate.tree {
         Ok(incoming) => &incoming.name,
         Err(_) => &candidate.label,
     }
-}
-
-pub(crate) fn labels_of(alloc: Global, candidates: &[Candidate]) -> Result<Texts, AllocError>
-    ensures { IfOk result (λ labels. labels ≡ map label_of candidates.now) }
-{
-    let mut labels = Texts::new(alloc);
-    for candidate in candidates {
-        labels.push(label_of(candidate).copy()?)?;
-    }
-    Ok(labels)
 }
 
 // Whether a package that a unit tells is half-configured.

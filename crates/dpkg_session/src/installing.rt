@@ -1,5 +1,5 @@
 // A session unpacks trees, and then configures the packages that were unpacked, and those deconfigured for them.
-ghost use Rattle.std.specs.Prelude.{◌≡◌, true, false, None, IfSome, IsNone, is_some, map};
+ghost use Rattle.std.specs.Prelude.{◌≡◌, ◌++◌, List, true, false, None, IfSome, IsNone, is_some};
 ghost use Rattle.configure_run.specs.Run.{IsConfigureRun, HasRun as HasConfigured, IsAmidRun as IsAmidConfigure};
 ghost use Rattle.file_lists.specs.Owners.{places_in};
 ghost use Rattle.host_core.specs.Host.{Falls, Needs, Since};
@@ -7,14 +7,17 @@ ghost use Rattle.host_core.specs.Loss.{IsAnswered};
 ghost use Rattle.unit_parts.specs.Order.{IsInOrder};
 ghost use Rattle.unit_reports.specs.Held.{held};
 ghost use Rattle.unit_reports.specs.Units.{CountsLast, IsBrokenBy, IsClosedReport, TellsCalls};
+ghost use Rattle.unit_reports.specs.Watching.{IsTold};
 ghost use Rattle.unit_reports.specs.declared.report.Breakage.TheVariants.{Closed};
-ghost use Rattle.dpkg_session.specs.Installs.{HasInstalled, IsAmidInstall, IsEmptyReport, IsInstall, TellsBoth, label_of, last_of, names_done};
-ghost use Rattle.dpkg_session.specs.PowerLoss.{LosesLikeAStop, StandsOnceAnswered};
+ghost use Rattle.dpkg_session.specs.Installs.{HasInstalledThrough, IsEmptyReport, TellsBoth, last_of, names_done};
+ghost use Rattle.dpkg_session.specs.PowerLoss.{StandsOnceAnswered};
+ghost use Rattle.dpkg_session.specs.Trees.{AreRead};
+ghost use Rattle.dpkg_session.specs.declared.report.Candidate.{Candidate as ACandidate};
 
-use crate::done::{labels_of, names_done};
-use crate::report::Unpack;
+use crate::done::names_done;
 use crate::session::{Session, closed_report};
 use crate::table_units::no_memory;
+use crate::trees::Trees;
 use crate::units::run_units;
 use conffiles::ConfPolicy;
 use configure_run::configure_packages;
@@ -23,8 +26,8 @@ use file_lists::FileLists;
 use host_core::{Host, Places};
 use status_db::NotedDatabase;
 use std::alloc::Global;
-use texts::Text;
-use unit_reports::{Report, Unit};
+use texts::{Text, Texts};
+use unit_reports::{Report, Unit, Watcher, what_is_told_in_turn};
 
 /// What an install answers: the report of its unpacks, and that of what was configured then; nothing, where an unpack was
 /// broken off.
@@ -52,7 +55,7 @@ fn empty_report(alloc: Global) -> Report
 }
 
 // Configures the packages of these names whose units answered Done.
-fn configure_done<H: Host>(
+fn configure_done<H: Host, W: Watcher>(
     alloc: Global,
     host: &mut H,
     database: &mut NotedDatabase,
@@ -62,6 +65,7 @@ fn configure_done<H: Host>(
     labels: &[Text],
     units: &[Unit],
     policy: ConfPolicy,
+    watcher: &mut W,
 ) -> Report
     requires order { Needs (H.state host.old) (IsInOrder database.old lists.old.lists) }
     requires noting { database.old.closed ≡ false }
@@ -78,11 +82,12 @@ fn configure_done<H: Host>(
     ensures noting { IsNone result.last → database.new.closed ≡ false }
     ensures listing { IsNone result.last → lists.new.closed ≡ false }
     ensures kept { IsNone result.last → places.new ≡ places_in diversions.now.entries lists.new.lists }
+    ensures watched { IsTold W.tells watcher.old result.units.items watcher.new }
 {
     match names_done(alloc, labels, units) {
         Ok(names) => {
             return configure_packages(
-                alloc, host, database, lists, places, diversions, names, policy,
+                alloc, host, database, lists, places, diversions, names, policy, watcher,
             );
         }
         Err(_) => {
@@ -92,26 +97,24 @@ fn configure_done<H: Host>(
 }
 
 // The unpacks, and then what is configured.
-fn unpack_and_configure<H: Host>(
+fn unpack_and_configure<H: Host, T: Trees, W: Watcher>(
     alloc: Global,
     host: &mut H,
     database: &mut NotedDatabase,
     lists: &mut FileLists,
     places: &mut Places,
     diversions: &Diversions,
-    labels: &[Text],
-    unpack: Unpack,
+    trees: &mut T,
+    auto_deconfigure: bool,
     policy: ConfPolicy,
+    watcher: &mut W,
 ) -> Installed
-    requires named { labels.now ≡ map label_of unpack.candidates.items }
     requires order { Needs (H.state host.old) (IsInOrder database.old lists.old.lists) }
     requires noting { database.old.closed ≡ false }
     requires listing { lists.old.closed ≡ false }
     requires kept { places.old ≡ places_in diversions.now.entries lists.old.lists }
-    ensures whole { IsNone (last_of result.unpacked.last result.configured.last) → IsInstall unpack.auto_deconfigure unpack.candidates.items policy result.unpacked.units.items result.configured.units.items (held database.old lists.old diversions.now) (held database.new lists.new diversions.now) (H.state host.old) (H.state host.new) }
-    ensures part { HasInstalled unpack.auto_deconfigure unpack.candidates.items policy result.unpacked.units.items result.unpacked.last result.configured (held database.old lists.old diversions.now) (H.state host.old) (H.state host.new) }
+    ensures run { (cs : List ACandidate) × AreRead T.reads trees.old cs trees.new × HasInstalledThrough auto_deconfigure cs (T.words trees.new) policy result.unpacked result.configured (held database.old lists.old diversions.now) (held database.new lists.new diversions.now) (H.state host.old) (H.state host.new) }
     ensures told { TellsBoth (H.state host.old) (H.state host.new) result.unpacked result.configured }
-    ensures any_moment { Since (IsAmidInstall unpack.auto_deconfigure unpack.candidates.items policy (held database.old lists.old diversions.now) (H.state host.old)) (H.state host.old) (H.state host.new) }
     ensures answered { IsNone (last_of result.unpacked.last result.configured.last) → IsAnswered (H.state host.old) (H.state host.new) }
     ensures counts { CountsLast (H.state host.old) (H.state host.new) (last_of result.unpacked.last result.configured.last) }
     ensures not_closed { IfSome (last_of result.unpacked.last result.configured.last) (λ unit. IsBrokenBy Closed unit.reply → ⊥) }
@@ -119,8 +122,22 @@ fn unpack_and_configure<H: Host>(
     ensures noting { IsNone (last_of result.unpacked.last result.configured.last) → database.new.closed ≡ false }
     ensures listing { IsNone (last_of result.unpacked.last result.configured.last) → lists.new.closed ≡ false }
     ensures kept { IsNone (last_of result.unpacked.last result.configured.last) → places.new ≡ places_in diversions.now.entries lists.new.lists }
+    ensures watched { IsTold W.tells watcher.old (result.unpacked.units.items ++ result.configured.units.items) watcher.new }
 {
-    let unpacked = run_units(alloc, host, database, lists, places, diversions, unpack);
+    what_is_told_in_turn::<W>();
+    let mut labels = Texts::new(alloc);
+    let unpacked = run_units(
+        alloc,
+        host,
+        database,
+        lists,
+        places,
+        diversions,
+        trees,
+        auto_deconfigure,
+        &mut labels,
+        watcher,
+    );
     if unpacked.last.is_some() {
         return Installed {
             unpacked,
@@ -134,9 +151,10 @@ fn unpack_and_configure<H: Host>(
         lists,
         places,
         diversions,
-        labels,
+        labels.as_slice(),
         unpacked.units.as_slice(),
         policy,
+        watcher,
     );
     Installed {
         unpacked,
@@ -144,63 +162,24 @@ fn unpack_and_configure<H: Host>(
     }
 }
 
-fn install_on<H: Host>(
-    alloc: Global,
-    host: &mut H,
-    database: &mut NotedDatabase,
-    lists: &mut FileLists,
-    places: &mut Places,
-    diversions: &Diversions,
-    unpack: Unpack,
-    policy: ConfPolicy,
-) -> Installed
-    requires order { Needs (H.state host.old) (IsInOrder database.old lists.old.lists) }
-    requires noting { database.old.closed ≡ false }
-    requires listing { lists.old.closed ≡ false }
-    requires kept { places.old ≡ places_in diversions.now.entries lists.old.lists }
-    ensures whole { IsNone (last_of result.unpacked.last result.configured.last) → IsInstall unpack.auto_deconfigure unpack.candidates.items policy result.unpacked.units.items result.configured.units.items (held database.old lists.old diversions.now) (held database.new lists.new diversions.now) (H.state host.old) (H.state host.new) }
-    ensures part { HasInstalled unpack.auto_deconfigure unpack.candidates.items policy result.unpacked.units.items result.unpacked.last result.configured (held database.old lists.old diversions.now) (H.state host.old) (H.state host.new) }
-    ensures told { TellsBoth (H.state host.old) (H.state host.new) result.unpacked result.configured }
-    ensures any_moment { Since (IsAmidInstall unpack.auto_deconfigure unpack.candidates.items policy (held database.old lists.old diversions.now) (H.state host.old)) (H.state host.old) (H.state host.new) }
-    ensures answered { IsNone (last_of result.unpacked.last result.configured.last) → IsAnswered (H.state host.old) (H.state host.new) }
-    ensures counts { CountsLast (H.state host.old) (H.state host.new) (last_of result.unpacked.last result.configured.last) }
-    ensures not_closed { IfSome (last_of result.unpacked.last result.configured.last) (λ unit. IsBrokenBy Closed unit.reply → ⊥) }
-    ensures order { IsNone (last_of result.unpacked.last result.configured.last) → Needs (H.state host.new) (IsInOrder database.new lists.new.lists) }
-    ensures noting { IsNone (last_of result.unpacked.last result.configured.last) → database.new.closed ≡ false }
-    ensures listing { IsNone (last_of result.unpacked.last result.configured.last) → lists.new.closed ≡ false }
-    ensures kept { IsNone (last_of result.unpacked.last result.configured.last) → places.new ≡ places_in diversions.now.entries lists.new.lists }
-{
-    match labels_of(alloc, unpack.candidates.as_slice()) {
-        Ok(labels) => unpack_and_configure(
-            alloc,
-            host,
-            database,
-            lists,
-            places,
-            diversions,
-            labels.as_slice(),
-            unpack,
-            policy,
-        ),
-        Err(_) => Installed {
-            unpacked: no_memory(alloc),
-            configured: empty_report(alloc),
-        },
-    }
-}
-
 impl<H: Host> Session<H> {
     /// Unpacks trees, and then configures the packages that were unpacked, and those deconfigured for them, where no unpack was
-    /// broken off. A unit that is broken off closes the session.
-    pub fn install(&mut self, unpack: Unpack, policy: ConfPolicy) -> Installed
-        ensures whole { self.old.closed ≡ false → IsNone (last_of result.unpacked.last result.configured.last) → IsInstall unpack.auto_deconfigure unpack.candidates.items policy result.unpacked.units.items result.configured.units.items (held self.old.database self.old.lists self.old.diversions) (held self.new.database self.new.lists self.new.diversions) (H.state self.old.host) (H.state self.new.host) }
-        ensures part { self.old.closed ≡ false → HasInstalled unpack.auto_deconfigure unpack.candidates.items policy result.unpacked.units.items result.unpacked.last result.configured (held self.old.database self.old.lists self.old.diversions) (H.state self.old.host) (H.state self.new.host) }
+    /// broken off. A unit that is broken off closes the session. Each tree is read once the unit of the one before it is told to
+    /// the watcher; the unit that was broken off isn't told.
+    pub fn install<T: Trees, W: Watcher>(
+        &mut self,
+        trees: &mut T,
+        auto_deconfigure: bool,
+        policy: ConfPolicy,
+        watcher: &mut W,
+    ) -> Installed
+        ensures run { self.old.closed ≡ false → (cs : List ACandidate) × AreRead T.reads trees.old cs trees.new × HasInstalledThrough auto_deconfigure cs (T.words trees.new) policy result.unpacked result.configured (held self.old.database self.old.lists self.old.diversions) (held self.new.database self.new.lists self.new.diversions) (H.state self.old.host) (H.state self.new.host) }
         ensures told { TellsBoth (H.state self.old.host) (H.state self.new.host) result.unpacked result.configured }
-        ensures any_moment { self.old.closed ≡ false → Since (IsAmidInstall unpack.auto_deconfigure unpack.candidates.items policy (held self.old.database self.old.lists self.old.diversions) (H.state self.old.host)) (H.state self.old.host) (H.state self.new.host) }
-        ensures loss { self.old.closed ≡ false → LosesLikeAStop (IsAmidInstall unpack.auto_deconfigure unpack.candidates.items policy (held self.old.database self.old.lists self.old.diversions) (H.state self.old.host)) (H.state self.old.host) (H.state self.new.host) }
+        ensures watched { IsTold W.tells watcher.old (result.unpacked.units.items ++ result.configured.units.items) watcher.new }
         ensures stands { self.old.closed ≡ false → IsNone (last_of result.unpacked.last result.configured.last) → StandsOnceAnswered (H.state self.old.host) (H.state self.new.host) }
         ensures closes { self.new.closed ≡ is_some (last_of result.unpacked.last result.configured.last) }
         ensures refused { self.old.closed ≡ true → IsClosedReport result.unpacked × IsEmptyReport result.configured }
+        ensures unread { self.old.closed ≡ true → trees.new ≡ trees.old }
         ensures same { self.old.closed ≡ true → H.state self.new.host ≡ H.state self.old.host }
         ensures same_held { self.old.closed ≡ true → held self.new.database self.new.lists self.new.diversions ≡ held self.old.database self.old.lists self.old.diversions }
         ensures answered { self.old.closed ≡ false → IsNone (last_of result.unpacked.last result.configured.last) → IsAnswered (H.state self.old.host) (H.state self.new.host) }
@@ -215,15 +194,17 @@ impl<H: Host> Session<H> {
                 configured: empty_report(self.alloc),
             };
         }
-        let installed = install_on(
+        let installed = unpack_and_configure(
             self.alloc,
             &mut self.host,
             &mut self.database,
             &mut self.lists,
             &mut self.places,
             &self.diversions,
-            unpack,
+            trees,
+            auto_deconfigure,
             policy,
+            watcher,
         );
         self.closed = installed.is_broken();
         installed

@@ -15,6 +15,7 @@ mod report;
 mod session;
 mod table_units;
 mod tellings;
+mod trees;
 mod undiverting;
 mod units;
 mod unpacking;
@@ -23,6 +24,9 @@ pub use asked::{Diverting, Undiverting};
 pub use installing::Installed;
 pub use laws::history_stands;
 pub use questions::QueryFault;
-pub use report::{Candidate, Unpack};
-pub use session::{Command, Session};
-pub use unit_reports::{Breakage, Failure, Refusal, Reply, Report, Rule, Touched, Unit};
+pub use report::Candidate;
+pub use session::Session;
+pub use trees::Trees;
+pub use unit_reports::{
+    Breakage, Failure, Refusal, Reply, Report, Rule, Touched, Unit, Unwatched, Watcher,
+};

@@ -8,10 +8,3 @@ pub struct Candidate {
     pub label: Text,
     pub tree: Result<Package, TreeFault>,
 }
-
-/// The trees to be unpacked, in this order, and whether other packages may be deconfigured for them.
-#[derive(Drop)]
-pub struct Unpack {
-    pub candidates: Vec<Candidate>,
-    pub auto_deconfigure: bool,
-}

@@ -1,6 +1,6 @@
 // A session over one host.
-ghost use Rattle.std.specs.Prelude.{◌≡◌, true, false, IsTrue, IsNone, OnOk, IfOk, IfErr, IfSome, is_some, Some, None};
-ghost use Rattle.host_core.specs.Host.{AtEachMoment, Falls, Gives, Needs, Silent, Since, faults};
+ghost use Rattle.std.specs.Prelude.{◌≡◌, List, true, false, IsTrue, IsNone, OnOk, IfOk, IfErr, IfSome, is_some, Some, None};
+ghost use Rattle.host_core.specs.Host.{AtEachMoment, Falls, Gives, Needs, Silent, faults};
 ghost use Rattle.host_core.specs.Loss.{IsAnswered, IsOnDisk};
 ghost use Rattle.administration.specs.Fault.{CountsAdministration};
 ghost use Rattle.file_lists.specs.Owners.{places_in};
@@ -10,11 +10,14 @@ ghost use Rattle.opening.specs.Parts.{OpensAndMerges, fault_in};
 ghost use Rattle.unit_reports.specs.Held.{held};
 ghost use Rattle.unit_reports.specs.declared.report.Breakage.TheVariants.{Closed};
 ghost use Rattle.dpkg_session.specs.PowerLoss.{LosesLikeAStop, StandsOnceAnswered};
-ghost use Rattle.dpkg_session.specs.Run.{IsAmidRun, IsRun, HasRun};
+ghost use Rattle.dpkg_session.specs.Run.{HasRunThrough};
 ghost use Rattle.dpkg_session.specs.Standing.{CountsRefusal, IsStanding, OpensAll};
+ghost use Rattle.dpkg_session.specs.Trees.{AreRead};
+ghost use Rattle.dpkg_session.specs.declared.report.Candidate.{Candidate as ACandidate};
 ghost use Rattle.unit_reports.specs.Units.{CountsLast, IsBrokenBy, IsClosedReport, TellsCalls};
+ghost use Rattle.unit_reports.specs.Watching.{IsTold};
 
-use crate::report::Unpack;
+use crate::trees::Trees;
 use crate::units::run_units;
 use administration::AdministrationFault;
 use diversions::Diversions;
@@ -23,25 +26,8 @@ use host_core::{Host, Places};
 use opening::{Opened, open_administration};
 use status_db::NotedDatabase;
 use std::alloc::Global;
-use unit_reports::{Breakage, Report, broken};
-
-/// A command: trees to be unpacked.
-#[derive(Drop)]
-pub enum Command {
-    Unpack(Unpack),
-}
-
-impl Command {
-    ghost use Rattle.dpkg_session.specs.Commands.{unpack_of};
-
-    fn into_unpack(self) -> Unpack
-        ensures { result ≡ unpack_of self }
-    {
-        match self {
-            Command::Unpack(unpack) => unpack,
-        }
-    }
-}
+use texts::Texts;
+use unit_reports::{Breakage, Report, Watcher, broken};
 
 /// A root whose administration is open. After a unit that was broken off it is closed. A running
 /// script leaves alone the places of all listed paths, which are computed anew as lists or
@@ -94,8 +80,6 @@ pub(crate) fn closed_report(alloc: Global) -> Report
 }
 
 impl<H: Host> Session<H> {
-    ghost use Rattle.dpkg_session.specs.Commands.{candidates_of, may_deconfigure};
-
     /// Opens the administration of a host. A refusal hands the host back; it and what was changed
     /// then are told by `refused`.
     pub fn open(alloc: Global, mut host: H) -> Result<Session<H>, (H, AdministrationFault)>
@@ -137,16 +121,21 @@ impl<H: Host> Session<H> {
         }
     }
 
-    /// Runs a command: its units in order, up to one that is broken off, which closes the session.
-    pub fn run(&mut self, command: Command) -> Report
-        ensures whole { self.old.closed ≡ false → IsNone result.last → IsRun (may_deconfigure command) (candidates_of command) result.units.items (held self.old.database self.old.lists self.old.diversions) (held self.new.database self.new.lists self.new.diversions) (H.state self.old.host) (H.state self.new.host) }
-        ensures part { self.old.closed ≡ false → HasRun (may_deconfigure command) (candidates_of command) result.units.items result.last (held self.old.database self.old.lists self.old.diversions) (H.state self.old.host) (H.state self.new.host) }
+    /// Unpacks trees: their units in order, up to one that is broken off, which closes the session. Each tree is read once the
+    /// unit of the one before it is told to the watcher; the unit that was broken off isn't told.
+    pub fn run<T: Trees, W: Watcher>(
+        &mut self,
+        trees: &mut T,
+        auto_deconfigure: bool,
+        watcher: &mut W,
+    ) -> Report
+        ensures run { self.old.closed ≡ false → (cs : List ACandidate) × AreRead T.reads trees.old cs trees.new × HasRunThrough auto_deconfigure cs (T.words trees.new) result (held self.old.database self.old.lists self.old.diversions) (held self.new.database self.new.lists self.new.diversions) (H.state self.old.host) (H.state self.new.host) }
         ensures told { TellsCalls (H.state self.old.host) (H.state self.new.host) result }
-        ensures any_moment { self.old.closed ≡ false → Since (IsAmidRun (may_deconfigure command) (candidates_of command) (held self.old.database self.old.lists self.old.diversions) (H.state self.old.host)) (H.state self.old.host) (H.state self.new.host) }
-        ensures loss { self.old.closed ≡ false → LosesLikeAStop (IsAmidRun (may_deconfigure command) (candidates_of command) (held self.old.database self.old.lists self.old.diversions) (H.state self.old.host)) (H.state self.old.host) (H.state self.new.host) }
+        ensures watched { IsTold W.tells watcher.old result.units.items watcher.new }
         ensures stands { self.old.closed ≡ false → IsNone result.last → StandsOnceAnswered (H.state self.old.host) (H.state self.new.host) }
         ensures closes { self.new.closed ≡ is_some result.last }
         ensures refused { self.old.closed ≡ true → IsClosedReport result }
+        ensures unread { self.old.closed ≡ true → trees.new ≡ trees.old }
         ensures same { self.old.closed ≡ true → H.state self.new.host ≡ H.state self.old.host }
         ensures same_held { self.old.closed ≡ true → held self.new.database self.new.lists self.new.diversions ≡ held self.old.database self.old.lists self.old.diversions }
         ensures answered { self.old.closed ≡ false → IsNone result.last → IsAnswered (H.state self.old.host) (H.state self.new.host) }
@@ -158,6 +147,7 @@ impl<H: Host> Session<H> {
         if self.closed {
             return closed_report(self.alloc);
         }
+        let mut labels = Texts::new(self.alloc);
         let report = run_units(
             self.alloc,
             &mut self.host,
@@ -165,7 +155,10 @@ impl<H: Host> Session<H> {
             &mut self.lists,
             &mut self.places,
             &self.diversions,
-            command.into_unpack(),
+            trees,
+            auto_deconfigure,
+            &mut labels,
+            watcher,
         );
         self.closed = report.last.is_some();
         report

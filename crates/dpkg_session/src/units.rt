@@ -1,6 +1,6 @@
 // The units of a command, one after another.
-ghost use Rattle.std.specs.Prelude.{◌≡◌, ◌⊎◌, false, None, [], IfErr, OnOk, OnErr, IfSome, IsNone};
-ghost use Rattle.host_core.specs.Host.{AtEachMomentOf, Needs, Since, faults};
+ghost use Rattle.std.specs.Prelude.{◌≡◌, ◌⊎◌, ◌++◌, ◌∷◌, ◌<◌, List, false, None, [], IfErr, OnOk, OnErr, IfSome, IsNone, map, vec_capacity, vec_len};
+ghost use Rattle.host_core.specs.Host.{AtEachMomentOf, Needs, faults};
 ghost use Rattle.host_core.specs.Loss.{IsAnswered, IsOnDisk};
 ghost use Rattle.file_lists.specs.Owners.{places_in};
 ghost use Rattle.unwind_stack.specs.Transcript.{TellsAll};
@@ -8,15 +8,21 @@ ghost use Rattle.unpack_engine.specs.Order.{IsInOrder};
 ghost use Rattle.unpack_relations.specs.Checks.{AreApart};
 ghost use Rattle.unit_reports.specs.declared.refusal.Rule.TheVariants.{Tree};
 ghost use Rattle.unit_reports.specs.declared.report.Breakage.TheVariants.{NoMemory, Closed};
+ghost use Rattle.dpkg_session.specs.declared.report.Candidate.{Candidate as ACandidate};
 ghost use Rattle.unit_reports.specs.Held.{held};
-ghost use Rattle.dpkg_session.specs.Run.{AddsUnit, IsAmidPackage, IsAmidRun, IsAmidUnitOf, IsAmidUnpack, IsRun, HasRun};
+ghost use Rattle.unit_reports.specs.Watching.{AddsTold, IsTold};
+ghost use Rattle.dpkg_session.specs.Installs.{label_of};
+ghost use Rattle.dpkg_session.specs.Run.{AddsUnit, HasRunThrough, IsAmidPackage, IsAmidUnitOf, IsAmidUnpack};
+ghost use Rattle.dpkg_session.specs.Trees.{AreRead};
 ghost use Rattle.unit_reports.specs.Units.{CountsLast, CountsReply, IsBroken, IsBrokenBy, breakage_of, TellsCalls, calls_of};
 ghost use Rattle.dpkg_session.specs.Units.{AnswersBoth, HasCalledOf, HasCalledPackage, HasCalledWhole, IsBehind, IsBrokenOff, IsPackageUnit, IsUnit, IsUnpacked, reply_to};
 
 use crate::displacing::{Behind, UnpackEnd, behind_of, unpack_whole};
+use crate::done::label_of;
 use crate::refusal::decision_of;
-use crate::report::{Candidate, Unpack};
+use crate::report::Candidate;
 use crate::tellings::touched_of_both;
+use crate::trees::Trees;
 use displaced_packages::Displaced;
 use diversions::Diversions;
 use file_lists::FileLists;
@@ -24,10 +30,11 @@ use host_core::{Call, Host, Places};
 use package_tree::Package;
 use stack_run::{Failure as Cause, Unwinding};
 use status_db::NotedDatabase;
-use std::alloc::Global;
-use texts::Text;
+use std::alloc::{AllocError, Global};
+use texts::{Text, Texts};
 use unit_reports::{
-    Breakage, Failure, Reply, Report, Rule, Unit, breakage_of, broken, is_broken, refused,
+    Breakage, Failure, Reply, Report, Rule, Unit, Watcher, breakage_of, broken, is_broken, refused,
+    what_is_told_in_turn,
 };
 use unpack_engine::Unpacked;
 use unpack_relations::{Beside, Checked};
@@ -244,8 +251,23 @@ fn unit_of<H: Host>(
     }
 }
 
+// Room for the unit of a candidate, and its label.
+fn prepare(
+    units: &mut Vec<Unit>,
+    labels: &mut Texts,
+    candidate: &Candidate,
+) -> Result<(), AllocError>
+    ensures same { units.new.items ≡ units.old.items }
+    ensures room { OnOk result (vec_len units.new < vec_capacity units.new) }
+    ensures labels { OnOk result (labels.new ≡ labels.old ++ label_of candidate.now ∷ []) }
+{
+    units.reserve(1)?;
+    labels.push(label_of(candidate).copy()?)?;
+    Ok(())
+}
+
 // The unit of one candidate more, or the unit that was broken off.
-fn run_one<H: Host>(
+fn run_one<H: Host, W: Watcher>(
     alloc: Global,
     host: &mut H,
     database: &mut NotedDatabase,
@@ -254,7 +276,9 @@ fn run_one<H: Host>(
     diversions: &Diversions,
     candidate: Candidate,
     auto_deconfigure: bool,
+    labels: &mut Texts,
     units: &mut Vec<Unit>,
+    watcher: &mut W,
 ) -> Result<(), Unit>
     requires order { Needs (H.state host.old) (IsInOrder database.old lists.old.lists) }
     requires noting { database.old.closed ≡ false }
@@ -272,8 +296,10 @@ fn run_one<H: Host>(
     ensures no_fault { OnOk result (faults (H.state host.new) ≡ faults (H.state host.old)) }
     ensures counts { IfErr result (λ unit. CountsReply (H.state host.old) (H.state host.new) unit.reply) }
     ensures not_closed { IfErr result (λ unit. IsBrokenBy Closed unit.reply → ⊥) }
+    ensures labels { OnOk result (labels.new ≡ labels.old ++ label_of candidate ∷ []) }
+    ensures watched { AddsTold W.tells units.old.items units.new.items watcher.old watcher.new }
 {
-    if units.reserve(1).is_err() {
+    if prepare(units, labels, &candidate).is_err() {
         return Err(broken(alloc, Vec::new(alloc), Breakage::NoMemory));
     }
     let unit = unit_of(
@@ -289,60 +315,68 @@ fn run_one<H: Host>(
     if is_broken(&unit) {
         return Err(unit);
     }
+    watcher.finished(&unit);
     units.push(unit).unwrap();
     Ok(())
 }
 
-// The units of an unpack in the order of its candidates, up to one that is broken off.
-pub(crate) fn run_units<H: Host>(
+/// The units of trees, each read once the unit of the one before it is told, up to one that is broken off. The labels are those
+/// of the trees whose units are told.
+pub(crate) fn run_units<H: Host, T: Trees, W: Watcher>(
     alloc: Global,
     host: &mut H,
     database: &mut NotedDatabase,
     lists: &mut FileLists,
     places: &mut Places,
     diversions: &Diversions,
-    unpack: Unpack,
+    trees: &mut T,
+    auto_deconfigure: bool,
+    labels: &mut Texts,
+    watcher: &mut W,
 ) -> Report
+    requires none { labels.old ≡ [] }
     requires order { Needs (H.state host.old) (IsInOrder database.old lists.old.lists) }
     requires noting { database.old.closed ≡ false }
     requires listing { lists.old.closed ≡ false }
     requires kept { places.old ≡ places_in diversions.now.entries lists.old.lists }
-    ensures whole { IsNone result.last → IsRun unpack.auto_deconfigure unpack.candidates.items result.units.items (held database.old lists.old diversions.now) (held database.new lists.new diversions.now) (H.state host.old) (H.state host.new) }
-    ensures part { HasRun unpack.auto_deconfigure unpack.candidates.items result.units.items result.last (held database.old lists.old diversions.now) (H.state host.old) (H.state host.new) }
+    ensures run { (cs : List ACandidate) × AreRead T.reads trees.old cs trees.new × HasRunThrough auto_deconfigure cs (T.words trees.new) result (held database.old lists.old diversions.now) (held database.new lists.new diversions.now) (H.state host.old) (H.state host.new) × (IsNone result.last → labels.new ≡ map label_of cs) }
     ensures told { TellsCalls (H.state host.old) (H.state host.new) result }
-    ensures any_moment { Since (IsAmidRun unpack.auto_deconfigure unpack.candidates.items (held database.old lists.old diversions.now) (H.state host.old)) (H.state host.old) (H.state host.new) }
     ensures counts { CountsLast (H.state host.old) (H.state host.new) result.last }
     ensures not_closed { IfSome result.last (λ unit. IsBrokenBy Closed unit.reply → ⊥) }
     ensures order { IsNone result.last → Needs (H.state host.new) (IsInOrder database.new lists.new.lists) }
     ensures noting { IsNone result.last → database.new.closed ≡ false }
     ensures listing { IsNone result.last → lists.new.closed ≡ false }
     ensures kept { IsNone result.last → places.new ≡ places_in diversions.now.entries lists.new.lists }
+    ensures watched { IsTold W.tells watcher.old result.units.items watcher.new }
 {
-    let Unpack {
-        candidates,
-        auto_deconfigure,
-    } = unpack;
+    what_is_told_in_turn::<W>();
     let mut units = Vec::new(alloc);
-    for candidate in candidates {
-        match run_one(
-            alloc,
-            host,
-            database,
-            lists,
-            places,
-            diversions,
-            candidate,
-            auto_deconfigure,
-            &mut units,
-        ) {
-            Ok(()) => {}
-            Err(unit) => {
-                return Report {
-                    units,
-                    last: Some(unit),
-                };
+    loop {
+        match trees.next() {
+            Some(candidate) => match run_one(
+                alloc,
+                host,
+                database,
+                lists,
+                places,
+                diversions,
+                candidate,
+                auto_deconfigure,
+                labels,
+                &mut units,
+                watcher,
+            ) {
+                Ok(()) => {}
+                Err(unit) => {
+                    return Report {
+                        units,
+                        last: Some(unit),
+                    };
+                }
+            },
+            None => {
+                return Report { units, last: None };
             }
         }
     }
-    Report { units, last: None }
 }

@@ -9,7 +9,6 @@ use Rattle.removal_engine.specs.Units.{IsRemovable}
 use Rattle.status_db.specs.Records.{record_in}
 use Rattle.status_db.specs.declared.record.Record.{Record}
 use Rattle.status_db.specs.declared.words.State.{State}
-use Rattle.status_db.specs.declared.words.State.TheVariants.{ConfigFiles}
 use Rattle.unit_reports.specs.declared.refusal.Rule.{Rule}
 use Rattle.unit_reports.specs.declared.refusal.Rule.TheVariants.{NothingToRemove, Reinstreq, Essential}
 use Rattle.removal_run.specs.Refusals.{is_config_files, rule_for, rule_of}

@@ -77,14 +77,14 @@ abbrev pub IsAmidRun : List (List ℕ) → Bool → Held → State → List Even
 IsAmidRun names purge before s so_far now = IsAmidTurns purge (waiting_for purge names before) before s so_far now
 
 -- the units of those that are left over of a queue, behind others
-pub record AddsTold (q : Waiting) (old new : List AUnit) : Type 0 where
+pub record AddsLeft (q : Waiting) (old new : List AUnit) : Type 0 where
   pub left : List AUnit
   pub grown : new ≡ old ++ left
   pub told : AreAllTold q left
 
 -- they are told, unless memory was wanting for them
 abbrev pub EndsWith : Waiting → List AUnit → List AUnit → Option AUnit → Type 0
-EndsWith q old new None = AddsTold q old new
+EndsWith q old new None = AddsLeft q old new
 EndsWith q old new (Some u) = (new ≡ old) × IsIdle u
 
 abbrev pub EndsAs : Waiting → List AUnit → Report → Type 0

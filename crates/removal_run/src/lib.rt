@@ -6,6 +6,7 @@ mod left;
 mod names;
 mod refusals;
 mod run;
+mod telling;
 mod turns;
 mod units;
 mod waiting;

@@ -6,17 +6,19 @@ ghost use Rattle.host_core.specs.Loss.{IsAnswered};
 ghost use Rattle.file_lists.specs.Owners.{places_in};
 ghost use Rattle.removal_run.specs.Names.{once};
 ghost use Rattle.removal_run.specs.Refusals.{AreRefused, accepted, refusals};
-ghost use Rattle.removal_run.specs.Run.{AddsTold, EndsAs, HasRun, IsRemovalRun, RunsThrough, RunsUpTo, waiting_for};
+ghost use Rattle.removal_run.specs.Run.{AddsLeft, EndsAs, HasRun, IsRemovalRun, RunsThrough, RunsUpTo, waiting_for};
 ghost use Rattle.removal_run.specs.Waiting.{is_named};
 ghost use Rattle.removal_run.specs.Turns.{AreAccepted, IsAmidTurns};
 ghost use Rattle.unit_parts.specs.Order.{IsInOrder};
 ghost use Rattle.unit_reports.specs.Held.{held};
 ghost use Rattle.unit_reports.specs.Units.{CountsLast, IsBrokenBy, TellsCalls, calls_of};
+ghost use Rattle.unit_reports.specs.Watching.{AddsTold, IsTold};
 ghost use Rattle.unit_reports.specs.declared.report.Breakage.TheVariants.{Closed};
 
 use crate::left::left_over;
 use crate::names::once;
 use crate::refusals::{Sorted, sort};
+use crate::telling::tell_all;
 use crate::turns::run_turns;
 use dependency_check::RemoveQueue;
 use diversions::Diversions;
@@ -25,7 +27,7 @@ use host_core::{Host, Places};
 use status_db::NotedDatabase;
 use std::alloc::{AllocError, Global};
 use texts::Text;
-use unit_reports::{Breakage, Report, Unit, broken};
+use unit_reports::{Breakage, Report, Unit, Watcher, broken, what_is_told_in_turn};
 
 // The names once each, by whether a rule refuses them.
 fn sorted(
@@ -41,44 +43,55 @@ fn sorted(
     sort(alloc, purge, database, list)
 }
 
-// Units behind others, all of them or none.
-fn append(units: &mut Vec<Unit>, more: Vec<Unit>) -> Result<(), AllocError>
+// Units behind others, all of them or none: they are told once there is room for them.
+fn append<W: Watcher>(
+    units: &mut Vec<Unit>,
+    more: Vec<Unit>,
+    watcher: &mut W,
+) -> Result<(), AllocError>
     ensures ok { OnOk result (units.new.items ≡ units.old.items ++ more.items) }
     ensures err { OnErr result (units.new.items ≡ units.old.items) }
+    ensures watched { AddsTold W.tells units.old.items units.new.items watcher.old watcher.new }
 {
-    let before = units.len();
-    for unit in more {
-        if units.push(unit).is_err() {
-            units.truncate(before);
-            return Err(AllocError);
-        }
-    }
+    let mut more = more;
+    units.reserve(more.len())?;
+    tell_all(more.as_slice(), watcher);
+    units.append(&mut more).unwrap();
     Ok(())
 }
 
 // The units of those that are left over, behind the others.
-fn tell_left(
+fn tell_left<W: Watcher>(
     alloc: Global,
     queue: &RemoveQueue,
     waiting: &[Text],
     units: &mut Vec<Unit>,
+    watcher: &mut W,
 ) -> Result<(), AllocError>
     requires queue { queue.now.waiting ≡ map (is_named waiting.now) queue.now.packages }
     requires none { (x : ℕ) → IsRemovableNow queue.now x → ⊥ }
-    ensures ok { OnOk result (AddsTold queue.now units.old.items units.new.items) }
+    ensures ok { OnOk result (AddsLeft queue.now units.old.items units.new.items) }
     ensures err { OnErr result (units.new.items ≡ units.old.items) }
+    ensures watched { AddsTold W.tells units.old.items units.new.items watcher.old watcher.new }
 {
     let left = left_over(alloc, queue, waiting)?;
-    append(units, left)
+    append(units, left, watcher)
 }
 
 // The report of units behind which those that are left over are told.
-fn ended(alloc: Global, queue: &RemoveQueue, waiting: &[Text], mut units: Vec<Unit>) -> Report
+fn ended<W: Watcher>(
+    alloc: Global,
+    queue: &RemoveQueue,
+    waiting: &[Text],
+    mut units: Vec<Unit>,
+    watcher: &mut W,
+) -> Report
     requires queue { queue.now.waiting ≡ map (is_named waiting.now) queue.now.packages }
     requires none { (x : ℕ) → IsRemovableNow queue.now x → ⊥ }
-    ensures { EndsAs queue.now units.items result }
+    ensures ends { EndsAs queue.now units.items result }
+    ensures watched { AddsTold W.tells units.items result.units.items watcher.old watcher.new }
 {
-    match tell_left(alloc, queue, waiting, &mut units) {
+    match tell_left(alloc, queue, waiting, &mut units, watcher) {
         Ok(()) => Report { units, last: None },
         Err(_) => Report {
             units,
@@ -88,7 +101,7 @@ fn ended(alloc: Global, queue: &RemoveQueue, waiting: &[Text], mut units: Vec<Un
 }
 
 // The report of a command whose names are sorted.
-fn run_sorted<H: Host>(
+fn run_sorted<H: Host, W: Watcher>(
     alloc: Global,
     host: &mut H,
     database: &mut NotedDatabase,
@@ -97,6 +110,7 @@ fn run_sorted<H: Host>(
     diversions: &Diversions,
     purge: bool,
     sorted: Sorted,
+    watcher: &mut W,
 ) -> Report
     requires order { Needs (H.state host.old) (IsInOrder database.old lists.old.lists) }
     requires noting { database.old.closed ≡ false }
@@ -115,11 +129,14 @@ fn run_sorted<H: Host>(
     ensures listing { IsNone result.last → lists.new.closed ≡ false }
     ensures kept { IsNone result.last → places.new ≡ places_in diversions.now.entries lists.new.lists }
     ensures answered { IsNone result.last → IsAnswered (H.state host.old) (H.state host.new) }
+    ensures watched { IsTold W.tells watcher.old result.units.items watcher.new }
 {
     let Sorted {
         refused: mut units,
         mut waiting,
     } = sorted;
+    what_is_told_in_turn::<W>();
+    tell_all(units.as_slice(), watcher);
     match run_turns(
         alloc,
         host,
@@ -130,8 +147,9 @@ fn run_sorted<H: Host>(
         purge,
         &mut waiting,
         &mut units,
+        watcher,
     ) {
-        Ok(queue) => ended(alloc, &queue, waiting.as_slice(), units),
+        Ok(queue) => ended(alloc, &queue, waiting.as_slice(), units, watcher),
         Err(unit) => Report {
             units,
             last: Some(unit),
@@ -141,8 +159,9 @@ fn run_sorted<H: Host>(
 
 /// Removes packages, or purges them. A second mention of a name is dropped. First those that a rule refuses are told, in the
 /// order given; then packages are removed one after another, each the next of those that can be removed as all are recorded
-/// then; those left over are told last, each with a package that depends on it.
-pub fn remove_packages<H: Host>(
+/// then; those left over are told last, each with a package that depends on it. The watcher is told each unit as it is
+/// finished; the one that was broken off it isn't told.
+pub fn remove_packages<H: Host, W: Watcher>(
     alloc: Global,
     host: &mut H,
     database: &mut NotedDatabase,
@@ -151,6 +170,7 @@ pub fn remove_packages<H: Host>(
     diversions: &Diversions,
     names: Vec<Text>,
     purge: bool,
+    watcher: &mut W,
 ) -> Report
     requires order { Needs (H.state host.old) (IsInOrder database.old lists.old.lists) }
     requires noting { database.old.closed ≡ false }
@@ -167,10 +187,11 @@ pub fn remove_packages<H: Host>(
     ensures listing { IsNone result.last → lists.new.closed ≡ false }
     ensures kept { IsNone result.last → places.new ≡ places_in diversions.now.entries lists.new.lists }
     ensures answered { IsNone result.last → IsAnswered (H.state host.old) (H.state host.new) }
+    ensures watched { IsTold W.tells watcher.old result.units.items watcher.new }
 {
     match sorted(alloc, purge, database, names) {
         Ok(sorted) => run_sorted(
-            alloc, host, database, lists, places, diversions, purge, sorted,
+            alloc, host, database, lists, places, diversions, purge, sorted, watcher,
         ),
         Err(_) => Report {
             units: Vec::new(alloc),

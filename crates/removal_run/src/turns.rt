@@ -9,6 +9,7 @@ ghost use Rattle.unit_parts.specs.Order.{IsInOrder};
 ghost use Rattle.unit_reports.specs.Held.{held};
 ghost use Rattle.unit_reports.specs.Units.{CountsReply, IsBrokenBy, calls_of};
 ghost use Rattle.unit_reports.specs.declared.report.Breakage.TheVariants.{Closed};
+ghost use Rattle.unit_reports.specs.Watching.{AddsTold};
 ghost use Rattle.unwind_stack.specs.Transcript.{TellsAll};
 
 use crate::names::strike;
@@ -21,11 +22,11 @@ use host_core::{Host, Places};
 use status_db::NotedDatabase;
 use std::alloc::Global;
 use texts::Text;
-use unit_reports::{Breakage, Unit, broken};
+use unit_reports::{Breakage, Unit, Watcher, broken, what_is_told_in_turn};
 
 /// Removes packages in turn until none of those that wait can be removed, or one was broken off. The answer is the queue of
 /// those that still wait.
-pub(crate) fn run_turns<H: Host>(
+pub(crate) fn run_turns<H: Host, W: Watcher>(
     alloc: Global,
     host: &mut H,
     database: &mut NotedDatabase,
@@ -35,6 +36,7 @@ pub(crate) fn run_turns<H: Host>(
     purge: bool,
     waiting: &mut Vec<Text>,
     units: &mut Vec<Unit>,
+    watcher: &mut W,
 ) -> Result<RemoveQueue, Unit>
     requires order { Needs (H.state host.old) (IsInOrder database.old lists.old.lists) }
     requires noting { database.old.closed ≡ false }
@@ -55,13 +57,16 @@ pub(crate) fn run_turns<H: Host>(
     ensures listing { OnOk result (lists.new.closed ≡ false) }
     ensures kept { OnOk result (places.new ≡ places_in diversions.now.entries lists.new.lists) }
     ensures answered { OnOk result (IsAnswered (H.state host.old) (H.state host.new)) }
+    ensures watched { AddsTold W.tells units.old.items units.new.items watcher.old watcher.new }
 {
+    what_is_told_in_turn::<W>();
     loop {
         match next_of(alloc, database, waiting.as_slice()) {
             Ok(Next::Removed(package)) => {
                 strike(waiting, &package);
                 match run_one(
                     alloc, host, database, lists, places, diversions, package, purge, units,
+                    watcher,
                 ) {
                     Ok(()) => {}
                     Err(unit) => {

@@ -7,6 +7,7 @@ ghost use Rattle.unit_parts.specs.Order.{IsInOrder};
 ghost use Rattle.unit_reports.specs.Held.{held};
 ghost use Rattle.unit_reports.specs.Units.{CountsReply, IsBroken, IsBrokenBy, calls_of, touched_at};
 ghost use Rattle.unit_reports.specs.declared.report.Breakage.TheVariants.{NoMemory, Closed};
+ghost use Rattle.unit_reports.specs.Watching.{AddsTold};
 ghost use Rattle.removal_run.specs.Refusals.{rule_for};
 ghost use Rattle.removal_run.specs.Units.{AddsRemoval, Answers, AreOthersKept, HasCalledRemoving, IsAmidRemoval, IsBroughtToDisk, IsBrokenOff, IsRemoval, extent_of, reply_to};
 ghost use Rattle.unwind_stack.specs.Transcript.{TellsAll};
@@ -20,7 +21,7 @@ use status_db::NotedDatabase;
 use std::alloc::{AllocError, Global};
 use texts::Text;
 use unit_reports::{
-    Breakage, Failure, Reply, Touched, Unit, breakage_of, broken, is_broken, touched_at,
+    Breakage, Failure, Reply, Touched, Unit, Watcher, breakage_of, broken, is_broken, touched_at,
 };
 use unwind_stack::Called;
 
@@ -155,7 +156,7 @@ fn remove_named<H: Host>(
 }
 
 /// The unit of one package more, or the unit that was broken off.
-pub(crate) fn run_one<H: Host>(
+pub(crate) fn run_one<H: Host, W: Watcher>(
     alloc: Global,
     host: &mut H,
     database: &mut NotedDatabase,
@@ -165,6 +166,7 @@ pub(crate) fn run_one<H: Host>(
     package: Text,
     purge: bool,
     units: &mut Vec<Unit>,
+    watcher: &mut W,
 ) -> Result<(), Unit>
     requires order { Needs (H.state host.old) (IsInOrder database.old lists.old.lists) }
     requires noting { database.old.closed ≡ false }
@@ -183,6 +185,7 @@ pub(crate) fn run_one<H: Host>(
     ensures no_fault { OnOk result (faults (H.state host.new) ≡ faults (H.state host.old)) }
     ensures counts { IfErr result (λ unit. CountsReply (H.state host.old) (H.state host.new) unit.reply) }
     ensures not_closed { IfErr result (λ unit. IsBrokenBy Closed unit.reply → ⊥) }
+    ensures watched { AddsTold W.tells units.old.items units.new.items watcher.old watcher.new }
 {
     if units.reserve(1).is_err() {
         return Err(broken(alloc, Vec::new(alloc), Breakage::NoMemory));
@@ -193,6 +196,7 @@ pub(crate) fn run_one<H: Host>(
     if is_broken(&unit) {
         return Err(unit);
     }
+    watcher.finished(&unit);
     units.push(unit).unwrap();
     Ok(())
 }

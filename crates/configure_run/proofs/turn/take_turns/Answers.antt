@@ -1,4 +1,5 @@
-use Rattle.std.proofs.Common.{◌<◌, ◌++◌, ℕ, Bool, List, Option, inl, refl, subst, sym, ◌∙◌}
+use Rattle.std.proofs.lemmas.List.{append-nil}
+use Rattle.std.proofs.Common.{◌<◌, ◌++◌, [], ℕ, Bool, List, Option, inl, refl, subst, sym, ◌∙◌}
 use Rattle.std.specs.Prelude.{IfSome}
 use Rattle.dependency_check.specs.Waiting.{Waiting, IsConfigurableNow}
 use Rattle.dependency_sets.specs.Sets.{has}
@@ -31,6 +32,7 @@ loop-taken-init g c = record {
   order = c.requires.order;
   noting = c.requires.noting;
   listing = c.requires.listing;
+  watched = record { more = []; grown = sym (append-nil c.args.units.now.items); told = refl };
   kept = c.requires.kept;
   answered = answered_here (g.H.Host.state c.args.host.now);
   moments = since_turns_start c.args.policy (has c.args.silent.now) c.args.turns (held c.args.database.now c.args.lists.now c.args.diversions.now) (g.H.Host.state c.args.host.now);
@@ -53,6 +55,7 @@ loop-taken-preserved g c = record {
   listing = c.in-Ok-Some.ensures.listing;
   kept = c.in-Ok-Some.ensures.kept;
   answered = answered_then (g.H.Host.state c.args.host.now) (g.H.Host.state c.loop-taken.host) (g.H.Host.state c.take_next.new.host) c.loop-taken.invariant.answered (subst (λ (o : Option (ℕ × Bool)). TakesNext c.args.policy (has c.args.silent.now) c.loop-taken.turns o (held c.loop-taken.database c.loop-taken.lists c.args.diversions.now) (held c.take_next.new.database c.take_next.new.lists c.args.diversions.now) (g.H.Host.state c.loop-taken.host) (g.H.Host.state c.take_next.new.host) c.loop-taken.units.items c.take_next.new.units.items) c.in-Ok-Some.field-0-is c.in-Ok-Some.ensures.ok).turn.answered;
+  watched = c.what_is_told_in_turn.ensures.added _ _ _ _ _ _ c.loop-taken.invariant.watched c.take_next.ensures.watched;
   moments = since_turns c.args.policy (has c.args.silent.now) c.args.turns (held c.args.database.now c.args.lists.now c.args.diversions.now) (g.H.Host.state c.args.host.now) c.args.units.now.items c.loop-taken.units.items c.loop-taken.turns (held c.loop-taken.database c.loop-taken.lists c.args.diversions.now) (g.H.Host.state c.loop-taken.host) (g.H.Host.state c.take_next.new.host) c.loop-taken.invariant.turned c.loop-taken.invariant.moments c.take_next.ensures.any_moment;
 }
 
@@ -103,3 +106,12 @@ returns-in-Err-clause-any_moment g c = since_turns c.args.policy (has c.args.sil
 
 pub returns-in-Err-clause-counts : goal.returns-in-Err-clause-counts
 returns-in-Err-clause-counts g c = counts_from c.in-Err.unit.reply (g.H.Host.state c.args.host.now) (g.H.Host.state c.loop-taken.host) (g.H.Host.state c.take_next.new.host) c.loop-taken.invariant.no_fault c.in-Err.ensures.counts
+
+pub returns-in-Err-after-clause-watched : goal.returns-in-Err-after-clause-watched
+returns-in-Err-after-clause-watched g c = c.what_is_told_in_turn.ensures.added _ _ _ _ _ _ c.loop-taken.invariant.watched c.take_next.ensures.watched
+
+pub returns-in-Ok-None-clause-watched : goal.returns-in-Ok-None-clause-watched
+returns-in-Ok-None-clause-watched g c = c.what_is_told_in_turn.ensures.added _ _ _ _ _ _ c.loop-taken.invariant.watched c.take_next.ensures.watched
+
+pub returns-in-Err-clause-watched : goal.returns-in-Err-clause-watched
+returns-in-Err-clause-watched g c = c.what_is_told_in_turn.ensures.added _ _ _ _ _ _ c.loop-taken.invariant.watched c.take_next.ensures.watched

@@ -7,6 +7,7 @@ use Rattle.file_lists.specs.Owners.{places_in}
 use Rattle.unit_parts.specs.Order.{IsInOrder}
 use Rattle.unit_reports.specs.Held.{held}
 use Rattle.unit_reports.specs.Units.{calls_of}
+use Rattle.unit_reports.specs.Watching.{AddsTold}
 use Rattle.unwind_stack.specs.Transcript.{TellsAll}
 use Rattle.configure_run.specs.Starting.{AreWaiting}
 use Rattle.configure_run.specs.Turns.{HaveTurned, IsAmidTurns}
@@ -29,6 +30,7 @@ invariant-loop-taken g l =
       listing : l.lists.closed ≡ false;
       kept : l.places ≡ places_in l.diversions.entries l.lists.lists;
       answered : IsAnswered old now;
+      watched : AddsTold g.W.Watcher.tells l.fn.units.items l.units.items l.fn.watcher l.watcher;
       moments : Since (IsAmidTurns l.policy (has l.silent) l.initial.turns before old) old now;
     }
 

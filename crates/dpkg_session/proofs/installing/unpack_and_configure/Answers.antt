@@ -1,23 +1,42 @@
-use Rattle.std.proofs.Common.{◌≡◌, sym, ◌∙◌, rules}
+use Rattle.std.proofs.Common.{◌≡◌, ◌++◌, List, sym, subst, ◌∙◌, rules}
+use Rattle.std.proofs.lemmas.List.{append-nil}
 use Rattle.unit_reports.specs.Held.{held}
-use Rattle.dpkg_session.proofs.Installs.{amid_both, amid_unpacks, answered_both, broken_installed, none_both}
+use Rattle.unit_reports.specs.Watching.{IsTold}
+use Rattle.unit_reports.specs.declared.report.Unit.{Unit as AUnit}
+use Rattle.dpkg_session.proofs.Installs.{answered_both, installed_both, installed_part, none_both}
 use Rattle.dpkg_session.proofs.installing.unpack_and_configure.Goals as goal
 
-pub returns-then-is_some-clause-any_moment : goal.returns-then-is_some-clause-any_moment
-returns-then-is_some-clause-any_moment g c = amid_unpacks c.args.unpack.auto_deconfigure c.args.unpack.candidates.items c.args.policy _ _ _ c.run_units-unpacked.ensures.any_moment
+pub returns-then-is_some-clause-run : goal.returns-then-is_some-clause-run
+returns-then-is_some-clause-run g c =
+    let run = c.run_units-unpacked.ensures.run in
+    (run.0, run.1, installed_part c.args.auto_deconfigure run.0 _ c.args.policy c.run_units-unpacked.result c.empty_report.result _ _ _ _ (sym c.is_some.ensures ∙ c.if-is_some.true) c.empty_report.ensures (g.H.Host.settled c.run_units-unpacked.new.host) run.2)
 
-pub returns-then-is_some-clause-part : goal.returns-then-is_some-clause-part
-returns-then-is_some-clause-part g c = broken_installed c.args.unpack.auto_deconfigure c.args.unpack.candidates.items c.args.policy c.run_units-unpacked.result.units.items c.run_units-unpacked.result.last c.empty_report.result _ _ _ (sym c.is_some.ensures ∙ c.if-is_some.true) c.run_units-unpacked.ensures.part c.empty_report.ensures
+pub returns-then-is_some-clause-watched : goal.returns-then-is_some-clause-watched
+returns-then-is_some-clause-watched g c =
+    let us = c.run_units-unpacked.result.units.items in
+    let same : us ++ c.empty_report.result.units.items ≡ us = subst (λ (l : List AUnit). us ++ l ≡ us) (sym c.empty_report.ensures.units) (append-nil us) in
+    subst (λ (l : List AUnit). IsTold g.W.Watcher.tells c.args.watcher.now l c.run_units-unpacked.new.watcher) (sym same) c.run_units-unpacked.ensures.watched
 
-pub returns-clause-any_moment : goal.returns-clause-any_moment
-returns-clause-any_moment g c =
-    let told : c.as_slice.result.now ≡ c.run_units-unpacked.result.units.items = search rules in
-    amid_both c.args.unpack.auto_deconfigure c.args.unpack.candidates.items c.args.policy c.run_units-unpacked.result.units.items c.as_slice.result.now _ (held c.run_units-unpacked.new.database c.run_units-unpacked.new.lists c.args.diversions.now) c.args.labels.now _ _ _ c.requires.named told
-    (c.run_units-unpacked.ensures.whole (sym c.is_some.ensures ∙ c.if-is_some.false)) c.run_units-unpacked.ensures.any_moment c.configure_done-configured.ensures.any_moment
+pub returns-clause-run : goal.returns-clause-run
+returns-clause-run g c =
+    let run = c.run_units-unpacked.ensures.run in
+    let none = sym c.is_some.ensures ∙ c.if-is_some.false in
+    let told : c.as_slice-2.result.now ≡ c.run_units-unpacked.result.units.items = search rules in
+    let configured = c.configure_done-configured.ensures in (
+      run.0,
+      run.1,
+      installed_both c.args.auto_deconfigure run.0 _ c.args.policy c.run_units-unpacked.result c.configure_done-configured.result c.as_slice-2.result.now c.as_slice.result.now
+          _ (held c.run_units-unpacked.new.database c.run_units-unpacked.new.lists c.args.diversions.now) _ _ _ _ (c.as_slice.ensures ∙ run.3 none) told none (g.H.Host.settled c.configure_done-configured.new.host) run.2 configured.whole configured.part configured.any_moment,
+    )
+
+pub returns-clause-watched : goal.returns-clause-watched
+returns-clause-watched g c = c.what_is_told_in_turn.ensures.more _ _ _ _ _ c.run_units-unpacked.ensures.watched c.configure_done-configured.ensures.watched
 
 pub returns-clause-answered : goal.returns-clause-answered
-returns-clause-answered g c = λ none. answered_both c.args.unpack.auto_deconfigure c.args.unpack.candidates.items c.run_units-unpacked.result.units.items _ _ _ _ _ (c.run_units-unpacked.ensures.whole (sym c.is_some.ensures ∙ c.if-is_some.false))
-    (c.configure_done-configured.ensures.answered (none_both c.run_units-unpacked.result.last c.configure_done-configured.result.last (sym c.is_some.ensures ∙ c.if-is_some.false) none))
+returns-clause-answered g c = λ none.
+    let first = sym c.is_some.ensures ∙ c.if-is_some.false in
+    answered_both c.args.auto_deconfigure c.run_units-unpacked.ensures.run.0 c.run_units-unpacked.result.units.items _ _ _ _ _ (c.run_units-unpacked.ensures.run.2.whole first)
+    (c.configure_done-configured.ensures.answered (none_both c.run_units-unpacked.result.last c.configure_done-configured.result.last first none))
 
 pub returns-clause-order : goal.returns-clause-order
 returns-clause-order g c = λ none. c.configure_done-configured.ensures.order (none_both c.run_units-unpacked.result.last c.configure_done-configured.result.last (sym c.is_some.ensures ∙ c.if-is_some.false) none)

@@ -1,4 +1,5 @@
-use Rattle.std.proofs.Common.{◌≡◌, [], ◌∷◌, ◌++◌, ◌∙◌, rules}
+use Rattle.std.proofs.Common.{◌≡◌, [], ◌∷◌, ◌++◌, refl, sym, ◌∙◌, rules}
+use Rattle.std.proofs.lemmas.List.{append-nil}
 use Rattle.unit_reports.specs.Held.{held}
 use Rattle.dpkg_session.proofs.Amid.{since_unit_start}
 use Rattle.dpkg_session.proofs.Runs.{broken_by, counts_no_memory, counts_whole, is_broken_off, is_whole, not_broken}
@@ -54,3 +55,9 @@ pub returns-clause-answered : goal.returns-clause-answered
 returns-clause-answered g c =
     let unit = c.unit_of-unit.result in
     not_broken unit.reply c.is_broken.result c.if-is_broken.false c.is_broken.ensures c.unit_of-unit.ensures.answered
+
+pub returns-then-is_err-clause-watched : goal.returns-then-is_err-clause-watched
+returns-then-is_err-clause-watched g c = record { more = []; grown = c.prepare.ensures.same ∙ sym (append-nil c.args.units.now.items); told = refl }
+
+pub returns-then-is_broken-clause-watched : goal.returns-then-is_broken-clause-watched
+returns-then-is_broken-clause-watched g c = record { more = []; grown = c.prepare.ensures.same ∙ sym (append-nil c.args.units.now.items); told = refl }

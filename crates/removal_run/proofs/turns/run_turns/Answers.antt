@@ -1,4 +1,5 @@
 use Rattle.std.proofs.Common.{◌<◌, length, ◌++◌, List, ℕ, [], refl, sym, subst, ◌∙◌}
+use Rattle.std.proofs.lemmas.List.{append-nil}
 use Rattle.unit_reports.specs.Held.{held}
 use Rattle.unit_reports.specs.Units.{calls_of}
 use Rattle.unit_reports.specs.declared.report.Unit.{Unit as AUnit}
@@ -28,6 +29,7 @@ loop-package-init g c =
       listing = c.requires.listing;
       kept = c.requires.kept;
       answered = answered_here old;
+      watched = record { more = []; grown = sym (append-nil c.args.units.now.items); told = refl };
       moments = since_turns_start c.args.purge c.args.waiting.now.items before old;
     }
 
@@ -57,6 +59,7 @@ loop-package-preserved g c =
       listing = c.in-Ok.ensures.listing;
       kept = c.in-Ok.ensures.kept;
       answered = answered_then old now new inv.answered adds.runs.answered;
+      watched = c.what_is_told_in_turn.ensures.added _ _ _ _ _ _ inv.watched c.run_one.ensures.watched;
       moments = since_turned purge c.args.waiting.now.items l.waiting.items before mid old now c.args.units.now.items l.units.items inv.turned name new next inv.moments c.run_one.ensures.any_moment;
     }
 
@@ -101,3 +104,6 @@ returns-in-Err-clause-stopped g c =
     let l = c.loop-package in
     stopped_here c.args.purge c.args.waiting.now.items l.waiting.items (held c.args.database.now c.args.lists.now c.args.diversions.now) (held l.database l.lists c.args.diversions.now) (g.H.Host.state c.args.host.now) (g.H.Host.state l.host) c.args.units.now.items l.units.items
     l.invariant.turned c.broken.result (broken_by _ c.broken.result.reply c.broken.ensures.reply) c.broken.ensures.touched (c.broken.ensures.told ∙ c.new.ensures.items)
+
+pub returns-in-Err-run_one-clause-watched : goal.returns-in-Err-run_one-clause-watched
+returns-in-Err-run_one-clause-watched g c = c.what_is_told_in_turn.ensures.added _ _ _ _ _ _ c.loop-package.invariant.watched c.run_one.ensures.watched

@@ -5,6 +5,7 @@ use Rattle.file_lists.specs.Owners.{places_in}
 use Rattle.unit_parts.specs.Order.{IsInOrder}
 use Rattle.unit_reports.specs.Held.{held}
 use Rattle.unit_reports.specs.Units.{calls_of}
+use Rattle.unit_reports.specs.Watching.{AddsTold}
 use Rattle.unwind_stack.specs.Transcript.{TellsAll}
 use Rattle.removal_run.specs.Turns.{AreAccepted, HasTurned, IsAmidTurns}
 use Rattle.removal_run.proofs.turns.run_turns.Given as goal
@@ -25,6 +26,7 @@ invariant-loop-package g l =
       listing : l.lists.closed ≡ false;
       kept : l.places ≡ places_in l.diversions.entries l.lists.lists;
       answered : IsAnswered old now;
+      watched : AddsTold g.W.Watcher.tells l.fn.units.items l.units.items l.fn.watcher l.watcher;
       moments : Since (IsAmidTurns l.purge l.fn.waiting.items before old) old now;
     }
 

@@ -1,7 +1,6 @@
 use Rattle.std.proofs.Common.{sym, ◌∙◌}
 use Rattle.dpkg_session.proofs.Standings.{order_standing, standing_run}
-use Rattle.dpkg_session.specs.Commands.{unpack_of}
-use Rattle.dpkg_session.proofs.Outlasting.{run_answered, run_loses, run_stands}
+use Rattle.dpkg_session.proofs.Outlasting.{run_answered, run_stands}
 use Rattle.dpkg_session.proofs.Runs.{falls_run}
 use Rattle.dpkg_session.proofs.session.Session.run.Goals as goal
 
@@ -14,7 +13,7 @@ invariant_of-self g c =
     record {
       ready = λ open_still h.
           let left = sym c.is_some-self.ensures ∙ open_still in
-          let run = report.whole left in
+          let run = report.run.2.whole left in
           standing_run _ _ _ _ _ _ _ run h (report.order left h) (c.args.self.now.ready c.if-self.false (falls_run _ _ _ _ _ _ _ run h));
       kept = λ open_still. report.kept (sym c.is_some-self.ensures ∙ open_still);
       writable = λ open_still. c.args.self.now.writable c.if-self.false;
@@ -22,11 +21,15 @@ invariant_of-self g c =
       listing = λ open_still. report.listing (sym c.is_some-self.ensures ∙ open_still);
     }
 
-pub returns-clause-loss : goal.returns-clause-loss
-returns-clause-loss g c = λ open_before. run_loses _ (unpack_of c.args.command) _ _ _ c.into_unpack.ensures (g.H.Host.settled c.run_units-report.new.host) c.run_units-report.ensures.any_moment
+pub returns-clause-run : goal.returns-clause-run
+returns-clause-run g c = λ open_before.
+    let run = c.run_units-report.ensures.run in
+    (run.0, run.1, run.2)
 
 pub returns-clause-stands : goal.returns-clause-stands
-returns-clause-stands g c = λ open_before whole. run_stands _ _ _ _ _ _ _ _ c.run_units-report.ensures.any_moment (c.run_units-report.ensures.whole whole)
+returns-clause-stands g c = λ open_before whole.
+    let run = c.run_units-report.ensures.run.2 in
+    run_stands _ _ _ _ _ _ _ _ run.any_moment (run.whole whole)
 
 pub returns-clause-answered : goal.returns-clause-answered
-returns-clause-answered g c = λ open_before whole. run_answered _ _ _ _ _ _ _ (c.run_units-report.ensures.whole whole)
+returns-clause-answered g c = λ open_before whole. run_answered _ _ _ _ _ _ _ (c.run_units-report.ensures.run.2.whole whole)

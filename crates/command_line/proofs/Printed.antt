@@ -1,0 +1,159 @@
+-- The lines of units that were written as these were finished.
+use Rattle.std.proofs.Common.{◌≡◌, ◌≢◌, ◌⊎◌, ◌∙◌, ◌++◌, ◌∷◌, [], ℕ, Bool, List, Option, Some, None, Result, Ok, Err, ap, append_assoc, append-nil, inl, inr, refl, subst, sym}
+use Rattle.std.specs.Prelude.{option_to_list, IfOk}
+use Rattle.std.specs.Option.{option_map_or}
+use Rattle.std.specs.Io.KnownBytes.{Appends, Keeps}
+use Rattle.std.specs.List.{flat_map}
+use Rattle.std.proofs.lemmas.Grind.{flat_map-append}
+use Rattle.version_order.specs.declared.fault.VersionFault.{VersionFault}
+use Rattle.conffiles.specs.declared.decisions.ConfPolicy.{ConfPolicy}
+use Rattle.host_core.specs.Host.{State}
+use Rattle.report_lines.specs.Reports.{report_lines, unit_lines}
+use Rattle.command_words.specs.Comparisons.{bad_version}
+use Rattle.command_words.specs.declared.comparison.Comparison.{Comparison}
+use Rattle.command_words.specs.declared.unpacking.Unpacking.{Unpacking}
+use Rattle.dpkg_session.specs.Installs.{HasInstalled, last_of}
+use Rattle.dpkg_session.specs.declared.report.Candidate.{Candidate}
+use Rattle.unit_reports.specs.Held.{Held}
+use Rattle.unit_reports.specs.Watching.{IsTold}
+use Rattle.unit_reports.specs.declared.report.Report.{Report}
+use Rattle.unit_reports.specs.declared.report.Unit.{Unit as AUnit}
+use Rattle.command_line.specs.Printing.{AppendsFront, AppendsPart, HasPrinted, Prints, last_in, output_left, units_answer, units_of}
+use Rattle.command_line.specs.Reports.{IsGiven, IsGivenInPart, bad_answer, comparison_answer, done_answer, memory_answer, wanting_answer}
+use Rattle.command_line.specs.Roots.{Around}
+use Rattle.command_line.specs.Unpacks.{HasUnpacked}
+use Rattle.command_line.specs.declared.answer.Answer.{Answer}
+use Rattle.command_line.specs.declared.answer.Left.{Left}
+use Rattle.command_line.specs.declared.printing.Flow.{Flow}
+use Rattle.command_line.specs.declared.unpacking.Done.{Done}
+use Rattle.command_line.specs.declared.unpacking.Done.TheVariants as done
+use Rattle.command_line.specs.declared.printing.Flow.TheVariants as flow
+use Rattle.command_line.proofs.Held.{appends_kept, appends_nothing, appends_then, keeps_held}
+
+-- what isn't empty isn't empty with more behind it
+longer : (rest lines : List ℕ) → rest ≢ [] → rest ++ lines ≢ []
+longer [] lines some none = some refl
+longer (x ∷ rest) lines some none = cc
+
+split_on : (text done front rest : List ℕ) (lines : List ℕ) → done ≡ front ++ rest → text ≡ done ++ lines → text ≡ front ++ (rest ++ lines)
+split_on text done front rest lines is all = all ∙ ap (λ (l : List ℕ). l ++ lines) is ∙ append_assoc front rest lines
+
+part_more : (a b c : Option (List ℕ)) (done lines : List ℕ) → AppendsPart a b done → Keeps b c → AppendsPart a c (done ++ lines)
+part_more a b c done lines part kept =
+    (part.0, part.1 ++ lines, split_on (done ++ lines) done part.0 part.1 lines part.2 refl, longer part.1 lines part.3, appends_kept a b c part.0 part.4 kept)
+
+front_more : (a b c : Option (List ℕ)) (done lines : List ℕ) → AppendsFront a b done → Keeps b c → AppendsFront a c (done ++ lines)
+front_more a b c done lines part kept = (part.0, part.1 ++ lines, split_on (done ++ lines) done part.0 part.1 lines part.2 refl, appends_kept a b c part.0 part.3 kept)
+
+-- the lines of one unit more
+printed_more : (done lines : List ℕ) (before after : Flow) (a b c : Option (List ℕ)) → HasPrinted done before a b → Prints lines before after b c → HasPrinted (done ++ lines) after a c
+printed_more done lines flow.Whole flow.Whole a b c so_far more = appends_then a b c done lines so_far more
+printed_more done lines flow.Whole flow.Cut a b c so_far more =
+    (done ++ more.0, more.1, ap (λ (l : List ℕ). done ++ l) more.2 ∙ sym (append_assoc done more.0 more.1), more.3, appends_then a b c done more.0 so_far more.4)
+printed_more done lines flow.Whole flow.Wanting a b c so_far more = (done, lines, refl, appends_kept a b c done so_far more)
+printed_more done lines flow.Cut after a b c so_far more = subst (λ f. HasPrinted (done ++ lines) f a c) (sym more.0) (part_more a b c done lines so_far more.1)
+printed_more done lines flow.Wanting after a b c so_far more = subst (λ f. HasPrinted (done ++ lines) f a c) (sym more.0) (front_more a b c done lines so_far more.1)
+
+-- those of all units that were told
+module _ {W : Type 0} (tells : W → AUnit → W → Type 0) (flow_of : W → Flow) (held : W → Option (List ℕ)) (one : (old : W) (u : AUnit) (new : W) → tells old u new → Prints (unit_lines u) (flow_of old) (flow_of new) (held old) (held new)) where
+  printed_on : (us : List AUnit) (done : List ℕ) (first : Option (List ℕ)) (old new : W) → HasPrinted done (flow_of old) first (held old) → IsTold tells old us new → HasPrinted (done ++ flat_map unit_lines us) (flow_of new) first (held new)
+  printed_on [] done first old new so_far same =
+      subst (λ (l : List ℕ). HasPrinted l (flow_of new) first (held new)) (sym (append-nil done)) (subst (λ w. HasPrinted done (flow_of w) first (held w)) (sym same) so_far)
+  printed_on (u ∷ us) done first old new so_far told =
+      subst (λ (l : List ℕ). HasPrinted l (flow_of new) first (held new)) (append_assoc done (unit_lines u) (flat_map unit_lines us))
+      (printed_on us (done ++ unit_lines u) first told.0 new (printed_more done (unit_lines u) (flow_of old) (flow_of told.0) first (held old) (held told.0) so_far (one old u told.0 told.1)) told.2)
+
+  pub printed_all : (us : List AUnit) (old new : W) → flow_of old ≡ flow.Whole → IsTold tells old us new → HasPrinted (flat_map unit_lines us) (flow_of new) (held old) (held new)
+  printed_all us old new whole told = printed_on us [] (held old) old new (subst (λ f. HasPrinted [] f (held old) (held old)) (sym whole) (appends_nothing (held old))) told
+
+  -- where there is a result
+  pub printed_result : {T E : Type 0} (result : Result T E) (units : T → List AUnit) (old new : W) → flow_of old ≡ flow.Whole → IfOk result (λ done. IsTold tells old (units done) new)
+      → IfOk result (λ done. HasPrinted (flat_map unit_lines (units done)) (flow_of new) (held old) (held new))
+  printed_result (Ok done) units old new whole told = printed_all (units done) old new whole told
+  printed_result (Err e) units old new whole told = tt
+
+-- What is left of the answer on units.
+
+pub left_cut : (lines : List ℕ) (last : Option AUnit) (status : ℕ) (old new : Option (List ℕ)) → HasPrinted lines flow.Cut old new → AppendsPart old new (units_answer lines last status).output
+left_cut lines last status old new printed = part_more old new new lines (flat_map unit_lines (option_to_list last)) printed (keeps_held new)
+
+pub left_wanting : (lines : List ℕ) (last : Option AUnit) (status : ℕ) (old new : Option (List ℕ)) → HasPrinted lines flow.Wanting old new → AppendsFront old new (units_answer lines last status).output
+left_wanting lines last status old new printed = front_more old new new lines (flat_map unit_lines (option_to_list last)) printed (keeps_held new)
+
+-- The lines of what came of trees are those of its units, and of the one that was broken off.
+
+installed_lines : (auto : Bool) (cs : List Candidate) (policy : ConfPolicy) (us : List AUnit) (last : Option AUnit) (configured : Report) (before : Held) (s t : State) → HasInstalled auto cs policy us last configured before s t
+    → (flat_map unit_lines us ++ flat_map unit_lines (option_to_list last)) ++ report_lines configured ≡ flat_map unit_lines (us ++ configured.units.items) ++ flat_map unit_lines (option_to_list (last_of last configured.last))
+installed_lines auto cs policy us None configured before s t is =
+    let lines = flat_map unit_lines us in
+    let more = flat_map unit_lines configured.units.items in
+    let end = flat_map unit_lines (option_to_list configured.last) in
+    ap (λ (l : List ℕ). l ++ (more ++ end)) (append-nil lines) ∙ sym (append_assoc lines more end) ∙ ap (λ (l : List ℕ). l ++ end) (sym (flat_map-append unit_lines us configured.units.items))
+installed_lines auto cs policy us (Some u) configured before s t is =
+    let empty = is.1 in
+    let lines = flat_map unit_lines us ++ flat_map unit_lines (u ∷ []) in
+    let none : report_lines configured ≡ [] = ap (λ (l : List AUnit). flat_map unit_lines l ++ flat_map unit_lines (option_to_list configured.last)) empty.units ∙ ap (λ (o : Option AUnit). flat_map unit_lines (option_to_list o)) empty.last in
+    let same : us ≡ us ++ configured.units.items = sym (append-nil us) ∙ ap (λ (l : List AUnit). us ++ l) (sym empty.units) in
+    ap (λ (l : List ℕ). lines ++ l) none ∙ append-nil lines ∙ ap (λ (l : List AUnit). flat_map unit_lines l ++ flat_map unit_lines (u ∷ [])) same
+
+pub done_lines : (a : Around) (policy : Option ConfPolicy) (u : Unpacking) (came : Done) → HasUnpacked a policy u came
+    → done_answer came ≡ units_answer (flat_map unit_lines (units_of came)) (last_in came) (done_answer came).status
+done_lines a policy u (done.Unpacked report) has = refl
+done_lines a None u (done.Installed reports) has = absurd has.2.ran.all
+done_lines a (Some policy) u (done.Installed reports) has =
+    let all = has.2.ran.all in
+    ap (λ (l : List ℕ). record { output = l; error = []; status = (done_answer (done.Installed reports)).status })
+    (installed_lines u.auto_deconfigure has.2.ran.candidates policy reports.unpacked.units.items reports.unpacked.last reports.configured _ _ _ all.install.part)
+
+-- what is written of an answer that nothing is written of yet
+pub left_none : (wanted told : Answer) (held : Option (List ℕ)) → told ≡ wanted → (front : List ℕ) × Appends held held front × (wanted ≡ record told { output = front ++ told.output })
+left_none wanted told held is = ([], appends_nothing held, sym is)
+
+-- nothing but what is told to standard output
+pub quiet_left : {E : Type 0} (answer : Result Answer E) (result : Result Left E) (P : Answer → Type 0) (R : Type 0) → IfOk result (λ left. (told : Answer) × (answer ≡ Ok told) × (output_left left ≡ told.output)) → IfOk answer P
+    → ((told : Answer) → P told → (told.output ≡ []) ⊎ R) → IfOk result (λ left. (output_left left ≡ []) ⊎ R)
+quiet_left answer (Err e) P R is holds so = tt
+quiet_left answer (Ok left) P R is holds so = quiet_by (so is.0 (subst (λ r. IfOk r P) is.1 holds))
+  where
+    quiet_by : (is.0.output ≡ []) ⊎ R → (output_left left ≡ []) ⊎ R
+    quiet_by (inl none) = inl (is.2 ∙ none)
+    quiet_by (inr prints) = inr prints
+
+pub or_else : {P Q R : Type 0} → P ⊎ Q → (Q → R) → P ⊎ R
+or_else (inl p) so = inl p
+or_else (inr q) so = inr (so q)
+
+pub quiet_comparison : (c : Comparison) → (comparison_answer c).output ≡ []
+quiet_comparison c = by (bad_version c.first c.second) _
+  where
+    by : (bad : Option (List ℕ × VersionFault)) (status : ℕ) → (option_map_or bad_answer bad (record { output = []; error = []; status = status })).output ≡ []
+    by None status = refl
+    by (Some bad) status = refl
+
+-- What is left is given.
+
+part_behind : (a b c : Option (List ℕ)) (front text : List ℕ) → Appends a b front → AppendsPart b c text → AppendsPart a c (front ++ text)
+part_behind a b c front text first part =
+    (front ++ part.0, part.1, ap (λ (l : List ℕ). front ++ l) part.2 ∙ sym (append_assoc front part.0 part.1), part.3, appends_then a b c front part.0 first part.4)
+
+given_rest : (rest : Answer) (front : List ℕ) (a b c e f : Option (List ℕ)) (ended : ℕ) → Appends a b front → IsGiven rest b c e f ended → IsGiven (record rest { output = front ++ rest.output }) a c e f ended
+given_rest rest front a b c e f ended first (inl written) = inl (record { status = written.status; output = appends_then a b c front rest.output first written.output; error = written.error })
+given_rest rest front a b c e f ended first (inr (status, inl cut)) = inr (status, inl (part_behind a b c front rest.output first cut.0, cut.1))
+given_rest rest front a b c e f ended first (inr (status, inr cut)) = inr (status, inr (appends_then a b c front rest.output first cut.0, cut.1))
+
+pub given_left : (answer rest : Answer) (a b c e f : Option (List ℕ)) (ended : ℕ) → (front : List ℕ) × Appends a b front × (answer ≡ record rest { output = front ++ rest.output }) → IsGiven rest b c e f ended → IsGiven answer a c e f ended
+given_left answer rest a b c e f ended is given = subst (λ (x : Answer). IsGiven x a c e f ended) (sym is.2) (given_rest rest is.0 a b c e f ended is.1 given)
+
+pub given_cut : (answer : Answer) (a b e : Option (List ℕ)) (ended : ℕ) → AppendsPart a b answer.output → ended ≡ 2 → IsGiven answer a b e e ended
+given_cut answer a b e ended part status = inr (status, inl (part, keeps_held e))
+
+pub given_in_part : (answer : Answer) (a b e f : Option (List ℕ)) (ended : ℕ) → AppendsFront a b answer.output → ((front : List ℕ) (old new : Option (List ℕ)) → Appends old new front → IsGiven (wanting_answer front) old new e f ended)
+    → IsGivenInPart answer a b e f ended
+given_in_part answer a b e f ended part given = (part.0, part.1, part.2, given part.0 a b part.3)
+
+-- memory was wanting: nothing was written before, or the first lines of units
+pub given_wanting : {X : Type 0} (held : X → Option (List ℕ)) (answer : Answer) (old new : X) (e f : Option (List ℕ)) (ended : ℕ) (P : Type 0) → (new ≡ old) ⊎ P → AppendsFront (held old) (held new) answer.output
+    → ((front : List ℕ) (a b : Option (List ℕ)) → Appends a b front → IsGiven (wanting_answer front) a b e f ended)
+    → IsGiven answer (held old) (held new) e f ended ⊎ (IsGiven memory_answer (held old) (held new) e f ended ⊎ (P × IsGivenInPart answer (held old) (held new) e f ended))
+given_wanting held answer old new e f ended P (inl same) part given = inr (inl (given [] (held old) (held new) (subst (λ x. Appends (held old) (held x) []) (sym same) (appends_nothing (held old)))))
+given_wanting held answer old new e f ended P (inr units) part given = inr (inr (units, given_in_part answer (held old) (held new) e f ended part given))

@@ -1,0 +1,48 @@
+// The lines of units, which are written as each is finished.
+ghost use Rattle.std.specs.Prelude.{◌≡◌};
+ghost use Rattle.report_lines.specs.Reports.{unit_lines};
+ghost use Rattle.command_line.specs.Printing.{IsPrinted, Prints};
+
+use crate::writing::write_whole;
+use dpkg_session::{Unit, Watcher};
+use report_lines::unit_text;
+use std::alloc::Global;
+use std::io::Write;
+
+/// How the lines of units were written so far: whole, or the output takes no more, or memory was wanting for those of a unit.
+#[derive(Clone, Copy)]
+pub(crate) enum Flow {
+    Whole,
+    Cut,
+    Wanting,
+}
+
+/// Writes the lines of each unit as it is told. Units go on where its lines can't be written.
+#[derive(Drop)]
+pub(crate) struct Printer<'a, O: Write> {
+    pub(crate) alloc: Global,
+    pub(crate) out: &'a mut O,
+    pub(crate) flow: Flow,
+}
+
+impl<'a, O: Write> Watcher for Printer<'a, O> {
+    ghost tells = { λ old unit new. (new.out.ghost_name ≡ old.out.ghost_name) × Prints (unit_lines unit) old.flow new.flow (O.contents old.out.now) (O.contents new.out.now) };
+
+    fn finished(&mut self, unit: &Unit) {
+        if let Flow::Whole = self.flow {
+            self.flow = print_unit(self.alloc, self.out, unit);
+        }
+    }
+}
+
+fn print_unit<O: Write>(alloc: Global, out: &mut O, unit: &Unit) -> Flow
+    ensures { IsPrinted (unit_lines unit.now) result (O.contents out.old) (O.contents out.new) }
+{
+    let Ok(text) = unit_text(alloc, unit) else {
+        return Flow::Wanting;
+    };
+    if write_whole(out, text.as_str().as_bytes()) {
+        return Flow::Whole;
+    }
+    Flow::Cut
+}
