@@ -86,7 +86,7 @@ module _ (name : List ℕ) (entries : List Diversion) (kept : Path → Bool) (G 
 
 -- the program's own places
 
-own_kept : (entries : List Diversion) (ls : List PackageList) (q : Path) → is_own q ≡ true → is_kept (places_in entries ls) q ≡ true
+pub own_kept : (entries : List Diversion) (ls : List PackageList) (q : Path) → is_own q ≡ true → is_kept (places_in entries ls) q ≡ true
 own_kept entries ls q own = ap (λ b. b || list_any (is_named_by q) (places_in entries ls)) own
 
 pub own_avoided : (name : List ℕ) (entries : List Diversion) (stages : List Stage) (h : Holding) (old : World) (so_far : List Event) (now : World) → AreRunning name entries stages h old so_far now → Avoids is_own (changes_of so_far)

@@ -11,3 +11,5 @@ pub mod Configures
 pub mod ConffileSteps
 pub mod Others
 pub mod OtherPlaces
+pub mod QuietRuns
+pub mod Disappearances

@@ -2,3 +2,4 @@ pub mod Left
 pub mod Removing
 pub mod RemovalSteps
 pub mod Configuring
+pub mod Disappearing

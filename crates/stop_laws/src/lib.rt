@@ -1,9 +1,10 @@
-//! What a stop at any moment leaves of a unit that configures, removes or purges a package, path by path (Policy 6.7, 6.8): laws of
-//! what the engines promise of each moment. Nothing here runs.
+//! What a stop at any moment leaves of a unit that configures, removes or purges a package, or lets one disappear, path by path (Policy
+//! 6.6 to 6.8): laws of what the engines promise of each moment. Nothing here runs.
 #![tactic(auto)]
 
 mod configure_records;
 mod configure_steps;
+mod disappearing;
 mod owned;
 mod removal_paths;
 mod removal_records;
@@ -11,6 +12,7 @@ mod removal_steps;
 
 pub use configure_records::what_configuring_leaves_at_each_moment;
 pub use configure_steps::what_each_step_of_configuring_leaves;
+pub use disappearing::what_a_disappearance_leaves_at_each_moment;
 pub use owned::what_stands_at_places_of_other_packages;
 pub use removal_paths::what_a_removal_leaves_at_each_moment;
 pub use removal_records::what_the_next_opening_finds_of_a_removal;
