@@ -11,7 +11,7 @@ use Rattle.dependency_check.specs.Waiting.{Waiting}
 use Rattle.dependency_sets.proofs.StrikingLaws.{in_range}
 use Rattle.dependency_sets.specs.Sets.{has}
 use Rattle.host_core.specs.Host.{State, Since}
-use Rattle.host_core.specs.Moments.{since_start, since_then, since_weaker}
+use Rattle.host_core.specs.Moments.{since_then, since_weaker_if}
 use Rattle.unit_reports.specs.Held.{Held}
 use Rattle.unit_reports.specs.declared.report.Unit.{Unit as AUnit}
 use Rattle.configure_run.specs.Taking.{TakesOne}
@@ -69,22 +69,29 @@ module _ (policy : ConfPolicy) (silent : ℕ → Bool) (start : Waiting) (before
   }
 
   pub since_turns_start : Since (IsAmidTurns policy silent start before s) s s
-  since_turns_start = since_start (IsAmidTurns policy silent start before s) s (record {
-    us = [];
-    q = start;
-    after = before;
-    m = s;
-    come = ConfiguresTo.begun;
-    front = [];
-    rest = [];
+  since_turns_start = record {
+    added = [];
     events = sym (append-nil s.events);
-    are = refl;
-    next = inl (still_here s.world);
-  })
+    honest = λ h. h;
+    world = refl;
+    each = λ h. record {
+      us = [];
+      q = start;
+      after = before;
+      m = s;
+      honest = h;
+      come = ConfiguresTo.begun;
+      front = [];
+      rest = [];
+      events = sym (append-nil s.events);
+      are = refl;
+      next = inl (still_here s.world);
+    };
+  }
 
   pub since_turns : (first now : List AUnit) (q : Waiting) (mid : Held) (m t : State) → HaveTurned policy silent start before s first now q mid m → Since (IsAmidTurns policy silent start before s) s m
       → Since (IsAmidNext policy silent q mid m.world) m t → Since (IsAmidTurns policy silent start before s) s t
   since_turns first now q mid m t have so_far next =
       since_then (IsAmidTurns policy silent start before s) s m t so_far
-      (since_weaker (IsAmidNext policy silent q mid m.world) (λ x. IsAmidTurns policy silent start before s (so_far.added ++ x)) m t
-      (λ x w amid. record { us = have.turned; q = q; after = mid; m = m; come = have.come; front = so_far.added; rest = x; events = so_far.events; are = refl; next = amid }) next)
+      (since_weaker_if (IsAmidNext policy silent q mid m.world) (λ x. IsAmidTurns policy silent start before s (so_far.added ++ x)) m t
+      (λ h x w amid. record { us = have.turned; q = q; after = mid; m = m; honest = next.honest h; come = have.come; front = so_far.added; rest = x; events = so_far.events; are = refl; next = amid }) next)

@@ -4,7 +4,7 @@ use Rattle.std.proofs.lemmas.List.{append-nil}
 use Rattle.conffiles.specs.declared.decisions.ConfPolicy.{ConfPolicy}
 use Rattle.dependency_check.specs.Waiting.{Waiting}
 use Rattle.host_core.specs.Host.{State, Reads, Since}
-use Rattle.host_core.specs.Moments.{since_start, since_then, since_weaker}
+use Rattle.host_core.specs.Moments.{since_start, since_then, since_weaker, since_weaker_if}
 use Rattle.unit_reports.specs.Held.{Held}
 use Rattle.unit_reports.specs.declared.report.Unit.{Unit as AUnit}
 use Rattle.configure_run.specs.Run.{Begins, HasRun, IsAmidRun, IsConfigureRun}
@@ -26,8 +26,8 @@ module _ (names : List (List ℕ)) (policy : ConfPolicy) (before : Held) where
   since_run silent start s m t begins turns =
       let first = since_run_reads s m begins.looks in
       since_then (IsAmidRun names policy before s) s m t first
-      (since_weaker (IsAmidTurns policy silent start before m) (λ x. IsAmidRun names policy before s (first.added ++ x)) m t
-      (λ x w amid. IsAmidRun.turning silent start m first.added x begins first.events refl amid) turns)
+      (since_weaker_if (IsAmidTurns policy silent start before m) (λ x. IsAmidRun names policy before s (first.added ++ x)) m t
+      (λ h x w amid. IsAmidRun.turning silent start m first.added x (turns.honest h) begins first.events refl amid) turns)
 
   stop_of_end : (silent : ℕ → Bool) (start : Waiting) (s t : State) (first now : List AUnit) (after : Held) → EndTurns policy silent start before s first now after t → StopTurns policy silent start before s first now None t
   stop_of_end silent start s t first now after ends = StopTurns.leaving ends.q after ends.front ends.turned ends.ended (left_some ends.q ends.front now ends.left_over) tt

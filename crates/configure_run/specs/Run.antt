@@ -44,5 +44,5 @@ pub data HasRun (names : List (List ℕ)) (policy : ConfPolicy) (us : List AUnit
 -- At each moment of a configure: nothing has changed yet; or some turns were taken, and the next is under way.
 pub data IsAmidRun (names : List (List ℕ)) (policy : ConfPolicy) (before : Held) (s : State) (so_far : List Event) (now : World) : Type 0 where
   beginning : IsStill s.world so_far now → IsAmidRun names policy before s so_far now
-  turning : (silent : ℕ → Bool) (start : Waiting) (looked : State) (front rest : List Event) → Begins names before silent start s looked → looked.events ≡ s.events ++ front
+  turning : (silent : ℕ → Bool) (start : Waiting) (looked : State) (front rest : List Event) → IsTrue looked.honest → Begins names before silent start s looked → looked.events ≡ s.events ++ front
       → so_far ≡ front ++ rest → IsAmidTurns policy silent start before looked rest now → IsAmidRun names policy before s so_far now

@@ -187,12 +187,13 @@ pub data StopTurns (policy : ConfPolicy) (silent : ℕ → Bool) (start : Waitin
   leaving : (q : Waiting) (after : Held) (front : List AUnit) → HaveTurned policy silent start before s first front q after t → IsNextOfConfigurable q silent None
       → HaveRefusedSomeLeft q front now → IfSome last (IsBrokenStill t t) → StopTurns policy silent start before s first now last t
 
--- at each moment of turns: some were taken, and the next is under way
+-- at each moment of turns: some were taken on a host that was honest so far, and the next is under way
 pub record IsAmidTurns (policy : ConfPolicy) (silent : ℕ → Bool) (start : Waiting) (before : Held) (s : State) (so_far : List Event) (now : World) : Type 0 where
   pub us : List AUnit
   pub q : Waiting
   pub after : Held
   pub m : State
+  pub honest : IsTrue m.honest
   pub come : ConfiguresTo policy silent start before s us q after m
   pub front : List Event
   pub rest : List Event

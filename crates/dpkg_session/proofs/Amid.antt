@@ -1,5 +1,5 @@
 -- What holds at each moment of a run.
-use Rattle.std.proofs.Common.{◌≡◌, inl, inr, Bool, List, [], ◌∷◌, ◌++◌, None, Result, Ok, Err, refl, sym, ap, subst, ◌∙◌, append_assoc}
+use Rattle.std.proofs.Common.{◌≡◌, inl, inr, Bool, IsTrue, List, [], ◌∷◌, ◌++◌, None, Result, Ok, Err, refl, sym, ap, subst, ◌∙◌, append_assoc}
 use Rattle.std.proofs.lemmas.List.{append-nil, append_cancel_left}
 use Rattle.displaced_packages.specs.Displacing.{IsAmidDisplacing}
 use Rattle.displaced_packages.specs.Losing.{losing_beside}
@@ -22,6 +22,7 @@ use Rattle.dpkg_session.specs.declared.report.Candidate.{Candidate}
 use Rattle.unit_reports.specs.declared.report.Unit.{Unit as AUnit}
 use Rattle.dpkg_session.specs.Refusals.{IsDecisionFor}
 use Rattle.dpkg_session.specs.Units.{HasUnpackedBeside, held_with}
+use Rattle.dpkg_session.proofs.Runs.{falls_run}
 use Rattle.dpkg_session.specs.Run.{IsAmidBeside, IsAmidBy, IsAmidNext, IsAmidPackage, IsAmidRun, IsAmidUnitOf, IsAmidUnpack, IsRun}
 
 -- nothing is done yet
@@ -71,22 +72,22 @@ run_events auto (c ∷ cs) (u ∷ us) before after s t run =
 -- the next unit of a run
 
 amid_next : (auto : Bool) (done : List Candidate) (us : List AUnit) (c : Candidate) (rest : List Candidate) (before mid : Held) (s m : State) (now : World) (y : List Event) → (run : IsRun auto done us before mid s m)
-    → IsAmidUnitOf auto c.tree mid m.world y now → IsAmidRun auto (done ++ c ∷ rest) before s (run_added auto done us before mid s m run ++ y) now
-amid_next auto [] [] c rest before mid s m now y run amid =
+    → IsTrue m.honest → IsAmidUnitOf auto c.tree mid m.world y now → IsAmidRun auto (done ++ c ∷ rest) before s (run_added auto done us before mid s m run ++ y) now
+amid_next auto [] [] c rest before mid s m now y run h amid =
     inl (subst (λ x. IsAmidUnitOf auto c.tree x s.world y now) run.1 (subst (λ (x : State). IsAmidUnitOf auto c.tree mid x.world y now) run.0 amid))
-amid_next auto [] (u ∷ us) c rest before mid s m now y run amid = absurd run
-amid_next auto (d ∷ done) [] c rest before mid s m now y run amid = absurd run
-amid_next auto (d ∷ done) (u ∷ us) c rest before mid s m now y run amid =
+amid_next auto [] (u ∷ us) c rest before mid s m now y run h amid = absurd run
+amid_next auto (d ∷ done) [] c rest before mid s m now y run h amid = absurd run
+amid_next auto (d ∷ done) (u ∷ us) c rest before mid s m now y run h amid =
     let more = run_added auto done us run.1 mid run.0 m run.3 in
-    inr (u, run.0, run.1, run.2.is, (run.2.moments.added, more ++ y, append_assoc run.2.moments.added more y, run.2.moments.events, amid_next auto done us c rest run.1 mid run.0 m now y run.3 amid))
+    inr (u, run.0, run.1, run.2.is, (run.2.moments.added, more ++ y, append_assoc run.2.moments.added more y, run.2.moments.events, falls_run auto done us run.1 mid run.0 m run.3 h, amid_next auto done us c rest run.1 mid run.0 m now y run.3 h amid))
 
 pub since_next : (auto : Bool) (cs done : List Candidate) (us : List AUnit) (c : Candidate) (rest : List Candidate) (before mid : Held) (s m t : State) → cs ≡ done ++ c ∷ rest → IsRun auto done us before mid s m → Since (IsAmidRun auto cs before s) s m → Since (IsAmidUnitOf auto c.tree mid m.world) m t → Since (IsAmidRun auto cs before s) s t
 since_next auto cs done us c rest before mid s m t split run first second =
     let same = append_cancel_left s.events (run_added auto done us before mid s m run) first.added (sym (run_events auto done us before mid s m run) ∙ first.events) in
     since_then (IsAmidRun auto cs before s) s m t first
-    (since_weaker (IsAmidUnitOf auto c.tree mid m.world) (λ so_far. IsAmidRun auto cs before s (first.added ++ so_far)) m t
-    (λ so_far w amid. subst (λ l. IsAmidRun auto l before s (first.added ++ so_far) w) (sym split)
-    (subst (λ x. IsAmidRun auto (done ++ c ∷ rest) before s (x ++ so_far) w) same (amid_next auto done us c rest before mid s m w so_far run amid))) second)
+    (since_weaker_if (IsAmidUnitOf auto c.tree mid m.world) (λ so_far. IsAmidRun auto cs before s (first.added ++ so_far)) m t
+    (λ h so_far w amid. subst (λ l. IsAmidRun auto l before s (first.added ++ so_far) w) (sym split)
+    (subst (λ x. IsAmidRun auto (done ++ c ∷ rest) before s (x ++ so_far) w) same (amid_next auto done us c rest before mid s m w so_far run (second.honest h) amid))) second)
 
 -- a package that isn't refused
 

@@ -5,7 +5,7 @@ use Rattle.conffiles.specs.declared.decisions.ConfPolicy.{ConfPolicy}
 use Rattle.configure_run.specs.Run.{HasRun as HasConfigured, IsAmidRun as IsAmidConfigure, IsConfigureRun}
 use Rattle.host_core.specs.Host.{State, Since}
 use Rattle.host_core.specs.Loss.{IsAnswered}
-use Rattle.host_core.specs.Moments.{since_then, since_weaker}
+use Rattle.host_core.specs.Moments.{since_then, since_weaker, since_weaker_if}
 use Rattle.host_core.specs.Unsynced.{IsSettled}
 use Rattle.unit_reports.specs.Held.{Held}
 use Rattle.unit_reports.specs.Units.{CountsLast, TellsCalls, calls_of, calls_told, last_calls}
@@ -29,8 +29,8 @@ amid_both auto cs policy us told before mid labels s m t named same run first be
     let second : Since (IsAmidConfigure (packages_done cs us) policy mid m) m t = subst (λ ls. Since (IsAmidConfigure (names_done ls us) policy mid m) m t) named (subst (λ l. Since (IsAmidConfigure (names_done labels l) policy mid m) m t) same behind) in
     let unpacks = amid_unpacks auto cs policy before s m first in
     since_then (IsAmidInstall auto cs policy before s) s m t unpacks
-    (since_weaker (IsAmidConfigure (packages_done cs us) policy mid m) (λ so_far w. IsAmidInstall auto cs policy before s (unpacks.added ++ so_far) w) m t
-    (λ so_far w is. inr (record { unpacked = us; mid = mid; m = m; unpacks = run; front = unpacks.added; rest = so_far; are = refl; events = unpacks.events; configuring = is })) second)
+    (since_weaker_if (IsAmidConfigure (packages_done cs us) policy mid m) (λ so_far w. IsAmidInstall auto cs policy before s (unpacks.added ++ so_far) w) m t
+    (λ h so_far w is. inr (record { unpacked = us; mid = mid; m = m; honest = second.honest h; unpacks = run; front = unpacks.added; rest = so_far; are = refl; events = unpacks.events; configuring = is })) second)
 
 -- the calls
 

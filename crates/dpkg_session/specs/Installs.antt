@@ -1,5 +1,5 @@
 -- An install: an unpack, and then the packages that were unpacked are configured, and those that were deconfigured for them.
-use Rattle.std.specs.Prelude.{◌≡◌, ◌⊎◌, ℕ, Bool, false, List, [], ◌∷◌, ◌++◌, Option, Some, None, IsNone, Result, Ok, Err, cond, filter, length, map, nat_lt, slice_index_or}
+use Rattle.std.specs.Prelude.{◌≡◌, ◌⊎◌, ℕ, Bool, IsTrue, false, List, [], ◌∷◌, ◌++◌, Option, Some, None, IsNone, Result, Ok, Err, cond, filter, length, map, nat_lt, slice_index_or}
 use Rattle.conffiles.specs.declared.decisions.ConfPolicy.{ConfPolicy}
 use Rattle.configure_run.specs.Run.{IsConfigureRun, HasRun as HasConfigured, IsAmidRun as IsAmidConfigure}
 use Rattle.host_core.specs.Events.{Event}
@@ -96,6 +96,7 @@ pub record IsAmidConfiguring (auto_deconfigure : Bool) (cs : List Candidate) (po
   pub unpacked : List AUnit
   pub mid : Held
   pub m : State
+  pub honest : IsTrue m.honest
   pub unpacks : IsRun auto_deconfigure cs unpacked before mid s m
   pub front : List Event
   pub rest : List Event

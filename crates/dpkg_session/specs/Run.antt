@@ -111,12 +111,12 @@ pub record HasRun (auto_deconfigure : Bool) (cs : List Candidate) (us : List AUn
   pub since : AtEachMomentOf (IsAmidNext auto_deconfigure (drop (length us) cs) after) end t
   pub broken : IfSome last (IsBrokenNext auto_deconfigure (drop (length us) cs) after end t)
 
--- at each moment of a run: some units are done, and the next is under way
+-- at each moment of a run: some units are done on a host that was honest so far, and the next is under way
 abbrev pub IsAmidRun : Bool → List Candidate → Held → State → List Event → World → Type 0
 IsAmidRun auto_deconfigure [] before s so_far now = now ≡ s.world
 IsAmidRun auto_deconfigure (c ∷ cs) before s so_far now = IsAmidUnitOf auto_deconfigure c.tree before s.world so_far now
     ⊎ ((unit : AUnit) × (m : State) × (mid : Held) × IsUnit auto_deconfigure c before mid unit s m
-    × ((front rest : List Event) × (so_far ≡ front ++ rest) × (m.events ≡ s.events ++ front) × IsAmidRun auto_deconfigure cs mid m rest now))
+    × ((front rest : List Event) × (so_far ≡ front ++ rest) × (m.events ≡ s.events ++ front) × IsTrue m.honest × IsAmidRun auto_deconfigure cs mid m rest now))
 
 -- A tree is read only once the units of those before it are told: each that was read has its unit, the last of them that which was
 -- broken off, if one was.

@@ -2,7 +2,7 @@
 use Rattle.std.proofs.Common.{◌≡◌, inl, inr, ℕ, Bool, List, [], ◌∷◌, ◌++◌, refl, sym, ap, subst, ◌∙◌, append_assoc}
 use Rattle.std.proofs.lemmas.List.{append-nil}
 use Rattle.host_core.specs.Host.{State, Since}
-use Rattle.host_core.specs.Moments.{since_start, since_then, since_weaker}
+use Rattle.host_core.specs.Moments.{since_start, since_then, since_weaker, since_weaker_if}
 use Rattle.unit_reports.specs.Held.{Held}
 use Rattle.unit_reports.specs.Units.{IsBroken}
 use Rattle.unit_reports.specs.declared.report.Unit.{Unit as AUnit}
@@ -30,18 +30,25 @@ turns_more purge waiting left (v ∷ us) name u before mid after s m t so_far ne
 
 module _ (purge : Bool) (waiting : List (List ℕ)) (before : Held) where
   pub since_turns_start : (s : State) → Since (IsAmidTurns purge waiting before s) s s
-  since_turns_start s = since_start (IsAmidTurns purge waiting before s) s (record {
-    done = [];
-    left = waiting;
-    mid = before;
-    m = s;
-    removed = (refl, refl, refl);
-    front = [];
-    rest = [];
-    split = refl;
+  since_turns_start s = record {
+    added = [];
     events = sym (append-nil s.events);
-    next = inl refl;
-  })
+    honest = λ h. h;
+    world = refl;
+    each = λ h. record {
+      done = [];
+      left = waiting;
+      mid = before;
+      m = s;
+      honest = h;
+      removed = (refl, refl, refl);
+      front = [];
+      rest = [];
+      split = refl;
+      events = sym (append-nil s.events);
+      next = inl refl;
+    };
+  }
 
   pub since_next_start : (s : State) → Since (IsAmidNext purge waiting before s.world) s s
   since_next_start s = since_start (IsAmidNext purge waiting before s.world) s (inl refl)
@@ -54,12 +61,13 @@ module _ (purge : Bool) (waiting : List (List ℕ)) (before : Held) where
       → Since (IsAmidTurns purge waiting before s) s m → Since (IsAmidRemoval purge name mid m.world) m t → Since (IsAmidTurns purge waiting before s) s t
   since_turn left us name mid s m t turns next first second =
       since_then (IsAmidTurns purge waiting before s) s m t first
-      (since_weaker (IsAmidRemoval purge name mid m.world) (λ so_far. IsAmidTurns purge waiting before s (first.added ++ so_far)) m t
-      (λ so_far w amid. record {
+      (since_weaker_if (IsAmidRemoval purge name mid m.world) (λ so_far. IsAmidTurns purge waiting before s (first.added ++ so_far)) m t
+      (λ h so_far w amid. record {
         done = us;
         left = left;
         mid = mid;
         m = m;
+        honest = second.honest h;
         removed = turns;
         front = first.added;
         rest = so_far;

@@ -25,12 +25,13 @@ abbrev pub IsAmidNext : Bool → List (List ℕ) → Held → World → List Eve
 IsAmidNext purge waiting before old so_far now =
     (now ≡ old) ⊎ ((name : List ℕ) × IsRemovedNext before.records.records waiting name × IsAmidRemoval purge name before old so_far now)
 
--- some removals are done, and the next is under way
+-- some removals are done on a host that was honest so far, and the next is under way
 pub record IsAmidTurns (purge : Bool) (waiting : List (List ℕ)) (before : Held) (s : State) (so_far : List Event) (now : World) : Type 0 where
   pub done : List AUnit
   pub left : List (List ℕ)
   pub mid : Held
   pub m : State
+  pub honest : IsTrue m.honest
   pub removed : RemovesTo purge waiting before s done left mid m
   pub front : List Event
   pub rest : List Event
