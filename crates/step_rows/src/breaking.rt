@@ -1,0 +1,87 @@
+// How a row is broken off, and what is left of the root when it is started again.
+ghost use Rattle.std.specs.Prelude.{◌≡◌};
+ghost use Rattle.host_memory.specs.Memory.{memory_state};
+
+use host_memory::{Done, Effect, MemoryHost};
+use std::alloc::AllocError;
+
+// How the device fails: behind so many steps, for good or once, or behind so many reads.
+#[derive(Clone, Copy, Debug)]
+pub(crate) enum Break {
+    Stop(usize, Effect),
+    Fault(usize, Effect),
+    Read(usize),
+}
+
+// What a loss of power leaves: so many of the steps on names since the last barrier, and this byte in unsynced files.
+#[derive(Clone, Copy, Debug)]
+pub(crate) struct Loss {
+    pub(crate) keep: usize,
+    pub(crate) fill: u8,
+}
+
+// How a run went: whether the fault came, and how many steps on names a loss might undo.
+#[derive(Clone, Copy)]
+pub(crate) struct Ran {
+    pub(crate) met: bool,
+    pub(crate) names: usize,
+}
+
+pub(crate) const EFFECTS: &[Effect] = &[
+    Effect::None,
+    Effect::Whole,
+    Effect::Prefix(1),
+    Effect::Prefix(2),
+];
+
+pub(crate) const FILLS: &[u8] = &[0, 255];
+
+// More steps than any row makes.
+pub(crate) const LIMIT: usize = 1000;
+
+pub(crate) fn plan(host: &mut MemoryHost, how: Break)
+    ensures { memory_state host.new ≡ memory_state host.old }
+{
+    match how {
+        Break::Stop(before, effect) => host.stop_step(before, effect),
+        Break::Fault(before, effect) => host.fail_step(before, effect),
+        Break::Read(before) => host.fail_read(before),
+    }
+}
+
+pub(crate) fn how_it_ran(host: &MemoryHost) -> Ran {
+    Ran {
+        met: !host.awaits_fault(),
+        names: host.names_since_barrier(),
+    }
+}
+
+pub(crate) fn recovered(host: MemoryHost, loss: Option<Loss>) -> Result<MemoryHost, AllocError> {
+    let Some(loss) = loss else {
+        return Ok(host.restart());
+    };
+    match host.lose(loss.keep, loss.fill) {
+        Ok(host) => Ok(host),
+        Err(_) => Err(AllocError),
+    }
+}
+
+fn is_failed(done: &Done) -> bool {
+    match done {
+        Done::Failed => true,
+        Done::Did(_) | Done::Finished(_) | Done::Cut(_, _) => false,
+    }
+}
+
+// Whether the device has failed once, and nothing was done after that.
+pub(crate) fn ends_with_fault(host: &MemoryHost) -> bool {
+    match host.events().split_last() {
+        Some((last, before)) => is_failed(last) && !before.iter().any(is_failed),
+        None => false,
+    }
+}
+
+// Whether nothing but looking was done.
+pub(crate) fn is_untouched(host: &MemoryHost) -> bool {
+    host.events().is_empty()
+}

@@ -1,0 +1,161 @@
+// The files of a removal and of the purge behind it, broken off at each step (Policy 6.8).
+use crate::file_acts::{Act, Package, Removal, Ships};
+use crate::file_breaking::{Found, Row, break_at_each_step, fail_at_each_read, lose_at_each_step};
+use crate::root::Thing;
+use std::test::Fail;
+
+const INSTALLED: &[Thing] = &[
+    ("/etc/z.conf", "a"),
+    ("/opt/z/bin", "b"),
+    ("/opt/z/note", "the administrator's"),
+    ("/opt/z/bin.dpkg-inst", "left"),
+];
+
+// All listed places but the conffile go, and then what stands at their reserved names.
+const REMOVAL: Removal = Removal {
+    paths: &[
+        ("/etc", true),
+        ("/etc/z.conf", false),
+        ("/opt", true),
+        ("/opt/z", true),
+        ("/opt/z/bin", true),
+    ],
+    names: &[
+        "/etc.dpkg-inst",
+        "/etc.dpkg-tmp",
+        "/opt.dpkg-inst",
+        "/opt.dpkg-tmp",
+        "/opt/z.dpkg-inst",
+        "/opt/z.dpkg-tmp",
+        "/opt/z/bin.dpkg-inst",
+        "/opt/z/bin.dpkg-tmp",
+    ],
+};
+
+const REMOVED: &[Thing] = &[
+    ("/etc/z.conf", "a"),
+    ("/opt/z", "/"),
+    ("/opt/z/bin", ""),
+    ("/opt/z/bin.dpkg-inst", ""),
+    ("/opt/z/note", "the administrator's"),
+];
+
+// The reserved name goes behind the file.
+const REMOVING: &[Found] = &[
+    (
+        ("/opt/z/bin", "/opt/z/bin.dpkg-inst"),
+        &[("b", "left"), ("", "left"), ("", "")],
+    ),
+    (
+        ("/etc/z.conf", "/opt/z/note"),
+        &[("a", "the administrator's")],
+    ),
+];
+
+const OF_REMOVAL: Row = Row {
+    there: INSTALLED,
+    act: Act::Remove(&REMOVAL),
+    left: REMOVED,
+    found: REMOVING,
+    again: Act::Remove(&REMOVAL),
+    left_again: REMOVED,
+};
+
+const CONFFILE_LEFT: &[Thing] = &[
+    ("/etc/z.conf", "a"),
+    ("/etc/z.conf~", "b"),
+    ("/etc/#z.conf#", "c"),
+    ("/etc/z.conf.dpkg-old", "d"),
+    ("/opt/z/note", "the administrator's"),
+];
+
+const PURGE: Removal = Removal {
+    paths: &[("/etc", true), ("/etc/z.conf", true)],
+    names: &[
+        "/etc/z.conf",
+        "/etc/z.conf~",
+        "/etc/z.conf%",
+        "/etc/#z.conf#",
+        "/etc/z.conf.dpkg-new",
+        "/etc/z.conf.dpkg-old",
+        "/etc/z.conf.dpkg-dist",
+        "/etc/z.conf.dpkg-tmp",
+        "/etc/z.conf.dpkg-inst",
+    ],
+};
+
+const PURGED: &[Thing] = &[
+    ("/etc", ""),
+    ("/etc/z.conf", ""),
+    ("/etc/z.conf~", ""),
+    ("/etc/#z.conf#", ""),
+    ("/etc/z.conf.dpkg-old", ""),
+    ("/opt/z/note", "the administrator's"),
+];
+
+// They go one behind the other, each whole.
+const PURGING: &[Found] = &[
+    (
+        ("/etc/z.conf", "/etc/z.conf~"),
+        &[("a", "b"), ("", "b"), ("", "")],
+    ),
+    (
+        ("/etc/#z.conf#", "/etc/z.conf.dpkg-old"),
+        &[("c", "d"), ("", "d"), ("", "")],
+    ),
+    (("/opt/z/note", "/opt"), &[("the administrator's", "/")]),
+];
+
+const OF_PURGE: Row = Row {
+    there: CONFFILE_LEFT,
+    act: Act::Purge(&PURGE),
+    left: PURGED,
+    found: PURGING,
+    again: Act::Purge(&PURGE),
+    left_again: PURGED,
+};
+
+// A directory was written in the place of a file; with the old file at its second name nothing is left of it.
+const DIRECTORY_IN_PLACE: Package = Package {
+    name: "alpha",
+    ships: &[("/usr", Ships::Directory), ("/usr/x", Ships::File("new"))],
+    listing: &[],
+    yields: &[],
+};
+
+const OF_BACKUP: Row = Row {
+    there: &[
+        ("/usr", "/"),
+        ("/usr/x", "new"),
+        ("/usr.dpkg-tmp", "a file"),
+    ],
+    act: Act::Remove(&Removal {
+        paths: &[],
+        names: &["/usr.dpkg-tmp", "/usr/x.dpkg-tmp"],
+    }),
+    left: &[("/usr", "/"), ("/usr/x", "new"), ("/usr.dpkg-tmp", "")],
+    found: &[(("/usr", "/usr.dpkg-tmp"), &[("/", "a file"), ("/", "")])],
+    again: Act::Write(&DIRECTORY_IN_PLACE),
+    left_again: &[("/usr", "/"), ("/usr/x", "new"), ("/usr.dpkg-tmp", "")],
+};
+
+fn break_off(rt: &(impl std::process::Abort + AllocGlobal), row: &Row) -> Result<(), Fail> {
+    break_at_each_step(rt, row)?;
+    fail_at_each_read(rt, row)?;
+    lose_at_each_step(rt, row)
+}
+
+#[test]
+fn breaks_within_a_removal(rt: HostRuntime) -> Result<(), Fail> {
+    break_off(&rt, &OF_REMOVAL)
+}
+
+#[test]
+fn breaks_within_a_purge(rt: HostRuntime) -> Result<(), Fail> {
+    break_off(&rt, &OF_PURGE)
+}
+
+#[test]
+fn breaks_within_the_end_of_a_backup(rt: HostRuntime) -> Result<(), Fail> {
+    break_off(&rt, &OF_BACKUP)
+}
