@@ -6,6 +6,7 @@ use Rattle.std.specs.Str.Pattern.{SplitsAroundMatch, RFindsChar}
 use Rattle.std.specs.declared.alloc.Global.{Global}
 use Rattle.std.proofs.lemmas.List.{take-append-drop, get_or_default, reverse-append}
 use Rattle.std.proofs.lemmas.Str.Pattern.{NoCharPasses-char}
+use Rattle.host_core.specs.Tree.{IsBelow}
 use Rattle.host_files.specs.Directories.{IsDirectoryOf}
 use Rattle.host_files.specs.Places.{place_of}
 use Rattle.host_files.specs.Shown.{sync_calls}
@@ -17,11 +18,18 @@ no_byte : (bs : List ℕ) → NoCharPasses (λ d. d == 47) bs → Contains bs 47
 no_byte bs none has = NoCharPasses-char 47 bs has.0 none (omega arith) has.1 (sym (get_or_default bs has.0 47 0 has.1) ∙ has.2)
 
 -- what `rsplit_once` at a slash gives
+around : (path front back : List ℕ) (h : SplitsAroundMatch (RFindsChar 47) path front back) → path ≡ front ++ 47 ∷ drop h.1 path
+unfolding lib.Utf8.encode
+around path front back h = sym (take-append-drop h.0 path) ∙ ap (λ (l : List ℕ). take h.0 path ++ l) h.2.1.split ∙ ap (λ (l : List ℕ). l ++ 47 ∷ drop h.1 path) (sym h.3)
+
+pub above_found : (path front back : List ℕ) → SplitsAroundMatch (RFindsChar 47) path front back → IsBelow front path
+above_found path front back h = (drop h.1 path, around path front back h)
+
 pub directory_found : (path front back : List ℕ) → SplitsAroundMatch (RFindsChar 47) path front back → IsDirectoryOf path front
 unfolding lib.Utf8.encode
 directory_found path front back h = inl (
   drop h.1 path,
-  sym (take-append-drop h.0 path) ∙ ap (λ (l : List ℕ). take h.0 path ++ l) h.2.1.split ∙ ap (λ (l : List ℕ). l ++ 47 ∷ drop h.1 path) (sym h.3),
+  around path front back h,
   no_byte (drop h.1 path) h.2.0,
 )
 

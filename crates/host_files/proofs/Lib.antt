@@ -2,4 +2,5 @@ pub mod Walks
 pub mod Answered
 pub mod DirectoryLaws
 pub mod Replayed
+pub mod RememberedLaws
 pub mod Supposed

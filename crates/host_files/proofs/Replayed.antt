@@ -18,7 +18,7 @@ use Rattle.host_files.specs.declared.record.Noted.TheVariants.{Looked, Seen, Lis
 use Rattle.host_files.specs.Replay.{Model, IsSound, IsLeftOf, IsOwed, replay, events_of, failing, step_of}
 use Rattle.host_core.specs.Host.{ran_of}
 
-honest_before : (a b : Bool) → IsTrue (a && b) → IsTrue b
+pub honest_before : (a b : Bool) → IsTrue (a && b) → IsTrue b
 honest_before true b h = h
 honest_before false b h = absurd (false≢true h)
 

@@ -5,6 +5,7 @@ pub mod Directories
 pub mod Commands
 pub mod SystemCalls
 pub mod Notes
+pub mod Remembered
 pub mod Shown
 pub mod Replay
 pub mod FilesState

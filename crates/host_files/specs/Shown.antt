@@ -19,6 +19,7 @@ use Rattle.host_files.specs.Commands.{outcome_of}
 use Rattle.host_files.specs.Directories.{HasDirectoryOf}
 use Rattle.host_files.specs.Entries.{IsNodeOf, IsKindOf}
 use Rattle.host_files.specs.Places.{place_of, place_in}
+use Rattle.host_files.specs.Remembered.{IsNew}
 use Rattle.host_files.specs.SystemCalls.{changes_in, Looks, start_call}
 use Rattle.host_files.specs.declared.record.Asked.{Asked}
 use Rattle.host_files.specs.declared.record.Asked.TheVariants as asked
@@ -59,11 +60,12 @@ abbrev pub HasRenamed : List ℕ → List ℕ → List SystemCall → Type 0
 HasRenamed from to made = (changes_in made ≡ ask.Rename from to ∷ [])
     ⊎ ((from ≢ to) × ((mode : ℕ) × ((before : List SystemCall) × (changes_in before ≡ []) × (made ≡ ask.Unlink from ∷ ask.Look to (Some mode) ∷ before))))
 
--- a sync that was done: of a file, or of a link, of which nothing is to be brought to the disk
+-- a sync that was done: of a file, of the file that was made last, or of a link, of which nothing is to be brought to the disk
 abbrev pub HasSynced : List ℕ → List SystemCall → Type 0
 HasSynced place made =
     LooksAt (λ found. IsSymlink (file_type found)) place [] made
     ⊎ ((looked : List SystemCall) × LooksAt (λ found. IsFile (file_type found)) place [] looked × (made ≡ ask.SyncFile place ∷ looked))
+    ⊎ (made ≡ ask.SyncMade ∷ [])
 
 -- what is done is done; where the device failed no more than the first changes were made, and none where memory was refused
 abbrev pub IsAnsweredBy : {T : Type 0} → (List SystemCall → Type 0) → (List SystemCall → Type 0) → List SystemCall → Result T HostFault → Type 0
@@ -86,6 +88,22 @@ IsRemembered directories (asked.HardLink a b) = HasDirectoryOf directories b
 IsRemembered directories (asked.MakeLink p target) = HasDirectoryOf directories p
 IsRemembered directories (asked.Sync p) = Unit {0}
 IsRemembered directories asked.Barrier = Unit {0}
+
+-- something was seen at a place
+abbrev pub IsLookedAt : List ℕ → List SystemCall → Type 0
+IsLookedAt place made = (mode : ℕ) × ((later before : List SystemCall) × (made ≡ later ++ ask.Look place (Some mode) ∷ before))
+
+-- what a step moves or brings to the disk was seen before, or is the file that was written last
+abbrev pub IsSure : List ℕ → List Noted → Asked → List SystemCall → Type 0
+IsSure front earlier (asked.Write p node) made = Unit {0}
+IsSure front earlier (asked.Move a b) made = IsLookedAt (place_of front a) made ⊎ ∥ IsNew a earlier ∥₁
+IsSure front earlier (asked.Take p) made = Unit {0}
+IsSure front earlier (asked.MakeDir p access) made = Unit {0}
+IsSure front earlier (asked.RemoveDir p) made = Unit {0}
+IsSure front earlier (asked.HardLink a b) made = Unit {0}
+IsSure front earlier (asked.MakeLink p target) made = Unit {0}
+IsSure front earlier (asked.Sync p) made = IsLookedAt (place_of front p) made ⊎ ∥ IsNew p earlier ∥₁
+IsSure front earlier asked.Barrier made = Unit {0}
 
 module _ (front : List ℕ) (owners : Bool) where
   -- the changes of a step

@@ -6,7 +6,7 @@ use Rattle.std.specs.declared.alloc.Global.{Global}
 use Rattle.std.specs.declared.fs.Metadata.{Metadata}
 use Rattle.std.specs.declared.process.Command.{Command}
 use Rattle.host_files.specs.declared.trace.SystemCall.{SystemCall}
-use Rattle.host_files.specs.declared.trace.SystemCall.TheVariants.{Look, Create, Append, SetOwner, SetMode, MakeDirectory, Rename, Link, MakeLink, Unlink, RemoveDirectory, SyncFile, SyncDirectory, Start, End}
+use Rattle.host_files.specs.declared.trace.SystemCall.TheVariants.{Look, Create, Append, SetOwner, SetMode, MakeDirectory, Rename, Link, MakeLink, Unlink, RemoveDirectory, SyncFile, SyncMade, SyncDirectory, Start, End}
 use Rattle.host_files.specs.declared.trace.Request.{Request}
 use Rattle.host_files.specs.declared.trace.Request.TheVariants as request
 
@@ -32,6 +32,7 @@ requested (request.MakeLink target p) = MakeLink target.now p.now
 requested (request.Unlink p) = Unlink p.now
 requested (request.RemoveDirectory p) = RemoveDirectory p.now
 requested (request.SyncFile p) = SyncFile p.now
+requested request.SyncMade = SyncMade
 requested (request.SyncDirectory p) = SyncDirectory p.now
 requested (request.Start command) = start_call command.now
 requested (request.End status) = End (exit_code status.now)
@@ -51,6 +52,7 @@ changes_in (MakeLink target p ∷ made) = MakeLink target p ∷ changes_in made
 changes_in (Unlink p ∷ made) = Unlink p ∷ changes_in made
 changes_in (RemoveDirectory p ∷ made) = RemoveDirectory p ∷ changes_in made
 changes_in (SyncFile p ∷ made) = changes_in made
+changes_in (SyncMade ∷ made) = changes_in made
 changes_in (SyncDirectory p ∷ made) = changes_in made
 changes_in (Start program args directory ∷ made) = Start program args directory ∷ changes_in made
 changes_in (End code ∷ made) = End code ∷ changes_in made

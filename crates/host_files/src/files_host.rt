@@ -1,6 +1,8 @@
 // The host over a real directory.
-ghost use Rattle.std.specs.Prelude.{◌≡◌, IsTrue};
+ghost use Rattle.std.specs.Prelude.{◌≡◌, IsTrue, string_bytes};
+ghost use Rattle.std.specs.Option.{ForSome};
 ghost use Rattle.host_core.specs.Unsynced.{IsSettled};
+ghost use Rattle.host_files.specs.Remembered.{IsKnown, IsNew};
 ghost use Rattle.host_files.specs.Replay.{replay};
 
 use crate::changed::Changed;
@@ -33,6 +35,8 @@ pub struct FilesHost<D: Disk> {
     told: Told,
     disk: PhantomData<D>,
     ghost settled: { IsTrue (replay D.Disk.model told.log.notes).honest → IsSettled (replay D.Disk.model told.log.notes).events },
+    ghost known: { ForSome root.remembered.directory (λ s. ∥ IsKnown (string_bytes s) told.log.notes ∥₁) },
+    ghost last: { ForSome root.remembered.file (λ f. ∥ IsNew f told.log.notes ∥₁) },
 }
 
 // the longest directory that leaves room for every path below it
@@ -55,7 +59,7 @@ impl<D: Disk> FilesHost<D> {
     ghost use Rattle.host_core.specs.declared.fault.HostFault.TheVariants.{Device, NoMemory};
     ghost use Rattle.host_files.specs.FilesState.{directory_of};
     ghost use Rattle.host_files.specs.Notes.{noted, asked_by, told_of, calls_in, faults_in, IsPlain, IsNotedFault};
-    ghost use Rattle.host_files.specs.Shown.{IsBrought, IsEndedBy, IsRemembered, IsShownBy, IsStepBy};
+    ghost use Rattle.host_files.specs.Shown.{IsBrought, IsEndedBy, IsRemembered, IsShownBy, IsStepBy, IsSure};
     ghost use Rattle.host_files.specs.SystemCalls.{changes_in};
     ghost use Rattle.host_files.specs.declared.record.Noted.TheVariants.{Done, Undone, Ended};
     ghost use Rattle.host_core.specs.Unsynced.{KeepsSettled};
@@ -107,6 +111,7 @@ impl<D: Disk> FilesHost<D> {
         requires owed { IsTrue (replay D.Disk.model self.old.told.log.notes).honest → IsOwed (replay D.Disk.model self.old.told.log.notes).events (noted note.now) }
         ensures notes { self.new.told.log.notes ≡ noted note.now ∷ self.old.told.log.notes }
     {
+        self.root.remembered.take_note(note);
         self.told.note(note);
     }
 
@@ -122,6 +127,7 @@ impl<D: Disk> FilesHost<D> {
     {
         match fault {
             HostFault::Device => {
+                self.root.remembered.take_note(note);
                 self.told.fail(note);
                 HostFault::Device
             }
@@ -134,6 +140,7 @@ impl<D: Disk> FilesHost<D> {
         requires shown { IsStepBy (string_bytes self.old.root.front) self.old.root.owners (asked_by asked) self.old.system.trace.calls ended }
         requires remembered { IsRemembered self.old.changed.directories (asked_by asked) }
         requires brought { OnOk ended (IsBrought (string_bytes self.old.root.front) self.old.root.owners self.old.changed.directories (asked_by asked) self.old.system.trace.calls) }
+        requires sure { OnOk ended (IsSure (string_bytes self.old.root.front) self.old.told.log.notes (asked_by asked) self.old.system.trace.calls) }
         requires owed { IsTrue (replay D.Disk.model self.old.told.log.notes).honest → KeepsSettled (replay D.Disk.model self.old.told.log.notes).events (step_of (asked_by asked)) }
         requires countable { self.old.told.faults < 2 ^ 64 - 1 }
         ensures done { OnOk result (self.new.told.log.notes ≡ Done (asked_by asked.entry) ∷ self.old.told.log.notes) }
@@ -156,6 +163,8 @@ impl<D: Disk> FilesHost<D> {
         requires shown { IsEndedBy (string_bytes self.old.root.directory) (string_bytes self.old.root.front) call.now outcome self.old.system.trace.calls }
         ensures notes { self.new.told.log.notes ≡ Ended call.now kept.now outcome ∷ self.old.told.log.notes }
     {
+        let note = Note::Ended(call, kept, outcome);
+        self.root.remembered.take_note(&note);
         self.told.end(called, call, kept, outcome);
     }
 }

@@ -1,11 +1,11 @@
 // The steps of the device. Each makes its calls of the system once it has seen that the names above its paths are those
 // of directories, and of no link; all memory that it takes is taken before.
-ghost use Rattle.std.specs.Prelude.{◌≡◌, [], true, IfErr, IfOk, IsSome, OnErr, OnOk, Some, string_bytes};
+ghost use Rattle.std.specs.Prelude.{◌≡◌, ◌⊎◌, [], true, IfErr, IfOk, IsSome, IsTrue, OnErr, OnOk, Some, string_bytes};
 ghost use Rattle.host_core.specs.World.{IsFile};
 ghost use Rattle.host_core.specs.declared.fault.HostFault.TheVariants.{Device};
 ghost use Rattle.host_files.specs.Entries.{IsSettable};
 ghost use Rattle.host_files.specs.Places.{place_of};
-ghost use Rattle.host_files.specs.Shown.{Adds, HasRenamed, IsAnsweredBy, IsBrought, IsRenaming, IsStepBy, access_calls, directory_calls, write_calls};
+ghost use Rattle.host_files.specs.Shown.{Adds, HasRenamed, HasSynced, IsAnsweredBy, IsBrought, IsLookedAt, IsRenaming, IsStepBy, access_calls, directory_calls, write_calls};
 ghost use Rattle.host_files.specs.SystemCalls.{changes_in, Looks};
 ghost use Rattle.host_files.specs.declared.record.Asked.TheVariants.{Barrier, HardLink, MakeDir, MakeLink, Move, RemoveDir, Sync, Take, Write};
 
@@ -83,8 +83,8 @@ fn write_bytes(
     ensures { Adds (write_calls owners place.now bytes.now access) system.old.trace.calls system.new.trace.calls result }
 {
     check_settable(owners, access)?;
-    let file = system.create(place)?;
-    system.append(file, bytes)?;
+    system.create(place)?;
+    system.append(bytes)?;
     set_access(system, owners, place, access)
 }
 
@@ -163,7 +163,8 @@ fn look_at_loose(system: &mut System, place: &str) -> Result<Metadata, HostFault
 // The system does nothing where both are names of one file.
 fn rename_file(system: &mut System, from: &str, to: &str) -> Result<(), HostFault>
     requires begun { system.old.trace.calls ≡ [] }
-    ensures { IsAnsweredBy (HasRenamed from.now to.now) (IsRenaming from.now to.now) system.new.trace.calls result }
+    ensures step { IsAnsweredBy (HasRenamed from.now to.now) (IsRenaming from.now to.now) system.new.trace.calls result }
+    ensures sure { OnOk result (IsLookedAt from.now system.new.trace.calls) }
 {
     let moved = look_at_loose(system, from)?;
     let over = system.look(to)?;
@@ -174,6 +175,18 @@ fn rename_file(system: &mut System, from: &str, to: &str) -> Result<(), HostFaul
     }
 }
 
+// The file that was written last has no other name, so that nothing has to be looked at.
+fn rename_at(system: &mut System, is_new: bool, from: &str, to: &str) -> Result<(), HostFault>
+    requires begun { system.old.trace.calls ≡ [] }
+    ensures step { IsAnsweredBy (HasRenamed from.now to.now) (IsRenaming from.now to.now) system.new.trace.calls result }
+    ensures sure { OnOk result (IsLookedAt from.now system.new.trace.calls ⊎ IsTrue is_new) }
+{
+    if is_new {
+        return system.rename(from, to);
+    }
+    rename_file(system, from, to)
+}
+
 /// Moves a file or link over a file, a link or nothing.
 pub(crate) fn move_over(
     system: &mut System,
@@ -182,11 +195,13 @@ pub(crate) fn move_over(
     to: &RootPath,
 ) -> Result<(), HostFault>
     requires begun { system.old.trace.calls ≡ [] }
-    ensures { IsStepBy (string_bytes root.now.front) root.now.owners (Move from.now to.now) system.new.trace.calls result }
+    ensures step { IsStepBy (string_bytes root.now.front) root.now.owners (Move from.now to.now) system.new.trace.calls result }
+    ensures sure { OnOk result (IsLookedAt (place_of (string_bytes root.now.front) from.now) system.new.trace.calls ⊎ (root.now.remembered.file ≡ Some from.now)) }
 {
+    let is_new = root.remembered.is_new(from);
     let from = place_of_step(system, root, from)?;
     let to = place_of_step(system, root, to)?;
-    rename_file(system, from.as_str(), to.as_str())
+    rename_at(system, is_new, from.as_str(), to.as_str())
 }
 
 /// Makes a symbolic link where nothing stands.
@@ -219,17 +234,30 @@ pub(crate) fn hard_link(
     system.link(from.as_str(), to.as_str())
 }
 
+// Looks what stands at a place, and brings it to the disk.
+fn flush_at(system: &mut System, place: &str) -> Result<(), HostFault>
+    requires begun { system.old.trace.calls ≡ [] }
+    ensures step { IsAnsweredBy (HasSynced place.now) (λ made. made ≡ []) system.new.trace.calls result }
+    ensures sure { OnOk result (IsLookedAt place.now system.new.trace.calls) }
+{
+    match system.look(place)? {
+        Some(found) if found.is_symlink() => Ok(()),
+        Some(found) if found.is_file() => system.sync_file(place),
+        _ => Err(HostFault::Device),
+    }
+}
+
 /// Brings the bytes of a file to the disk; of a link nothing has to be brought there.
 pub(crate) fn flush(system: &mut System, root: &Root, path: &RootPath) -> Result<(), HostFault>
     requires begun { system.old.trace.calls ≡ [] }
-    ensures { IsStepBy (string_bytes root.now.front) root.now.owners (Sync path.now) system.new.trace.calls result }
+    ensures step { IsStepBy (string_bytes root.now.front) root.now.owners (Sync path.now) system.new.trace.calls result }
+    ensures sure { OnOk result (IsLookedAt (place_of (string_bytes root.now.front) path.now) system.new.trace.calls ⊎ (root.now.remembered.file ≡ Some path.now)) }
 {
-    let place = place_of_step(system, root, path)?;
-    match system.look(place.as_str())? {
-        Some(found) if found.is_symlink() => Ok(()),
-        Some(found) if found.is_file() => system.sync_file(place.as_str()),
-        _ => Err(HostFault::Device),
+    if root.remembered.is_new(path) && system.has_made() {
+        return system.sync_made();
     }
+    let place = place_of_step(system, root, path)?;
+    flush_at(system, place.as_str())
 }
 
 /// Removes a file or link.

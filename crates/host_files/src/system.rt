@@ -1,11 +1,11 @@
 // The calls of the operating system that change something, start a program or look at a path. Each function makes one
 // and keeps it in the trace; an error of one that changes something is a fault of the device.
-ghost use Rattle.std.specs.Prelude.{◌≡◌, ◌∷◌, [], IfErr, IfOk, OnOk, OnErr, string_bytes};
+ghost use Rattle.std.specs.Prelude.{◌≡◌, ◌∷◌, [], is_some, IfErr, IfOk, OnOk, OnErr, string_bytes};
 ghost use Rattle.std.specs.IoError.{raw_os_error};
 ghost use Rattle.std.specs.Process.{exit_code};
 ghost use Rattle.host_core.specs.declared.fault.HostFault.TheVariants.{Device, NoMemory};
 ghost use Rattle.host_files.specs.Commands.{is_start_error};
-ghost use Rattle.host_files.specs.declared.trace.SystemCall.TheVariants.{Create, Append, SetOwner, SetMode, MakeDirectory, Rename, Link, MakeLink, Unlink, RemoveDirectory, SyncFile, SyncDirectory, End};
+ghost use Rattle.host_files.specs.declared.trace.SystemCall.TheVariants.{Create, Append, SetOwner, SetMode, MakeDirectory, Rename, Link, MakeLink, Unlink, RemoveDirectory, SyncFile, SyncMade, SyncDirectory, End};
 ghost use Rattle.host_files.specs.Shown.{IsNotBegun};
 ghost use Rattle.host_files.specs.SystemCalls.{changes_in, Looks, start_call};
 ghost use Rattle.host_files.specs.Places.{place_of};
@@ -24,6 +24,8 @@ use std::{fs, io};
 pub(crate) struct System {
     pub(crate) rt: HostRuntime,
     pub(crate) trace: Trace,
+    // the file that was made last, while it is open
+    made: Option<File>,
 }
 
 // the system's numbers for a file that can't be started
@@ -80,6 +82,7 @@ impl System {
         System {
             rt,
             trace: Trace::new(),
+            made: None,
         }
     }
 
@@ -104,23 +107,28 @@ impl System {
         }
     }
 
-    pub(crate) fn create(&mut self, place: &str) -> Result<File, HostFault>
+    /// The file stays open until another is made or a program is started.
+    pub(crate) fn create(&mut self, place: &str) -> Result<(), HostFault>
         ensures made { self.new.trace.calls ≡ Create place.now ∷ self.old.trace.calls }
         ensures err { IfErr result (λ fault. fault ≡ Device) }
     {
         self.trace = self.trace.with(&Request::Create(place));
-        match create_new(&self.rt, place) {
-            Ok(file) => Ok(file),
-            Err(_) => Err(HostFault::Device),
+        self.made = create_new(&self.rt, place).ok();
+        match &self.made {
+            Some(_) => Ok(()),
+            None => Err(HostFault::Device),
         }
     }
 
-    pub(crate) fn append(&mut self, mut file: File, bytes: &[u8]) -> Result<(), HostFault>
+    pub(crate) fn append(&mut self, bytes: &[u8]) -> Result<(), HostFault>
         ensures made { self.new.trace.calls ≡ Append bytes.now ∷ self.old.trace.calls }
         ensures err { IfErr result (λ fault. fault ≡ Device) }
     {
         self.trace = self.trace.with(&Request::Append(bytes));
-        ended(file.write_all(bytes))
+        match &mut self.made {
+            Some(file) => ended(file.write_all(bytes)),
+            None => Err(HostFault::Device),
+        }
     }
 
     pub(crate) fn set_owner(&mut self, place: &str, user: u32, group: u32) -> Result<(), HostFault>
@@ -197,6 +205,24 @@ impl System {
         ended(sync(&self.rt, place))
     }
 
+    /// Whether the file that was made last is open.
+    pub(crate) fn has_made(&self) -> bool
+        ensures { result ≡ is_some self.now.made }
+    {
+        self.made.is_some()
+    }
+
+    pub(crate) fn sync_made(&mut self) -> Result<(), HostFault>
+        ensures made { self.new.trace.calls ≡ SyncMade ∷ self.old.trace.calls }
+        ensures err { IfErr result (λ fault. fault ≡ Device) }
+    {
+        self.trace = self.trace.with(&Request::SyncMade);
+        match &self.made {
+            Some(file) => ended(file.sync_all()),
+            None => Err(HostFault::Device),
+        }
+    }
+
     /// The directory is told by its path under the root. Where it is gone, or a link leads to it,
     /// nothing is to be brought to the disk.
     pub(crate) fn sync_directory(&mut self, root: &Root, directory: &str) -> Result<(), HostFault>
@@ -213,10 +239,12 @@ impl System {
     }
 
     /// Nothing where the program is one that can't be started, or is missing. Where memory was wanting nothing was started.
+    /// A file that is open for writing couldn't be started.
     pub(crate) fn start(&mut self, command: &mut Command) -> Result<Option<Child>, HostFault>
         ensures made { OnOk result (self.new.trace.calls ≡ start_call command.old ∷ self.old.trace.calls) }
         ensures err { IfErr result (IsNotBegun command.old self.old.trace.calls self.new.trace.calls) }
     {
+        self.made = None;
         let started = self.trace.with(&Request::Start(command));
         match command.spawn(&self.rt) {
             Ok(child) => {

@@ -29,6 +29,8 @@ pub enum SystemCall {
     Unlink(Text),
     RemoveDirectory(Text),
     SyncFile(Text),
+    /// the bytes of the file that was made last, which is open still
+    SyncMade,
     /// the names in a directory
     SyncDirectory(Text),
     /// a program, with its arguments and its working directory
@@ -52,6 +54,7 @@ pub(crate) enum Request<'a> {
     Unlink(&'a str),
     RemoveDirectory(&'a str),
     SyncFile(&'a str),
+    SyncMade,
     SyncDirectory(&'a str),
     Start(&'a Command),
     End(&'a ExitStatus),

@@ -12,16 +12,16 @@ returns-in_err-check_settable c =
     let device : IfErr c.from_residual.result (λ fault. fault ≡ Device) = search rules in
     adds_some (write_calls c.args.owners c.args.place.now c.args.bytes.now c.args.access) (write_calls c.args.owners c.args.place.now c.args.bytes.now c.args.access) c.args.system.now.trace.calls c.args.system.now.trace.calls c.from_residual.result c.from_residual.ensures.0 device refl
 
-pub returns-in_err-file : goal.returns-in_err-file
-returns-in_err-file c =
-    let device : IfErr c.from_residual-in_err-file.result (λ fault. fault ≡ Device) = search rules in
-    adds_some ((access_calls c.args.owners c.args.place.now c.args.access) ++ Append c.args.bytes.now ∷ []) (write_calls c.args.owners c.args.place.now c.args.bytes.now c.args.access) c.args.system.now.trace.calls c.create.new.self.trace.calls c.from_residual-in_err-file.result c.from_residual-in_err-file.ensures.0 device
-    (ap (λ (l : List SystemCall). ((access_calls c.args.owners c.args.place.now c.args.access) ++ Append c.args.bytes.now ∷ []) ++ changes_in l) c.in_err-file.ensures.made
+pub returns-in_err-create : goal.returns-in_err-create
+returns-in_err-create c =
+    let device : IfErr c.from_residual-in_err-create.result (λ fault. fault ≡ Device) = search rules in
+    adds_some ((access_calls c.args.owners c.args.place.now c.args.access) ++ Append c.args.bytes.now ∷ []) (write_calls c.args.owners c.args.place.now c.args.bytes.now c.args.access) c.args.system.now.trace.calls c.create.new.self.trace.calls c.from_residual-in_err-create.result c.from_residual-in_err-create.ensures.0 device
+    (ap (λ (l : List SystemCall). ((access_calls c.args.owners c.args.place.now c.args.access) ++ Append c.args.bytes.now ∷ []) ++ changes_in l) c.in_err-create.ensures.made
     ∙ append_assoc (access_calls c.args.owners c.args.place.now c.args.access) (Append c.args.bytes.now ∷ []) (Create c.args.place.now ∷ changes_in c.args.system.now.trace.calls) ∙ sym (append_assoc (access_calls c.args.owners c.args.place.now c.args.access) (Append c.args.bytes.now ∷ Create c.args.place.now ∷ []) (changes_in c.args.system.now.trace.calls)))
 
 pub returns-in_err-append : goal.returns-in_err-append
 returns-in_err-append c =
     let device : IfErr c.from_residual-in_err-append.result (λ fault. fault ≡ Device) = search rules in
     adds_some (access_calls c.args.owners c.args.place.now c.args.access) (write_calls c.args.owners c.args.place.now c.args.bytes.now c.args.access) c.args.system.now.trace.calls c.append.new.self.trace.calls c.from_residual-in_err-append.result c.from_residual-in_err-append.ensures.0 device
-    (ap (λ (l : List SystemCall). (access_calls c.args.owners c.args.place.now c.args.access) ++ changes_in l) (c.in_err-append.ensures.made ∙ ap (λ (l : List SystemCall). Append c.args.bytes.now ∷ l) c.in_ok-file.ensures.made)
+    (ap (λ (l : List SystemCall). (access_calls c.args.owners c.args.place.now c.args.access) ++ changes_in l) (c.in_err-append.ensures.made ∙ ap (λ (l : List SystemCall). Append c.args.bytes.now ∷ l) c.in_ok-create.ensures.made)
     ∙ sym (append_assoc (access_calls c.args.owners c.args.place.now c.args.access) (Append c.args.bytes.now ∷ Create c.args.place.now ∷ []) (changes_in c.args.system.now.trace.calls)))

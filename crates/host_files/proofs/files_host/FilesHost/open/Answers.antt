@@ -1,5 +1,10 @@
+use Rattle.host_files.proofs.RememberedLaws.{nothing}
 use Rattle.host_files.proofs.Replayed.{settled_start}
 use Rattle.host_files.proofs.files_host.FilesHost.open.Goals as goal
 
 pub invariant_of-result : goal.invariant_of-result
-invariant_of-result g c = record { settled = settled_start g.D.Disk.model c.new-in-Ok-3.result.log.notes c.new-in-Ok-3.ensures }
+invariant_of-result g c = record {
+  settled = settled_start g.D.Disk.model c.new-in-Ok-3.result.log.notes c.new-in-Ok-3.ensures;
+  known = λ s is. nothing c.in_ok-root.root.remembered.directory s c.in_ok-root.ensures.known is;
+  last = λ f is. nothing c.in_ok-root.root.remembered.file f c.in_ok-root.ensures.new is;
+}

@@ -1,0 +1,175 @@
+-- What is remembered: after one call more, and in each account of the directory.
+use Rattle.std.proofs.Common.{◌≡◌, ◌≢◌, inl, inr, IsTrue, List, [], ◌∷◌, ◌++◌, Option, Some, None, Result, Ok, Err, OnOk, refl, sym, ap, subst, ◌∙◌}
+use Rattle.std.specs.Prelude.{ℕ, IsSome, is_some}
+use Rattle.std.proofs.Math.Logic.{∥∥₁_map}
+use Rattle.std.specs.declared.fs.Metadata.{Metadata}
+use Rattle.std.specs.Fs.{metadata_mode}
+use Rattle.host_core.specs.Paths.{Path}
+use Rattle.host_core.specs.Tree.{IsTree, IsBelow}
+use Rattle.host_core.specs.World.{World, IsDirectory, kind_of, put}
+use Rattle.host_core.specs.Laws.{put_same, put_other}
+use Rattle.host_core.specs.declared.node.Kind.TheVariants as kind
+use Rattle.host_core.specs.declared.node.Node.{Node}
+use Rattle.host_core.specs.declared.node.Node.TheVariants.{File, Dir, Link}
+use Rattle.host_files.specs.Remembered.{IsKnown, IsKnownBy, IsKnownByStep, IsNew, IsNewBy, IsNewByStep}
+use Rattle.host_files.specs.Replay.{Model, IsSound, replay}
+use Rattle.host_files.specs.Shown.{IsLookedAt}
+use Rattle.host_files.specs.SystemCalls.{look_call}
+use Rattle.host_files.specs.declared.record.Asked.{Asked}
+use Rattle.host_files.specs.declared.record.Asked.TheVariants as asked
+use Rattle.host_files.specs.declared.record.Noted.{Noted}
+use Rattle.host_files.specs.declared.record.Noted.TheVariants as was
+use Rattle.host_files.specs.declared.trace.SystemCall.{SystemCall}
+use Rattle.host_files.proofs.Replayed.{honest_before}
+
+-- nothing is remembered
+pub nothing : {X : Type 0} {P : Type 0} (o : Option X) (x : X) → o ≡ None → o ≡ Some x → P
+nothing o x none some = absurd (let e : None ≡ Some x = sym none ∙ some in cc)
+
+-- what was known before is still known behind a step, unless it isn't known any more
+known_step_more : (d : Path) (a : Asked) (A B : Type 0) → (A → ∥ B ∥₁) → IsKnownByStep d a A → ∥ IsKnownByStep d a B ∥₁
+known_step_more d (asked.Write p node) A B f (inl below) = ∣ inl below ∣₁
+known_step_more d (asked.Write p node) A B f (inr k) = ∥∥₁_map (f k.1) (λ b. inr (k.0, b))
+known_step_more d (asked.Move a b) A B f k = ∥∥₁_map (f k.2) (λ b. (k.0, k.1, b))
+known_step_more d (asked.Take p) A B f k = ∥∥₁_map (f k.1) (λ b. (k.0, b))
+known_step_more d (asked.MakeDir p access) A B f (inl is) = ∣ inl is ∣₁
+known_step_more d (asked.MakeDir p access) A B f (inr k) = ∥∥₁_map (f k.1) (λ b. inr (k.0, b))
+known_step_more d (asked.RemoveDir p) A B f k = ∥∥₁_map (f k.1) (λ b. (k.0, b))
+known_step_more d (asked.HardLink a b) A B f k = ∥∥₁_map (f k.1) (λ b. (k.0, b))
+known_step_more d (asked.MakeLink p target) A B f k = ∥∥₁_map (f k.1) (λ b. (k.0, b))
+known_step_more d (asked.Sync p) A B f k = f k
+known_step_more d asked.Barrier A B f k = f k
+
+known_more : (d : Path) (n : Noted) (A B : Type 0) → (A → ∥ B ∥₁) → IsKnownBy d n A → ∥ IsKnownBy d n B ∥₁
+known_more d (was.Looked p found) A B f (inl seen) = ∣ inl seen ∣₁
+known_more d (was.Looked p found) A B f (inr k) = ∥∥₁_map (f k) (λ b. inr b)
+known_more d (was.Seen p found) A B f (inl seen) = ∣ inl seen ∣₁
+known_more d (was.Seen p found) A B f (inr k) = ∥∥₁_map (f k) (λ b. inr b)
+known_more d (was.Listed p listing) A B f k = f k
+known_more d (was.Done a) A B f k = known_step_more d a A B f k
+known_more d (was.Undone a) A B f k = absurd k
+known_more d (was.Ended call kept outcome) A B f k = absurd k
+known_more d (was.Broke call kept) A B f k = absurd k
+known_more d was.Missed A B f k = absurd k
+
+new_step_more : (g : Path) (a : Asked) (A B : Type 0) → (A → ∥ B ∥₁) → IsNewByStep g a A → ∥ IsNewByStep g a B ∥₁
+new_step_more g (asked.Write p node) A B f k = ∣ k ∣₁
+new_step_more g (asked.Move a b) A B f k = ∥∥₁_map (f k.2) (λ b. (k.0, k.1, b))
+new_step_more g (asked.Take p) A B f k = ∥∥₁_map (f k.1) (λ b. (k.0, b))
+new_step_more g (asked.MakeDir p access) A B f k = ∥∥₁_map (f k.1) (λ b. (k.0, b))
+new_step_more g (asked.RemoveDir p) A B f k = ∥∥₁_map (f k.1) (λ b. (k.0, b))
+new_step_more g (asked.HardLink a b) A B f k = ∥∥₁_map (f k.2) (λ b. (k.0, k.1, b))
+new_step_more g (asked.MakeLink p target) A B f k = ∥∥₁_map (f k.1) (λ b. (k.0, b))
+new_step_more g (asked.Sync p) A B f k = f k
+new_step_more g asked.Barrier A B f k = f k
+
+new_more : (g : Path) (n : Noted) (A B : Type 0) → (A → ∥ B ∥₁) → IsNewBy g n A → ∥ IsNewBy g n B ∥₁
+new_more g (was.Looked p found) A B f k = f k
+new_more g (was.Seen p found) A B f k = f k
+new_more g (was.Listed p listing) A B f k = f k
+new_more g (was.Done a) A B f k = new_step_more g a A B f k
+new_more g (was.Undone a) A B f k = absurd k
+new_more g (was.Ended call kept outcome) A B f k = absurd k
+new_more g (was.Broke call kept) A B f k = absurd k
+new_more g was.Missed A B f k = absurd k
+
+-- behind one call more
+pub still_known : (d : Path) (n : Noted) (A : Type 0) (old new : List Noted) → new ≡ n ∷ old → (A → ∥ IsKnown d old ∥₁) → IsKnownBy d n A → ∥ IsKnown d new ∥₁
+still_known d n A old new is f k = subst (λ l. ∥ IsKnown d l ∥₁) (sym is) (known_more d n A (IsKnown d old) f k)
+
+pub still_new : (g : Path) (n : Noted) (A : Type 0) (old new : List Noted) → new ≡ n ∷ old → (A → ∥ IsNew g old ∥₁) → IsNewBy g n A → ∥ IsNew g new ∥₁
+still_new g n A old new is f k = subst (λ l. ∥ IsNew g l ∥₁) (sym is) (new_more g n A (IsNew g old) f k)
+
+-- above what stands is a directory
+above : (w : World) (d p : Path) → IsTree w → IsBelow d p → IsSome (w p) → IsDirectory (w d)
+above w d p tree below some = tree d below.0 (subst (λ q. IsSome (w q)) below.1 some)
+
+some_kind : (node : Option Node) → IsSome (kind_of node) → IsSome node
+some_kind None some = some
+some_kind (Some node) some = refl
+
+is_dir : (n : Option Node) → kind_of n ≡ Some kind.Directory → IsDirectory n
+is_dir None e = absurd (let o : None ≡ Some kind.Directory = e in cc)
+is_dir (Some (File bytes access)) e = absurd (let o : kind.File ≡ kind.Directory = cc in cc)
+is_dir (Some (Dir access)) e = (access, refl)
+is_dir (Some (Link target)) e = absurd (let o : kind.SymbolicLink ≡ kind.Directory = cc in cc)
+
+-- what stands at another path is as before
+other : (P : Option Node → Type 0) (w : World) (p d : Path) (n : Option Node) → p ≢ d → P (w d) → P (put w p n d)
+other P w p d n apart here = subst P (sym (put_other w p d n (λ e. apart (sym e)))) here
+
+module _ (m : Model) (sound : IsSound m) where
+  before : (n : Noted) (h : List Noted) → IsTrue (replay m (n ∷ h)).honest → IsTrue (replay m h).honest
+  before n h honest = honest_before (m.agrees (n ∷ h)) (replay m h).honest honest
+
+  pub known_stands : (d : Path) (notes : List Noted) → IsKnown d notes → IsTrue (replay m notes).honest → IsDirectory ((replay m notes).world d)
+  known_stands d [] known honest = absurd known
+  known_stands d (was.Looked p node ∷ h) (inl (some, inl below)) honest =
+      above (replay m h).world d p (sound.tree (was.Looked p node ∷ h) honest) below (subst IsSome (sound.answers (was.Looked p node) h honest) some)
+  known_stands d (was.Looked p node ∷ h) (inl (some, inr (is, directory))) honest =
+      subst (λ q. IsDirectory ((replay m h).world q)) (sym is) (subst IsDirectory (sound.answers (was.Looked p node) h honest) directory)
+  known_stands d (was.Looked p node ∷ h) (inr known) honest = known_stands d h known (before (was.Looked p node) h honest)
+  known_stands d (was.Seen p found ∷ h) (inl (some, inl below)) honest =
+      above (replay m h).world d p (sound.tree (was.Seen p found ∷ h) honest) below
+      (some_kind ((replay m h).world p) (subst IsSome (sound.answers (was.Seen p found) h honest) some))
+  known_stands d (was.Seen p found ∷ h) (inl (some, inr (is, directory))) honest =
+      subst (λ q. IsDirectory ((replay m h).world q)) (sym is) (is_dir ((replay m h).world p) (sym (sound.answers (was.Seen p found) h honest) ∙ directory))
+  known_stands d (was.Seen p found ∷ h) (inr known) honest = known_stands d h known (before (was.Seen p found) h honest)
+  known_stands d (was.Listed p listing ∷ h) known honest = known_stands d h known (before (was.Listed p listing) h honest)
+  known_stands d (was.Done (asked.Write p node) ∷ h) (inl below) honest =
+      above (put (replay m h).world p (Some node)) d p (sound.tree (was.Done (asked.Write p node) ∷ h) honest) below
+      (ap (λ o. is_some o) (put_same (replay m h).world p p (Some node) refl))
+  known_stands d (was.Done (asked.Write p node) ∷ h) (inr (apart, known)) honest =
+      other IsDirectory (replay m h).world p d (Some node) apart (known_stands d h known (before (was.Done (asked.Write p node)) h honest))
+  known_stands d (was.Done (asked.Move a b) ∷ h) (from, to, known) honest =
+      other IsDirectory (put (replay m h).world a None) b d ((replay m h).world a) to
+      (other IsDirectory (replay m h).world a d None from (known_stands d h known (before (was.Done (asked.Move a b)) h honest)))
+  known_stands d (was.Done (asked.Take p) ∷ h) (apart, known) honest =
+      other IsDirectory (replay m h).world p d None apart (known_stands d h known (before (was.Done (asked.Take p)) h honest))
+  known_stands d (was.Done (asked.MakeDir p access) ∷ h) (inl is) honest =
+      (access, put_same (replay m h).world p d (Some (Dir access)) is)
+  known_stands d (was.Done (asked.MakeDir p access) ∷ h) (inr (apart, known)) honest =
+      other IsDirectory (replay m h).world p d (Some (Dir access)) apart (known_stands d h known (before (was.Done (asked.MakeDir p access)) h honest))
+  known_stands d (was.Done (asked.RemoveDir p) ∷ h) (apart, known) honest =
+      other IsDirectory (replay m h).world p d None apart (known_stands d h known (before (was.Done (asked.RemoveDir p)) h honest))
+  known_stands d (was.Done (asked.HardLink a b) ∷ h) (apart, known) honest =
+      other IsDirectory (replay m h).world b d ((replay m h).world a) apart (known_stands d h known (before (was.Done (asked.HardLink a b)) h honest))
+  known_stands d (was.Done (asked.MakeLink p target) ∷ h) (apart, known) honest =
+      other IsDirectory (replay m h).world p d (Some (Link target)) apart (known_stands d h known (before (was.Done (asked.MakeLink p target)) h honest))
+  known_stands d (was.Done (asked.Sync p) ∷ h) known honest = known_stands d h known (before (was.Done (asked.Sync p)) h honest)
+  known_stands d (was.Done asked.Barrier ∷ h) known honest = known_stands d h known (before (was.Done asked.Barrier) h honest)
+  known_stands d (was.Undone a ∷ h) known honest = absurd known
+  known_stands d (was.Ended call kept outcome ∷ h) known honest = absurd known
+  known_stands d (was.Broke call kept ∷ h) known honest = absurd known
+  known_stands d (was.Missed ∷ h) known honest = absurd known
+
+  pub new_stands : (g : Path) (notes : List Noted) → IsNew g notes → IsTrue (replay m notes).honest → IsSome ((replay m notes).world g)
+  new_stands g [] new honest = absurd new
+  new_stands g (was.Looked p node ∷ h) new honest = new_stands g h new (before (was.Looked p node) h honest)
+  new_stands g (was.Seen p found ∷ h) new honest = new_stands g h new (before (was.Seen p found) h honest)
+  new_stands g (was.Listed p listing ∷ h) new honest = new_stands g h new (before (was.Listed p listing) h honest)
+  new_stands g (was.Done (asked.Write p node) ∷ h) is honest = ap (λ o. is_some o) (put_same (replay m h).world p g (Some node) is)
+  new_stands g (was.Done (asked.Move a b) ∷ h) (from, to, new) honest =
+      other IsSome (put (replay m h).world a None) b g ((replay m h).world a) to
+      (other IsSome (replay m h).world a g None from (new_stands g h new (before (was.Done (asked.Move a b)) h honest)))
+  new_stands g (was.Done (asked.Take p) ∷ h) (apart, new) honest =
+      other IsSome (replay m h).world p g None apart (new_stands g h new (before (was.Done (asked.Take p)) h honest))
+  new_stands g (was.Done (asked.MakeDir p access) ∷ h) (apart, new) honest =
+      other IsSome (replay m h).world p g (Some (Dir access)) apart (new_stands g h new (before (was.Done (asked.MakeDir p access)) h honest))
+  new_stands g (was.Done (asked.RemoveDir p) ∷ h) (apart, new) honest =
+      other IsSome (replay m h).world p g None apart (new_stands g h new (before (was.Done (asked.RemoveDir p)) h honest))
+  new_stands g (was.Done (asked.HardLink a b) ∷ h) (from, to, new) honest =
+      other IsSome (replay m h).world b g ((replay m h).world a) to (new_stands g h new (before (was.Done (asked.HardLink a b)) h honest))
+  new_stands g (was.Done (asked.MakeLink p target) ∷ h) (apart, new) honest =
+      other IsSome (replay m h).world p g (Some (Link target)) apart (new_stands g h new (before (was.Done (asked.MakeLink p target)) h honest))
+  new_stands g (was.Done (asked.Sync p) ∷ h) new honest = new_stands g h new (before (was.Done (asked.Sync p)) h honest)
+  new_stands g (was.Done asked.Barrier ∷ h) new honest = new_stands g h new (before (was.Done asked.Barrier) h honest)
+  new_stands g (was.Undone a ∷ h) new honest = absurd new
+  new_stands g (was.Ended call kept outcome ∷ h) new honest = absurd new
+  new_stands g (was.Broke call kept ∷ h) new honest = absurd new
+  new_stands g (was.Missed ∷ h) new honest = absurd new
+
+-- what was looked at on the way
+pub looked_at : {T E : Type 0} (result : Result T E) (place : List ℕ) (found : Metadata) (later earlier made : List SystemCall) → made ≡ later ++ look_call place (Some found) ∷ earlier → OnOk result (IsLookedAt place made)
+looked_at (Ok x) place found later earlier made is = (metadata_mode found, (later, earlier, is))
+looked_at (Err e) place found later earlier made is = tt

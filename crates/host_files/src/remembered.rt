@@ -1,0 +1,219 @@
+// What the host needn't look at again: the directory that was seen last, and the file that was written last.
+ghost use Rattle.std.specs.Prelude.{◌≡◌, ◌⊎◌, ◌≢◌, ◌↔◌, List, None, Some, IsSome, IsSomeAnd, IsTrue, true, string_bytes};
+ghost use Rattle.std.specs.Option.{ForSome};
+ghost use Rattle.host_core.specs.Paths.{Path};
+ghost use Rattle.host_core.specs.Tree.{IsBelow};
+ghost use Rattle.host_core.specs.World.{IsDirectory};
+ghost use Rattle.host_files.specs.Notes.{asked_by, noted};
+ghost use Rattle.host_files.specs.Remembered.{IsKnown, IsKnownBy, IsKnownByStep, IsNew, IsNewBy, IsNewByStep};
+ghost use Rattle.host_files.specs.Replay.{replay};
+ghost use Rattle.host_files.specs.declared.record.Noted.{Noted};
+ghost use Rattle.host_files.specs.declared.record.Noted.TheVariants.{Looked, Seen};
+
+use crate::disk_model::Disk;
+use crate::record::{Asks, Note};
+use host_core::{Kind, Node, RootPath};
+use std::alloc::Global;
+
+/// Where memory is wanting for it, nothing is remembered and all is looked at again.
+#[derive(Drop)]
+pub(crate) struct Remembered {
+    alloc: Global,
+    /// by its path under the root
+    pub(crate) directory: Option<String>,
+    pub(crate) file: Option<RootPath>,
+}
+
+/// In each account that fits the answers so far a directory that is known stands, and so does the file that was written last.
+pub fn what_is_remembered_stands<D: Disk>()
+    ensures known { (d : Path) (notes : List Noted) → IsKnown d notes → IsTrue (replay D.Disk.model notes).honest → IsDirectory ((replay D.Disk.model notes).world d) }
+    ensures new { (f : Path) (notes : List Noted) → IsNew f notes → IsTrue (replay D.Disk.model notes).honest → IsSome ((replay D.Disk.model notes).world f) }
+{}
+
+// Whether a path goes on below another.
+fn is_below(top: &str, path: &str) -> bool
+    ensures { result ≡ true → IsBelow top.now path.now }
+{
+    let Some(rest) = path.strip_prefix(top) else {
+        return false;
+    };
+    let Some(_) = rest.strip_prefix('/') else {
+        return false;
+    };
+    true
+}
+
+impl Remembered {
+    pub(crate) fn new(alloc: Global) -> Remembered
+        ensures directory { result.directory ≡ None }
+        ensures file { result.file ≡ None }
+    {
+        Remembered {
+            alloc,
+            directory: None,
+            file: None,
+        }
+    }
+
+    // After a script or a fault anything may have changed.
+    fn forget(&mut self)
+        ensures directory { self.new.directory ≡ None }
+        ensures file { self.new.file ≡ None }
+    {
+        self.directory = None;
+        self.file = None;
+    }
+
+    /// Whether a path is that of the directory, or of one above it.
+    pub(crate) fn covers(&self, path: &str) -> bool
+        ensures { result ≡ true → IsSomeAnd self.now.directory (λ s. (string_bytes s ≡ path.now) ⊎ IsBelow path.now (string_bytes s)) }
+    {
+        match &self.directory {
+            Some(directory) => directory.as_str() == path || is_below(path, directory.as_str()),
+            None => false,
+        }
+    }
+
+    /// Whether the file that was written last is the one at a path.
+    pub(crate) fn is_new(&self, path: &RootPath) -> bool
+        ensures { IsTrue result ↔ (self.now.file ≡ Some path.now) }
+    {
+        match &self.file {
+            Some(file) => file.is(path),
+            None => false,
+        }
+    }
+
+    /// Takes from a call with its answer what it tells.
+    pub(crate) fn take_note(&mut self, note: &Note<'_>)
+        ensures directory { ForSome self.new.directory (λ s. IsKnownBy (string_bytes s) (noted note.now) (self.old.directory ≡ Some s)) }
+        ensures file { ForSome self.new.file (λ f. IsNewBy f (noted note.now) (self.old.file ≡ Some f)) }
+    {
+        match *note {
+            Note::Looked(path, node) => self.take_node(path, node),
+            Note::Seen(path, kind) => self.take_kind(path, kind),
+            Note::Listed(_, _) => {}
+            Note::Done(asked) => self.take_step(asked),
+            Note::Undone(_) => self.forget(),
+            Note::Ended(_, _, _) => self.forget(),
+            Note::Broke(_, _) => self.forget(),
+            Note::Missed => self.forget(),
+        }
+    }
+
+    fn take_node(&mut self, path: &RootPath, node: &Option<Node>)
+        ensures directory { ForSome self.new.directory (λ s. IsKnownBy (string_bytes s) (Looked path.now node.now) (self.old.directory ≡ Some s)) }
+        ensures file { self.new.file ≡ self.old.file }
+    {
+        match node {
+            Some(Node::Dir { .. }) => self.learn(path.as_str()),
+            Some(_) => self.learn_above(path),
+            None => {}
+        }
+    }
+
+    fn take_kind(&mut self, path: &RootPath, kind: Option<Kind>)
+        ensures directory { ForSome self.new.directory (λ s. IsKnownBy (string_bytes s) (Seen path.now kind) (self.old.directory ≡ Some s)) }
+        ensures file { self.new.file ≡ self.old.file }
+    {
+        match kind {
+            Some(Kind::Directory) => self.learn(path.as_str()),
+            Some(_) => self.learn_above(path),
+            None => {}
+        }
+    }
+
+    fn take_step(&mut self, asked: Asks<'_>)
+        ensures directory { ForSome self.new.directory (λ s. IsKnownByStep (string_bytes s) (asked_by asked.entry) (self.old.directory ≡ Some s)) }
+        ensures file { ForSome self.new.file (λ f. IsNewByStep f (asked_by asked.entry) (self.old.file ≡ Some f)) }
+    {
+        match asked {
+            Asks::Write(path, _) => self.take_written(path),
+            Asks::Move(from, to) => self.forget_both(from, to),
+            Asks::Take(path) => self.forget_named(path),
+            Asks::MakeDir(path, _) => self.take_made(path),
+            Asks::RemoveDir(path) => self.forget_named(path),
+            Asks::HardLink(from, to) => self.forget_both(from, to),
+            Asks::MakeLink(path, _) => self.forget_named(path),
+            Asks::Sync(_) => {}
+            Asks::Barrier => {}
+        }
+    }
+
+    fn take_written(&mut self, path: &RootPath)
+        ensures directory { ForSome self.new.directory (λ s. IsBelow (string_bytes s) path.now ⊎ ((path.now ≢ string_bytes s) × (self.old.directory ≡ Some s))) }
+        ensures file { ForSome self.new.file (λ f. f ≡ path.now) }
+    {
+        self.forget_named(path);
+        self.learn_above(path);
+        self.file = match path.copy() {
+            Ok(path) => Some(path),
+            Err(_) => None,
+        };
+    }
+
+    fn take_made(&mut self, path: &RootPath)
+        ensures directory { ForSome self.new.directory (λ s. (string_bytes s ≡ path.now) ⊎ ((path.now ≢ string_bytes s) × (self.old.directory ≡ Some s))) }
+        ensures file { ForSome self.new.file (λ f. (path.now ≢ f) × (self.old.file ≡ Some f)) }
+    {
+        self.forget_named(path);
+        self.learn(path.as_str());
+    }
+
+    // What stands at a path may be another.
+    fn forget_named(&mut self, path: &RootPath)
+        ensures directory { ForSome self.new.directory (λ s. (path.now ≢ string_bytes s) × (self.old.directory ≡ Some s)) }
+        ensures file { ForSome self.new.file (λ f. (path.now ≢ f) × (self.old.file ≡ Some f)) }
+    {
+        self.forget_directory(path.as_str());
+        if self.is_new(path) {
+            self.file = None;
+        }
+    }
+
+    fn forget_both(&mut self, from: &RootPath, to: &RootPath)
+        ensures directory { ForSome self.new.directory (λ s. (from.now ≢ string_bytes s) × (to.now ≢ string_bytes s) × (self.old.directory ≡ Some s)) }
+        ensures file { ForSome self.new.file (λ f. (from.now ≢ f) × (to.now ≢ f) × (self.old.file ≡ Some f)) }
+    {
+        self.forget_named(from);
+        self.forget_named(to);
+    }
+
+    fn forget_directory(&mut self, path: &str)
+        ensures directory { ForSome self.new.directory (λ s. (path.now ≢ string_bytes s) × (self.old.directory ≡ Some s)) }
+        ensures file { self.new.file ≡ self.old.file }
+    {
+        let is_named = match &self.directory {
+            Some(directory) => directory.as_str() == path,
+            None => false,
+        };
+        if is_named {
+            self.directory = None;
+        }
+    }
+
+    // The directory that a path stands in.
+    fn learn_above(&mut self, path: &RootPath)
+        ensures directory { ForSome self.new.directory (λ s. IsBelow (string_bytes s) path.now ⊎ (self.old.directory ≡ Some s)) }
+        ensures file { self.new.file ≡ self.old.file }
+    {
+        match path.as_str().rsplit_once('/') {
+            Some((above, _)) => self.learn(above),
+            None => {}
+        }
+    }
+
+    // One above the directory that is remembered tells no more.
+    fn learn(&mut self, directory: &str)
+        ensures directory { ForSome self.new.directory (λ s. (string_bytes s ≡ directory.now) ⊎ (self.old.directory ≡ Some s)) }
+        ensures file { self.new.file ≡ self.old.file }
+    {
+        if self.covers(directory) {
+            return;
+        }
+        self.directory = match String::from_str(self.alloc, directory) {
+            Ok(directory) => Some(directory),
+            Err(_) => None,
+        };
+    }
+}
