@@ -54,8 +54,18 @@ fn is_broken_off(text: &str, calls: &str) -> bool {
     }
 }
 
+// Whether no line is written, or those of the first units alone, and then a want of memory is told.
+fn is_cut_short(text: &str, calls: &str) -> bool {
+    for want in WANTS {
+        if let Some(front) = text.strip_suffix(*want) {
+            return calls.starts_with(front) && (front.is_empty() || front.ends_with("\n"));
+        }
+    }
+    false
+}
+
 fn is_want(text: &str, calls: &str) -> bool {
-    WANTS.contains(&text) || is_unread_tree(text) || is_broken_off(text, calls)
+    is_cut_short(text, calls) || is_unread_tree(text) || is_broken_off(text, calls)
 }
 
 // Whether an allocation of this run is refused, as scripts/refused_memory does: only then may a want of memory stand in
