@@ -1,5 +1,5 @@
 -- What stands behind an unpack that was carried out whole.
-use Rattle.std.proofs.Common.{◌≡◌, ◌≢◌, ◌||◌, inl, inr, not, ℕ, zero, suc, Bool, true, false, cond, List, [], ◌∷◌, Option, Some, None, IsTrue, Contains, refl, sym, ap, subst, ◌∙◌, arith}
+use Rattle.std.proofs.Common.{◌≡◌, ◌≢◌, ◌||◌, inl, inr, not, ℕ, zero, suc, Bool, true, false, cond, List, [], ◌∷◌, None, IsTrue, Contains, refl, sym, ap, subst, ◌∙◌, arith}
 use Rattle.std.specs.List.{list_any}
 use Rattle.std.specs.Str.{bytes_eq}
 use Rattle.std.proofs.lemmas.Bool.{false_from_ne_true, true≢false}
@@ -11,8 +11,6 @@ use Rattle.host_core.specs.Paths.{Path, is_below_administration}
 use Rattle.host_core.specs.World.{World, Change, IsLoose}
 use Rattle.host_core.specs.Host.{State}
 use Rattle.host_core.specs.Events.{changes_of}
-use Rattle.host_core.specs.declared.node.Node.{Node}
-use Rattle.host_core.specs.declared.node.Node.TheVariants.{File, Dir, Link}
 use Rattle.host_core.proofs.Nodes.{none_stands}
 use Rattle.administration.specs.Places.{home_path, is_within, list_path, temporary, tmp_path}
 use Rattle.control_members.specs.Stored.{stored_member_path}
@@ -51,30 +49,11 @@ use Rattle.unpack_engine.specs.Units.{Given, Ground, HasCarriedOut, HasLeft, Has
 use Rattle.unpack_engine.proofs.Apart.{tmp_beside}
 use Rattle.unpack_laws.specs.Done.{IsClear, IsClearBeside, LeavesNoOldFile}
 use Rattle.unpack_laws.specs.InHand.{unit_found, unit_listed, unit_name, unit_works}
+use Rattle.unpack_laws.proofs.Clear.{clear_at, clear_none, cleared_clear, name_clear}
 use Rattle.unpack_laws.proofs.Marks.{each_at}
 use Rattle.unpack_laws.proofs.MarksLeaving.{wrote_then}
 use Rattle.unpack_laws.proofs.Passing.{works_are}
 use Rattle.unpack_laws.proofs.Targets.{name_apart}
-
--- what is cleared is no file
-
-clear_none : (node : Option Node) → node ≡ None → IsClear node
-clear_none node is loose = none_stands node is loose.0
-
-cleared_clear : (node : Option Node) → IsClear (cleared node)
-cleared_clear None loose = none_stands None refl loose.0
-cleared_clear (Some (File bytes access)) loose = none_stands None refl loose.0
-cleared_clear (Some (Dir access)) loose = loose.1 (access, refl)
-cleared_clear (Some (Link target)) loose = none_stands None refl loose.0
-
-name_clear : (node : Option Node) → IsClear (cleared_name node)
-name_clear None loose = none_stands None refl loose.0
-name_clear (Some (File bytes access)) loose = none_stands None refl loose.0
-name_clear (Some (Dir access)) loose = loose.1 (access, refl)
-name_clear (Some (Link target)) loose = none_stands None refl loose.0
-
-clear_at : (there other : Option Node) → there ≡ other → IsClear other → IsClear there
-clear_at there other same clear loose = clear (subst IsLoose same loose)
 
 -- what isn't below the administration's directory
 

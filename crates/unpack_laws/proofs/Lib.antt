@@ -13,3 +13,5 @@ pub mod Lasting
 pub mod OtherLists
 pub mod OwnMembers
 pub mod Behind
+pub mod Clear
+pub mod NamesBack

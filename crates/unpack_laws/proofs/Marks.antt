@@ -38,6 +38,7 @@ use Rattle.unpack_laws.specs.InHand.{unit_found, unit_name, unit_works}
 use Rattle.unpack_laws.specs.Marked.{IsAccounted, IsMarkedAmid, IsNamedIn, IsRestored}
 use Rattle.unpack_laws.specs.Whole.{IsWorkBack}
 use Rattle.unpack_laws.proofs.Alone.{begun_beside}
+use Rattle.unpack_laws.proofs.NamesBack.{IsBesideBack, name_at, names_back, names_gone_back, target_beside, target_out_tmp}
 use Rattle.unpack_laws.proofs.OwnFiles.{rebased_back}
 use Rattle.unpack_laws.proofs.Passing.{outside_list, outside_member, outside_records, outside_tmp, works_are}
 use Rattle.unpack_laws.proofs.Scripted.{IsSpared, amid_there}
@@ -131,6 +132,9 @@ module _ (g : Given) (stored : Present) (p : Planned) (plan : IsPlanned (job_of 
     abbrev task : Task
     task = task_from here p begun
 
+    pub begun_target : (x : Work) → IsNamed x → begun.world x.target ≡ old x.target
+    begun_target x named = begun_beside here p x.target (target_beside x named own) (target_out_tmp x named) old begun.world begins
+
     pub from_begun : (c : Change) (now : World) (q : Path) → is_within home_path q ≡ false → now q ≡ changed c begun.world q → now q ≡ changed c old q
     from_begun c now q out is = is ∙ changed_at c begun.world old q (begun_out old begun begins q out)
 
@@ -176,8 +180,8 @@ module _ (g : Given) (stored : Present) (p : Planned) (plan : IsPlanned (job_of 
       })
 
       -- the targets were put back
-      restored_at : Each (IsWorkBack begun.world now c) p.works → (q : Path) → is_within home_path q ≡ false → IsRestored g old now c q
-      restored_at back q out = elim (names_or_misses p.works q) [
+      restored_at : Each (IsWorkBack begun.world now c) p.works → Each (IsBesideBack g begun.world now c) p.works → (q : Path) → is_within home_path q ≡ false → IsRestored g old now c q
+      restored_at back names q out = elim (names_or_misses p.works q) [
         | inl at ↦ name_back at.0 at.1 at.2
         | inr missed ↦ IsRestored.scripted (scripted q out missed)
       ]
@@ -185,7 +189,7 @@ module _ (g : Given) (stored : Present) (p : Planned) (plan : IsPlanned (job_of 
           name_back : (x : Work) → Contains p.works x → IsNameOf x q → IsRestored g old now c q
           name_back x there (inl at) = IsRestored.target x (unit_work x there) at
               (rebased_back x.target x.node old begun.world now c (begun_out old begun begins x.target (subst (λ r. is_within home_path r ≡ false) at out)) (each_at (IsWorkBack begun.world now c) p.works x back there))
-          name_back x there (inr beside) = IsRestored.beside x (unit_work x there) beside
+          name_back x there (inr beside) = IsRestored.beside x (unit_work x there) beside (name_at g x q old begun.world now now c (begun_target x (each_at IsNamed p.works x plan.works_are.named there)) refl (each_at (IsBesideBack g begun.world now c) p.works x names there) beside)
 
     pub marks_amid : (table : List Record) (c : Change) (now : World) → HasRecords now table → IsAmid task table c now → IsMarkedAmid g old now c
     marks_amid table c now has (IsAmid.untouched follows) = IsMarkedAmid.untouched (λ q out. from_begun c now q out (follows.rest q (outside_records q out)))
@@ -200,6 +204,8 @@ module _ (g : Given) (stored : Present) (p : Planned) (plan : IsPlanned (job_of 
         marked_with table c now has (IsAmid.going_back works last moved marked files (inl is)) marked ((is w.0 w.1).rest list (miss works moved) ∙ union_list works moved c last files)
     marks_amid table c now has (IsAmid.going_back works last moved marked files (inr m)) = IsMarkedAmid.restored
         (restored_at table c now has (IsAmid.going_back works last moved marked files (inr m))
-        (targets_back task plan.works_are.named works moved c last m.0 now (list_file p.listed) files m.1 m.2))
+        (targets_back task plan.works_are.named works moved c last m.0 now (list_file p.listed) files m.1 m.2)
+        (names_back g task plan.works_are.named works moved c last m.0 now (list_file p.listed) files m.1 m.2))
     marks_amid table c now has (IsAmid.back works moved gone) = IsMarkedAmid.restored
-        (restored_at table c now has (IsAmid.back works moved gone) (targets_gone_back task plan.works_are.named works moved c now gone))
+        (restored_at table c now has (IsAmid.back works moved gone) (targets_gone_back task plan.works_are.named works moved c now gone)
+        (names_gone_back g task plan.works_are.named works moved c now gone))

@@ -26,6 +26,7 @@ use Rattle.file_lists.specs.declared.paths.PackageList.{PackageList}
 use Rattle.file_removal.specs.Clearing.{cleared, is_among}
 use Rattle.file_removal.specs.Removal.{GoesBy}
 use Rattle.file_works.specs.declared.work.Work.{Work}
+use Rattle.file_works.specs.Names.{IsNamed}
 use Rattle.file_works.specs.Files.{Each, Misses}
 use Rattle.list_changes.specs.Leaving.{leaving_of}
 use Rattle.status_db.specs.Held.{HasRecords}
@@ -59,7 +60,8 @@ use Rattle.unpack_laws.specs.InHand.{unit_found, unit_listed, unit_name}
 use Rattle.unpack_laws.specs.Marked.{IsAccounted, IsListedSo, IsMarkedAmid, IsRestored}
 use Rattle.unpack_laws.specs.Whole.{IsWorkBack}
 use Rattle.unpack_laws.proofs.Alone.{beginning_beside, calls_since}
-use Rattle.unpack_laws.proofs.Marks.{HasShipped, IsNameOf, begun_out, each_at, from_begun, marks_amid, named_in, names_or_misses, new_shipped, out_beside, out_spared, union_shipped, unit_work, union_list}
+use Rattle.unpack_laws.proofs.Marks.{HasShipped, IsNameOf, begun_out, begun_target, each_at, from_begun, marks_amid, named_in, names_or_misses, new_shipped, out_beside, out_spared, union_shipped, unit_work, union_list}
+use Rattle.unpack_laws.proofs.NamesBack.{IsBesideBack, name_at, names_gone_back}
 use Rattle.unpack_laws.proofs.NotedRecords.{IsGoodRecord, good_front, good_records, good_then, losing_good}
 use Rattle.unpack_laws.proofs.OwnFiles.{back_then, rebased_back}
 use Rattle.unpack_laws.proofs.OwnList.{committed_list, committing_list, noting_list}
@@ -348,6 +350,8 @@ module _ (g : Given) (stored : Present) (p : Planned) (plan : IsPlanned (job_of 
               (rebased_back x.target x.node old begun.world last change (begun_out g stored p plan places old begun begins x.target out_there)
               (each_at (IsWorkBack begun.world last change) p.works x (targets_gone_back task plan.works_are.named works are.same change last come) there)))
           name_back q out x there (inr beside) = IsRestored.beside x (unit_work g stored p plan places x there) beside
+              (name_at g x q old begun.world last now change (begun_target g stored p plan places old begun begins x (each_at IsNamed p.works x plan.works_are.named there)) (unwound_same last now may q out)
+              (each_at (IsBesideBack g begun.world last change) p.works x (names_gone_back g task plan.works_are.named works are.same change last come) there) beside)
 
           restored : (q : Path) → is_within home_path q ≡ false → IsRestored g old now change q
           restored q out = elim (names_or_misses p.works q) [

@@ -105,13 +105,13 @@ module _ (t : Task) (all_named : Each IsNamed t.works) where
   followed_target places c v w follows x named = follows.rest x.target (name_unnoted x named x.target (hits_target x))
 
   module _ (works : List Work) (moved : IsRearranged t.works works) where
-    abbrev Known : Work → Type 0
+    abbrev pub Known : Work → Type 0
     Known x = IsNamed x × Contains (all_places t) x.place
 
     named : Each IsNamed works
     named = named_rearranged t.works works moved all_named
 
-    known : Each Known works
+    pub known : Each Known works
     known = each_map IsNamed (λ x. Contains (all_places t) x.place) Known (λ x a b. (a, b)) works named (places_listed t.places t.works works moved)
 
     module _ (c : Change) (w : World) (has : HasFiles t works c w) where
@@ -122,12 +122,12 @@ module _ (t : Task) (all_named : Each IsNamed t.works) where
       mid_early : (x : Work) → IsNamed x → has.listed.mid x.target ≡ changed has.early t.start.world x.target
       mid_early x is = has.listed.replaced.rest x.target (target_unlisted x is) (target_unspared x is) ∙ followed_target t.places has.early t.start.world has.found has.before x is
 
-      mid_is : (x : Work) → Known x → has.listed.mid x.target ≡ changed c t.start.world x.target
+      pub mid_is : (x : Work) → Known x → has.listed.mid x.target ≡ changed c t.start.world x.target
       mid_is x is =
           mid_early x is.0 ∙ sym (kept_since x is (changed has.early t.start.world))
           ∙ ap (λ (v : World). v x.target) (sym (changed-append has.early has.late t.start.world)) ∙ ap (λ d. changed d t.start.world x.target) (sym has.changes)
 
-      still : IsWrittenFrom works has.listed.mid w
+      pub still : IsWrittenFrom works has.listed.mid w
       still = still_written t works c w has moved named
 
       files_set : Each (IsWorkSet t.start.world w c) works

@@ -1,8 +1,11 @@
 -- Where an unpack has changed what stands outside the administration, its package is marked as half-installed, to be installed
 -- again, until its last note (Policy 6.6).
-use Rattle.std.specs.Prelude.{◌≡◌, ◌⊎◌, true, false, List, Some, None, Contains}
+use Rattle.std.specs.Prelude.{◌≡◌, ◌⊎◌, true, false, List, ◌++◌, Some, None, Contains}
 use Rattle.host_core.specs.Paths.{Path, is_named_by}
 use Rattle.host_core.specs.World.{World, Change, changed}
+use Rattle.host_core.specs.declared.node.Access.{Access}
+use Rattle.host_core.specs.declared.node.Node.{Node}
+use Rattle.host_core.specs.declared.node.Node.TheVariants.{Dir}
 use Rattle.administration.specs.Places.{home_path, is_within, list_path}
 use Rattle.diversions.specs.Places.{place}
 use Rattle.file_lists.specs.Writing.{list_file}
@@ -17,6 +20,7 @@ use Rattle.unpack_plan.specs.Names.{known_conffiles, left_names}
 use Rattle.unpack_plan.specs.Records.{IsFresh, IsIncoming}
 use Rattle.unpack_rows.specs.Kinds.{own_of}
 use Rattle.unpack_rows.specs.Notes.{half_installed}
+use Rattle.unpack_laws.specs.Done.{IsClear}
 use Rattle.unpack_laws.specs.InHand.{unit_found, unit_listed, unit_name, unit_works}
 use Rattle.unpack_laws.specs.Whole.{IsWorkBack}
 
@@ -60,12 +64,18 @@ module _ (g : Given) where
       pub are : IsAfter g.«package».files fresh paths
       pub listed : IsListedSo paths
 
-    -- Where the files were put back: what scripts made of it, or at a target a made directory that had to stay; at the names
-    -- beside a place nothing is said.
+    -- At a name beside a place, where the files were put back: what scripts made since of nothing, or of a directory; at a backup also of
+    -- the file whose place a made directory took, where that had to stay.
+    pub data IsNameBack (target backup : Path) (node : Node) (q : Path) : Type 0 where
+      clear : (early late : Change) → change ≡ early ++ late → (mid : World) → IsClear (mid q) → now q ≡ changed late mid q → IsNameBack target backup node q
+      kept : (access : Access) → node ≡ Dir access → q ≡ backup → (early late : Change) → change ≡ early ++ late → (mid : World) → mid q ≡ changed early old target → now q ≡ changed late mid q → IsNameBack target backup node q
+
+    -- Where the files were put back: what scripts made of it, or at a target a made directory that had to stay, or at a name beside a place
+    -- that.
     pub data IsRestored (q : Path) : Type 0 where
       scripted : now q ≡ changed change old q → IsRestored q
       target : (x : Work) → Contains (unit_works g) x → q ≡ x.target → IsWorkBack old now change x → IsRestored q
-      beside : (x : Work) → Contains (unit_works g) x → (q ≡ x.backup) ⊎ (q ≡ x.fresh) → IsRestored q
+      beside : (x : Work) → Contains (unit_works g) x → (q ≡ x.backup) ⊎ (q ≡ x.fresh) → IsNameBack x.target x.backup x.node q → IsRestored q
 
     -- At each moment: scripts alone changed what stands outside the administration; or the package is marked; or the files were
     -- put back; or the last note is written, behind all else.
