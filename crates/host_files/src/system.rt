@@ -1,6 +1,6 @@
 // The calls of the operating system that change something, start a program or look at a path. Each function makes one
 // and keeps it in the trace; an error of one that changes something is a fault of the device.
-ghost use Rattle.std.specs.Prelude.{◌≡◌, ◌∷◌, [], is_some, IfErr, IfOk, OnOk, OnErr, string_bytes};
+ghost use Rattle.std.specs.Prelude.{◌≡◌, ◌∷◌, [], None, is_some, IfErr, IfOk, OnOk, OnErr, string_bytes};
 ghost use Rattle.std.specs.IoError.{raw_os_error};
 ghost use Rattle.std.specs.Process.{exit_code};
 ghost use Rattle.host_core.specs.declared.fault.HostFault.TheVariants.{Device, NoMemory};
@@ -243,6 +243,7 @@ impl System {
     pub(crate) fn start(&mut self, command: &mut Command) -> Result<Option<Child>, HostFault>
         ensures made { OnOk result (self.new.trace.calls ≡ start_call command.old ∷ self.old.trace.calls) }
         ensures err { IfErr result (IsNotBegun command.old self.old.trace.calls self.new.trace.calls) }
+        ensures closed { self.new.made ≡ None }
     {
         self.made = None;
         let started = self.trace.with(&Request::Start(command));
@@ -266,6 +267,7 @@ impl System {
     // A start for which the device failed stands in the trace; for want of memory none was made.
     fn note_failed_start(&mut self, started: Trace, fault: HostFault)
         ensures device { fault ≡ Device → self.new.trace ≡ started }
+        ensures open { self.new.made ≡ self.old.made }
         ensures memory { fault ≡ NoMemory → self.new.trace ≡ self.old.trace }
     {
         if let HostFault::Device = fault {
