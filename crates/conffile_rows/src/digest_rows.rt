@@ -1,4 +1,5 @@
-// Digests: RFC 1321's own vectors, lengths around a block's end beside what `md5sum` tells, and which texts are read.
+// Digests: RFC 1321's own vectors, lengths around a block's end and a long one beside what `md5sum` tells, and which texts are
+// read.
 use conffiles::Digest;
 use std::alloc::{AllocError, Global};
 use std::test::Fail;
@@ -29,6 +30,7 @@ const LENGTHS: &[(usize, &str)] = &[
     (56, "3b0c8ac703f828b04c6c197006d17218"),
     (63, "b06521f39153d618550606be297466d5"),
     (64, "014842d480b571495a4a0363793f7367"),
+    (1_000_000, "7707d6ae4e027c70eea2a935c2296f21"),
 ];
 
 const UNREAD: &[&str] = &[
@@ -51,7 +53,7 @@ fn vectors_have_their_digests(rt: HostRuntime) -> Result<(), Fail> {
 }
 
 #[test]
-fn lengths_around_a_block_have_their_digests(rt: HostRuntime) -> Result<(), Fail> {
+fn lengths_have_their_digests(rt: HostRuntime) -> Result<(), Fail> {
     for (length, row) in LENGTHS {
         let message = vec![in rt.alloc(); b'a'; *length]?;
         assert_eq!(rt;

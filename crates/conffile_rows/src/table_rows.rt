@@ -3,10 +3,13 @@ ghost use Rattle.std.specs.Prelude.{◌≡◌, None};
 ghost use Rattle.host_memory.specs.Memory.{memory_state};
 ghost use Rattle.conffiles.specs.Settling.{CanSettle};
 
+mod stop_rows;
+
 use conffiles::{Changed, ConfPolicy, Decision, Digest, Settled, apply, decide, find_obstacle};
 use host_core::{Access, Host, HostFault, Node, RootPath, ShipPath};
 use host_memory::MemoryHost;
 use std::alloc::{AllocError, Global};
+use std::process::Abort;
 use std::str;
 use std::test::Fail;
 use texts::Bytes;
@@ -16,6 +19,8 @@ type Found = (&'static str, &'static str, &'static str);
 
 // What stands afterwards: there, at `.dpkg-old` and at `.dpkg-dist`.
 type Left = (&'static str, &'static str, &'static str);
+
+type Row = (Found, ConfPolicy, Decision, Left);
 
 const DEFAULT: ConfPolicy = ConfPolicy {
     changed: Changed::Keep,
@@ -32,7 +37,7 @@ const CONFMISS: ConfPolicy = ConfPolicy {
     missing: true,
 };
 
-const ROWS: &[(Found, ConfPolicy, Decision, Left)] = &[
+const ROWS: &[Row] = &[
     (("", "", "c"), DEFAULT, Decision::TakeNew, ("c", "", "")),
     (("", "c", "c"), DEFAULT, Decision::DropNew, ("c", "", "")),
     (("", "b", "c"), DEFAULT, Decision::NewToDist, ("b", "", "c")),
@@ -131,10 +136,44 @@ fn settle(
     Ok(true)
 }
 
+// A root with the conffile and what is to become it. The administrator set the conffile's mode.
+fn root_of(alloc: Global, found: &Found) -> Result<MemoryHost, AllocError> {
+    let (_, now, shipped) = found;
+    let mut host = MemoryHost::new(alloc)?;
+    put(alloc, &mut host, "/etc/x", now, Access::own(0o600))?;
+    let access = Access::own(0o644);
+    put(alloc, &mut host, "/etc/x.dpkg-new", shipped, access)?;
+    Ok(host)
+}
+
+fn check_at(
+    rt: &(impl Abort + AllocGlobal),
+    host: &mut MemoryHost,
+    path: &str,
+    row: &str,
+) -> Result<(), Fail> {
+    let text = look(rt.alloc(), host, path)?;
+    assert_eq!(rt; text.as_str(), row);
+    Ok(())
+}
+
+fn check_left(
+    rt: &(impl Abort + AllocGlobal),
+    host: &mut MemoryHost,
+    left: &Left,
+) -> Result<(), Fail> {
+    let (home, old, dist) = left;
+    check_at(rt, host, "/etc/x", home)?;
+    check_at(rt, host, "/etc/x.dpkg-old", old)?;
+    check_at(rt, host, "/etc/x.dpkg-dist", dist)?;
+    check_at(rt, host, "/etc/x.dpkg-new", "")
+}
+
 #[test]
 fn each_row_is_settled(rt: HostRuntime) -> Result<(), Fail> {
     let alloc = rt.alloc();
-    for ((recorded, now, shipped), policy, row, (home, old, dist)) in ROWS {
+    for (found, policy, row, left) in ROWS {
+        let (recorded, now, shipped) = found;
         let decision = decide(
             digest_of(recorded),
             digest_of(now),
@@ -142,20 +181,9 @@ fn each_row_is_settled(rt: HostRuntime) -> Result<(), Fail> {
             *policy,
         );
         assert_eq!(rt; decision, *row);
-        let mut host = MemoryHost::new(alloc)?;
-        put(alloc, &mut host, "/etc/x", now, Access::own(0o600))?;
-        put(
-            alloc,
-            &mut host,
-            "/etc/x.dpkg-new",
-            shipped,
-            Access::own(0o644),
-        )?;
+        let mut host = root_of(alloc, found)?;
         assert!(rt; settle(alloc, &mut host, ship_path(alloc, "/etc/x")?, decision)?);
-        assert_eq!(rt; look(alloc, &mut host, "/etc/x")?.as_str(), *home);
-        assert_eq!(rt; look(alloc, &mut host, "/etc/x.dpkg-old")?.as_str(), *old);
-        assert_eq!(rt; look(alloc, &mut host, "/etc/x.dpkg-dist")?.as_str(), *dist);
-        assert_eq!(rt; look(alloc, &mut host, "/etc/x.dpkg-new")?.as_str(), "");
+        check_left(&rt, &mut host, left)?;
     }
     Ok(())
 }
