@@ -1,6 +1,7 @@
 // Single calls of the host over a real directory. Shell makes what they meet, and looks at what they leave. What differs
 // for the superuser and a plain user stands in owner_rows, which scripts/owners runs as both.
 mod owner_rows;
+mod remembered_rows;
 
 use host_core::{Access, Host, HostFault, Kind, RootPath};
 use host_files::{FilesHost, Unknown};

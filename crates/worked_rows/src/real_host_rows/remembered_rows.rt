@@ -1,0 +1,130 @@
+// What a host remembers is forgotten once it may be otherwise: a script ran, a directory was removed, a file got a second name.
+use super::{NEW_DIRECTORY, RealHost, fault_text, path_of, shell};
+use host_core::{
+    Access, Call, Host, HostFault, Keep, Node, Outcome, Places, RootPath, Script, Side,
+};
+use host_files::FilesHost;
+use std::alloc::{AllocError, Global};
+use std::fs;
+use std::test::Fail;
+use texts::{Bytes, Text, Texts};
+
+// One script puts a link to a directory outside in the place of one inside, the other removes what was just written.
+const ROOT: &str = "mkdir outside root/taken root/other
+echo kept >outside/file
+echo one >root/taken/file
+echo two >root/other/file
+printf '#!/bin/sh\\nmv taken moved\\nln -s ../outside taken\\n' >root/replace
+printf '#!/bin/sh\\nrm written.dpkg-inst\\n' >root/remove
+chmod 755 root/replace root/remove";
+
+fn outcome_text(alloc: Global, outcome: Outcome) -> Result<String, AllocError> {
+    match outcome {
+        Outcome::Exit(code) => format!(in alloc; "exit {code}"),
+        Outcome::Killed => String::from_str(alloc, "killed"),
+        Outcome::NotStarted => String::from_str(alloc, "not started"),
+    }
+}
+
+fn run(alloc: Global, host: &mut RealHost, path: &RootPath) -> Result<Outcome, HostFault> {
+    let call = Call {
+        side: Side::New,
+        package: Text::from_str(alloc, "alpha")?,
+        script: Script::Preinst,
+        at: path.copy()?,
+        args: Texts::new(alloc),
+    };
+    let places = Places {
+        items: Vec::new(alloc),
+    };
+    host.run(&call, &Keep { places: &places })
+}
+
+// Writes a script; at a temporary name alone.
+fn write(alloc: Global, host: &mut RealHost, path: &RootPath) -> Result<(), HostFault> {
+    if !path.as_str().ends_with(".dpkg-inst") {
+        return Err(HostFault::NoMemory);
+    }
+    let bytes = Bytes::from_slice(alloc, b"#!/bin/sh\nexit 7\n")?;
+    let access = Access::own(0o755);
+    host.write_new(path, &Node::File { bytes, access })
+}
+
+type Asked = (&'static str, &'static str, &'static str);
+
+fn told(alloc: Global, host: &mut RealHost, asked: Asked) -> Result<String, HostFault> {
+    let (word, path, _) = asked;
+    match word {
+        "run" => Ok(outcome_text(alloc, run(alloc, host, &path_of(alloc, path)?)?)?),
+        "write" => {
+            write(alloc, host, &path_of(alloc, path)?)?;
+            Ok(String::from_str(alloc, "done")?)
+        }
+        _ => Ok(String::from_str(alloc, super::told(alloc, host, asked)?)?),
+    }
+}
+
+// Calls, and what the host answers.
+const CALLS: &[(Asked, &str)] = &[
+    (("kind", "/taken/file", ""), "file"),
+    (("run", "/replace", ""), "exit 0"),
+    (("kind", "/taken/file", ""), "nothing"),
+    (("write", "/taken/new.dpkg-inst", ""), "Device"),
+    (("kind", "/moved/file", ""), "file"),
+    (("make", "/made", ""), "done"),
+    (("remove_dir", "/made", "/"), "done"),
+    (("make_link", "/made", "other"), "done"),
+    (("kind", "/made/file", ""), "nothing"),
+    (("write", "/script.dpkg-inst", ""), "done"),
+    (("run", "/script.dpkg-inst", ""), "exit 7"),
+    (("write", "/written.dpkg-inst", ""), "done"),
+    (("run", "/remove", ""), "exit 0"),
+    (("sync", "/written.dpkg-inst", "/"), "Device"),
+    (("write", "/new.dpkg-inst", ""), "done"),
+    (("sync", "/new.dpkg-inst", "/"), "done"),
+    (("link", "/new.dpkg-inst", "/second"), "done"),
+    (("move", "/new.dpkg-inst", "/second"), "done"),
+    (("kind", "/new.dpkg-inst", ""), "nothing"),
+];
+
+fn check(rt: &HostRuntime, host: &mut RealHost, asked: Asked, row: &str) -> Result<(), Fail> {
+    let answer = match told(rt.alloc(), host, asked) {
+        Ok(answer) => answer,
+        Err(fault) => String::from_str(rt.alloc(), fault_text(fault))?,
+    };
+    let (word, path, _) = asked;
+    match answer.as_str() == row {
+        true => Ok(()),
+        false => Err(Fail::new(format_args!("{word} {path}: {answer}"))),
+    }
+}
+
+#[test]
+fn what_is_remembered_is_forgotten(rt: HostRuntime) -> Result<(), Fail> {
+    let directory = shell(&rt, NEW_DIRECTORY, "/")?;
+    let directory = directory.as_str();
+    shell(&rt, ROOT, directory)?;
+    let root = format!(in rt.alloc(); "{directory}/root")?;
+    let mut host = FilesHost::open(rt, root.as_str())?;
+    for (asked, row) in CALLS {
+        check(&rt, &mut host, *asked, row)?;
+    }
+    let left = shell(
+        &rt,
+        "find outside root ! -type d -printf '%p %y\\n' | LC_ALL=C sort",
+        directory,
+    )?;
+    let row = "outside/file f
+root/made l
+root/moved/file f
+root/other/file f
+root/remove f
+root/replace f
+root/script.dpkg-inst f
+root/second f
+root/taken l
+";
+    assert_eq!(&rt; left.as_str(), row);
+    fs::remove_dir_all(&rt, directory)?;
+    Ok(())
+}
