@@ -2,18 +2,4 @@
 #![tactic(auto)]
 
 #[cfg(test)]
-mod breaking;
-#[cfg(test)]
-mod configure_rows;
-#[cfg(test)]
-mod diversion_rows;
-#[cfg(test)]
-mod file_rows;
-#[cfg(test)]
 mod machine;
-#[cfg(test)]
-mod opening_rows;
-#[cfg(test)]
-mod removal_rows;
-#[cfg(test)]
-mod script_rows;

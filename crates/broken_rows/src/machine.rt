@@ -9,16 +9,18 @@ use std::alloc::{AllocError, Global};
 use std::str;
 use texts::{Bytes, Text};
 
+mod breaking;
+
 // A file under the root: its path, and what it holds.
-pub(crate) type RootFile = (&'static str, &'static str);
+type RootFile = (&'static str, &'static str);
 
 // A file of a tree: the word that names the tree, the path under it, and what stands there.
-pub(crate) type TreeFile = (&'static str, &'static str, &'static str);
+type TreeFile = (&'static str, &'static str, &'static str);
 
 #[derive(Drop)]
-pub(crate) struct Machine {
-    pub(crate) alloc: Global,
-    pub(crate) root: Option<MemoryHost>,
+struct Machine {
+    alloc: Global,
+    root: Option<MemoryHost>,
     trees: &'static [TreeFile],
     faults: u64,
 }
@@ -86,7 +88,7 @@ fn root_of(
 }
 
 // A root with these files whose calls end as told, and then with status 0.
-pub(crate) fn make_machine(
+fn make_machine(
     alloc: Global,
     files: &[RootFile],
     trees: &'static [TreeFile],
@@ -140,10 +142,63 @@ fn text_at(alloc: Global, host: &mut MemoryHost, path: &str) -> Result<String, A
     }
 }
 
+// More nodes than stand under the root of any row.
+const NODES: usize = 1000;
+
+fn child_of(alloc: Global, path: &RootPath, name: &str) -> Result<RootPath, AllocError> {
+    let above = match path.as_str() {
+        "/" => "",
+        above => above,
+    };
+    path_of(alloc, format!(in alloc; "{above}/{name}")?.as_str())
+}
+
+// Adds the paths of what is in a directory.
+fn push_children(
+    alloc: Global,
+    host: &mut MemoryHost,
+    path: &RootPath,
+    rest: &mut Vec<RootPath>,
+) -> Result<(), AllocError> {
+    let listing = match host.list(path) {
+        Ok(listing) => listing,
+        Err(_) => return Err(AllocError),
+    };
+    for name in listing.names.as_slice() {
+        rest.push(child_of(alloc, path, name.as_str())?)?;
+    }
+    Ok(())
+}
+
+fn copy_at(from: &mut MemoryHost, to: &mut MemoryHost, path: &RootPath) -> Result<(), AllocError> {
+    match from.node(path) {
+        Ok(Some(node)) => {
+            to.place(path, node)?;
+            Ok(())
+        }
+        _ => Err(AllocError),
+    }
+}
+
+// A host that holds the same nodes, and of which nothing else is planned or told.
+fn copied(alloc: Global, from: &mut MemoryHost) -> Result<MemoryHost, AllocError> {
+    let mut to = MemoryHost::new(alloc)?;
+    let mut rest = Vec::new(alloc);
+    push_children(alloc, from, &path_of(alloc, "/")?, &mut rest)?;
+    for _ in 0..NODES {
+        let Some(path) = rest.pop() else {
+            return Ok(to);
+        };
+        copy_at(from, &mut to, &path)?;
+        push_children(alloc, from, &path, &mut rest)?;
+    }
+    Err(AllocError)
+}
+
 impl Machine {
     // What the program answers to a line of words, the first of which is its name: its output, behind the first bar what
     // it writes to standard error, and behind the second its status.
-    pub(crate) fn answer(&mut self, line: &str) -> Result<String, AllocError> {
+    fn answer(&mut self, line: &str) -> Result<String, AllocError> {
         let alloc = self.alloc;
         let words = words_of(alloc, line)?;
         let mut out = Vec::new(alloc);
@@ -155,11 +210,19 @@ impl Machine {
     }
 
     // What a file under the root holds, or the names in a directory.
-    pub(crate) fn text_at(&mut self, path: &str) -> Result<String, AllocError> {
+    fn text_at(&mut self, path: &str) -> Result<String, AllocError> {
         match &mut self.root {
             Some(host) => text_at(self.alloc, host, path),
             None => String::from_str(self.alloc, "the root wasn't given back"),
         }
+    }
+
+    // Calls end with status 0 from now on, whatever was planned of them.
+    fn forget_plans(&mut self) -> Result<(), AllocError> {
+        if let Some(mut host) = self.root.take() {
+            self.root = Some(copied(self.alloc, &mut host)?);
+        }
+        Ok(())
     }
 }
 

@@ -1,7 +1,8 @@
 // A conffile that the administrator edited is settled, broken off: within an install, and within a configure whose postinst
 // fails. At each moment the conffile is as before or whole as shipped, and the same command finishes the work.
-use crate::breaking::{
-    Found, Moment, Row, fail_at_each_read, fail_at_each_step, lose_at_each_step, stop_at_each_step,
+use super::{
+    ALONE, Again, Found, Moment, Row, SCRIPT, STATUS, fail_at_each_read, fail_at_each_step,
+    lose_at_each_step, lose_at_steps, stop_at_each_step,
 };
 use crate::machine::{RootFile, TreeFile};
 use host_core::Outcome;
@@ -13,8 +14,6 @@ const TREES: &[TreeFile] = &[
     ("t", "/DEBIAN/conffiles", "/etc/z.conf\n"),
     ("t", "/etc/z.conf", "c"),
 ];
-
-const STATUS: &str = "/var/lib/dpkg/status";
 
 const INSTALLED: &str =
     "Package: zulu\nStatus: install ok installed\nVersion: 1\nConffiles:\n /etc/z.conf 0cc175b9c0f1b6a831c399e269772661\n";
@@ -51,13 +50,6 @@ const BACKUP: &str = "/etc/z.conf.dpkg-old";
 const BESIDE: &str = "/etc/z.conf.dpkg-dist";
 
 const POSTINST: &str = "/var/lib/dpkg/info/zulu.postinst";
-
-const SCRIPT: &str = "#!/bin/sh\n";
-
-// What is planned of a call makes it.
-const MADE: &str = "/made";
-
-const CALLED: &str = "directory:";
 
 const INSTALLS_AGAIN: &str = "state zulu 2 install ok unpacked
 done
@@ -120,6 +112,7 @@ const INSTALLS: Row = Row {
         (BACKUP, &["b"]),
         ("/var/lib/dpkg/info", &["directory: zulu.list"]),
     ],
+    again: ALONE,
 };
 
 const WAITING: &[RootFile] = &[
@@ -173,6 +166,7 @@ const KEEPS: Row = Row {
         ("/etc", &["directory: z.conf z.conf.dpkg-dist"]),
         (BESIDE, &["c"]),
     ],
+    again: ALONE,
 };
 
 const WAITING_WITH_POSTINST: &[RootFile] = &[
@@ -182,12 +176,6 @@ const WAITING_WITH_POSTINST: &[RootFile] = &[
     (INCOMING, "c"),
     (POSTINST, SCRIPT),
 ];
-
-const FAILED: &str = "call old zulu postinst configure 1: exit 1
-state zulu 2 install ok half-configured
-failed zulu postinst configure 1
-||1
-";
 
 const SUCCEEDED: &str = "call old zulu postinst configure 1: exit 0
 state zulu 2 install ok installed
@@ -202,41 +190,56 @@ const WHOLE: &[Found] = &[
 ];
 
 const SETTLED_FILES: &[Found] = &[
-    (STATUS, &[SETTLED, UPGRADED]),
+    (STATUS, &[SETTLED]),
     ("/etc", &["directory: z.conf z.conf.dpkg-old"]),
     (CONFFILE, &["c"]),
     (BACKUP, &["b"]),
 ];
 
-// The first call of postinst fails, the one behind it succeeds.
+// postinst is called wherever it was broken off.
+const FAILING: &[Moment] = &[
+    Moment {
+        stands: &[(STATUS, UNPACKED), (CONFFILE, "b"), (INCOMING, "c")],
+        again: SUCCEEDED,
+    },
+    Moment {
+        stands: &[(STATUS, SETTLING), (CONFFILE, "b"), (INCOMING, "c")],
+        again: SUCCEEDED,
+    },
+    Moment {
+        stands: &[(STATUS, SETTLING), (CONFFILE, "c"), (BACKUP, "b")],
+        again: SUCCEEDED,
+    },
+    Moment {
+        stands: &[(STATUS, SETTLED), (CONFFILE, "c"), (BACKUP, "b")],
+        again: SUCCEEDED,
+    },
+];
+
+const LEFT_CONFIGURED: &[Found] = &[
+    (STATUS, &[UPGRADED]),
+    ("/etc", &["directory: z.conf z.conf.dpkg-old"]),
+    (CONFFILE, &["c"]),
+    (BACKUP, &["b"]),
+];
+
+const IS_CONFIGURED: Again = Again {
+    refused: "",
+    lines: &[],
+    left: Some(LEFT_CONFIGURED),
+};
+
+// postinst fails.
 const FAILS: Row = Row {
     files: WAITING_WITH_POSTINST,
     trees: &[],
     endings: &[Ending::Ended(Outcome::Exit(1))],
     line: "dpkg_cli configure --force-confnew zulu",
     found: WHOLE,
-    moments: &[
-        Moment {
-            stands: &[(STATUS, UNPACKED), (CONFFILE, "b"), (MADE, "")],
-            again: FAILED,
-        },
-        Moment {
-            stands: &[(STATUS, SETTLING), (MADE, "")],
-            again: FAILED,
-        },
-        Moment {
-            stands: &[(STATUS, SETTLED), (CONFFILE, "c"), (MADE, "")],
-            again: FAILED,
-        },
-        Moment {
-            stands: &[(STATUS, SETTLED), (CONFFILE, "c"), (MADE, CALLED)],
-            again: SUCCEEDED,
-        },
-    ],
+    moments: FAILING,
     left: SETTLED_FILES,
+    again: IS_CONFIGURED,
 };
-
-const CUT_OFF_ONCE: &str = "broken device\n||2\n";
 
 // The device fails while the first call of postinst runs.
 const IS_CUT_OFF: Row = Row {
@@ -245,25 +248,9 @@ const IS_CUT_OFF: Row = Row {
     endings: &[Ending::CutOff],
     line: "dpkg_cli configure --force-confnew zulu",
     found: WHOLE,
-    moments: &[
-        Moment {
-            stands: &[(STATUS, UNPACKED), (CONFFILE, "b"), (MADE, "")],
-            again: CUT_OFF_ONCE,
-        },
-        Moment {
-            stands: &[(STATUS, SETTLING), (MADE, "")],
-            again: CUT_OFF_ONCE,
-        },
-        Moment {
-            stands: &[(STATUS, SETTLED), (CONFFILE, "c"), (MADE, "")],
-            again: CUT_OFF_ONCE,
-        },
-        Moment {
-            stands: &[(STATUS, SETTLED), (CONFFILE, "c"), (MADE, CALLED)],
-            again: SUCCEEDED,
-        },
-    ],
+    moments: FAILING,
     left: SETTLED_FILES,
+    again: IS_CONFIGURED,
 };
 
 const ROWS: &[Row] = &[INSTALLS, KEEPS, FAILS, IS_CUT_OFF];
@@ -283,6 +270,26 @@ fn faults(rt: HostRuntime) -> Result<(), Fail> {
         fail_at_each_read(&rt, row)?;
     }
     Ok(())
+}
+
+#[test]
+fn losses_within_an_install(rt: HostRuntime) -> Result<(), Fail> {
+    lose_at_steps(&rt, &INSTALLS, 0, 2)
+}
+
+#[test]
+fn losses_within_an_install_one_step_on(rt: HostRuntime) -> Result<(), Fail> {
+    lose_at_steps(&rt, &INSTALLS, 1, 2)
+}
+
+#[test]
+fn losses_within_a_configure(rt: HostRuntime) -> Result<(), Fail> {
+    lose_at_each_step(&rt, &KEEPS)
+}
+
+#[test]
+fn losses_where_postinst_is_cut_off(rt: HostRuntime) -> Result<(), Fail> {
+    lose_at_each_step(&rt, &IS_CUT_OFF)
 }
 
 #[test]

@@ -1,15 +1,14 @@
 // Removals and purges of a package with a conffile, broken off. The conffile stays whole until a purge takes it, what the
 // administrator put beside the package's file stays, and the same command, behind an unpack where the package is marked,
 // finishes the work.
-use crate::breaking::{
-    Found, Moment, Row, fail_at_each_read, fail_at_each_step, lose_at_each_step, stop_at_each_step,
+use super::{
+    ALONE, Again, Found, Moment, Row, SCRIPT, STATUS, fail_at_each_read, fail_at_each_step,
+    lose_at_each_step, stop_at_each_step,
 };
 use crate::machine::{RootFile, TreeFile};
 use host_core::Outcome;
 use host_memory::Ending;
 use std::test::Fail;
-
-const SCRIPT: &str = "#!/bin/sh\n";
 
 // The tree from which the package was installed.
 const TREES: &[TreeFile] = &[
@@ -19,8 +18,6 @@ const TREES: &[TreeFile] = &[
     ("t", "/etc/z.conf", "a"),
     ("t", "/opt/z/bin", "z"),
 ];
-
-const STATUS: &str = "/var/lib/dpkg/status";
 
 const INSTALLED: &str =
     "Package: zulu\nStatus: install ok installed\nVersion: 1\nConffiles:\n /etc/z.conf 0cc175b9c0f1b6a831c399e269772661\n";
@@ -56,10 +53,12 @@ const FILE: &str = "/opt/z/bin";
 
 const NOTE: &str = "/opt/z/note";
 
-// What is planned of a call makes it.
-const MADE: &str = "/made";
-
-const CALLED: &str = "directory:";
+// Where the package is marked it has to be unpacked again first.
+const BY_UNPACK: Again = Again {
+    refused: "refused zulu Reinstreq\n||1\n",
+    lines: &["dpkg_cli unpack t"],
+    left: None,
+};
 
 const FILES: &[RootFile] = &[
     (STATUS, INSTALLED),
@@ -126,56 +125,39 @@ const LEFT_BY_REMOVAL: &[Found] = &[
     ("/var/lib/dpkg/info", &["directory: zulu.list zulu.postrm"]),
 ];
 
+const REMOVES_MOMENTS: &[Moment] = &[
+    Moment {
+        stands: &[(STATUS, INSTALLED)],
+        again: REMOVED,
+    },
+    Moment {
+        stands: &[(STATUS, HALF_CONFIGURED)],
+        again: REMOVED,
+    },
+    Moment {
+        stands: &[(STATUS, LOSING)],
+        again: UNPACKED_AND_REMOVED,
+    },
+    Moment {
+        stands: &[(STATUS, WITHOUT_FILES), (FILE, "")],
+        again: REMOVED,
+    },
+    Moment {
+        stands: &[(STATUS, CONFIG_FILES), (FILE, "")],
+        again: "refused zulu NothingToRemove\n||1\n",
+    },
+];
+
 const REMOVES: Row = Row {
     files: FILES,
     trees: TREES,
     endings: &[],
     line: "dpkg_cli remove zulu",
     found: REMOVING,
-    moments: &[
-        Moment {
-            stands: &[(STATUS, INSTALLED)],
-            again: REMOVED,
-        },
-        Moment {
-            stands: &[(STATUS, HALF_CONFIGURED)],
-            again: REMOVED,
-        },
-        Moment {
-            stands: &[(STATUS, LOSING)],
-            again: UNPACKED_AND_REMOVED,
-        },
-        Moment {
-            stands: &[(STATUS, WITHOUT_FILES), (FILE, "")],
-            again: REMOVED,
-        },
-        Moment {
-            stands: &[(STATUS, CONFIG_FILES), (FILE, "")],
-            again: "refused zulu NothingToRemove\n||1\n",
-        },
-    ],
+    moments: REMOVES_MOMENTS,
     left: LEFT_BY_REMOVAL,
+    again: BY_UNPACK,
 };
-
-const FAILED: &str = "call old zulu postrm remove: exit 1
-state zulu 1 deinstall ok half-installed
-failed zulu postrm remove
-||1
-";
-
-// The first call fails: that of the unpack, where the package is marked.
-const UNPACKED_WITH_A_FALLBACK: &str = "refused zulu Reinstreq
-||1
-call old zulu postrm upgrade 1: exit 1
-call new zulu postrm failed-upgrade 1 1: exit 0
-state zulu 1 install ok unpacked
-done
-||0
-call old zulu postrm remove: exit 0
-state zulu 1 deinstall ok config-files
-done
-||0
-";
 
 const REMOVES_IN_VAIN: Row = Row {
     files: FILES,
@@ -183,34 +165,18 @@ const REMOVES_IN_VAIN: Row = Row {
     endings: &[Ending::Ended(Outcome::Exit(1))],
     line: "dpkg_cli remove zulu",
     found: REMOVING,
-    moments: &[
-        Moment {
-            stands: &[(STATUS, INSTALLED)],
-            again: FAILED,
-        },
-        Moment {
-            stands: &[(STATUS, HALF_CONFIGURED)],
-            again: FAILED,
-        },
-        Moment {
-            stands: &[(STATUS, LOSING)],
-            again: UNPACKED_WITH_A_FALLBACK,
-        },
-        Moment {
-            stands: &[(STATUS, WITHOUT_FILES), (FILE, ""), (MADE, "")],
-            again: FAILED,
-        },
-        Moment {
-            stands: &[(STATUS, WITHOUT_FILES), (FILE, ""), (MADE, CALLED)],
-            again: REMOVED,
-        },
-    ],
+    moments: REMOVES_MOMENTS,
     left: &[
-        (STATUS, &[WITHOUT_FILES, CONFIG_FILES]),
+        (STATUS, &[WITHOUT_FILES]),
         (LIST, &[LISTED_THEN]),
         ("/etc", &["directory: z.conf"]),
         ("/opt/z", &["directory: note"]),
     ],
+    again: Again {
+        refused: "refused zulu Reinstreq\n||1\n",
+        lines: &["dpkg_cli unpack t"],
+        left: Some(LEFT_BY_REMOVAL),
+    },
 };
 
 const PURGED: &str = "call old zulu postrm purge: exit 0
@@ -295,6 +261,7 @@ const PURGES: Row = Row {
     ],
     moments: PURGES_MOMENTS,
     left: LEFT_BY_PURGE,
+    again: ALONE,
 };
 
 // A purge that begins with the removal.
@@ -312,6 +279,7 @@ const REMOVES_AND_PURGES: Row = Row {
     ],
     moments: PURGES_MOMENTS,
     left: LEFT_BY_PURGE,
+    again: BY_UNPACK,
 };
 
 #[test]
@@ -350,6 +318,22 @@ fn faults_where_postrm_fails(rt: HostRuntime) -> Result<(), Fail> {
 fn faults_within_a_purge(rt: HostRuntime) -> Result<(), Fail> {
     fail_at_each_step(&rt, &PURGES)?;
     fail_at_each_read(&rt, &PURGES)
+}
+
+#[test]
+fn faults_within_a_removal_and_purge(rt: HostRuntime) -> Result<(), Fail> {
+    fail_at_each_step(&rt, &REMOVES_AND_PURGES)?;
+    fail_at_each_read(&rt, &REMOVES_AND_PURGES)
+}
+
+#[test]
+fn losses_within_a_removal(rt: HostRuntime) -> Result<(), Fail> {
+    lose_at_each_step(&rt, &REMOVES)
+}
+
+#[test]
+fn losses_within_a_removal_and_purge(rt: HostRuntime) -> Result<(), Fail> {
+    lose_at_each_step(&rt, &REMOVES_AND_PURGES)
 }
 
 #[test]

@@ -1,6 +1,7 @@
 // An upgrade of a package with files and scripts, broken off: where it succeeds, and where its old postrm fails in both ways.
-use crate::breaking::{
-    Found, Moment, Row, fail_at_each_read, fail_at_each_step, stop_at_each_step,
+use super::{
+    ALONE, Again, Found, Moment, Row, STATUS, fail_at_each_read, fail_at_each_step, lose_at_steps,
+    stop_at_each_step,
 };
 use crate::machine::{RootFile, TreeFile};
 use host_core::Outcome;
@@ -20,8 +21,6 @@ const TREES: &[TreeFile] = &[
     ("t", "/usr/bin/a", "new"),
     ("t", "/usr/bin/b", "new"),
 ];
-
-const STATUS: &str = "/var/lib/dpkg/status";
 
 const LIST: &str = "/var/lib/dpkg/info/alpha.list";
 
@@ -49,6 +48,14 @@ const BOTH_LISTS: &str = "/.\n/usr\n/usr/bin\n/usr/bin/a\n/usr/bin/b\n/usr/bin/c
 
 const NEW_LIST: &str = "/.\n/usr\n/usr/bin\n/usr/bin/a\n/usr/bin/b\n";
 
+const FILE: &str = "/usr/bin/a";
+
+const BIN: &str = "/usr/bin";
+
+const OLD_NAMES: &str = "directory: a c";
+
+const NEW_NAMES: &str = "directory: a b";
+
 const FILES: &[RootFile] = &[
     (STATUS, INSTALLED),
     (LIST, OLD_LIST),
@@ -56,7 +63,7 @@ const FILES: &[RootFile] = &[
     ("/var/lib/dpkg/info/alpha.postinst", OLD_SCRIPT),
     (PRERM, OLD_SCRIPT),
     (POSTRM, OLD_SCRIPT),
-    ("/usr/bin/a", "old"),
+    (FILE, "old"),
     ("/usr/bin/c", "old"),
 ];
 
@@ -69,7 +76,7 @@ const FOUND: &[Found] = &[
     (LIST, &[OLD_LIST, BOTH_LISTS, NEW_LIST]),
     (PRERM, &[OLD_SCRIPT, NEW_SCRIPT]),
     (POSTRM, &[OLD_SCRIPT, NEW_SCRIPT]),
-    ("/usr/bin/a", &["old", "new"]),
+    (FILE, &["old", "new"]),
     ("/usr/bin/b", &["", "new"]),
     ("/usr/bin/c", &["old", ""]),
     ("/var/lib/dpkg/tmp.ci", &[""]),
@@ -97,14 +104,15 @@ done
 ||0
 ";
 
+// Until the package is marked no file of it has changed, and once it isn't marked any more its files are all of one version.
 // Wherever it was broken off, the upgrade given again is done, and leaves no reserved name and no unlisted file.
 const MOMENTS: &[Moment] = &[
     Moment {
-        stands: &[(STATUS, INSTALLED)],
+        stands: &[(STATUS, INSTALLED), (BIN, OLD_NAMES), (FILE, "old")],
         again: BY_PRERM,
     },
     Moment {
-        stands: &[(STATUS, HALF_CONFIGURED)],
+        stands: &[(STATUS, HALF_CONFIGURED), (BIN, OLD_NAMES), (FILE, "old")],
         again: BY_PRERM,
     },
     Moment {
@@ -112,9 +120,21 @@ const MOMENTS: &[Moment] = &[
         again: BY_PREINST,
     },
     Moment {
-        stands: &[(STATUS, UNPACKED)],
+        stands: &[(STATUS, UNDONE), (BIN, OLD_NAMES), (FILE, "old")],
+        again: BY_PREINST,
+    },
+    Moment {
+        stands: &[(STATUS, UNPACKED), (BIN, NEW_NAMES), (FILE, "new")],
         again: ONCE_MORE,
     },
+];
+
+const UPGRADED_FILES: &[Found] = &[
+    (STATUS, &[UNPACKED]),
+    (LIST, &[NEW_LIST]),
+    (PRERM, &[NEW_SCRIPT]),
+    (BIN, &[NEW_NAMES]),
+    (FILE, &["new"]),
 ];
 
 const UPGRADED: Row = Row {
@@ -124,13 +144,8 @@ const UPGRADED: Row = Row {
     line: "dpkg_cli unpack t",
     found: FOUND,
     moments: MOMENTS,
-    left: &[
-        (STATUS, &[UNPACKED]),
-        (LIST, &[NEW_LIST]),
-        (PRERM, &[NEW_SCRIPT]),
-        ("/usr/bin", &["directory: a b"]),
-        ("/usr/bin/a", &["new"]),
-    ],
+    left: UPGRADED_FILES,
+    again: ALONE,
 };
 
 const SUCCEEDS: Ending = Ending::Ended(Outcome::Exit(0));
@@ -143,14 +158,40 @@ const UNWOUND: Row = Row {
     endings: &[SUCCEEDS, SUCCEEDS, FAILS, FAILS],
     line: "dpkg_cli unpack t",
     found: FOUND,
-    moments: &[],
+    moments: MOMENTS,
     left: &[
         (STATUS, &[INSTALLED]),
         (LIST, &[OLD_LIST]),
         (PRERM, &[OLD_SCRIPT]),
-        ("/usr/bin", &["directory: a c"]),
-        ("/usr/bin/a", &["old"]),
+        (BIN, &[OLD_NAMES]),
+        (FILE, &["old"]),
     ],
+    again: Again {
+        refused: "",
+        lines: &[],
+        left: Some(UPGRADED_FILES),
+    },
+};
+
+// The device fails while the old postrm runs.
+const CUT_OFF: Row = Row {
+    files: FILES,
+    trees: TREES,
+    endings: &[SUCCEEDS, SUCCEEDS, Ending::CutOff],
+    line: "dpkg_cli unpack t",
+    found: FOUND,
+    moments: MOMENTS,
+    left: &[
+        (STATUS, &[HALF_INSTALLED]),
+        (LIST, &[BOTH_LISTS]),
+        (PRERM, &[OLD_SCRIPT]),
+        (FILE, &["new"]),
+    ],
+    again: Again {
+        refused: "",
+        lines: &[],
+        left: Some(UPGRADED_FILES),
+    },
 };
 
 #[test]
@@ -164,7 +205,33 @@ fn stops_within_an_unwinding(rt: HostRuntime) -> Result<(), Fail> {
 }
 
 #[test]
+fn stops_where_a_script_is_cut_off(rt: HostRuntime) -> Result<(), Fail> {
+    stop_at_each_step(&rt, &CUT_OFF)
+}
+
+#[test]
 fn faults_within_an_upgrade(rt: HostRuntime) -> Result<(), Fail> {
     fail_at_each_step(&rt, &UPGRADED)?;
     fail_at_each_read(&rt, &UPGRADED)
+}
+
+#[test]
+fn faults_within_an_unwinding(rt: HostRuntime) -> Result<(), Fail> {
+    fail_at_each_step(&rt, &UNWOUND)?;
+    fail_at_each_read(&rt, &UNWOUND)
+}
+
+#[test]
+fn losses_within_an_upgrade(rt: HostRuntime) -> Result<(), Fail> {
+    lose_at_steps(&rt, &UPGRADED, 0, 3)
+}
+
+#[test]
+fn losses_within_an_upgrade_one_step_on(rt: HostRuntime) -> Result<(), Fail> {
+    lose_at_steps(&rt, &UPGRADED, 1, 3)
+}
+
+#[test]
+fn losses_within_an_upgrade_two_steps_on(rt: HostRuntime) -> Result<(), Fail> {
+    lose_at_steps(&rt, &UPGRADED, 2, 3)
 }

@@ -1,6 +1,7 @@
 // Unpacks of a package that isn't installed and has scripts alone, broken off.
-use crate::breaking::{
-    Found, Row, fail_at_each_read, fail_at_each_step, lose_at_each_step, stop_at_each_step,
+use super::{
+    ALONE, Found, Row, STATUS, fail_at_each_read, fail_at_each_step, lose_at_each_step,
+    stop_at_each_step,
 };
 use crate::machine::TreeFile;
 use host_core::Outcome;
@@ -14,8 +15,6 @@ const TREES: &[TreeFile] = &[
 ];
 
 const LINE: &str = "dpkg_cli unpack t";
-
-const STATUS: &str = "/var/lib/dpkg/status";
 
 const HALF: &str = "Package: alpha\nStatus: install reinstreq half-installed\nVersion: 1.0\n";
 
@@ -44,6 +43,7 @@ const SUCCEEDS: Row = Row {
     found: DONE,
     moments: &[],
     left: &[(STATUS, &[UNPACKED]), LIST, PREINST, CI],
+    again: ALONE,
 };
 
 const FAILS: Row = Row {
@@ -54,6 +54,7 @@ const FAILS: Row = Row {
     found: ABORTED,
     moments: &[],
     left: &[(STATUS, &[""]), LIST, PREINST, CI],
+    again: ALONE,
 };
 
 // The device fails while the script runs.
@@ -65,6 +66,7 @@ const CUT_OFF: Row = Row {
     found: ABORTED,
     moments: &[],
     left: HALF_INSTALLED,
+    again: ALONE,
 };
 
 const UNDO_FAILS: Row = Row {
@@ -75,6 +77,7 @@ const UNDO_FAILS: Row = Row {
     found: ABORTED,
     moments: &[],
     left: HALF_INSTALLED,
+    again: ALONE,
 };
 
 const ROWS: &[Row] = &[SUCCEEDS, FAILS, CUT_OFF, UNDO_FAILS];
@@ -109,4 +112,9 @@ fn losses_within_an_undoing(rt: HostRuntime) -> Result<(), Fail> {
 #[test]
 fn losses_where_the_undoing_fails(rt: HostRuntime) -> Result<(), Fail> {
     lose_at_each_step(&rt, &UNDO_FAILS)
+}
+
+#[test]
+fn losses_where_a_script_is_cut_off(rt: HostRuntime) -> Result<(), Fail> {
+    lose_at_each_step(&rt, &CUT_OFF)
 }

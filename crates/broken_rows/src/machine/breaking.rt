@@ -1,34 +1,54 @@
 // A command is broken off at each of its steps in turn, and what is found when the root is opened again is judged.
-use crate::machine::{Machine, RootFile, TreeFile, make_machine};
-use host_memory::{Effect, Ending, MemoryHost};
+use super::{Machine, RootFile, TreeFile, make_machine};
+use host_memory::{DeviceStep, Done, Effect, Ending, MemoryHost};
 use std::alloc::AllocError;
 use std::process::Abort;
 use std::test::Fail;
 
+mod configure_rows;
+mod conflict_rows;
+mod deconfigured_rows;
+mod disappearing_rows;
+mod diversion_rows;
+mod file_rows;
+mod first_rows;
+mod opening_rows;
+mod removal_rows;
+mod script_rows;
+
 // A file, and the texts of which it may have one; an empty text where none may stand.
-pub(crate) type Found = (&'static str, &'static [&'static str]);
+type Found = (&'static str, &'static [&'static str]);
 
 // What stands at some paths together, and what the command of the row, given then, answers.
-pub(crate) struct Moment {
-    pub(crate) stands: &'static [RootFile],
-    pub(crate) again: &'static str,
+struct Moment {
+    stands: &'static [RootFile],
+    again: &'static str,
+}
+
+// How a command is given again, with calls that end with status 0: where it is refused so, these lines are given and then the
+// command once more. What is left behind it, where that isn't what the row leaves.
+struct Again {
+    refused: &'static str,
+    lines: &'static [&'static str],
+    left: Option<&'static [Found]>,
 }
 
 // A command over a root that holds these files, how its calls end, and what it leaves where it isn't broken off. Wherever it
 // is broken off, each file of `found` is one of its texts, and one of the moments is there, if the row has any.
-pub(crate) struct Row {
-    pub(crate) files: &'static [RootFile],
-    pub(crate) trees: &'static [TreeFile],
-    pub(crate) endings: &'static [Ending],
-    pub(crate) line: &'static str,
-    pub(crate) found: &'static [Found],
-    pub(crate) moments: &'static [Moment],
-    pub(crate) left: &'static [Found],
+struct Row {
+    files: &'static [RootFile],
+    trees: &'static [TreeFile],
+    endings: &'static [Ending],
+    line: &'static str,
+    found: &'static [Found],
+    moments: &'static [Moment],
+    left: &'static [Found],
+    again: Again,
 }
 
 // How the device fails: behind so many steps, for good or once, or behind so many reads.
 #[derive(Clone, Copy, Debug)]
-pub(crate) enum Break {
+enum Break {
     Stop(usize, Effect),
     Fault(usize, Effect),
     Read(usize),
@@ -36,44 +56,55 @@ pub(crate) enum Break {
 
 // What a loss of power leaves: so many of the steps on names since the last barrier, and this byte in unsynced files.
 #[derive(Clone, Copy, Debug)]
-pub(crate) struct Loss {
+struct Loss {
     keep: usize,
     fill: u8,
 }
 
-// How a run went: whether the fault came, whether the command ended all the same, and how many steps on names a loss might
-// undo.
+// How a run went: whether the fault came, whether the command ended all the same, whether the last step wrote a file, and how
+// many steps on names a loss might undo.
 #[derive(Clone, Copy)]
 struct Ran {
     met: bool,
     ended: bool,
+    wrote: bool,
     names: usize,
 }
 
-const EFFECTS: &[Effect] = &[
-    Effect::None,
-    Effect::Whole,
-    Effect::Prefix(1),
-    Effect::Prefix(20),
-];
-
-const FILLS: &[u8] = &[0, 255];
+// What a step that writes a file may leave beside nothing and all.
+const FRONTS: &[Effect] = &[Effect::Prefix(1), Effect::Prefix(20)];
 
 // More steps than any command of the rows makes.
 const LIMIT: usize = 1000;
 
 // No tree is named so: the root is opened, and nothing else is done.
-pub(crate) const OPENING: &str = "dpkg_cli unpack absent";
+const OPENING: &str = "dpkg_cli unpack absent";
 
-pub(crate) const OPENED: &str = "refused absent NoControl\n||1\n";
+const OPENED: &str = "refused absent NoControl\n||1\n";
 
 // So ends the answer of a command that was broken off.
 const BROKEN_OFF: &str = "|2\n";
 
-// So ends the answer for a package whose files were being written or removed: it has to be unpacked again.
-const MARKED: &str = " Reinstreq\n||1\n";
+const STATUS: &str = "/var/lib/dpkg/status";
 
-const UNPACKING: &str = "dpkg_cli unpack t";
+const SCRIPT: &str = "#!/bin/sh\n";
+
+// The command alone is given again, and leaves what the row leaves.
+const ALONE: Again = Again {
+    refused: "",
+    lines: &[],
+    left: None,
+};
+
+fn has_written_last(host: &MemoryHost) -> bool {
+    let mut written = false;
+    for done in host.events() {
+        if let Done::Did(step) = done {
+            written = matches!(step, DeviceStep::Write(..));
+        }
+    }
+    written
+}
 
 fn plan(host: &mut MemoryHost, how: Break) {
     match how {
@@ -106,11 +137,13 @@ impl Machine {
             Some(host) => Ran {
                 met: !host.awaits_fault(),
                 ended,
+                wrote: has_written_last(host),
                 names: host.names_since_barrier(),
             },
             None => Ran {
                 met: false,
                 ended,
+                wrote: false,
                 names: 0,
             },
         }
@@ -140,6 +173,7 @@ impl Machine {
             text.push_str(path)?;
             text.push_str(": ")?;
             text.push_str(file.as_str())?;
+            text.push('\n')?;
         }
         Ok(())
     }
@@ -171,46 +205,81 @@ impl Machine {
         Ok(None)
     }
 
-    // What a command answers when it is given again; where its package is marked, the answer of an unpack and that of the
-    // command behind it too.
-    fn answer_again(&mut self, line: &str) -> Result<String, AllocError> {
-        let mut answer = self.answer(line)?;
-        if answer.as_str().ends_with(MARKED) {
-            answer.push_str(self.answer(UNPACKING)?.as_str())?;
-            answer.push_str(self.answer(line)?.as_str())?;
+    // What the row's command answers when it is given again.
+    fn answer_again(&mut self, row: &Row) -> Result<String, AllocError> {
+        let mut answer = self.answer(row.line)?;
+        if answer.as_str() == row.again.refused {
+            for line in row.again.lines {
+                answer.push_str(self.answer(line)?.as_str())?;
+            }
+            answer.push_str(self.answer(row.line)?.as_str())?;
         }
         Ok(answer)
     }
 
-    // Gives the command again: it is to answer so, and to leave what it leaves where it isn't broken off.
+    // Gives the command again: it is to answer so, and to leave all that it should.
     fn finish(&mut self, row: &Row, again: &str, text: &mut String) -> Result<(), AllocError> {
-        let answer = self.answer_again(row.line)?;
+        if !row.endings.is_empty() {
+            self.forget_plans()?;
+        }
+        let answer = self.answer_again(row)?;
         if answer.as_str() != again {
             text.push_str("again: ")?;
             text.push_str(answer.as_str())?;
         }
         self.judge_opening(text)?;
-        self.judge_files(row.left, text)
+        self.judge_files(row.again.left.unwrap_or(row.left), text)
     }
 
-    fn judge_moment(&mut self, row: &Row, text: &mut String) -> Result<(), AllocError> {
+    // Adds a line that no moment is there, and what stands in place of one.
+    fn tell_moment(&mut self, found: &[Found], text: &mut String) -> Result<(), AllocError> {
+        text.push_str("none of the moments:\n")?;
+        for (path, _) in found {
+            text.push_str(path)?;
+            text.push_str(": ")?;
+            text.push_str(self.text_at(path)?.as_str())?;
+            text.push('\n')?;
+        }
+        Ok(())
+    }
+
+    // Looks which moment is there, and gives the command again if it is to be.
+    fn judge_moment(
+        &mut self,
+        row: &Row,
+        finishes: bool,
+        text: &mut String,
+    ) -> Result<(), AllocError> {
         if row.moments.is_empty() {
             return Ok(());
         }
         match self.again(row.moments)? {
-            Some(again) => self.finish(row, again, text),
-            None => text.push_str("none of the moments"),
+            Some(again) if finishes => self.finish(row, again, text),
+            Some(_) => Ok(()),
+            None => self.tell_moment(row.found, text),
         }
     }
 
-    // Opens the root again, and adds what is found that may not be. A command that wasn't broken off stands whole.
-    fn judge(&mut self, row: &Row, ran: Ran, text: &mut String) -> Result<(), AllocError> {
+    // Opens the root again, and adds what is found that may not be. A command that wasn't broken off stands whole; one whose
+    // script was cut off stands where it ended, unless power was lost behind it. The command is given again behind a stop or a
+    // fault, and behind a loss that keeps all names: the others leave what a stop does.
+    fn judge(
+        &mut self,
+        row: &Row,
+        ran: Ran,
+        loss: Option<Loss>,
+        text: &mut String,
+    ) -> Result<(), AllocError> {
         self.judge_opening(text)?;
         self.judge_files(row.found, text)?;
-        if ran.ended || !ran.met {
+        if ran.ended || !(ran.met || loss.is_some()) {
             self.judge_files(row.left, text)?;
         }
-        self.judge_moment(row, text)
+        let finishes = match loss {
+            Some(loss) => loss.keep >= ran.names,
+            None => true,
+        };
+        self.judge_moment(row, finishes, text)
     }
 
     // Runs a command, which is broken off so, and recovers the root.
@@ -230,7 +299,7 @@ impl Machine {
         text: &mut String,
     ) -> Result<Ran, AllocError> {
         let ran = self.run(row.line, how, loss)?;
-        self.judge(row, ran, text)?;
+        self.judge(row, ran, loss, text)?;
         Ok(ran)
     }
 }
@@ -250,68 +319,96 @@ fn check(
     Ok(ran)
 }
 
-// A stop behind so many steps, with each effect.
-fn check_stops(rt: &(impl Abort + AllocGlobal), row: &Row, before: usize) -> Result<bool, Fail> {
-    let mut met = false;
-    for effect in EFFECTS {
-        met = check(rt, row, Break::Stop(before, *effect), None)?.met;
-    }
-    Ok(met)
+fn check_stop(
+    rt: &(impl Abort + AllocGlobal),
+    row: &Row,
+    before: usize,
+    effect: Effect,
+) -> Result<Ran, Fail> {
+    check(rt, row, Break::Stop(before, effect), None)
 }
 
+// A stop behind so many steps, with each effect.
+fn check_stops(rt: &(impl Abort + AllocGlobal), row: &Row, before: usize) -> Result<bool, Fail> {
+    check_stop(rt, row, before, Effect::None)?;
+    let ran = check_stop(rt, row, before, Effect::Whole)?;
+    if ran.wrote {
+        for effect in FRONTS {
+            check_stop(rt, row, before, *effect)?;
+        }
+    }
+    Ok(ran.met)
+}
+
+// A loss behind so many steps that keeps so many names.
 fn check_loss(
     rt: &(impl Abort + AllocGlobal),
     row: &Row,
     before: usize,
     keep: usize,
-) -> Result<(), Fail> {
-    for fill in FILLS {
-        let loss = Some(Loss { keep, fill: *fill });
-        check(rt, row, Break::Stop(before, Effect::Whole), loss)?;
-    }
-    Ok(())
+) -> Result<Ran, Fail> {
+    let how = Break::Stop(before, Effect::Whole);
+    check(rt, row, how, Some(Loss { keep, fill: 0 }))?;
+    check(rt, row, how, Some(Loss { keep, fill: 255 }))
 }
 
 // Each loss behind so many steps.
 fn check_losses(rt: &(impl Abort + AllocGlobal), row: &Row, before: usize) -> Result<bool, Fail> {
-    let ran = check(rt, row, Break::Stop(before, Effect::Whole), None)?;
-    for keep in 0..=ran.names {
-        check_loss(rt, row, before, keep)?;
+    let ran = check_loss(rt, row, before, 0)?;
+    for keep in 0..ran.names {
+        check_loss(rt, row, before, keep.saturating_add(1))?;
     }
     Ok(ran.met)
 }
 
+fn check_fault(
+    rt: &(impl Abort + AllocGlobal),
+    row: &Row,
+    before: usize,
+    effect: Effect,
+) -> Result<Ran, Fail> {
+    check(rt, row, Break::Fault(before, effect), None)
+}
+
+// The same for faults.
 fn check_faults(rt: &(impl Abort + AllocGlobal), row: &Row, before: usize) -> Result<bool, Fail> {
-    let mut met = false;
-    for effect in EFFECTS {
-        met = check(rt, row, Break::Fault(before, *effect), None)?.met;
+    check_fault(rt, row, before, Effect::None)?;
+    let ran = check_fault(rt, row, before, Effect::Whole)?;
+    if ran.wrote {
+        for effect in FRONTS {
+            check_fault(rt, row, before, *effect)?;
+        }
     }
-    Ok(met)
+    Ok(ran.met)
 }
 
 fn check_read(rt: &(impl Abort + AllocGlobal), row: &Row, before: usize) -> Result<bool, Fail> {
     Ok(check(rt, row, Break::Read(before), None)?.met)
 }
 
-// Power is lost behind the command, of which no name step survives that isn't on the disk.
-fn check_left(rt: &(impl Abort + AllocGlobal), row: &Row) -> Result<(), Fail> {
-    let loss = Some(Loss { keep: 0, fill: 255 });
-    check(rt, row, Break::Read(LIMIT), loss)?;
-    Ok(())
-}
-
-// Power is lost at each step of the row's command, and behind it.
-pub(crate) fn lose_at_each_step(rt: &(impl Abort + AllocGlobal), row: &Row) -> Result<(), Fail> {
-    for before in 0..LIMIT {
+// Power is lost at the first of so many steps of the row's command, of the next so many, and so on, and behind it.
+fn lose_at_steps(
+    rt: &(impl Abort + AllocGlobal),
+    row: &Row,
+    first: usize,
+    many: usize,
+) -> Result<(), Fail> {
+    for turn in 0..LIMIT {
+        let before = turn.saturating_mul(many).saturating_add(first);
         if !check_losses(rt, row, before)? {
-            return check_left(rt, row);
+            return Ok(());
         }
     }
     panic!(rt; "the command makes too many steps")
 }
 
+// Power is lost at each step of the row's command, and behind it.
+fn lose_at_each_step(rt: &(impl Abort + AllocGlobal), row: &Row) -> Result<(), Fail> {
+    lose_at_steps(rt, row, 0, 1)
+}
+
 // Stops at each step of the row's command, until one is met no more.
-pub(crate) fn stop_at_each_step(rt: &(impl Abort + AllocGlobal), row: &Row) -> Result<(), Fail> {
+fn stop_at_each_step(rt: &(impl Abort + AllocGlobal), row: &Row) -> Result<(), Fail> {
     for before in 0..LIMIT {
         if !check_stops(rt, row, before)? {
             return Ok(());
@@ -321,7 +418,7 @@ pub(crate) fn stop_at_each_step(rt: &(impl Abort + AllocGlobal), row: &Row) -> R
 }
 
 // Faults at each step of the row's command, and at each read.
-pub(crate) fn fail_at_each_step(rt: &(impl Abort + AllocGlobal), row: &Row) -> Result<(), Fail> {
+fn fail_at_each_step(rt: &(impl Abort + AllocGlobal), row: &Row) -> Result<(), Fail> {
     for before in 0..LIMIT {
         if !check_faults(rt, row, before)? {
             return Ok(());
@@ -330,7 +427,7 @@ pub(crate) fn fail_at_each_step(rt: &(impl Abort + AllocGlobal), row: &Row) -> R
     panic!(rt; "the command makes too many steps")
 }
 
-pub(crate) fn fail_at_each_read(rt: &(impl Abort + AllocGlobal), row: &Row) -> Result<(), Fail> {
+fn fail_at_each_read(rt: &(impl Abort + AllocGlobal), row: &Row) -> Result<(), Fail> {
     for before in 0..LIMIT {
         if !check_read(rt, row, before)? {
             return Ok(());

@@ -1,7 +1,8 @@
 // Diversions of an installed package's file, added and taken away, broken off. At each step the table is that before or
 // after, and the file stands whole at its path or at the target; the same command then finishes the work.
-use crate::breaking::{
-    Found, Moment, Row, fail_at_each_read, fail_at_each_step, lose_at_each_step, stop_at_each_step,
+use super::{
+    ALONE, Found, Moment, Row, STATUS, fail_at_each_read, fail_at_each_step, lose_at_each_step,
+    stop_at_each_step,
 };
 use crate::machine::RootFile;
 use std::test::Fail;
@@ -14,8 +15,6 @@ const DIVERT_ALONE: &str = "dpkg_cli divert --local --divert /usr/bin/v.real /us
 const UNDIVERT_AND_MOVE: &str = "dpkg_cli undivert --local --rename /usr/bin/v";
 
 const UNDIVERT_ALONE: &str = "dpkg_cli undivert --local /usr/bin/v";
-
-const STATUS: &str = "/var/lib/dpkg/status";
 
 const VICTOR: &str = "Package: victor\nStatus: install ok installed\nVersion: 1\n";
 
@@ -115,6 +114,7 @@ const DIVERTS_AND_MOVES: Row = Row {
         ADMINISTRATION,
         INFO,
     ],
+    again: ALONE,
 };
 
 const DIVERTS_ALONE: Row = Row {
@@ -140,6 +140,7 @@ const DIVERTS_ALONE: Row = Row {
         ADMINISTRATION,
         INFO,
     ],
+    again: ALONE,
 };
 
 // Where the entry is gone already, nothing is left to be taken away.
@@ -170,6 +171,7 @@ const UNDIVERTS_AND_MOVES: Row = Row {
         ADMINISTRATION,
         INFO,
     ],
+    again: ALONE,
 };
 
 const UNDIVERTS_ALONE: Row = Row {
@@ -195,6 +197,7 @@ const UNDIVERTS_ALONE: Row = Row {
         ADMINISTRATION,
         INFO,
     ],
+    again: ALONE,
 };
 
 const ROWS: &[Row] = &[
