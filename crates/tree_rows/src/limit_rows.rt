@@ -1,0 +1,119 @@
+// Trees in memory that ship as many paths as a tree may, or a file as large as it may be, and one more.
+use host_core::{
+    Access, Call, Host, HostFault, Keep, Node, Outcome, Places, RootPath, Script, Side,
+};
+use host_memory::{Ending, Entry, MemoryHost, Planned};
+use package_tree::{ShipMap, read_tree};
+use std::alloc::{AllocError, Global};
+use std::test::Fail;
+use texts::{Bytes, Text, Texts};
+
+// Numbers from here on have so many digits, so that their order is that of their texts.
+const FIRST: usize = 100_000;
+
+const MOST_PATHS: usize = 65_536;
+
+const MOST_BYTES: usize = 64 * 1024 * 1024;
+
+fn path_of(alloc: Global, text: &str) -> Result<RootPath, AllocError> {
+    match RootPath::parse(alloc, text)? {
+        Some(path) => Ok(path),
+        None => Err(AllocError),
+    }
+}
+
+fn file(bytes: Bytes) -> Node {
+    let access = Access::own(0o644);
+    Node::File { bytes, access }
+}
+
+// A tree that ships nothing.
+fn bare_tree(alloc: Global) -> Result<MemoryHost, AllocError> {
+    let mut host = MemoryHost::new(alloc)?;
+    let control = Bytes::from_slice(alloc, b"Package: big\nVersion: 1\n")?;
+    host.place(&path_of(alloc, "/DEBIAN/control")?, file(control))?;
+    Ok(host)
+}
+
+// Empty files, as many as told.
+fn empty_files(alloc: Global, count: usize) -> Result<Vec<Entry>, AllocError> {
+    let mut files = Vec::new(alloc);
+    for number in 0..count {
+        let number = FIRST.saturating_add(number);
+        let path = path_of(alloc, format!(in alloc; "/{number}")?.as_str())?;
+        let node = Some(file(Bytes::from_slice(alloc, b"")?));
+        files.push(Entry { path, node })?;
+    }
+    Ok(files)
+}
+
+// Puts all of them there at once, as a script does; each on its own would take long.
+fn fill(alloc: Global, host: &mut MemoryHost, change: Vec<Entry>) -> Result<(), HostFault> {
+    let ending = Ending::Ended(Outcome::Exit(0));
+    host.plan(Planned { ending, change })?;
+    let call = Call {
+        side: Side::New,
+        package: Text::from_str(alloc, "big")?,
+        script: Script::Preinst,
+        at: path_of(alloc, "/DEBIAN/preinst")?,
+        args: Texts::new(alloc),
+    };
+    let places = Places {
+        items: Vec::new(alloc),
+    };
+    host.run(&call, &Keep { places: &places })?;
+    Ok(())
+}
+
+// How many paths and how many bytes.
+fn sums(alloc: Global, files: &ShipMap) -> Result<String, AllocError> {
+    let mut bytes: usize = 0;
+    for shipped in files.as_slice() {
+        if let Node::File { bytes: held, .. } = &shipped.node {
+            bytes = bytes.saturating_add(held.as_slice().len());
+        }
+    }
+    let paths = files.as_slice().len();
+    format!(in alloc; "{paths} paths, {bytes} bytes")
+}
+
+// What is read of a tree: its sums, or its fault.
+fn read(alloc: Global, host: &mut MemoryHost) -> Result<String, AllocError> {
+    match read_tree(alloc, host) {
+        Ok(package) => sums(alloc, &package.files),
+        Err(fault) => format!(in alloc; "{fault}"),
+    }
+}
+
+fn read_many(alloc: Global, count: usize) -> Result<String, HostFault> {
+    let mut host = bare_tree(alloc)?;
+    fill(alloc, &mut host, empty_files(alloc, count)?)?;
+    Ok(read(alloc, &mut host)?)
+}
+
+#[test]
+fn a_tree_has_at_most_so_many_paths(rt: HostRuntime) -> Result<(), Fail> {
+    let alloc = rt.alloc();
+    let most = read_many(alloc, MOST_PATHS)?;
+    assert_eq!(rt; most.as_str(), "65536 paths, 0 bytes");
+    let more = read_many(alloc, MOST_PATHS + 1)?;
+    assert_eq!(rt; more.as_str(), "TooLarge /165536");
+    Ok(())
+}
+
+fn read_large(alloc: Global, length: usize) -> Result<String, AllocError> {
+    let mut host = bare_tree(alloc)?;
+    let bytes = Bytes::new(vec![in alloc; 7; length]?);
+    host.place(&path_of(alloc, "/big")?, file(bytes))?;
+    read(alloc, &mut host)
+}
+
+#[test]
+fn a_file_has_at_most_so_many_bytes(rt: HostRuntime) -> Result<(), Fail> {
+    let alloc = rt.alloc();
+    let most = read_large(alloc, MOST_BYTES)?;
+    assert_eq!(rt; most.as_str(), "1 paths, 67108864 bytes");
+    let more = read_large(alloc, MOST_BYTES + 1)?;
+    assert_eq!(rt; more.as_str(), "TooLarge /big");
+    Ok(())
+}
