@@ -315,6 +315,17 @@ const UNPACK_ROWS: &[(&[Row], Row, &str, &str)] = &[
         "broken; conflicting; dependent",
     ),
     (
+        &[("delta", "1", INSTALLED, &[])],
+        (
+            "alpha",
+            "2.0",
+            NEW,
+            &[("Conflicts", "delta"), ("Replaces", "delta")],
+        ),
+        "broken; conflicting delta; dependent",
+        "broken; conflicting delta; dependent",
+    ),
+    (
         &[("delta", "1", INSTALLED, &[("Essential", "yes")])],
         (
             "alpha",
