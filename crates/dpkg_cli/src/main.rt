@@ -2,10 +2,12 @@
 #![tactic(auto)]
 
 mod directories;
+mod fixed_lines;
 mod progress;
 
 use command_line::{FAILED, run_words};
 use directories::Directories;
+use fixed_lines::FixedLines;
 use progress::{Beside, Line, going_through};
 use std::io::{ErrorKind, IsTerminal, Write};
 use std::process::ExitCode;
@@ -24,10 +26,12 @@ fn complaint(error: &io::Error) -> &'static str {
     }
 }
 
-// What the words ask for, with the line of progress beside it where a person looks on.
+// What the words ask for. Where a person looks on there is the line of progress beside it, and the line behind `damaged` that tells
+// what was expected; a program that reads standard error gets the fixed lines alone.
 fn run(rt: HostRuntime, words: &[String]) -> u8 {
     let stderr = rt.stderr();
-    let going = if stderr.is_terminal() {
+    let person = stderr.is_terminal();
+    let going = if person {
         going_through(rt.alloc(), words)
     } else {
         None
@@ -47,7 +51,10 @@ fn run(rt: HostRuntime, words: &[String]) -> u8 {
     };
     let mut err = Beside {
         line,
-        writer: io::writer(&stderr),
+        writer: FixedLines {
+            person,
+            writer: io::writer(&stderr),
+        },
         told: None,
     };
     line.show_next(0);
