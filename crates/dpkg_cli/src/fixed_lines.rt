@@ -1,5 +1,5 @@
 // Standard error for a program that reads it: the fixed lines alone.
-ghost use Rattle.std.specs.Prelude.{None};
+ghost use Rattle.std.specs.Prelude.{◌≤◌, None, length};
 
 use std::io::{self, Write};
 
@@ -14,7 +14,9 @@ pub(crate) struct FixedLines<W: Write> {
 }
 
 // A text up to the line for a person, if it has one.
-fn fixed(text: &[u8]) -> &[u8] {
+fn fixed(text: &[u8]) -> &[u8]
+    ensures { length result.now ≤ length text.now }
+{
     for (at, byte) in text.iter().enumerate() {
         if *byte == b'\n' && text[at + 1..].starts_with(FOR_A_PERSON) {
             return &text[..at + 1];
