@@ -72,11 +72,9 @@ const TAKING: &Tree = &Tree {
 const WITH_ALL: Case = Case {
     others: &[BRAVO, DELTA, ECHO, GAMMA],
     tree: TAKING,
-    most: 2,
     ..WITH_BRAVO
 };
 
-// Every choice of at most two calls that fail.
 #[test]
 fn packages_are_broken_removed_and_taken_over(rt: HostRuntime) -> Result<(), Fail> {
     check_starts(&rt, &WITH_ALL, &[INSTALL, PURGE])
