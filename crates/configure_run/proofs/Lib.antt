@@ -9,4 +9,5 @@ pub mod Progress
 pub mod Silence
 pub mod Units
 pub mod Taking
+pub mod Others
 pub mod Runs

@@ -60,7 +60,7 @@ named_apart records packages order are x y here there same =
     names_apart records order x y (subst (λ n. x < n) count here) (subst (λ n. y < n) count there)
     (ap (λ (l : List (List ℕ)). get_or l x []) (sym names) ∙ same ∙ ap (λ (l : List (List ℕ)). get_or l y []) names)
 
-both_hold : (a b : Bool) → (a && b) ≡ true → (a ≡ true) × (b ≡ true)
+pub both_hold : (a b : Bool) → (a && b) ≡ true → (a ≡ true) × (b ≡ true)
 both_hold true b both = (refl, both)
 both_hold false b both = absurd (true≢false (sym both))
 

@@ -1,5 +1,6 @@
 -- A whole run.
-use Rattle.std.proofs.Common.{ℕ, Bool, List, [], ◌++◌, None, refl, sym}
+use Rattle.std.proofs.Common.{ℕ, Bool, List, [], ◌++◌, Option, None, refl, sym}
+use Rattle.std.specs.Prelude.{IfSome}
 use Rattle.std.proofs.lemmas.List.{append-nil}
 use Rattle.conffiles.specs.declared.decisions.ConfPolicy.{ConfPolicy}
 use Rattle.dependency_check.specs.Waiting.{Waiting}
@@ -8,12 +9,17 @@ use Rattle.host_core.specs.Moments.{since_start, since_then, since_weaker, since
 use Rattle.unit_reports.specs.Held.{Held}
 use Rattle.unit_reports.specs.declared.report.Unit.{Unit as AUnit}
 use Rattle.configure_run.specs.Run.{Begins, HasRun, IsAmidRun, IsConfigureRun}
-use Rattle.configure_run.specs.Turns.{EndTurns, IsAmidTurns, IsStill, StopTurns}
+use Rattle.configure_run.specs.Turns.{EndTurns, IsAmidTurns, IsBrokenStill, IsStill, StopTurns}
 use Rattle.configure_run.proofs.LeftLaws.{left_some}
 use Rattle.configure_run.proofs.Moments.{since_still, still_here}
 
 pub reads_here : (s : State) → Reads s s
 reads_here s = record { honest = λ h. h; world = refl; added = []; failed = tt; events = sym (append-nil s.events) }
+
+-- all turns were taken; one that was broken off behind them had not begun
+pub stop_of_end : (policy : ConfPolicy) (silent : ℕ → Bool) (start : Waiting) (before : Held) (s t : State) (first now : List AUnit) (after : Held) (last : Option AUnit) → EndTurns policy silent start before s first now after t → IfSome last (IsBrokenStill t t)
+    → StopTurns policy silent start before s first now last t
+stop_of_end policy silent start before s t first now after last ends still = StopTurns.leaving ends.q after ends.front ends.turned ends.ended (left_some ends.q ends.front now ends.left_over) still
 
 module _ (names : List (List ℕ)) (policy : ConfPolicy) (before : Held) where
   pub since_run_start : (s : State) → Since (IsAmidRun names policy before s) s s
@@ -29,9 +35,6 @@ module _ (names : List (List ℕ)) (policy : ConfPolicy) (before : Held) where
       (since_weaker_if (IsAmidTurns policy silent start before m) (λ x. IsAmidRun names policy before s (first.added ++ x)) m t
       (λ h x w amid. IsAmidRun.turning silent start m first.added x (turns.honest h) begins first.events refl amid) turns)
 
-  stop_of_end : (silent : ℕ → Bool) (start : Waiting) (s t : State) (first now : List AUnit) (after : Held) → EndTurns policy silent start before s first now after t → StopTurns policy silent start before s first now None t
-  stop_of_end silent start s t first now after ends = StopTurns.leaving ends.q after ends.front ends.turned ends.ended (left_some ends.q ends.front now ends.left_over) tt
-
   -- what was carried out to the end has come so far
   pub run_of_whole : (us : List AUnit) (after : Held) (s t : State) → IsConfigureRun names policy us before after s t → HasRun names policy us None before s t
-  run_of_whole us after s t run = HasRun.turning run.first run.refused run.silent run.start run.looked run.begins (stop_of_end run.silent run.start run.looked t run.first us after run.turns)
+  run_of_whole us after s t run = HasRun.turning run.first run.refused run.silent run.start run.looked run.begins (stop_of_end policy run.silent run.start before run.looked t run.first us after None run.turns tt)

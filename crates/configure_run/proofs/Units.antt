@@ -81,7 +81,7 @@ others_for : (policy : ConfPolicy) (name : List ℕ) (before after : Held) (u : 
 others_for policy name before after u s t (IsUnitFor.obstructed path found refused) q apart = ap (λ (h : Held). record_in h.records.records q) refused.held
 others_for policy name before after u s t (IsUnitFor.configured looked looks quiet found is) q apart = is.ended.others q apart
 
-others : (policy : ConfPolicy) (packages : List Package) (p : Package) (before after : Held) (u : AUnit) (s t : State) → IsUnit policy packages p before after u s t → (q : List ℕ) → q ≢ p.name → record_in after.records.records q ≡ record_in before.records.records q
+pub others : (policy : ConfPolicy) (packages : List Package) (p : Package) (before after : Held) (u : AUnit) (s t : State) → IsUnit policy packages p before after u s t → (q : List ℕ) → q ≢ p.name → record_in after.records.records q ≡ record_in before.records.records q
 others policy packages p before after u s t (IsUnit.broken y first refused) q apart = ap (λ (h : Held). record_in h.records.records q) refused.held
 others policy packages p before after u s t (IsUnit.unbroken none is) q apart = others_for policy p.name before after u s t is q apart
 

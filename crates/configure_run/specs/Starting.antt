@@ -10,6 +10,7 @@ use Rattle.host_core.specs.World.{World}
 use Rattle.host_core.specs.declared.call.Script.TheVariants.{Postinst}
 use Rattle.recorded_packages.specs.Packages.{ArePackagesOf}
 use Rattle.relation_index.specs.declared.package.Package.{Package}
+use Rattle.status_db.specs.Records.{record_in}
 use Rattle.status_db.specs.Words.{is_installed}
 use Rattle.status_db.specs.declared.record.Record.{Record}
 use Rattle.configure_run.specs.Asked.{can_wait}
@@ -60,3 +61,13 @@ AreNamedApart packages = (x y : ℕ) → x < length packages → y < length pack
 -- the record of each package that waits says so
 abbrev pub AreWaiting : Waiting → List Record → Type 0
 AreWaiting q records = (x : ℕ) → IsTrue (has q.waiting x) → IsWaiting records (name_at q.packages x)
+
+-- a package of this name waits
+pub record NamesOneWaiting (q : Waiting) (name : List ℕ) : Type 0 where
+  pub x : ℕ
+  pub waiting : IsTrue (has q.waiting x)
+  pub named : name_at q.packages x ≡ name
+
+-- what is recorded of each name that doesn't wait is what was recorded before
+abbrev pub AreSameButWaiting : Waiting → List Record → List Record → Type 0
+AreSameButWaiting q before after = (name : List ℕ) → (NamesOneWaiting q name → ⊥) → record_in after name ≡ record_in before name

@@ -4,6 +4,7 @@ ghost use Rattle.dependency_sets.specs.Sets.{has};
 ghost use Rattle.file_lists.specs.Owners.{places_in};
 ghost use Rattle.host_core.specs.Host.{Counts, Needs, Reads, Silent, Since, Tells, faults};
 ghost use Rattle.host_core.specs.Loss.{IsAnswered};
+ghost use Rattle.recorded_packages.specs.Packages.{ArePackagesOf};
 ghost use Rattle.unit_parts.specs.Order.{IsInOrder};
 ghost use Rattle.unit_reports.specs.Held.{held};
 ghost use Rattle.unit_reports.specs.Units.{CountsLast, CountsReply, IsBrokenBy, TellsCalls, calls_of};
@@ -14,6 +15,7 @@ ghost use Rattle.configure_run.specs.Asked.{each_once};
 ghost use Rattle.configure_run.specs.Early.{AreRefused, AreSomeRefused, early_refusals};
 ghost use Rattle.configure_run.specs.Run.{HasRun, IsAmidRun, IsConfigureRun};
 ghost use Rattle.configure_run.specs.Starting.{AreSilent, IsBegun};
+ghost use Rattle.configure_run.specs.Turns.{EndTurns, IsAmidTurns, StopTurns};
 
 use crate::asked::each_once;
 use crate::early::refuse_early;
@@ -25,8 +27,11 @@ use conffiles::ConfPolicy;
 use diversions::Diversions;
 use file_lists::FileLists;
 use host_core::{Host, HostFault, Places};
+use recorded_packages::renew;
+use relation_index::Packages;
 use status_db::NotedDatabase;
 use std::alloc::{AllocError, Global};
+use std::mem;
 use texts::Text;
 use unit_reports::{Report, Unit, Watcher, breakage_of, broken, what_is_told_in_turn};
 
@@ -48,23 +53,79 @@ fn refuse_first<W: Watcher>(
     Ok(())
 }
 
-// The turns of the packages that wait, and which of these have no postinst.
+// The turns of the packages that wait, for which the packages are taken, and which of these have no postinst.
 fn begun<H: Host>(
     alloc: Global,
     host: &mut H,
     database: &NotedDatabase,
+    packages: &mut Packages,
     names: &[Text],
 ) -> Result<(Turns, Vec<bool>), HostFault>
+    requires indexed { ArePackagesOf database.now.records packages.old }
     ensures begun { IfOk result (λ both. IsBegun names.now database.now.records both.0) }
     ensures seen { Tells result (λ both w. AreSilent w both.0 (has both.1.items)) (H.state host.old) (H.state host.new) }
     ensures reads { Reads (H.state host.old) (H.state host.new) }
     ensures silent { Silent (H.state host.old) (H.state host.new) }
     ensures counts { Counts (H.state host.old) (H.state host.new) result }
 {
-    let turns = Turns::of(alloc, database, names)?;
+    let taken = mem::replace(packages, Packages::new(alloc));
+    let turns = Turns::of(alloc, database, taken, names)?;
     match silent_of(alloc, host, names, database.records()) {
         Ok(silent) => Ok((turns, silent)),
         Err(fault) => Err(fault),
+    }
+}
+
+// All turns and the refusals of those left over, or the unit that was broken off; then the packages are given back, those of
+// the names as they are recorded now.
+fn run_and_renew<H: Host, W: Watcher>(
+    alloc: Global,
+    host: &mut H,
+    database: &mut NotedDatabase,
+    packages: &mut Packages,
+    lists: &mut FileLists,
+    places: &mut Places,
+    diversions: &Diversions,
+    names: &[Text],
+    policy: ConfPolicy,
+    turns: Turns,
+    silent: &[bool],
+    units: &mut Vec<Unit>,
+    watcher: &mut W,
+) -> Result<(), Unit>
+    requires noting { database.old.closed ≡ false }
+    requires listing { lists.old.closed ≡ false }
+    requires begun { IsBegun names.now database.old.records turns }
+    requires kept { places.old ≡ places_in diversions.now.entries lists.old.lists }
+    requires order { Needs (H.state host.old) (IsInOrder database.old lists.old.lists) }
+    ensures ok { OnOk result (EndTurns policy (has silent.now) turns (held database.old lists.old diversions.now) (H.state host.old) units.old.items units.new.items (held database.new lists.new diversions.now) (H.state host.new)) }
+    ensures indexed { OnOk result (ArePackagesOf database.new.records packages.new) }
+    ensures answered { OnOk result (IsAnswered (H.state host.old) (H.state host.new)) }
+    ensures order { OnOk result (Needs (H.state host.new) (IsInOrder database.new lists.new.lists)) }
+    ensures noting { OnOk result (database.new.closed ≡ false) }
+    ensures listing { OnOk result (lists.new.closed ≡ false) }
+    ensures kept { OnOk result (places.new ≡ places_in diversions.now.entries lists.new.lists) }
+    ensures err { IfErr result (λ unit. StopTurns policy (has silent.now) turns (held database.old lists.old diversions.now) (H.state host.old) units.old.items units.new.items (Some unit) (H.state host.new)) }
+    ensures told { OnOk result (TellsAll (H.state host.old) (H.state host.new) (calls_of units.old.items) (calls_of units.new.items)) }
+    ensures told_broken { IfErr result (λ unit. TellsAll (H.state host.old) (H.state host.new) (calls_of units.old.items) (calls_of units.new.items ++ unit.calls.items)) }
+    ensures any_moment { Since (IsAmidTurns policy (has silent.now) turns (held database.old lists.old diversions.now) (H.state host.old)) (H.state host.old) (H.state host.new) }
+    ensures no_fault { OnOk result (faults (H.state host.new) ≡ faults (H.state host.old)) }
+    ensures counts { IfErr result (λ unit. CountsReply (H.state host.old) (H.state host.new) unit.reply) }
+    ensures not_closed { IfErr result (λ unit. IsBrokenBy Closed unit.reply → ⊥) }
+    ensures watched { AddsTold W.tells units.old.items units.new.items watcher.old watcher.new }
+{
+    database.law();
+    match run_turns(
+        alloc, host, database, lists, places, diversions, policy, turns, silent, units, watcher,
+    ) {
+        Ok(back) => {
+            *packages = back;
+            match renew(alloc, packages, database, names) {
+                Ok(()) => Ok(()),
+                Err(_) => Err(no_memory(alloc)),
+            }
+        }
+        Err(unit) => Err(unit),
     }
 }
 
@@ -73,6 +134,7 @@ fn run_all<H: Host, W: Watcher>(
     alloc: Global,
     host: &mut H,
     database: &mut NotedDatabase,
+    packages: &mut Packages,
     lists: &mut FileLists,
     places: &mut Places,
     diversions: &Diversions,
@@ -82,11 +144,13 @@ fn run_all<H: Host, W: Watcher>(
     watcher: &mut W,
 ) -> Result<(), Unit>
     requires none { units.old.items ≡ [] }
+    requires indexed { ArePackagesOf database.old.records packages.old }
     requires noting { database.old.closed ≡ false }
     requires listing { lists.old.closed ≡ false }
     requires kept { places.old ≡ places_in diversions.now.entries lists.old.lists }
     requires order { Needs (H.state host.old) (IsInOrder database.old lists.old.lists) }
     ensures ok { OnOk result (IsConfigureRun names.now policy units.new.items (held database.old lists.old diversions.now) (held database.new lists.new diversions.now) (H.state host.old) (H.state host.new)) }
+    ensures indexed { OnOk result (ArePackagesOf database.new.records packages.new) }
     ensures err { IfErr result (λ unit. HasRun names.now policy units.new.items (Some unit) (held database.old lists.old diversions.now) (H.state host.old) (H.state host.new)) }
     ensures answered { OnOk result (IsAnswered (H.state host.old) (H.state host.new)) }
     ensures order { OnOk result (Needs (H.state host.new) (IsInOrder database.new lists.new.lists)) }
@@ -102,16 +166,17 @@ fn run_all<H: Host, W: Watcher>(
     ensures watched { AddsTold W.tells units.old.items units.new.items watcher.old watcher.new }
 {
     what_is_told_in_turn::<W>();
-    database.law();
     match refuse_first(alloc, database, names, units, watcher) {
-        Ok(()) => match begun(alloc, host, database, names) {
-            Ok((turns, silent)) => match run_turns(
+        Ok(()) => match begun(alloc, host, database, packages, names) {
+            Ok((turns, silent)) => match run_and_renew(
                 alloc,
                 host,
                 database,
+                packages,
                 lists,
                 places,
                 diversions,
+                names,
                 policy,
                 turns,
                 silent.as_slice(),
@@ -129,11 +194,12 @@ fn run_all<H: Host, W: Watcher>(
 
 /// Configures packages: those that can't wait are refused, in the order in which they are named; then each is
 /// configured at its turn, as what it depends on is; and those that are left over are refused. Each unit is told as it is
-/// finished; the one that was broken off is not.
+/// finished; the one that was broken off is not. The packages may be gone behind a unit that was broken off.
 pub fn configure_packages<H: Host, W: Watcher>(
     alloc: Global,
     host: &mut H,
     database: &mut NotedDatabase,
+    packages: &mut Packages,
     lists: &mut FileLists,
     places: &mut Places,
     diversions: &Diversions,
@@ -141,6 +207,7 @@ pub fn configure_packages<H: Host, W: Watcher>(
     policy: ConfPolicy,
     watcher: &mut W,
 ) -> Report
+    requires indexed { ArePackagesOf database.old.records packages.old }
     requires noting { database.old.closed ≡ false }
     requires listing { lists.old.closed ≡ false }
     requires kept { places.old ≡ places_in diversions.now.entries lists.old.lists }
@@ -154,6 +221,7 @@ pub fn configure_packages<H: Host, W: Watcher>(
     ensures noting { IsNone result.last → database.new.closed ≡ false }
     ensures listing { IsNone result.last → lists.new.closed ≡ false }
     ensures kept { IsNone result.last → places.new ≡ places_in diversions.now.entries lists.new.lists }
+    ensures indexed { IsNone result.last → ArePackagesOf database.new.records packages.new }
     ensures counts { CountsLast (H.state host.old) (H.state host.new) result.last }
     ensures not_closed { IfSome result.last (λ unit. IsBrokenBy Closed unit.reply → ⊥) }
     ensures watched { IsTold W.tells watcher.old result.units.items watcher.new }
@@ -163,6 +231,7 @@ pub fn configure_packages<H: Host, W: Watcher>(
         alloc,
         host,
         database,
+        packages,
         lists,
         places,
         diversions,

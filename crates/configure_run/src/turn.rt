@@ -11,7 +11,7 @@ ghost use Rattle.unit_reports.specs.Units.{CountsReply, IsBrokenBy, calls_of};
 ghost use Rattle.unit_reports.specs.declared.report.Breakage.TheVariants.{Closed};
 ghost use Rattle.unit_reports.specs.Watching.{AddsTold};
 ghost use Rattle.unwind_stack.specs.Transcript.{TellsAll};
-ghost use Rattle.configure_run.specs.Starting.{AreWaiting};
+ghost use Rattle.configure_run.specs.Starting.{AreSameButWaiting, AreWaiting};
 ghost use Rattle.configure_run.specs.Turns.{EndTurns, HaveTurned, IsAmidNext, IsAmidTurns, IsBrokenOff, StopTurns, after_turn};
 ghost use Rattle.configure_run.specs.Taking.{IsAmidTurn, IsBrokenAt, TakesNext, TakesTurn};
 
@@ -22,6 +22,7 @@ use conffiles::ConfPolicy;
 use diversions::Diversions;
 use file_lists::FileLists;
 use host_core::{Host, Places};
+use relation_index::Packages;
 use status_db::NotedDatabase;
 use std::alloc::Global;
 use unit_reports::{Unit, Watcher, is_broken, what_is_told_in_turn};
@@ -103,6 +104,7 @@ fn take_next<H: Host, W: Watcher>(
     ensures member { IfOk result (λ next. IfSome next (λ n. IsConfigurableNow turns.now n.0)) }
     ensures none_left { IfOk result (λ next. next ≡ None → (x : ℕ) → IsConfigurableNow turns.now x → ⊥) }
     ensures wait { IfOk result (λ next. IfSome next (λ n. AreWaiting (after_turn n.1 n.0 turns.now) database.new.records)) }
+    ensures others { OnOk result (AreSameButWaiting turns.now database.old.records database.new.records) }
     ensures order { OnOk result (Needs (H.state host.new) (IsInOrder database.new lists.new.lists)) }
     ensures noting { OnOk result (database.new.closed ≡ false) }
     ensures listing { OnOk result (lists.new.closed ≡ false) }
@@ -151,6 +153,8 @@ fn take_turns<H: Host, W: Watcher>(
     ensures ok { IfOk result (λ left. HaveTurned policy (has silent.now) turns (held database.old lists.old diversions.now) (H.state host.old) units.old.items units.new.items left (held database.new lists.new diversions.now) (H.state host.new)) }
     ensures ended { IfOk result (λ left. IsNextOfConfigurable left (has silent.now) None) }
     ensures none_left { IfOk result (λ left. (x : ℕ) → IsConfigurableNow left x → ⊥) }
+    ensures packages { IfOk result (λ left. left.packages ≡ turns.packages) }
+    ensures others { OnOk result (AreSameButWaiting turns database.old.records database.new.records) }
     ensures answered { OnOk result (IsAnswered (H.state host.old) (H.state host.new)) }
     ensures order { OnOk result (Needs (H.state host.new) (IsInOrder database.new lists.new.lists)) }
     ensures noting { OnOk result (database.new.closed ≡ false) }
@@ -182,7 +186,8 @@ fn take_turns<H: Host, W: Watcher>(
     }
 }
 
-/// All turns, and the refusals of those left over; or the unit that was broken off.
+/// All turns, and the refusals of those left over; or the unit that was broken off. The answer is the packages that the
+/// turns were of.
 pub(crate) fn run_turns<H: Host, W: Watcher>(
     alloc: Global,
     host: &mut H,
@@ -195,13 +200,15 @@ pub(crate) fn run_turns<H: Host, W: Watcher>(
     silent: &[bool],
     units: &mut Vec<Unit>,
     watcher: &mut W,
-) -> Result<(), Unit>
+) -> Result<Packages, Unit>
     requires noting { database.old.closed ≡ false }
     requires listing { lists.old.closed ≡ false }
     requires wait { AreWaiting turns database.old.records }
     requires kept { places.old ≡ places_in diversions.now.entries lists.old.lists }
     requires order { Needs (H.state host.old) (IsInOrder database.old lists.old.lists) }
     ensures ok { OnOk result (EndTurns policy (has silent.now) turns (held database.old lists.old diversions.now) (H.state host.old) units.old.items units.new.items (held database.new lists.new diversions.now) (H.state host.new)) }
+    ensures packages { IfOk result (λ packages. packages ≡ turns.packages) }
+    ensures others { OnOk result (AreSameButWaiting turns database.old.records database.new.records) }
     ensures answered { OnOk result (IsAnswered (H.state host.old) (H.state host.new)) }
     ensures order { OnOk result (Needs (H.state host.new) (IsInOrder database.new lists.new.lists)) }
     ensures noting { OnOk result (database.new.closed ≡ false) }
@@ -221,7 +228,7 @@ pub(crate) fn run_turns<H: Host, W: Watcher>(
         alloc, host, database, lists, places, diversions, policy, turns, silent, units, watcher,
     ) {
         Ok(left) => match refuse_left(alloc, &left, units, watcher) {
-            Ok(()) => Ok(()),
+            Ok(()) => Ok(left.into_packages()),
             Err(_) => Err(no_memory(alloc)),
         },
         Err(unit) => Err(unit),

@@ -3,13 +3,13 @@ ghost use Rattle.std.specs.Prelude.{◌≡◌, ◌<◌, ℕ, None, IfOk, IfSome,
 ghost use Rattle.dependency_check.specs.Waiting.{IsConfigurableNow, IsNextOfConfigurable};
 ghost use Rattle.dependency_sets.specs.Choices.{IsListing};
 ghost use Rattle.dependency_sets.specs.Sets.{has};
+ghost use Rattle.recorded_packages.specs.Packages.{ArePackagesOf};
 ghost use Rattle.configure_run.specs.Starting.{AreNamedApart, IsBegun, IsEven};
 ghost use Rattle.configure_run.specs.Turns.{after_turn};
 
 use crate::starting::{installed_of, waiting_of};
 use dependency_check::ConfigureQueue;
 use dependency_sets::{Numbers, listed};
-use recorded_packages::packages_of;
 use relation_index::Packages;
 use status_db::NotedDatabase;
 use std::alloc::{AllocError, Global};
@@ -58,12 +58,13 @@ impl Turns {
     pub(crate) fn of(
         alloc: Global,
         database: &NotedDatabase,
+        packages: Packages,
         names: &[Text],
     ) -> Result<Turns, AllocError>
+        requires { ArePackagesOf database.now.records packages }
         ensures { IfOk result (IsBegun names.now database.now.records) }
     {
         database.law();
-        let packages = packages_of(alloc, database.records())?;
         let installed = installed_of(alloc, database.records())?;
         let waiting = waiting_of(alloc, names, database.records())?;
         let queue = ConfigureQueue::of(alloc, packages, installed.as_slice(), waiting.as_slice())?;
@@ -82,6 +83,13 @@ impl Turns {
         ensures { result.now ≡ self.now.packages }
     {
         self.queue.packages()
+    }
+
+    /// The packages again, once no turn is left.
+    pub(crate) fn into_packages(self) -> Packages
+        ensures { result ≡ self.packages }
+    {
+        self.queue.into_packages()
     }
 
     pub(crate) fn supply(&self) -> &[bool]

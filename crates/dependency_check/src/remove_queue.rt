@@ -47,6 +47,13 @@ impl RemoveQueue {
         &self.packages
     }
 
+    /// The packages alone, for what comes after the queue.
+    pub fn into_packages(self) -> Packages
+        ensures { result ≡ self.packages }
+    {
+        self.packages
+    }
+
     /// What is installed now.
     pub fn supply(&self) -> &[bool]
         ensures { result.now ≡ self.now.installed }

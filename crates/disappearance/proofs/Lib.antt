@@ -1,6 +1,7 @@
 mod Numbers
 mod Directories
 mod Plans
+mod Renewing
 mod Looking
 mod Both
 mod Sequence

@@ -4,6 +4,7 @@ ghost use Rattle.host_core.specs.Host.{Counts, Reads, Silent, Tells};
 ghost use Rattle.host_core.specs.World.{is_directory as is_directory_node};
 ghost use Rattle.diversions.specs.Places.{place};
 ghost use Rattle.diversions.specs.Sights.{is_directory_kind};
+ghost use Rattle.recorded_packages.specs.Packages.{ArePackagesOf};
 ghost use Rattle.unit_stages.specs.Holding.{holding};
 ghost use Rattle.disappearance.specs.Verdicts.{HasLost, IsVerdict, are_directories, is_there};
 
@@ -12,6 +13,7 @@ use crate::needed::is_needed;
 use diversions::Diversions;
 use file_lists::FileLists;
 use host_core::{Host, HostFault, Kind, RootPath};
+use relation_index::Packages;
 use status_db::{NotedDatabase, Record, State};
 use std::alloc::Global;
 use texts::Text;
@@ -87,11 +89,13 @@ pub(crate) fn look<H: Host>(
     alloc: Global,
     host: &mut H,
     database: &NotedDatabase,
+    packages: &Packages,
     lists: &FileLists,
     diversions: &Diversions,
     incoming: &Text,
     losing: &Losing,
 ) -> Result<bool, HostFault>
+    requires indexed { ArePackagesOf database.now.records packages.now }
     ensures verdict { IfOk result (IsVerdict incoming.now diversions.now.entries losing.now (holding database.now lists.now) (H.state host.old).world (H.state host.new).honest) }
     ensures reads { Reads (H.state host.old) (H.state host.new) }
     ensures silent { Silent (H.state host.old) (H.state host.new) }
@@ -111,6 +115,6 @@ pub(crate) fn look<H: Host>(
     if !empty {
         return Ok(false);
     }
-    let needed = is_needed(alloc, database, incoming, &losing.name)?;
+    let needed = is_needed(alloc, packages, incoming, &losing.name)?;
     Ok(!needed)
 }

@@ -1,12 +1,11 @@
 // Whether a package is needed by another one.
-ghost use Rattle.std.specs.Prelude.{◌≡◌, ℕ, true, IfOk, MatchOption, is_some, map};
-ghost use Rattle.status_db.specs.Records.{record_in};
+ghost use Rattle.std.specs.Prelude.{◌≡◌, ℕ, List, IfOk, MatchOption, map};
+ghost use Rattle.recorded_packages.specs.Packages.{ArePackagesOf};
+ghost use Rattle.status_db.specs.declared.record.Record.{Record as ARecord};
 ghost use Rattle.disappearance.specs.Needed.{HasNumber, IsNeedOf, is_called, is_supplied};
 
 use dependency_check::depended_on_by;
-use recorded_packages::packages_of;
-use relation_index::Package;
-use status_db::NotedDatabase;
+use relation_index::{Package, Packages};
 use std::alloc::{AllocError, Global};
 use texts::Text;
 
@@ -51,18 +50,16 @@ fn number_of(packages: &[Package], name: &Text) -> Option<usize>
 }
 
 /// Whether another package that is installed, or the unpacked one, needs the package of this name: it has a clause of Depends or
-/// Pre-Depends which that one meets and no other that is installed, nor the unpacked one.
+/// Pre-Depends which that one meets and no other that is installed, nor the unpacked one. Asked of the packages of the records.
 pub(crate) fn is_needed(
     alloc: Global,
-    database: &NotedDatabase,
+    packages: &Packages,
     incoming: &Text,
     name: &Text,
 ) -> Result<bool, AllocError>
-    requires known { is_some (record_in database.now.records name.now) ≡ true }
-    ensures { IfOk result (IsNeedOf incoming.now database.now.records name.now) }
+    requires known { (x : ℕ) × HasNumber packages.now name.now x }
+    ensures { IfOk result (λ needed. (records : List ARecord) → ArePackagesOf records packages.now → IsNeedOf incoming.now records name.now needed) }
 {
-    database.law();
-    let packages = packages_of(alloc, database.records())?;
     let list = packages.as_slice();
     let installed = supplied(alloc, list, incoming)?;
     let own = called(alloc, list, name)?;
@@ -70,7 +67,7 @@ pub(crate) fn is_needed(
         Some(number) => {
             let supply = installed.as_slice();
             let mine = own.as_slice();
-            let by = depended_on_by(alloc, &packages, supply, mine, number)?;
+            let by = depended_on_by(alloc, packages, supply, mine, number)?;
             Ok(by.is_some())
         }
         None => unreachable!(),

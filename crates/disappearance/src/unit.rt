@@ -4,6 +4,7 @@ ghost use Rattle.host_core.specs.Host.{AtEachMomentOf, Counts, Needs, Reads, Sil
 ghost use Rattle.texts.specs.PackageNames.{is_package_name};
 ghost use Rattle.cleanup_stack.specs.Telling.{Begun};
 ghost use Rattle.file_lists.specs.Owners.{places_in};
+ghost use Rattle.recorded_packages.specs.Packages.{ArePackagesOf};
 ghost use Rattle.removal_engine.specs.Stages.{gone_stage, planned};
 ghost use Rattle.status_db.specs.declared.record.Record.{Record as ARecord};
 ghost use Rattle.unit_parts.specs.Order.{IsInOrder};
@@ -23,6 +24,8 @@ use crate::stages::{Plan, plan_stages};
 use diversions::Diversions;
 use file_lists::FileLists;
 use host_core::{Call, Host, HostFault, Places};
+use recorded_packages::renew_one;
+use relation_index::Packages;
 use status_db::NotedDatabase;
 use std::alloc::{AllocError, Global};
 use texts::{Text, Texts};
@@ -30,11 +33,12 @@ use unit_stages::{Stage, run_stages};
 use unwind_stack::Called;
 use version_order::Version;
 
-// All goes that the administration has of a package; nothing is called.
+// All goes that the administration has of a package, and it counts no more as one that needs others; nothing is called.
 fn take_away<H: Host>(
     alloc: Global,
     host: &mut H,
     database: &mut NotedDatabase,
+    packages: &mut Packages,
     lists: &mut FileLists,
     places: &mut Places,
     diversions: &Diversions,
@@ -46,6 +50,7 @@ fn take_away<H: Host>(
     requires listing { lists.old.closed ≡ false }
     requires kept { places.old ≡ places_in diversions.now.entries lists.old.lists }
     requires order { Needs (H.state host.old) (IsInOrder database.old lists.old.lists) }
+    requires indexed { ArePackagesOf database.old.records packages.old }
     requires named { is_package_name name.now ≡ true }
     requires fit { AreStagesFit name.now gone.items database.old.records lists.old.lists }
     requires quiet { (r : ARecord) × (map planned gone.items ≡ gone_stage r ∷ []) }
@@ -54,14 +59,17 @@ fn take_away<H: Host>(
     ensures kept { OnOk result (places.new ≡ places_in diversions.now.entries lists.new.lists) }
     ensures noting { OnOk result (database.new.closed ≡ false) }
     ensures listing { OnOk result (lists.new.closed ≡ false) }
+    ensures indexed { OnOk result (ArePackagesOf database.new.records packages.new) }
     ensures untold { told.new.items ≡ told.old.items }
     ensures silent { Silent (H.state host.old) (H.state host.new) }
     ensures any_moment { AtEachMomentOf (AreRunning name.now diversions.now.entries gone.items (holding database.old lists.old)) (H.state host.old) (H.state host.new) }
     ensures counts { Counts (H.state host.old) (H.state host.new) result }
 {
+    database.law();
     run_stages(
         alloc, host, database, lists, places, diversions, name, gone, told,
     )?;
+    renew_one(alloc, packages, database, name)?;
     Ok(())
 }
 
@@ -70,6 +78,7 @@ fn run_both<H: Host>(
     alloc: Global,
     host: &mut H,
     database: &mut NotedDatabase,
+    packages: &mut Packages,
     lists: &mut FileLists,
     places: &mut Places,
     diversions: &Diversions,
@@ -81,12 +90,14 @@ fn run_both<H: Host>(
     requires listing { lists.old.closed ≡ false }
     requires kept { places.old ≡ places_in diversions.now.entries lists.old.lists }
     requires order { Needs (H.state host.old) (IsInOrder database.old lists.old.lists) }
+    requires indexed { ArePackagesOf database.old.records packages.old }
     requires planned { (row : ARow) × ArePlanned name.now (holding database.old lists.old) row plan.call.items plan.gone.items }
     ensures ran { IfOk result (λ failed. HaveRunBoth name.now diversions.now.entries plan.call.items plan.gone.items failed (holding database.old lists.old) (holding database.new lists.new) (H.state host.old) (H.state host.new) told.old.items told.new.items) }
     ensures order { OnOk result (Needs (H.state host.new) (IsInOrder database.new lists.new.lists)) }
     ensures kept { OnOk result (places.new ≡ places_in diversions.now.entries lists.new.lists) }
     ensures noting { OnOk result (database.new.closed ≡ false) }
     ensures listing { OnOk result (lists.new.closed ≡ false) }
+    ensures indexed { OnOk result (ArePackagesOf database.new.records packages.new) }
     ensures told { Begun (MayRunStages plan.call.items) (H.state host.old) (H.state host.new) told.old.items told.new.items }
     ensures any_moment { Since (IsAmidBoth name.now diversions.now.entries plan.call.items plan.gone.items (holding database.old lists.old) (H.state host.old)) (H.state host.old) (H.state host.new) }
     ensures counts { Counts (H.state host.old) (H.state host.new) result }
@@ -96,7 +107,7 @@ fn run_both<H: Host>(
         alloc, host, database, lists, places, diversions, name, call, told,
     ) {
         Ok(failed) => match take_away(
-            alloc, host, database, lists, places, diversions, name, gone, told,
+            alloc, host, database, packages, lists, places, diversions, name, gone, told,
         ) {
             Ok(()) => Ok(failed),
             Err(fault) => Err(fault),
@@ -111,18 +122,22 @@ fn decide<H: Host>(
     alloc: Global,
     host: &mut H,
     database: &NotedDatabase,
+    packages: &Packages,
     lists: &FileLists,
     diversions: &Diversions,
     incoming: &Text,
     version: &Version,
     losing: &Losing,
 ) -> Result<Option<Plan>, HostFault>
+    requires indexed { ArePackagesOf database.now.records packages.now }
     ensures decision { IfOk result (λ found. MatchOption found (Stays incoming.now diversions.now.entries losing.now (holding database.now lists.now) (H.state host.old).world (H.state host.new).honest) (λ p. Goes incoming.now diversions.now.entries losing.now (holding database.now lists.now) (H.state host.old).world (H.state host.new).honest × IsPlan incoming.now version.now losing.now.name (holding database.now lists.now) (H.state host.old).world (H.state host.new).honest p.call.items p.gone.items)) }
     ensures reads { Reads (H.state host.old) (H.state host.new) }
     ensures silent { Silent (H.state host.old) (H.state host.new) }
     ensures counts { Counts (H.state host.old) (H.state host.new) result }
 {
-    let goes = look(alloc, host, database, lists, diversions, incoming, losing)?;
+    let goes = look(
+        alloc, host, database, packages, lists, diversions, incoming, losing,
+    )?;
     if !goes {
         return Ok(None);
     }
@@ -143,6 +158,7 @@ pub(crate) fn disappear<H: Host>(
     alloc: Global,
     host: &mut H,
     database: &mut NotedDatabase,
+    packages: &mut Packages,
     lists: &mut FileLists,
     places: &mut Places,
     diversions: &Diversions,
@@ -156,23 +172,26 @@ pub(crate) fn disappear<H: Host>(
     requires listing { lists.old.closed ≡ false }
     requires kept { places.old ≡ places_in diversions.now.entries lists.old.lists }
     requires order { Needs (H.state host.old) (IsInOrder database.old lists.old.lists) }
+    requires indexed { ArePackagesOf database.old.records packages.old }
     ensures decided { IfOk result (λ failed. (own : List (List ℕ)) × (names.new ≡ names.old ++ own) × IsDecided incoming.now version.now diversions.now.entries losing.now own failed (holding database.old lists.old) (holding database.new lists.new) (H.state host.old) (H.state host.new) told.old.items told.new.items) }
     ensures order { OnOk result (Needs (H.state host.new) (IsInOrder database.new lists.new.lists)) }
     ensures kept { OnOk result (places.new ≡ places_in diversions.now.entries lists.new.lists) }
     ensures noting { OnOk result (database.new.closed ≡ false) }
     ensures listing { OnOk result (lists.new.closed ≡ false) }
+    ensures indexed { OnOk result (ArePackagesOf database.new.records packages.new) }
     ensures told { HasCalledOne incoming.now version.now diversions.now.entries losing.now (holding database.old lists.old) (H.state host.old) (H.state host.new) told.old.items told.new.items }
     ensures any_moment { Since (IsAmidUnit incoming.now version.now diversions.now.entries losing.now (holding database.old lists.old) (H.state host.old)) (H.state host.old) (H.state host.new) }
     ensures counts { Counts (H.state host.old) (H.state host.new) result }
 {
     match decide(
-        alloc, host, database, lists, diversions, incoming, version, losing,
+        alloc, host, database, packages, lists, diversions, incoming, version, losing,
     ) {
         Ok(Some(plan)) => match push_name(names, &losing.name) {
             Ok(()) => run_both(
                 alloc,
                 host,
                 database,
+                packages,
                 lists,
                 places,
                 diversions,

@@ -1,10 +1,11 @@
 // What an unpack displaces.
 ghost use Rattle.std.specs.Prelude.{◌≡◌, ◌++◌, ◌⊎◌, false, ℕ, List, IfOk, OnOk, Contains};
-ghost use Rattle.conflict_removal.specs.Removals.{HaveCalled as HaveCalledRemoving, IsAmidRemovals, first_failed};
+ghost use Rattle.conflict_removal.specs.Removals.{HaveBeenRemoved, HaveCalled as HaveCalledRemoving, IsAmidRemovals, first_failed};
 ghost use Rattle.host_core.specs.Host.{Counts, Does, Needs, Silent, Since};
 ghost use Rattle.host_core.specs.Loss.{IsAnswered};
 ghost use Rattle.host_core.specs.World.{Barrier};
 ghost use Rattle.file_lists.specs.Owners.{places_in};
+ghost use Rattle.recorded_packages.specs.Packages.{ArePackagesOf};
 ghost use Rattle.status_db.specs.Records.{record_in};
 ghost use Rattle.unit_parts.specs.Order.{IsInOrder};
 ghost use Rattle.unit_stages.specs.Holding.{holding};
@@ -15,6 +16,8 @@ use disappearance::{Disappeared, Losing, disappear_packages};
 use diversions::Diversions;
 use file_lists::FileLists;
 use host_core::{Call, Host, HostFault, Places};
+use recorded_packages::renew;
+use relation_index::Packages;
 use status_db::NotedDatabase;
 use std::alloc::{AllocError, Global};
 use texts::{Text, Texts};
@@ -64,11 +67,55 @@ fn displaced_with(
     })
 }
 
+// Removes the conflicting packages, and brings the packages of the records up to date.
+fn remove_conflicting<H: Host>(
+    alloc: Global,
+    host: &mut H,
+    database: &mut NotedDatabase,
+    packages: &mut Packages,
+    lists: &mut FileLists,
+    places: &mut Places,
+    diversions: &Diversions,
+    conflicting: &[Text],
+    told: &mut Vec<Called>,
+) -> Result<Option<Call>, HostFault>
+    requires order { Needs (H.state host.old) (IsInOrder database.old lists.old.lists) }
+    requires noting { database.old.closed ≡ false }
+    requires listing { lists.old.closed ≡ false }
+    requires kept { places.old ≡ places_in diversions.now.entries lists.old.lists }
+    requires indexed { ArePackagesOf database.old.records packages.old }
+    ensures removed { IfOk result (λ failed. HaveBeenRemoved diversions.now.entries conflicting.now failed (holding database.old lists.old) (holding database.new lists.new) (H.state host.old) (H.state host.new) told.old.items told.new.items) }
+    ensures others { OnOk result ((q : List ℕ) → (Contains conflicting.now q → ⊥) → record_in database.new.records q ≡ record_in database.old.records q) }
+    ensures order { OnOk result (Needs (H.state host.new) (IsInOrder database.new lists.new.lists)) }
+    ensures kept { OnOk result (places.new ≡ places_in diversions.now.entries lists.new.lists) }
+    ensures noting { OnOk result (database.new.closed ≡ false) }
+    ensures listing { OnOk result (lists.new.closed ≡ false) }
+    ensures indexed { OnOk result (ArePackagesOf database.new.records packages.new) }
+    ensures told { HaveCalledRemoving diversions.now.entries conflicting.now (holding database.old lists.old) (H.state host.old) (H.state host.new) told.old.items told.new.items }
+    ensures any_moment { Since (IsAmidRemovals diversions.now.entries conflicting.now (holding database.old lists.old) (H.state host.old)) (H.state host.old) (H.state host.new) }
+    ensures counts { Counts (H.state host.old) (H.state host.new) result }
+{
+    database.law();
+    let failed = remove_in_favour(
+        alloc,
+        host,
+        database,
+        lists,
+        places,
+        diversions,
+        conflicting,
+        told,
+    )?;
+    renew(alloc, packages, database, conflicting)?;
+    Ok(failed)
+}
+
 // Removes the conflicting packages behind those that disappeared.
 fn remove_behind<H: Host>(
     alloc: Global,
     host: &mut H,
     database: &mut NotedDatabase,
+    packages: &mut Packages,
     lists: &mut FileLists,
     places: &mut Places,
     diversions: &Diversions,
@@ -80,20 +127,23 @@ fn remove_behind<H: Host>(
     requires noting { database.old.closed ≡ false }
     requires listing { lists.old.closed ≡ false }
     requires kept { places.old ≡ places_in diversions.now.entries lists.old.lists }
+    requires indexed { ArePackagesOf database.old.records packages.old }
     ensures removed { IfOk result (λ d. HaveBeenRemovedBehind diversions.now.entries conflicting.now disappeared.names disappeared.failed d.names d.failed (holding database.old lists.old) (holding database.new lists.new) (H.state host.old) (H.state host.new) told.old.items told.new.items) }
     ensures others { OnOk result ((q : List ℕ) → (Contains conflicting.now q → ⊥) → record_in database.new.records q ≡ record_in database.old.records q) }
     ensures order { OnOk result (Needs (H.state host.new) (IsInOrder database.new lists.new.lists)) }
     ensures kept { OnOk result (places.new ≡ places_in diversions.now.entries lists.new.lists) }
     ensures noting { OnOk result (database.new.closed ≡ false) }
     ensures listing { OnOk result (lists.new.closed ≡ false) }
+    ensures indexed { OnOk result (ArePackagesOf database.new.records packages.new) }
     ensures told { HaveCalledRemoving diversions.now.entries conflicting.now (holding database.old lists.old) (H.state host.old) (H.state host.new) told.old.items told.new.items }
     ensures any_moment { Since (IsAmidRemovals diversions.now.entries conflicting.now (holding database.old lists.old) (H.state host.old)) (H.state host.old) (H.state host.new) }
     ensures counts { Counts (H.state host.old) (H.state host.new) result }
 {
-    match remove_in_favour(
+    match remove_conflicting(
         alloc,
         host,
         database,
+        packages,
         lists,
         places,
         diversions,
@@ -113,6 +163,7 @@ fn displace_all<H: Host>(
     alloc: Global,
     host: &mut H,
     database: &mut NotedDatabase,
+    packages: &mut Packages,
     lists: &mut FileLists,
     places: &mut Places,
     diversions: &Diversions,
@@ -126,23 +177,26 @@ fn displace_all<H: Host>(
     requires noting { database.old.closed ≡ false }
     requires listing { lists.old.closed ≡ false }
     requires kept { places.old ≡ places_in diversions.now.entries lists.old.lists }
+    requires indexed { ArePackagesOf database.old.records packages.old }
     ensures gone { IfOk result (λ d. HaveGone incoming.now version.now diversions.now.entries losing.now conflicting.now d.names d.failed (holding database.old lists.old) (holding database.new lists.new) (H.state host.old) (H.state host.new) told.old.items told.new.items) }
     ensures others { IfOk result (λ d. (q : List ℕ) → (Contains d.names q → ⊥) → record_in database.new.records q ≡ record_in database.old.records q) }
     ensures order { OnOk result (Needs (H.state host.new) (IsInOrder database.new lists.new.lists)) }
     ensures kept { OnOk result (places.new ≡ places_in diversions.now.entries lists.new.lists) }
     ensures noting { OnOk result (database.new.closed ≡ false) }
     ensures listing { OnOk result (lists.new.closed ≡ false) }
+    ensures indexed { OnOk result (ArePackagesOf database.new.records packages.new) }
     ensures told { HasCalledFirst incoming.now version.now diversions.now.entries losing.now conflicting.now (holding database.old lists.old) (H.state host.old) (H.state host.new) told.old.items told.new.items }
     ensures any_moment { Since (AreGoing incoming.now version.now diversions.now.entries losing.now conflicting.now (holding database.old lists.old) (H.state host.old)) (H.state host.old) (H.state host.new) }
     ensures counts { Counts (H.state host.old) (H.state host.new) result }
 {
     match disappear_packages(
-        alloc, host, database, lists, places, diversions, incoming, version, losing, told,
+        alloc, host, database, packages, lists, places, diversions, incoming, version, losing, told,
     ) {
         Ok(disappeared) => remove_behind(
             alloc,
             host,
             database,
+            packages,
             lists,
             places,
             diversions,
@@ -178,11 +232,13 @@ fn bring_to_disk<H: Host>(
 }
 
 /// Displaces packages behind the commit of an unpack of this name and version: of the losing ones those disappear of which
-/// nothing is left, and then the conflicting ones are removed. All of it is brought to the disk.
+/// nothing is left, and then the conflicting ones are removed. All of it is brought to the disk, and the packages of the records are
+/// brought up to date.
 pub fn displace<H: Host>(
     alloc: Global,
     host: &mut H,
     database: &mut NotedDatabase,
+    packages: &mut Packages,
     lists: &mut FileLists,
     places: &mut Places,
     diversions: &Diversions,
@@ -196,12 +252,14 @@ pub fn displace<H: Host>(
     requires noting { database.old.closed ≡ false }
     requires listing { lists.old.closed ≡ false }
     requires kept { places.old ≡ places_in diversions.now.entries lists.old.lists }
+    requires indexed { ArePackagesOf database.old.records packages.old }
     ensures displaced { IfOk result (λ d. HaveBeenDisplaced incoming.now version.now diversions.now.entries losing.now conflicting.now d.names d.failed (holding database.old lists.old) (holding database.new lists.new) (H.state host.old) (H.state host.new) told.old.items told.new.items) }
     ensures others { IfOk result (λ d. (q : List ℕ) → (Contains d.names q → ⊥) → record_in database.new.records q ≡ record_in database.old.records q) }
     ensures order { OnOk result (Needs (H.state host.new) (IsInOrder database.new lists.new.lists)) }
     ensures kept { OnOk result (places.new ≡ places_in diversions.now.entries lists.new.lists) }
     ensures noting { OnOk result (database.new.closed ≡ false) }
     ensures listing { OnOk result (lists.new.closed ≡ false) }
+    ensures indexed { OnOk result (ArePackagesOf database.new.records packages.new) }
     ensures answered { OnOk result (IsAnswered (H.state host.old) (H.state host.new)) }
     ensures told { HasCalled incoming.now version.now diversions.now.entries losing.now conflicting.now (holding database.old lists.old) (H.state host.old) (H.state host.new) told.old.items told.new.items }
     ensures any_moment { Since (IsAmidDisplacing incoming.now version.now diversions.now.entries losing.now conflicting.now (holding database.old lists.old) (H.state host.old)) (H.state host.old) (H.state host.new) }
@@ -211,6 +269,7 @@ pub fn displace<H: Host>(
         alloc,
         host,
         database,
+        packages,
         lists,
         places,
         diversions,

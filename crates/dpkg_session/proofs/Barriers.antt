@@ -1,16 +1,15 @@
 -- A barrier behind what was done.
-use Rattle.std.proofs.Common.{◌≡◌, inl, inr, IsTrue, List, [], ◌∷◌, ◌++◌, Option, Some, None, Result, Ok, Err, refl, sym, ap, subst, ◌∙◌, append_assoc}
+use Rattle.std.proofs.Common.{◌≡◌, inl, inr, IsTrue, List, [], ◌∷◌, ◌++◌, Option, Some, None, Result, Ok, Err, refl, sym, ap, subst, ◌∙◌}
 use Rattle.std.proofs.lemmas.List.{append-nil}
 use Rattle.administration.specs.Fault.{fault_of}
 use Rattle.administration.specs.declared.fault.AdministrationFault.{AdministrationFault}
 use Rattle.cleanup_stack.specs.Telling.{Begun}
 use Rattle.host_core.specs.Paths.{Path}
 use Rattle.host_core.specs.World.{World, Step, Barrier}
-use Rattle.host_core.specs.Events.{Event, Ran, Did, Failed, changes_of, scripts_of, follow, follow_all}
+use Rattle.host_core.specs.Events.{Event, Ran, Did, Failed, scripts_of, follow, follow_all}
 use Rattle.host_core.specs.Host.{State, Does, Falls, Happens, Needs, Silent, Since, Stops}
 use Rattle.host_core.specs.Loss.{IsAnswered, IsLater, IsOnDisk}
-use Rattle.host_core.specs.Moments.{ThroughEvent, scripts_of-append, since_failed, since_fails, since_goes, since_now, since_then, silent_then}
-use Rattle.host_core.specs.Scripts.{changes_of-append, no_change}
+use Rattle.host_core.specs.Moments.{ThroughEvent, since_failed, since_fails, since_goes, since_now, since_then, silent_then}
 use Rattle.host_core.specs.declared.fault.HostFault.{HostFault}
 use Rattle.host_core.specs.declared.fault.HostFault.TheVariants.{Device, NoMemory}
 use Rattle.cleanup_stack.specs.Transcripts.{Ended, MayRun}
@@ -21,13 +20,8 @@ use Rattle.stack_run.specs.declared.unwinding.Unwinding.{Unwinding}
 use Rattle.status_db.specs.Noting.{IsMerging}
 use Rattle.status_db.specs.Recorded.{Recorded}
 use Rattle.unpack_engine.specs.Order.{IsInOrder}
-use Rattle.unpack_engine.specs.Units.{Begins, Given, Ground, HasCalled, HasCalledRows, HasCarriedOut, HasFailedFor, HasLeft, HasUnpacked, IsAmid, IsAmidUnit, IsPlanFor, IsRunning, IsStage, MayBeginOne, changes, commit_records, ground_of, last_place, task_from}
+use Rattle.unpack_engine.specs.Units.{Given, Ground, HasCalled, HasCalledRows, HasCarriedOut, HasFailedFor, HasLeft, HasUnpacked, IsPlanFor, changes, commit_records, ground_of}
 use Rattle.unpack_plan.specs.Planned.{Planned}
-use Rattle.unpack_rows.specs.Kinds.{kinds_of}
-use Rattle.unpack_rows.specs.Stages.{stage_of}
-use Rattle.unpack_run.specs.At.{IsAmid as AreFilesAmid, Stops as RowsStop, table_at}
-use Rattle.unpack_run.specs.Task.{Task}
-use Rattle.unpack_run.specs.Trail.{HasCome}
 use Rattle.unwind_stack.specs.declared.rows.Called.{Called}
 use Rattle.unwind_stack.specs.declared.rows.Row.{Row}
 
@@ -76,56 +70,6 @@ since_to_disk P result a b c still first does = since_then P a b c first (more r
     more (Err Device) (Stops.some u is goes) = since_fails Q (Did u) b c goes (λ h. elim (is h) [ inl same ↦ whole u (goes.honest h) same | inr part ↦ absurd part ])
         (λ h. elim (is h) [ inl same ↦ after u (goes.honest h) same | inr part ↦ absurd part ])
     more (Err NoMemory) does = record { added = []; events = does.events ∙ sym (append-nil b.events); honest = does.honest; world = does.world; each = λ h. here (does.honest h) [] refl }
-
--- events that call no script add nothing to what is said of a unit at a moment
-
-quiet_changes : (x quiet : List Event) → scripts_of quiet ≡ [] → changes_of (x ++ quiet) ≡ changes_of x
-quiet_changes x quiet none = changes_of-append x quiet ∙ ap (λ l. changes_of x ++ l) (no_change quiet none) ∙ append-nil (changes_of x)
-
-quiet_scripts : (x quiet : List Event) → scripts_of quiet ≡ [] → scripts_of x ≡ [] → scripts_of (x ++ quiet) ≡ []
-quiet_scripts x quiet none silent = scripts_of-append x quiet ∙ ap (λ (l : List Event). l ++ scripts_of quiet) silent ∙ none
-
-rows_still : (t : Task) (es quiet : List Event) (now : World) → scripts_of quiet ≡ [] → RowsStop t es now → RowsStop t (es ++ quiet) now
-rows_still t es quiet now none stops = record {
-  since = stops.since ++ quiet;
-  events = ap (λ (l : List Event). l ++ quiet) stops.events ∙ append_assoc t.start.events stops.since quiet;
-  place = stops.place;
-  within = stops.within;
-  records = stops.records;
-  opens = stops.opens;
-  ready = stops.ready;
-  files = subst (λ c. AreFilesAmid t (table_at t stops.place) c now) (sym (quiet_changes stops.since quiet none)) stops.files;
-}
-
-running_still : (begins may_begin : World → World → Type 0) (task : State → Task) (old : World) (x quiet : List Event) (now : World) → scripts_of quiet ≡ [] → IsRunning begins may_begin task old x now → IsRunning begins may_begin task old (x ++ quiet) now
-running_still begins may_begin task old x quiet now none (IsRunning.beginning silent may) = IsRunning.beginning (quiet_scripts x quiet none silent) may
-running_still begins may_begin task old x quiet now none (IsRunning.running begun before more is silent so stops) =
-    IsRunning.running begun before (more ++ quiet) (ap (λ (l : List Event). l ++ quiet) is ∙ append_assoc before more quiet) silent so
-    (subst (λ l. RowsStop (task begun) l now) (append_assoc begun.events more quiet) (rows_still (task begun) (begun.events ++ more) quiet now none stops))
-
-stage_still : (g : Ground) (p : Planned) (old : World) (x quiet : List Event) (now : World) → scripts_of quiet ≡ [] → IsStage g p old x now → IsStage g p old (x ++ quiet) now
-stage_still g p old x quiet now none (IsStage.running is) = IsStage.running (running_still (Begins g p) (MayBeginOne g p) (task_from g p) old x quiet now none is)
-stage_still g p old x quiet now none (IsStage.leaving ended works begun last begins are came may) =
-    IsStage.leaving ended works begun last begins are (subst (λ c. HasCome (task_from g p begun) (stage_of (kinds_of p.found p.others) (last_place g p ended)) works c last) (sym (quiet_changes x quiet none)) came) may
-
-amid_still : (g : Given) (places : List Path) (old : World) (x quiet : List Event) (now : World) → scripts_of quiet ≡ [] → IsAmid g places old x now → IsAmid g places old (x ++ quiet) now
-amid_still g places old x quiet now none amid = record {
-  plan = amid.plan;
-  plan_for = amid.plan_for;
-  under_way = record {
-    stage = stage_still (ground_of g places) amid.plan old x quiet now none amid.under_way.stage;
-    table = amid.under_way.table;
-    is_table = amid.under_way.is_table;
-    records = amid.under_way.records;
-    opens = amid.under_way.opens;
-    incoming = amid.under_way.incoming;
-    loose = amid.under_way.loose;
-  };
-}
-
-pub amid_unit_still : (g : Given) (places : List Path) (old : World) (x quiet : List Event) (now : World) → scripts_of quiet ≡ [] → IsAmidUnit g places old x now → IsAmidUnit g places old (x ++ quiet) now
-amid_unit_still g places old x quiet now none (inl here) = inl (here.0, quiet_scripts x quiet none here.1)
-amid_unit_still g places old x quiet now none (inr amid) = inr (amid_still g places old x quiet now none amid)
 
 -- the unit of a package, with a barrier behind it
 

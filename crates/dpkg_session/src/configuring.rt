@@ -4,6 +4,7 @@ ghost use Rattle.configure_run.specs.Run.{HasRun, IsAmidRun, IsConfigureRun};
 ghost use Rattle.file_lists.specs.Owners.{places_in};
 ghost use Rattle.host_core.specs.Host.{Falls, Needs, Since};
 ghost use Rattle.host_core.specs.Loss.{IsAnswered};
+ghost use Rattle.recorded_packages.specs.Packages.{ArePackagesOf};
 ghost use Rattle.unit_parts.specs.Order.{IsInOrder};
 ghost use Rattle.unit_reports.specs.Held.{held};
 ghost use Rattle.unit_reports.specs.Units.{CountsLast, IsBrokenBy, IsClosedReport, TellsCalls};
@@ -12,6 +13,7 @@ ghost use Rattle.unit_reports.specs.declared.report.Breakage.TheVariants.{Closed
 ghost use Rattle.dpkg_session.specs.Asked.{names_asked};
 ghost use Rattle.dpkg_session.specs.PowerLoss.{LosesLikeAStop, StandsOnceAnswered};
 
+use crate::recorded::take_packages;
 use crate::session::{Session, closed_report};
 use crate::table_units::no_memory;
 use conffiles::ConfPolicy;
@@ -19,6 +21,7 @@ use configure_run::{configure_packages, waiting_names};
 use diversions::Diversions;
 use file_lists::FileLists;
 use host_core::{Host, Places};
+use relation_index::Packages;
 use status_db::NotedDatabase;
 use std::alloc::{AllocError, Global};
 use texts::Text;
@@ -38,11 +41,57 @@ fn names_asked(
     }
 }
 
+/// Configures packages of these names, beside the packages of the records.
+pub(crate) fn configure_named<H: Host, W: Watcher>(
+    alloc: Global,
+    host: &mut H,
+    database: &mut NotedDatabase,
+    packages: &mut Option<Packages>,
+    lists: &mut FileLists,
+    places: &mut Places,
+    diversions: &Diversions,
+    names: Vec<Text>,
+    policy: ConfPolicy,
+    watcher: &mut W,
+) -> Report
+    requires order { Needs (H.state host.old) (IsInOrder database.old lists.old.lists) }
+    requires noting { database.old.closed ≡ false }
+    requires listing { lists.old.closed ≡ false }
+    requires kept { places.old ≡ places_in diversions.now.entries lists.old.lists }
+    requires indexed { IfSome packages.old (ArePackagesOf database.old.records) }
+    ensures whole { IsNone result.last → IsConfigureRun names.items policy result.units.items (held database.old lists.old diversions.now) (held database.new lists.new diversions.now) (H.state host.old) (H.state host.new) }
+    ensures part { HasRun names.items policy result.units.items result.last (held database.old lists.old diversions.now) (H.state host.old) (H.state host.new) }
+    ensures told { TellsCalls (H.state host.old) (H.state host.new) result }
+    ensures any_moment { Since (IsAmidRun names.items policy (held database.old lists.old diversions.now) (H.state host.old)) (H.state host.old) (H.state host.new) }
+    ensures answered { IsNone result.last → IsAnswered (H.state host.old) (H.state host.new) }
+    ensures counts { CountsLast (H.state host.old) (H.state host.new) result.last }
+    ensures not_closed { IfSome result.last (λ unit. IsBrokenBy Closed unit.reply → ⊥) }
+    ensures order { IsNone result.last → Needs (H.state host.new) (IsInOrder database.new lists.new.lists) }
+    ensures noting { IsNone result.last → database.new.closed ≡ false }
+    ensures listing { IsNone result.last → lists.new.closed ≡ false }
+    ensures kept { IsNone result.last → places.new ≡ places_in diversions.now.entries lists.new.lists }
+    ensures indexed { IsNone result.last → IfSome packages.new (ArePackagesOf database.new.records) }
+    ensures watched { IsTold W.tells watcher.old result.units.items watcher.new }
+{
+    match take_packages(alloc, packages, database) {
+        Ok(mut known) => {
+            let report = configure_packages(
+                alloc, host, database, &mut known, lists, places, diversions, names, policy,
+                watcher,
+            );
+            *packages = Some(known);
+            report
+        }
+        Err(_) => no_memory(alloc),
+    }
+}
+
 // The report of what is configured.
 fn configure_on<H: Host, W: Watcher>(
     alloc: Global,
     host: &mut H,
     database: &mut NotedDatabase,
+    packages: &mut Option<Packages>,
     lists: &mut FileLists,
     places: &mut Places,
     diversions: &Diversions,
@@ -54,6 +103,7 @@ fn configure_on<H: Host, W: Watcher>(
     requires noting { database.old.closed ≡ false }
     requires listing { lists.old.closed ≡ false }
     requires kept { places.old ≡ places_in diversions.now.entries lists.old.lists }
+    requires indexed { IfSome packages.old (ArePackagesOf database.old.records) }
     ensures whole { IsNone result.last → IsConfigureRun (names_asked (option_map (λ list. list.items) names) database.old.records) policy result.units.items (held database.old lists.old diversions.now) (held database.new lists.new diversions.now) (H.state host.old) (H.state host.new) }
     ensures part { HasRun (names_asked (option_map (λ list. list.items) names) database.old.records) policy result.units.items result.last (held database.old lists.old diversions.now) (H.state host.old) (H.state host.new) }
     ensures told { TellsCalls (H.state host.old) (H.state host.new) result }
@@ -65,12 +115,13 @@ fn configure_on<H: Host, W: Watcher>(
     ensures noting { IsNone result.last → database.new.closed ≡ false }
     ensures listing { IsNone result.last → lists.new.closed ≡ false }
     ensures kept { IsNone result.last → places.new ≡ places_in diversions.now.entries lists.new.lists }
+    ensures indexed { IsNone result.last → IfSome packages.new (ArePackagesOf database.new.records) }
     ensures watched { IsTold W.tells watcher.old result.units.items watcher.new }
 {
     match names_asked(alloc, database, names) {
         Ok(asked) => {
-            return configure_packages(
-                alloc, host, database, lists, places, diversions, asked, policy, watcher,
+            return configure_named(
+                alloc, host, database, packages, lists, places, diversions, asked, policy, watcher,
             );
         }
         Err(_) => {
@@ -112,6 +163,7 @@ impl<H: Host> Session<H> {
             self.alloc,
             &mut self.host,
             &mut self.database,
+            &mut self.packages,
             &mut self.lists,
             &mut self.places,
             &self.diversions,

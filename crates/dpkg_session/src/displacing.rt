@@ -3,6 +3,10 @@ ghost use Rattle.std.specs.Prelude.{◌≡◌, false, ℕ, List, [], None, IfOk,
 ghost use Rattle.host_core.specs.Host.{AtEachMomentOf, Counts, Needs};
 ghost use Rattle.host_core.specs.Loss.{IsOnDisk};
 ghost use Rattle.file_lists.specs.Owners.{places_in};
+ghost use Rattle.recorded_packages.specs.Packages.{ArePackagesOf};
+ghost use Rattle.recorded_packages.specs.Renewal.{AreSameBut};
+ghost use Rattle.status_db.specs.Order.{AreInOrder};
+ghost use Rattle.status_db.specs.declared.record.Record.{Record};
 ghost use Rattle.unpack_engine.specs.Order.{IsInOrder};
 ghost use Rattle.unpack_engine.specs.Units.{IsTouched};
 ghost use Rattle.unpack_relations.specs.Checks.{AreApart};
@@ -17,6 +21,8 @@ use diversions::Diversions;
 use file_lists::FileLists;
 use host_core::{Host, HostFault, Places};
 use package_tree::Package;
+use recorded_packages::renew;
+use relation_index::Packages;
 use status_db::NotedDatabase;
 use std::alloc::{AllocError, Global};
 use texts::{Text, Texts};
@@ -71,11 +77,30 @@ fn undisplaced(alloc: Global, unpacked: Unpacked) -> UnpackEnd
     }
 }
 
+// Computes the places anew, and reads what the touched packages state now.
+fn bring_up_to_date(
+    alloc: Global,
+    database: &NotedDatabase,
+    packages: &mut Packages,
+    lists: &FileLists,
+    places: &mut Places,
+    diversions: &Diversions,
+    touched: &[Text],
+) -> Result<(), AllocError>
+    ensures places { OnOk result (places.new ≡ places_in diversions.now.entries lists.now.lists) }
+    ensures packages { OnOk result ((before : List Record) → AreInOrder before → ArePackagesOf before packages.old → AreSameBut touched.now before database.now.records → ArePackagesOf database.now.records packages.new) }
+{
+    refresh(alloc, lists, diversions, places)?;
+    renew(alloc, packages, database, touched)?;
+    Ok(())
+}
+
 // Unpacks a package, and then computes the places anew.
 fn unpack_refreshed<H: Host>(
     alloc: Global,
     host: &mut H,
     database: &mut NotedDatabase,
+    packages: &mut Packages,
     lists: &mut FileLists,
     places: &mut Places,
     diversions: &Diversions,
@@ -87,21 +112,32 @@ fn unpack_refreshed<H: Host>(
     requires order { Needs (H.state host.old) (IsInOrder database.old lists.old.lists) }
     requires noting { database.old.closed ≡ false }
     requires listing { lists.old.closed ≡ false }
+    requires indexed { ArePackagesOf database.old.records packages.old }
     ensures unit { IfOk result (λ u. HasUnpackedBeside incoming beside.now (held database.old lists.old diversions.now) places.old u.unwinding database.new lists.new.lists (H.state host.old) (H.state host.new) told.old.items told.new.items) }
     ensures touched { IfOk result (λ u. IsTouched incoming.name database.old.records database.new.records u.touched) }
     ensures order { IfOk result (λ u. Needs (H.state host.new) (IsInOrder database.new lists.new.lists)) }
     ensures noting { OnOk result (database.new.closed ≡ false) }
     ensures listing { OnOk result (lists.new.closed ≡ false) }
     ensures kept { OnOk result (places.new ≡ places_in diversions.now.entries lists.new.lists) }
+    ensures indexed { OnOk result (ArePackagesOf database.new.records packages.new) }
     ensures on_disk { OnOk result (IsOnDisk (H.state host.new).events) }
     ensures told { HasCalledBeside incoming beside.now (held database.old lists.old diversions.now) (H.state host.old) (H.state host.new) told.old.items told.new.items }
     ensures any_moment { AtEachMomentOf (IsAmidBeside incoming beside.now (held database.old lists.old diversions.now) places.old) (H.state host.old) (H.state host.new) }
     ensures counts { Counts (H.state host.old) (H.state host.new) result }
 {
+    database.law();
     match unpack_beside(
         alloc, host, database, lists, places, diversions, incoming, beside, told,
     ) {
-        Ok(unpacked) => match refresh(alloc, lists, diversions, places) {
+        Ok(unpacked) => match bring_up_to_date(
+            alloc,
+            database,
+            packages,
+            lists,
+            places,
+            diversions,
+            unpacked.touched.as_slice(),
+        ) {
             Ok(()) => Ok(unpacked),
             Err(_) => Err(HostFault::NoMemory),
         },
@@ -114,6 +150,7 @@ pub(crate) fn unpack_whole<H: Host>(
     alloc: Global,
     host: &mut H,
     database: &mut NotedDatabase,
+    packages: &mut Packages,
     lists: &mut FileLists,
     places: &mut Places,
     diversions: &Diversions,
@@ -128,6 +165,7 @@ pub(crate) fn unpack_whole<H: Host>(
     requires noting { database.old.closed ≡ false }
     requires listing { lists.old.closed ≡ false }
     requires kept { places.old ≡ places_in diversions.now.entries lists.old.lists }
+    requires indexed { ArePackagesOf database.old.records packages.old }
     requires untold { told.old.items ≡ [] }
     ensures unit { IfOk result (λ e. HasUnpackedWhole incoming beside.now (held database.old lists.old diversions.now) e.unpacked.unwinding e.displaced.names e.displaced.failed (held database.new lists.new diversions.now) (H.state host.old) (H.state host.new) told.old.items told.new.items) }
     ensures touched { IfOk result (λ e. (names : List (List ℕ)) → AreOfBoth e.unpacked.touched e.displaced.names names → IsTouchedBeside incoming.name e.displaced.names database.old.records database.new.records names) }
@@ -135,13 +173,14 @@ pub(crate) fn unpack_whole<H: Host>(
     ensures noting { OnOk result (database.new.closed ≡ false) }
     ensures listing { OnOk result (lists.new.closed ≡ false) }
     ensures kept { OnOk result (places.new ≡ places_in diversions.now.entries lists.new.lists) }
+    ensures indexed { OnOk result (ArePackagesOf database.new.records packages.new) }
     ensures on_disk { OnOk result (IsOnDisk (H.state host.new).events) }
     ensures told { HasCalledWhole incoming beside.now (held database.old lists.old diversions.now) (H.state host.old) (H.state host.new) told.old.items told.new.items }
     ensures any_moment { AtEachMomentOf (IsAmidUnpack incoming beside.now (held database.old lists.old diversions.now)) (H.state host.old) (H.state host.new) }
     ensures counts { Counts (H.state host.old) (H.state host.new) result }
 {
     match unpack_refreshed(
-        alloc, host, database, lists, places, diversions, incoming, beside, told,
+        alloc, host, database, packages, lists, places, diversions, incoming, beside, told,
     ) {
         Ok(unpacked) => {
             if unpacked.unwinding.is_some() {
@@ -151,6 +190,7 @@ pub(crate) fn unpack_whole<H: Host>(
                 alloc,
                 host,
                 database,
+                packages,
                 lists,
                 places,
                 diversions,

@@ -4,6 +4,7 @@ ghost use Rattle.configure_run.specs.Run.{IsConfigureRun, HasRun as HasConfigure
 ghost use Rattle.file_lists.specs.Owners.{places_in};
 ghost use Rattle.host_core.specs.Host.{Falls, Needs, Since};
 ghost use Rattle.host_core.specs.Loss.{IsAnswered};
+ghost use Rattle.recorded_packages.specs.Packages.{ArePackagesOf};
 ghost use Rattle.unit_parts.specs.Order.{IsInOrder};
 ghost use Rattle.unit_reports.specs.Held.{held};
 ghost use Rattle.unit_reports.specs.Units.{CountsLast, IsBrokenBy, IsClosedReport, TellsCalls};
@@ -14,16 +15,17 @@ ghost use Rattle.dpkg_session.specs.PowerLoss.{StandsOnceAnswered};
 ghost use Rattle.dpkg_session.specs.Trees.{AreRead};
 ghost use Rattle.dpkg_session.specs.declared.report.Candidate.{Candidate as ACandidate};
 
+use crate::configuring::configure_named;
 use crate::done::names_done;
 use crate::session::{Session, closed_report};
 use crate::table_units::no_memory;
 use crate::trees::Trees;
 use crate::units::run_units;
 use conffiles::ConfPolicy;
-use configure_run::configure_packages;
 use diversions::Diversions;
 use file_lists::FileLists;
 use host_core::{Host, Places};
+use relation_index::Packages;
 use status_db::NotedDatabase;
 use std::alloc::Global;
 use texts::{Text, Texts};
@@ -59,6 +61,7 @@ fn configure_done<H: Host, W: Watcher>(
     alloc: Global,
     host: &mut H,
     database: &mut NotedDatabase,
+    packages: &mut Option<Packages>,
     lists: &mut FileLists,
     places: &mut Places,
     diversions: &Diversions,
@@ -71,6 +74,7 @@ fn configure_done<H: Host, W: Watcher>(
     requires noting { database.old.closed ≡ false }
     requires listing { lists.old.closed ≡ false }
     requires kept { places.old ≡ places_in diversions.now.entries lists.old.lists }
+    requires indexed { IfSome packages.old (ArePackagesOf database.old.records) }
     ensures whole { IsNone result.last → IsConfigureRun (names_done labels.now units.now) policy result.units.items (held database.old lists.old diversions.now) (held database.new lists.new diversions.now) (H.state host.old) (H.state host.new) }
     ensures part { HasConfigured (names_done labels.now units.now) policy result.units.items result.last (held database.old lists.old diversions.now) (H.state host.old) (H.state host.new) }
     ensures told { TellsCalls (H.state host.old) (H.state host.new) result }
@@ -82,12 +86,13 @@ fn configure_done<H: Host, W: Watcher>(
     ensures noting { IsNone result.last → database.new.closed ≡ false }
     ensures listing { IsNone result.last → lists.new.closed ≡ false }
     ensures kept { IsNone result.last → places.new ≡ places_in diversions.now.entries lists.new.lists }
+    ensures indexed { IsNone result.last → IfSome packages.new (ArePackagesOf database.new.records) }
     ensures watched { IsTold W.tells watcher.old result.units.items watcher.new }
 {
     match names_done(alloc, labels, units) {
         Ok(names) => {
-            return configure_packages(
-                alloc, host, database, lists, places, diversions, names, policy, watcher,
+            return configure_named(
+                alloc, host, database, packages, lists, places, diversions, names, policy, watcher,
             );
         }
         Err(_) => {
@@ -101,6 +106,7 @@ fn unpack_and_configure<H: Host, T: Trees, W: Watcher>(
     alloc: Global,
     host: &mut H,
     database: &mut NotedDatabase,
+    packages: &mut Option<Packages>,
     lists: &mut FileLists,
     places: &mut Places,
     diversions: &Diversions,
@@ -113,6 +119,7 @@ fn unpack_and_configure<H: Host, T: Trees, W: Watcher>(
     requires noting { database.old.closed ≡ false }
     requires listing { lists.old.closed ≡ false }
     requires kept { places.old ≡ places_in diversions.now.entries lists.old.lists }
+    requires indexed { IfSome packages.old (ArePackagesOf database.old.records) }
     ensures run { (cs : List ACandidate) × AreRead T.reads trees.old cs trees.new × HasInstalledThrough auto_deconfigure cs (T.words trees.new) policy result.unpacked result.configured (held database.old lists.old diversions.now) (held database.new lists.new diversions.now) (H.state host.old) (H.state host.new) }
     ensures told { TellsBoth (H.state host.old) (H.state host.new) result.unpacked result.configured }
     ensures answered { IsNone (last_of result.unpacked.last result.configured.last) → IsAnswered (H.state host.old) (H.state host.new) }
@@ -122,6 +129,7 @@ fn unpack_and_configure<H: Host, T: Trees, W: Watcher>(
     ensures noting { IsNone (last_of result.unpacked.last result.configured.last) → database.new.closed ≡ false }
     ensures listing { IsNone (last_of result.unpacked.last result.configured.last) → lists.new.closed ≡ false }
     ensures kept { IsNone (last_of result.unpacked.last result.configured.last) → places.new ≡ places_in diversions.now.entries lists.new.lists }
+    ensures indexed { IsNone (last_of result.unpacked.last result.configured.last) → IfSome packages.new (ArePackagesOf database.new.records) }
     ensures watched { IsTold W.tells watcher.old (result.unpacked.units.items ++ result.configured.units.items) watcher.new }
 {
     what_is_told_in_turn::<W>();
@@ -130,6 +138,7 @@ fn unpack_and_configure<H: Host, T: Trees, W: Watcher>(
         alloc,
         host,
         database,
+        packages,
         lists,
         places,
         diversions,
@@ -148,6 +157,7 @@ fn unpack_and_configure<H: Host, T: Trees, W: Watcher>(
         alloc,
         host,
         database,
+        packages,
         lists,
         places,
         diversions,
@@ -198,6 +208,7 @@ impl<H: Host> Session<H> {
             self.alloc,
             &mut self.host,
             &mut self.database,
+            &mut self.packages,
             &mut self.lists,
             &mut self.places,
             &self.diversions,

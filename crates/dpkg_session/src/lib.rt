@@ -9,6 +9,7 @@ mod done;
 mod installing;
 mod laws;
 mod questions;
+mod recorded;
 mod refusal;
 mod removing;
 mod report;

@@ -1,12 +1,14 @@
 // What refuses the unpack of a package, or what it does to other packages.
-ghost use Rattle.std.specs.Prelude.{◌≡◌, IfOk, option_copied};
+ghost use Rattle.std.specs.Prelude.{◌≡◌, List, IfOk, option_copied};
+ghost use Rattle.recorded_packages.specs.Packages.{ArePackagesOf};
+ghost use Rattle.status_db.specs.declared.record.Record.{Record};
 ghost use Rattle.unpack_relations.specs.Checks.{AreBesideApart};
 ghost use Rattle.dpkg_session.specs.Refusals.{IsDecisionOf, conffile_away, first_away, first_of, is_away};
 
 use diversions::Diversions;
 use host_core::ShipPath;
 use package_tree::Package;
-use status_db::NotedDatabase;
+use relation_index::Packages;
 use std::alloc::{AllocError, Global};
 use texts::Text;
 use unit_reports::Rule;
@@ -56,16 +58,16 @@ fn conffile_away<'a>(diversions: &Diversions, incoming: &'a Package) -> Option<&
 pub(crate) fn decision_of(
     alloc: Global,
     incoming: &Package,
-    database: &NotedDatabase,
+    packages: &Packages,
     diversions: &Diversions,
     auto_deconfigure: bool,
 ) -> Result<Checked, AllocError>
-    ensures decided { IfOk result (IsDecisionOf incoming.now auto_deconfigure database.now.records diversions.now.entries) }
-    ensures apart { IfOk result (AreBesideApart incoming.now.name database.now.records) }
+    ensures decided { IfOk result (λ checked. (records : List Record) → ArePackagesOf records packages.now → IsDecisionOf incoming.now auto_deconfigure records diversions.now.entries checked) }
+    ensures apart { IfOk result (λ checked. (records : List Record) → ArePackagesOf records packages.now → AreBesideApart incoming.now.name records checked) }
 {
     if let Some(path) = conffile_away(diversions, incoming) {
         return Ok(Checked::Refused(Rule::ConffileDiverted(path.copy()?)));
     }
-    let checked = check(alloc, database, incoming, auto_deconfigure)?;
+    let checked = check(alloc, packages, incoming, auto_deconfigure)?;
     Ok(checked)
 }

@@ -1,19 +1,73 @@
 // A session removes or purges packages.
 ghost use Rattle.std.specs.Prelude.{◌≡◌, true, false, IsNone, IfSome, is_some};
-ghost use Rattle.host_core.specs.Host.{Falls, Since};
+ghost use Rattle.file_lists.specs.Owners.{places_in};
+ghost use Rattle.host_core.specs.Host.{Falls, Needs, Since};
 ghost use Rattle.host_core.specs.Loss.{IsAnswered};
 ghost use Rattle.dpkg_session.specs.PowerLoss.{LosesLikeAStop, StandsOnceAnswered};
+ghost use Rattle.recorded_packages.specs.Packages.{ArePackagesOf};
 ghost use Rattle.removal_run.specs.Run.{HasRun, IsAmidRun, IsRemovalRun};
+ghost use Rattle.unit_parts.specs.Order.{IsInOrder};
 ghost use Rattle.unit_reports.specs.Held.{held};
 ghost use Rattle.unit_reports.specs.Units.{CountsLast, IsBrokenBy, IsClosedReport, TellsCalls};
 ghost use Rattle.unit_reports.specs.Watching.{IsTold};
 ghost use Rattle.unit_reports.specs.declared.report.Breakage.TheVariants.{Closed};
 
+use crate::recorded::take_packages;
 use crate::session::{Session, closed_report};
-use host_core::Host;
+use crate::table_units::no_memory;
+use diversions::Diversions;
+use file_lists::FileLists;
+use host_core::{Host, Places};
+use relation_index::Packages;
 use removal_run::remove_packages;
+use status_db::NotedDatabase;
+use std::alloc::Global;
 use texts::Text;
 use unit_reports::{Report, Watcher};
+
+// Removes packages of these names, or purges them, beside the packages of the records.
+fn remove_named<H: Host, W: Watcher>(
+    alloc: Global,
+    host: &mut H,
+    database: &mut NotedDatabase,
+    packages: &mut Option<Packages>,
+    lists: &mut FileLists,
+    places: &mut Places,
+    diversions: &Diversions,
+    names: Vec<Text>,
+    purge: bool,
+    watcher: &mut W,
+) -> Report
+    requires order { Needs (H.state host.old) (IsInOrder database.old lists.old.lists) }
+    requires noting { database.old.closed ≡ false }
+    requires listing { lists.old.closed ≡ false }
+    requires kept { places.old ≡ places_in diversions.now.entries lists.old.lists }
+    requires indexed { IfSome packages.old (ArePackagesOf database.old.records) }
+    ensures whole { IsNone result.last → IsRemovalRun names.items purge result.units.items (held database.old lists.old diversions.now) (held database.new lists.new diversions.now) (H.state host.old) (H.state host.new) }
+    ensures part { HasRun names.items purge result.units.items result.last (held database.old lists.old diversions.now) (H.state host.old) (H.state host.new) }
+    ensures told { TellsCalls (H.state host.old) (H.state host.new) result }
+    ensures any_moment { Since (IsAmidRun names.items purge (held database.old lists.old diversions.now) (H.state host.old)) (H.state host.old) (H.state host.new) }
+    ensures counts { CountsLast (H.state host.old) (H.state host.new) result.last }
+    ensures not_closed { IfSome result.last (λ unit. IsBrokenBy Closed unit.reply → ⊥) }
+    ensures order { IsNone result.last → Needs (H.state host.new) (IsInOrder database.new lists.new.lists) }
+    ensures noting { IsNone result.last → database.new.closed ≡ false }
+    ensures listing { IsNone result.last → lists.new.closed ≡ false }
+    ensures kept { IsNone result.last → places.new ≡ places_in diversions.now.entries lists.new.lists }
+    ensures indexed { IsNone result.last → IfSome packages.new (ArePackagesOf database.new.records) }
+    ensures answered { IsNone result.last → IsAnswered (H.state host.old) (H.state host.new) }
+    ensures watched { IsTold W.tells watcher.old result.units.items watcher.new }
+{
+    match take_packages(alloc, packages, database) {
+        Ok(mut known) => {
+            let report = remove_packages(
+                alloc, host, database, &mut known, lists, places, diversions, names, purge, watcher,
+            );
+            *packages = Some(known);
+            report
+        }
+        Err(_) => no_memory(alloc),
+    }
+}
 
 impl<H: Host> Session<H> {
     // Removes packages, or purges them.
@@ -38,10 +92,11 @@ impl<H: Host> Session<H> {
         if self.closed {
             return closed_report(self.alloc);
         }
-        let report = remove_packages(
+        let report = remove_named(
             self.alloc,
             &mut self.host,
             &mut self.database,
+            &mut self.packages,
             &mut self.lists,
             &mut self.places,
             &self.diversions,

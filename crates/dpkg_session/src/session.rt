@@ -1,5 +1,6 @@
 // A session over one host.
 ghost use Rattle.std.specs.Prelude.{◌≡◌, List, true, false, IsTrue, IsNone, OnOk, IfOk, IfErr, IfSome, is_some, Some, None};
+ghost use Rattle.std.specs.Option.{ForSome};
 ghost use Rattle.host_core.specs.Host.{AtEachMoment, Falls, Gives, Needs, Silent, faults};
 ghost use Rattle.host_core.specs.Loss.{IsAnswered, IsOnDisk};
 ghost use Rattle.administration.specs.Fault.{CountsAdministration};
@@ -7,6 +8,7 @@ ghost use Rattle.file_lists.specs.Owners.{places_in};
 ghost use Rattle.opening.specs.Leaving.{IsOpeningOrMerging};
 ghost use Rattle.opening.specs.Opened.{IsOpened};
 ghost use Rattle.opening.specs.Parts.{OpensAndMerges, fault_in};
+ghost use Rattle.recorded_packages.specs.Packages.{ArePackagesOf};
 ghost use Rattle.unit_reports.specs.Held.{held};
 ghost use Rattle.unit_reports.specs.declared.report.Breakage.TheVariants.{Closed};
 ghost use Rattle.dpkg_session.specs.PowerLoss.{LosesLikeAStop, StandsOnceAnswered};
@@ -24,6 +26,7 @@ use diversions::Diversions;
 use file_lists::FileLists;
 use host_core::{Host, Places};
 use opening::{Opened, open_administration};
+use relation_index::Packages;
 use status_db::NotedDatabase;
 use std::alloc::Global;
 use texts::Texts;
@@ -31,17 +34,20 @@ use unit_reports::{Breakage, Report, Watcher, broken};
 
 /// A root whose administration is open. After a unit that was broken off it is closed. A running
 /// script leaves alone the places of all listed paths, which are computed anew as lists or
-/// diversions change.
+/// diversions change. What the recorded packages state of others is read once, by the first
+/// command that asks for it, and then brought up to date.
 pub struct Session<H: Host> {
     pub(crate) alloc: Global,
     pub(crate) host: H,
     pub(crate) database: NotedDatabase,
+    pub(crate) packages: Option<Packages>,
     pub(crate) lists: FileLists,
     pub(crate) diversions: Diversions,
     pub(crate) places: Places,
     pub(crate) closed: bool,
     pub ghost ready: { closed ≡ false → Needs (H.state host) (IsStanding (held database lists diversions)) },
     pub ghost kept: { closed ≡ false → places ≡ places_in diversions.entries lists.lists },
+    pub ghost indexed: { closed ≡ false → ForSome packages (λ p. ∥ ArePackagesOf database.records p ∥₁) },
     pub ghost writable: { closed ≡ false → diversions.closed ≡ false },
     pub ghost noting: { closed ≡ false → database.closed ≡ false },
     pub ghost listing: { closed ≡ false → lists.closed ≡ false },
@@ -110,6 +116,7 @@ impl<H: Host> Session<H> {
                     alloc,
                     host,
                     database,
+                    packages: None,
                     lists,
                     diversions,
                     places,
@@ -152,6 +159,7 @@ impl<H: Host> Session<H> {
             self.alloc,
             &mut self.host,
             &mut self.database,
+            &mut self.packages,
             &mut self.lists,
             &mut self.places,
             &self.diversions,
@@ -171,6 +179,7 @@ impl<H: Host> Session<H> {
         let Session {
             host,
             database: _database,
+            packages: _packages,
             lists: _lists,
             diversions: _diversions,
             places: _places,

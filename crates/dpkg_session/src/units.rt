@@ -3,6 +3,7 @@ ghost use Rattle.std.specs.Prelude.{◌≡◌, ◌⊎◌, ◌++◌, ◌∷◌, �
 ghost use Rattle.host_core.specs.Host.{AtEachMomentOf, Needs, faults};
 ghost use Rattle.host_core.specs.Loss.{IsAnswered, IsOnDisk};
 ghost use Rattle.file_lists.specs.Owners.{places_in};
+ghost use Rattle.recorded_packages.specs.Packages.{ArePackagesOf};
 ghost use Rattle.unwind_stack.specs.Transcript.{TellsAll};
 ghost use Rattle.unpack_engine.specs.Order.{IsInOrder};
 ghost use Rattle.unpack_relations.specs.Checks.{AreApart};
@@ -19,6 +20,7 @@ ghost use Rattle.dpkg_session.specs.Units.{AnswersBoth, HasCalledOf, HasCalledPa
 
 use crate::displacing::{Behind, UnpackEnd, behind_of, unpack_whole};
 use crate::done::label_of;
+use crate::recorded::take_packages;
 use crate::refusal::decision_of;
 use crate::report::Candidate;
 use crate::tellings::touched_of_both;
@@ -28,6 +30,7 @@ use diversions::Diversions;
 use file_lists::FileLists;
 use host_core::{Call, Host, Places};
 use package_tree::Package;
+use relation_index::Packages;
 use stack_run::{Failure as Cause, Unwinding};
 use status_db::NotedDatabase;
 use std::alloc::{AllocError, Global};
@@ -92,6 +95,7 @@ fn unpack_named<H: Host>(
     alloc: Global,
     host: &mut H,
     database: &mut NotedDatabase,
+    packages: &mut Packages,
     lists: &mut FileLists,
     places: &mut Places,
     diversions: &Diversions,
@@ -105,10 +109,12 @@ fn unpack_named<H: Host>(
     requires noting { database.old.closed ≡ false }
     requires listing { lists.old.closed ≡ false }
     requires kept { places.old ≡ places_in diversions.now.entries lists.old.lists }
+    requires indexed { ArePackagesOf database.old.records packages.old }
     ensures unit { IsBroken result.reply ⊎ IsUnpacked incoming beside.now (held database.old lists.old diversions.now) (held database.new lists.new diversions.now) result (H.state host.old) (H.state host.new) }
     ensures noting { IsBroken result.reply ⊎ (database.new.closed ≡ false) }
     ensures listing { IsBroken result.reply ⊎ (lists.new.closed ≡ false) }
     ensures kept { IsBroken result.reply ⊎ (places.new ≡ places_in diversions.now.entries lists.new.lists) }
+    ensures indexed { IsBroken result.reply ⊎ ArePackagesOf database.new.records packages.new }
     ensures on_disk { IsBroken result.reply ⊎ IsOnDisk (H.state host.new).events }
     ensures untouched { IsBroken result.reply → result.touched.items ≡ [] }
     ensures told { HasCalledWhole incoming beside.now (held database.old lists.old diversions.now) (H.state host.old) (H.state host.new) [] result.calls.items }
@@ -118,7 +124,8 @@ fn unpack_named<H: Host>(
 {
     let mut calls = Vec::new(alloc);
     match unpack_whole(
-        alloc, host, database, lists, places, diversions, incoming, beside, &behind, &mut calls,
+        alloc, host, database, packages, lists, places, diversions, incoming, beside, &behind,
+        &mut calls,
     ) {
         Ok(end) => answered(alloc, database, behind.package, end, calls),
         Err(fault) => broken(alloc, calls, breakage_of(fault)),
@@ -130,6 +137,7 @@ fn unpack_unit<H: Host>(
     alloc: Global,
     host: &mut H,
     database: &mut NotedDatabase,
+    packages: &mut Packages,
     lists: &mut FileLists,
     places: &mut Places,
     diversions: &Diversions,
@@ -141,10 +149,12 @@ fn unpack_unit<H: Host>(
     requires noting { database.old.closed ≡ false }
     requires listing { lists.old.closed ≡ false }
     requires kept { places.old ≡ places_in diversions.now.entries lists.old.lists }
+    requires indexed { ArePackagesOf database.old.records packages.old }
     ensures unit { IsBroken result.reply ⊎ IsUnpacked incoming beside.now (held database.old lists.old diversions.now) (held database.new lists.new diversions.now) result (H.state host.old) (H.state host.new) }
     ensures noting { IsBroken result.reply ⊎ (database.new.closed ≡ false) }
     ensures listing { IsBroken result.reply ⊎ (lists.new.closed ≡ false) }
     ensures kept { IsBroken result.reply ⊎ (places.new ≡ places_in diversions.now.entries lists.new.lists) }
+    ensures indexed { IsBroken result.reply ⊎ ArePackagesOf database.new.records packages.new }
     ensures on_disk { IsBroken result.reply ⊎ IsOnDisk (H.state host.new).events }
     ensures untouched { IsBroken result.reply → result.touched.items ≡ [] }
     ensures told { HasCalledWhole incoming beside.now (held database.old lists.old diversions.now) (H.state host.old) (H.state host.new) [] result.calls.items }
@@ -155,7 +165,8 @@ fn unpack_unit<H: Host>(
     match behind_of(alloc, lists, &incoming, beside) {
         Ok(behind) => {
             return unpack_named(
-                alloc, host, database, lists, places, diversions, behind, incoming, beside,
+                alloc, host, database, packages, lists, places, diversions, behind, incoming,
+                beside,
             );
         }
         Err(_) => {
@@ -165,10 +176,11 @@ fn unpack_unit<H: Host>(
 }
 
 // The unit of a tree that was read.
-fn unit_of_package<H: Host>(
+fn decide_and_unpack<H: Host>(
     alloc: Global,
     host: &mut H,
     database: &mut NotedDatabase,
+    packages: &mut Packages,
     lists: &mut FileLists,
     places: &mut Places,
     diversions: &Diversions,
@@ -179,10 +191,12 @@ fn unit_of_package<H: Host>(
     requires noting { database.old.closed ≡ false }
     requires listing { lists.old.closed ≡ false }
     requires kept { places.old ≡ places_in diversions.now.entries lists.old.lists }
+    requires indexed { ArePackagesOf database.old.records packages.old }
     ensures unit { IsBroken result.reply ⊎ IsPackageUnit auto_deconfigure incoming (held database.old lists.old diversions.now) (held database.new lists.new diversions.now) result (H.state host.old) (H.state host.new) }
     ensures noting { IsBroken result.reply ⊎ (database.new.closed ≡ false) }
     ensures listing { IsBroken result.reply ⊎ (lists.new.closed ≡ false) }
     ensures kept { IsBroken result.reply ⊎ (places.new ≡ places_in diversions.now.entries lists.new.lists) }
+    ensures indexed { IsBroken result.reply ⊎ ArePackagesOf database.new.records packages.new }
     ensures answered { IsBroken result.reply ⊎ IsAnswered (H.state host.old) (H.state host.new) }
     ensures untouched { IsBroken result.reply → result.touched.items ≡ [] }
     ensures told { HasCalledPackage auto_deconfigure incoming (held database.old lists.old diversions.now) result (H.state host.old) (H.state host.new) }
@@ -190,13 +204,13 @@ fn unit_of_package<H: Host>(
     ensures counts { CountsReply (H.state host.old) (H.state host.new) result.reply }
     ensures not_closed { IsBrokenBy Closed result.reply → ⊥ }
 {
-    match decision_of(alloc, &incoming, database, diversions, auto_deconfigure) {
+    match decision_of(alloc, &incoming, packages, diversions, auto_deconfigure) {
         Ok(Checked::Refused(rule)) => {
             return refused(alloc, rule, incoming.name);
         }
         Ok(Checked::Planned(beside)) => {
             return unpack_unit(
-                alloc, host, database, lists, places, diversions, incoming, &beside,
+                alloc, host, database, packages, lists, places, diversions, incoming, &beside,
             );
         }
         Err(_) => {
@@ -205,11 +219,61 @@ fn unit_of_package<H: Host>(
     }
 }
 
+// The same, once the packages of the records are known.
+fn unit_of_package<H: Host>(
+    alloc: Global,
+    host: &mut H,
+    database: &mut NotedDatabase,
+    packages: &mut Option<Packages>,
+    lists: &mut FileLists,
+    places: &mut Places,
+    diversions: &Diversions,
+    incoming: Package,
+    auto_deconfigure: bool,
+) -> Unit
+    requires order { Needs (H.state host.old) (IsInOrder database.old lists.old.lists) }
+    requires noting { database.old.closed ≡ false }
+    requires listing { lists.old.closed ≡ false }
+    requires kept { places.old ≡ places_in diversions.now.entries lists.old.lists }
+    requires indexed { IfSome packages.old (ArePackagesOf database.old.records) }
+    ensures unit { IsBroken result.reply ⊎ IsPackageUnit auto_deconfigure incoming (held database.old lists.old diversions.now) (held database.new lists.new diversions.now) result (H.state host.old) (H.state host.new) }
+    ensures noting { IsBroken result.reply ⊎ (database.new.closed ≡ false) }
+    ensures listing { IsBroken result.reply ⊎ (lists.new.closed ≡ false) }
+    ensures kept { IsBroken result.reply ⊎ (places.new ≡ places_in diversions.now.entries lists.new.lists) }
+    ensures indexed { IsBroken result.reply ⊎ IfSome packages.new (ArePackagesOf database.new.records) }
+    ensures answered { IsBroken result.reply ⊎ IsAnswered (H.state host.old) (H.state host.new) }
+    ensures untouched { IsBroken result.reply → result.touched.items ≡ [] }
+    ensures told { HasCalledPackage auto_deconfigure incoming (held database.old lists.old diversions.now) result (H.state host.old) (H.state host.new) }
+    ensures any_moment { AtEachMomentOf (IsAmidPackage auto_deconfigure incoming (held database.old lists.old diversions.now)) (H.state host.old) (H.state host.new) }
+    ensures counts { CountsReply (H.state host.old) (H.state host.new) result.reply }
+    ensures not_closed { IsBrokenBy Closed result.reply → ⊥ }
+{
+    match take_packages(alloc, packages, database) {
+        Ok(mut known) => {
+            let unit = decide_and_unpack(
+                alloc,
+                host,
+                database,
+                &mut known,
+                lists,
+                places,
+                diversions,
+                incoming,
+                auto_deconfigure,
+            );
+            *packages = Some(known);
+            unit
+        }
+        Err(_) => broken(alloc, Vec::new(alloc), Breakage::NoMemory),
+    }
+}
+
 // The unit of a candidate.
 fn unit_of<H: Host>(
     alloc: Global,
     host: &mut H,
     database: &mut NotedDatabase,
+    packages: &mut Option<Packages>,
     lists: &mut FileLists,
     places: &mut Places,
     diversions: &Diversions,
@@ -220,10 +284,12 @@ fn unit_of<H: Host>(
     requires noting { database.old.closed ≡ false }
     requires listing { lists.old.closed ≡ false }
     requires kept { places.old ≡ places_in diversions.now.entries lists.old.lists }
+    requires indexed { IfSome packages.old (ArePackagesOf database.old.records) }
     ensures unit { IsBroken result.reply ⊎ IsUnit auto_deconfigure candidate (held database.old lists.old diversions.now) (held database.new lists.new diversions.now) result (H.state host.old) (H.state host.new) }
     ensures noting { IsBroken result.reply ⊎ (database.new.closed ≡ false) }
     ensures listing { IsBroken result.reply ⊎ (lists.new.closed ≡ false) }
     ensures kept { IsBroken result.reply ⊎ (places.new ≡ places_in diversions.now.entries lists.new.lists) }
+    ensures indexed { IsBroken result.reply ⊎ IfSome packages.new (ArePackagesOf database.new.records) }
     ensures answered { IsBroken result.reply ⊎ IsAnswered (H.state host.old) (H.state host.new) }
     ensures untouched { IsBroken result.reply → result.touched.items ≡ [] }
     ensures told { HasCalledOf auto_deconfigure candidate.tree (held database.old lists.old diversions.now) result (H.state host.old) (H.state host.new) }
@@ -238,6 +304,7 @@ fn unit_of<H: Host>(
                 alloc,
                 host,
                 database,
+                packages,
                 lists,
                 places,
                 diversions,
@@ -271,6 +338,7 @@ fn run_one<H: Host, W: Watcher>(
     alloc: Global,
     host: &mut H,
     database: &mut NotedDatabase,
+    packages: &mut Option<Packages>,
     lists: &mut FileLists,
     places: &mut Places,
     diversions: &Diversions,
@@ -284,10 +352,12 @@ fn run_one<H: Host, W: Watcher>(
     requires noting { database.old.closed ≡ false }
     requires listing { lists.old.closed ≡ false }
     requires kept { places.old ≡ places_in diversions.now.entries lists.old.lists }
+    requires indexed { IfSome packages.old (ArePackagesOf database.old.records) }
     ensures ok { OnOk result (AddsUnit auto_deconfigure candidate (held database.old lists.old diversions.now) (held database.new lists.new diversions.now) (H.state host.old) (H.state host.new) units.old.items units.new.items) }
     ensures noting { OnOk result (database.new.closed ≡ false) }
     ensures listing { OnOk result (lists.new.closed ≡ false) }
     ensures kept { OnOk result (places.new ≡ places_in diversions.now.entries lists.new.lists) }
+    ensures indexed { OnOk result (IfSome packages.new (ArePackagesOf database.new.records)) }
     ensures answered { OnOk result (IsAnswered (H.state host.old) (H.state host.new)) }
     ensures err { OnErr result (units.new.items ≡ units.old.items) }
     ensures broken_off { IfErr result (λ unit. IsBrokenOff auto_deconfigure candidate (held database.old lists.old diversions.now) unit (H.state host.old) (H.state host.new)) }
@@ -306,6 +376,7 @@ fn run_one<H: Host, W: Watcher>(
         alloc,
         host,
         database,
+        packages,
         lists,
         places,
         diversions,
@@ -326,6 +397,7 @@ pub(crate) fn run_units<H: Host, T: Trees, W: Watcher>(
     alloc: Global,
     host: &mut H,
     database: &mut NotedDatabase,
+    packages: &mut Option<Packages>,
     lists: &mut FileLists,
     places: &mut Places,
     diversions: &Diversions,
@@ -339,6 +411,7 @@ pub(crate) fn run_units<H: Host, T: Trees, W: Watcher>(
     requires noting { database.old.closed ≡ false }
     requires listing { lists.old.closed ≡ false }
     requires kept { places.old ≡ places_in diversions.now.entries lists.old.lists }
+    requires indexed { IfSome packages.old (ArePackagesOf database.old.records) }
     ensures run { (cs : List ACandidate) × AreRead T.reads trees.old cs trees.new × HasRunThrough auto_deconfigure cs (T.words trees.new) result (held database.old lists.old diversions.now) (held database.new lists.new diversions.now) (H.state host.old) (H.state host.new) × (IsNone result.last → labels.new ≡ map label_of cs) }
     ensures told { TellsCalls (H.state host.old) (H.state host.new) result }
     ensures counts { CountsLast (H.state host.old) (H.state host.new) result.last }
@@ -347,6 +420,7 @@ pub(crate) fn run_units<H: Host, T: Trees, W: Watcher>(
     ensures noting { IsNone result.last → database.new.closed ≡ false }
     ensures listing { IsNone result.last → lists.new.closed ≡ false }
     ensures kept { IsNone result.last → places.new ≡ places_in diversions.now.entries lists.new.lists }
+    ensures indexed { IsNone result.last → IfSome packages.new (ArePackagesOf database.new.records) }
     ensures watched { IsTold W.tells watcher.old result.units.items watcher.new }
 {
     what_is_told_in_turn::<W>();
@@ -357,6 +431,7 @@ pub(crate) fn run_units<H: Host, T: Trees, W: Watcher>(
                 alloc,
                 host,
                 database,
+                packages,
                 lists,
                 places,
                 diversions,

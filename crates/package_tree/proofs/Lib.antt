@@ -8,6 +8,7 @@ pub mod Trims
 pub mod RootNames
 pub mod FieldsOnce
 pub mod RelationsInOrder
+pub mod OneStated
 pub mod OneTree
 pub mod Passing
 pub mod Ordered

@@ -2,6 +2,7 @@
 use Rattle.std.proofs.Common.{◌≡◌, ℕ, true, List, [], ◌∷◌, ◌++◌, Option, Some, None, refl, sym, ◌∙◌, ap, ap₂, subst, inl, inr}
 use Rattle.std.specs.Prelude.{Contains}
 use Rattle.std.proofs.Props.{props}
+use Rattle.std.proofs.Math.Logic.{∥∥₁_elim}
 use mathlib.Core.HLevel.{is_prop→PathP}
 use Rattle.std.specs.List.{AllByRecursion}
 use Rattle.std.proofs.lemmas.Bool.{false≢true}
@@ -17,6 +18,7 @@ use Rattle.control_fields.specs.Faults.{IsFaultOfOne}
 use Rattle.control_fields.specs.declared.field.Field.{Field}
 use Rattle.control_fields.proofs.OnlyOne.{reads_one_once, no_fault_of_one}
 use Rattle.administration.specs.Scripts.{script_of, file_of}
+use Rattle.stated_relations.specs.Stated.{States}
 use Rattle.package_tree.specs.ControlFile.{key_of, relation_order, HasValue, HasNoBad, HasNoBadRelation, HasBadValue}
 use Rattle.package_tree.specs.Conffiles.{HasNoEntry, IsFirstEntry, IsOdd}
 use Rattle.package_tree.specs.ConffileFaults.{AreNamed, IsAstray}
@@ -37,6 +39,7 @@ use Rattle.package_tree.specs.declared.fault.TreeFault.{TreeFault}
 use Rattle.package_tree.specs.declared.fault.TreeFault.TheVariants.{NoControl, Control, FieldMissing, FieldBad, PathBad, Reserved, ConffileNotShipped, ConffileShipped, ConffileFlag, TooLarge, Device, NoMemory}
 use Rattle.package_tree.proofs.Ordered.{none_in, first_or_later, same_list}
 use Rattle.package_tree.proofs.FieldsOnce.{lacked, one_value, not_bad, not_lacked}
+use Rattle.package_tree.proofs.OneStated.{stated_once}
 
 abbrev bytes_of : Option Node → List ℕ
 bytes_of None = []
@@ -102,6 +105,12 @@ name_once w p q s t = one_value field.Package q.control p.name q.name (subst (λ
 
 pub version_once : (w : World) (p q : Package) → IsTreeOf w p → IsTreeOf w q → p.version ≡ q.version
 version_once w p q s t = one_value field.Version q.control p.version q.version (subst (λ (l : List Field). HasValue field.Version l p.version) (control_once w p q s t) s.control.fields.versioned) t.control.fields.versioned
+
+pub relations_once : (w : World) (p q : Package) → IsTreeOf w p → IsTreeOf w q → p.relations ≡ q.relations
+relations_once w p q s t =
+    ∥∥₁_elim s.relations (hlevel props) (λ one.
+    ∥∥₁_elim t.relations (hlevel props) (λ other.
+    stated_once q.control p.relations q.relations (subst (λ (fields : List Field). States fields p.relations) (control_once w p q s t) one) other))
 
 pub scripts_once : (w : World) (p q : Package) → IsTreeOf w p → IsTreeOf w q → (script : Script) → file_of (script_of p.scripts script) ≡ file_of (script_of q.scripts script)
 scripts_once w p q s t script = s.scripts script ∙ sym (t.scripts script)

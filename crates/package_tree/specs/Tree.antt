@@ -4,6 +4,7 @@ use Rattle.host_core.specs.World.{World}
 use Rattle.host_core.specs.declared.call.Script.{Script}
 use Rattle.control_fields.specs.declared.field.Field.{Field}
 use Rattle.administration.specs.Scripts.{script_of, file_of}
+use Rattle.stated_relations.specs.Stated.{States}
 use Rattle.package_tree.specs.ControlFile.{IsControlText, IsTextFault}
 use Rattle.package_tree.specs.Debian.{HasFile, Ships, control_path, conffiles_path, script_path, lists_conffiles}
 use Rattle.package_tree.specs.Conffiles.{entries_at, HasNoEntry, IsFirstOdd}
@@ -28,6 +29,8 @@ pub record IsTreeOf (w : World) (p : Package) : Type 0 where
   pub text : List ℕ
   pub there : HasControl w text
   pub control : IsControlText text p.control p.name p.version
+  -- what its fields say of other packages
+  pub relations : ∥ States p.control p.relations ∥₁
   -- each script is the file in `DEBIAN` by its name, or missing where there is none
   pub scripts : (script : Script) → file_of (script_of p.scripts script) ≡ w (script_path script)
   pub paths : HasGoodPaths w

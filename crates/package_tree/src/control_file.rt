@@ -2,12 +2,14 @@
 ghost use Rattle.std.specs.Prelude.{◌≡◌, ◌↔◌, true, [], IsTrue, IfOk, IfErr, MatchOption, MatchBool};
 ghost use Rattle.control_fields.specs.Grammar.{ReadsOne, lines_of};
 ghost use Rattle.control_fields.specs.Spelling.{AreFields};
+ghost use Rattle.stated_relations.specs.Stated.{States};
 ghost use Rattle.texts.specs.PackageNames.{is_package_name};
 ghost use Rattle.package_tree.specs.ControlFile.{relation_order, IsGoodField, HasBadValue, HasNoBad, HasNoBadRelation, IsFirstBadRelation, IsReadable, HasGoodFields, IsFieldFault, IsControlText, IsTextFault};
 
 use crate::fault::{FieldName, TreeFault};
 use control_fields::{ControlFault, Field, Paragraph, read_one};
 use relation_fields::RelationField;
+use stated_relations::{StatedRelations, stated_relations};
 use std::alloc::{AllocError, Global};
 use texts::{Text, package_name};
 use version_order::{Version, VersionFault};
@@ -18,9 +20,11 @@ pub struct ControlFile {
     pub name: Text,
     pub version: Version,
     pub paragraph: Paragraph,
+    pub relations: StatedRelations,
     pub ghost named: { is_package_name name ≡ true },
     pub ghost written: { ∥ AreFields [] paragraph ∥₁ },
     pub ghost readable: { ∥ IsReadable paragraph ∥₁ },
+    pub ghost stated: { ∥ States paragraph relations ∥₁ },
 }
 
 // The text as one paragraph. What is read can be written again.
@@ -175,9 +179,11 @@ pub(crate) fn read_control(alloc: Global, text: &[u8]) -> Result<ControlFile, Tr
 {
     let paragraph = read_paragraph(alloc, text)?;
     let (name, version) = read_fields(alloc, &paragraph)?;
+    let relations = stated_relations(alloc, &paragraph)?;
     Ok(ControlFile {
         name,
         version,
         paragraph,
+        relations,
     })
 }

@@ -12,6 +12,7 @@ pub fn trees_are_of_one_package()
     ensures control { (w : World) (p q : APackage) → IsTreeOf w p → IsTreeOf w q → p.control ≡ q.control }
     ensures name { (w : World) (p q : APackage) → IsTreeOf w p → IsTreeOf w q → p.name ≡ q.name }
     ensures version { (w : World) (p q : APackage) → IsTreeOf w p → IsTreeOf w q → p.version ≡ q.version }
+    ensures relations { (w : World) (p q : APackage) → IsTreeOf w p → IsTreeOf w q → p.relations ≡ q.relations }
     ensures scripts { (w : World) (p q : APackage) → IsTreeOf w p → IsTreeOf w q → (script : Script) → file_of (script_of p.scripts script) ≡ file_of (script_of q.scripts script) }
     ensures ships { (w : World) (p q : APackage) → IsTreeOf w p → IsTreeOf w q → p.ships ≡ q.ships }
     ensures has_conffiles { (w : World) (p q : APackage) → IsTreeOf w p → IsTreeOf w q → p.has_conffiles ≡ q.has_conffiles }

@@ -1,6 +1,7 @@
 // A package as its tree gives it.
 ghost use Rattle.std.specs.Prelude.{◌≡◌, IfOk, true, []};
 ghost use Rattle.control_fields.specs.Spelling.{AreFields};
+ghost use Rattle.stated_relations.specs.Stated.{States};
 ghost use Rattle.texts.specs.PackageNames.{is_package_name};
 ghost use Rattle.package_tree.specs.ControlFile.{IsReadable};
 ghost use Rattle.package_tree.specs.Package.{AreFitting};
@@ -10,6 +11,7 @@ use crate::ship_map::ShipMap;
 use crate::ship_paths::ShipPaths;
 use administration::{ScriptFile, Scripts};
 use control_fields::Paragraph;
+use stated_relations::StatedRelations;
 use std::alloc::AllocError;
 use texts::Text;
 use version_order::Version;
@@ -21,6 +23,8 @@ pub struct Package {
     pub version: Version,
     /// The control file.
     pub control: Paragraph,
+    /// Its relations to other packages, as read.
+    pub relations: StatedRelations,
     pub scripts: Scripts,
     /// The files of `DEBIAN` beside these, as `templates`.
     pub others: OtherFiles,
@@ -37,6 +41,7 @@ pub struct Package {
     pub ghost named: { is_package_name name ≡ true },
     pub ghost written: { ∥ AreFields [] control ∥₁ },
     pub ghost readable: { ∥ IsReadable control ∥₁ },
+    pub ghost stated: { ∥ States control relations ∥₁ },
     pub ghost fitting: { ∥ AreFitting files conffiles flagged ∥₁ },
 }
 
@@ -69,6 +74,7 @@ impl Package {
             name: self.name.copy()?,
             version: self.version.copy()?,
             control: self.control.copy()?,
+            relations: self.relations.copy()?,
             scripts: copy_scripts(&self.scripts)?,
             others: self.others.copy()?,
             files: self.files.copy()?,

@@ -503,6 +503,7 @@ fn assemble(
         name: control.name,
         version: control.version,
         control: control.paragraph,
+        relations: control.relations,
         scripts: scripts_of(contents),
         others: OtherFiles::new(alloc, found.others),
         files: ShipMap::new(alloc, found.files),

@@ -1,3 +1,4 @@
 mod Readable
 mod InNameOrder
-mod Stated
+mod Renewing
+pub mod OneTable

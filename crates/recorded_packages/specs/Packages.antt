@@ -4,13 +4,13 @@ use Rattle.relation_fields.specs.declared.relation_field.RelationField.TheVarian
 use Rattle.relation_index.specs.declared.package.Package.{Package}
 use Rattle.relation_index.specs.declared.package.PackageState.{PackageState}
 use Rattle.relation_index.specs.declared.package.PackageState.TheVariants as of
+use Rattle.stated_relations.specs.Relations.{StatesClauses, StatesProvides, is_essential}
 use Rattle.status_db.specs.Configured.{last_configured}
 use Rattle.status_db.specs.declared.record.Record.{Record}
 use Rattle.status_db.specs.declared.words.Flag.{Flag}
 use Rattle.status_db.specs.declared.words.Flag.TheVariants as flag
 use Rattle.status_db.specs.declared.words.State.{State}
 use Rattle.status_db.specs.declared.words.State.TheVariants.{NotInstalled, ConfigFiles, HalfInstalled, Unpacked, HalfConfigured, Installed}
-use Rattle.recorded_packages.specs.Relations.{StatesClauses, StatesProvides, is_essential}
 
 abbrev pub package_state : State → PackageState
 package_state NotInstalled = of.NotInstalled
@@ -33,12 +33,12 @@ pub record IsPackageOf (r : Record) (p : Package) : Type 0 where
   pub essential : p.essential ≡ is_essential r.fields
   pub configured : p.configured ≡ last_configured r
   pub removed_since : p.removed_since ≡ r.removed_since
-  pub provides : StatesProvides r.fields p.provides
-  pub pre_depends : StatesClauses PreDepends r.fields p.pre_depends
-  pub depends : StatesClauses Depends r.fields p.depends
-  pub breaks : StatesClauses Breaks r.fields p.breaks
-  pub conflicts : StatesClauses Conflicts r.fields p.conflicts
-  pub replaces : StatesClauses Replaces r.fields p.replaces
+  pub provides : ∥ StatesProvides r.fields p.provides ∥₁
+  pub pre_depends : ∥ StatesClauses PreDepends r.fields p.pre_depends ∥₁
+  pub depends : ∥ StatesClauses Depends r.fields p.depends ∥₁
+  pub breaks : ∥ StatesClauses Breaks r.fields p.breaks ∥₁
+  pub conflicts : ∥ StatesClauses Conflicts r.fields p.conflicts ∥₁
+  pub replaces : ∥ StatesClauses Replaces r.fields p.replaces ∥₁
 
 -- a package for each record, in the records' order
 abbrev pub ArePackagesOf : List Record → List Package → Type 0

@@ -2,7 +2,7 @@
 #![tactic(auto)]
 
 mod packages;
-mod relations;
+mod renewal;
 
 pub use packages::packages_of;
-pub use relations::{is_essential, provides_of, relations_of};
+pub use renewal::{renew, renew_one};

@@ -4,9 +4,9 @@ ghost use Rattle.recorded_packages.specs.Packages.{package_state, is_reinstreq, 
 ghost use Rattle.status_db.specs.Configured.{last_configured};
 ghost use Rattle.status_db.specs.Order.{AreInOrder};
 
-use crate::relations::{is_essential, provides_of, relations_of};
 use relation_fields::{Form, RelationField};
 use relation_index::{Package, PackageState, Packages};
+use stated_relations::{is_essential, provides_of, relations_of};
 use status_db::{Flag, Record, State};
 use std::alloc::{AllocError, Global};
 use version_order::Version;

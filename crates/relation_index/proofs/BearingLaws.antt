@@ -1,5 +1,5 @@
 -- The index of names, and what it finds.
-use Rattle.std.proofs.Common.{◌≡◌, ℕ, ◌<◌, ◌≤◌, ◌+◌, Bool, true, false, cond, ◌||◌, ◌&&◌, List, Option, Some, None, String, [], ◌∷◌, ◌++◌, length, get_or, set, take, subst, sym, refl, ap, ◌∙◌, inr, ⊎_elim, ◌⊎◌, arith}
+use Rattle.std.proofs.Common.{◌≡◌, ℕ, ◌<◌, ◌≤◌, ◌+◌, Bool, true, false, cond, ◌||◌, ◌&&◌, List, Option, Some, None, String, [], ◌∷◌, ◌++◌, length, get_or, take, subst, sym, refl, ap, ◌∙◌, inr, ⊎_elim, ◌⊎◌, arith}
 use Rattle.std.specs.Prelude.{IsTrue, ◌↔◌}
 use Rattle.std.specs.BTreeMap.{BTreeMap, UpdatesBy, get_by_text}
 use Rattle.std.specs.List.{Contains, list_any}
@@ -8,12 +8,11 @@ use Rattle.std.specs.Str.{bytes_eq}
 use Rattle.std.specs.String.{string_cmp, string_bytes}
 use Rattle.std.specs.declared.alloc.Global.{Global}
 use Rattle.std.proofs.lemmas.Bool.{cases_lt, cases_Bool, false≢true, or_cases, or_left, or_right, and_parts}
-use Rattle.std.proofs.lemmas.List.{get_or_past, get_or_append_left, get_or_read, get_or-take, length-take-le, length-set, length_push}
+use Rattle.std.proofs.lemmas.List.{get_or_past, get_or_append_left, get_or_read, get_or-take, length-take-le, length_push}
 use Rattle.std.proofs.lemmas.List.Folds.{list_any_more, list_any_at, Any-from_list_any}
 use Rattle.std.proofs.lemmas.Map.Text.{btree_map_updates_text}
 use Rattle.std.proofs.lemmas.Slice.Eq.{bytes_eq-Decides}
 use Rattle.dependency_sets.specs.Sets.{row_at}
-use Rattle.dependency_sets.proofs.MeetsLaws.{row_kept, row_entered}
 use Rattle.dependency_sets.proofs.RemovalLaws.{in_more}
 use Rattle.relation_fields.specs.Admission.{admits, clause_admits, is_met, is_met_by_provided}
 use Rattle.relation_fields.specs.declared.alternative.Alternative.{Alternative}
@@ -70,15 +69,6 @@ grows_refl slots rows = record { kept = λ q x w. w; within = λ h. h }
 
 pub grows_then : (f g h : List ℕ → Option ℕ) (a b c : List (List ℕ)) → Grows f a g b → Grows g b h c → Grows f a h c
 grows_then f g h a b c u v = record { kept = λ q x w. v.kept q x (u.kept q x w); within = λ w. v.within (u.within w) }
-
-pub grows_entered : (slots : List ℕ → Option ℕ) (rows rows' : List (List ℕ)) (s x : ℕ) → rows' ≡ set rows s (row_at rows s ++ x ∷ []) → Grows slots rows slots rows'
-grows_entered slots rows rows' s x e = record {
-  kept = λ q y w. (w.0, w.1, subst (λ (l : List (List ℕ)). Contains (row_at l w.0) y) (sym e) (row_kept rows s x w.0 y w.2));
-  within = λ h q t f. subst (λ (n : ℕ). t < n) (sym (ap length e ∙ length-set rows s (row_at rows s ++ x ∷ []))) (h q t f);
-}
-
-pub entered_here : (slots : List ℕ → Option ℕ) (rows rows' : List (List ℕ)) (name : List ℕ) (s x : ℕ) → slots name ≡ Some s → s < length rows → rows' ≡ set rows s (row_at rows s ++ x ∷ []) → IsEntered slots rows' name x
-entered_here slots rows rows' name s x is lt e = (s, is, subst (λ (l : List (List ℕ)). Contains (row_at l s) x) (sym e) (row_entered rows s x lt))
 
 pub entries_more : (slots slots' : List ℕ → Option ℕ) (rows rows' : List (List ℕ)) (entries : List Provided) (i x : ℕ) (entry : Provided) (name : List ℕ) → i < length entries → entry ≡ get_or entries i entry → name ≡ entry.name → Grows slots rows slots' rows' → IsEntered slots' rows' name x → ((e : Provided) → Contains (take i entries) e → IsEntered slots rows e.name x) → (e : Provided) → Contains (take (i + 1) entries) e → IsEntered slots' rows' e.name x
 entries_more slots slots' rows rows' entries i x entry name lt at is g here old e c = ⊎_elim

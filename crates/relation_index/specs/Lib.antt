@@ -1,2 +1,4 @@
 pub mod Bearing
+pub mod Moves
+pub mod Order
 pub mod Packages

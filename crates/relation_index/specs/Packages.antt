@@ -1,8 +1,9 @@
 -- Packages in name order, the clauses that they state and what meets these (Policy 7.1, 7.2, 7.5).
-use Rattle.std.specs.Prelude.{◌≡◌, ℕ, ◌+◌, ◌<◌, Bool, true, false, List, ◌++◌, length, map, slice_index_or, IsTrue, ◌↔◌}
+use Rattle.std.specs.Prelude.{◌≡◌, ℕ, ◌+◌, ◌<◌, Bool, true, false, cond, not, filter, List, [], ◌∷◌, ◌++◌, length, map, slice_index_or, IsTrue, ◌↔◌}
 use Rattle.std.specs.List.{Contains}
 use Rattle.std.specs.Cmp.Lexicographic.{slice_cmp}
-use Rattle.std.specs.Ordering.{nat_cmp}
+use Rattle.std.specs.Ordering.{nat_cmp, is_lt}
+use Rattle.std.specs.Str.{bytes_eq}
 use Rattle.std.specs.declared.cmp.Ordering.TheVariants.{Less}
 use Rattle.dependency_sets.specs.Sets.{has}
 use Rattle.dependency_sets.specs.declared.clause.Clause.{Clause}
@@ -15,6 +16,19 @@ use Rattle.relation_index.specs.declared.package.PackageState.TheVariants.{NotIn
 -- each name is before the next one's in the order of bytes, so no two packages have one name
 abbrev pub AreInNameOrder : List Package → Type 0
 AreInNameOrder packages = (k : ℕ) (p : Package) → k + 1 < length packages → slice_cmp nat_cmp (slice_index_or packages k p).name (slice_index_or packages (k + 1) p).name ≡ Less
+
+-- all packages but that of a name
+abbrev pub drop_package : List ℕ → List Package → List Package
+drop_package name packages = filter (λ p. not (bytes_eq p.name name)) packages
+
+-- a package before the first of a greater name
+abbrev pub place_package : Package → List Package → List Package
+place_package p [] = p ∷ []
+place_package p (q ∷ qs) = cond (is_lt (slice_cmp nat_cmp q.name p.name)) (q ∷ place_package p qs) (p ∷ q ∷ qs)
+
+-- the package of its name is this one
+abbrev pub put_package : Package → List Package → List Package
+put_package p packages = place_package p (drop_package p.name packages)
 
 -- the package meets the clause by its name and version, or by what it provides
 abbrev pub meets : List Alternative → Package → Bool

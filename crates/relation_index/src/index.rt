@@ -7,11 +7,13 @@ ghost use Rattle.std.specs.Str.{bytes_eq};
 ghost use Rattle.dependency_sets.specs.Sets.{row_at};
 ghost use Rattle.relation_fields.specs.Admission.{admits};
 ghost use Rattle.relation_index.specs.Bearing.{bears, IsAdmitted, HasPushed, IsEntered, Grows, IsIndex};
+ghost use Rattle.relation_index.specs.Moves.{moved_up, moved_down, Moves};
 ghost use Rattle.relation_index.specs.Packages.{Meets};
 ghost use Rattle.relation_fields.specs.declared.provides.Provided.{Provided as AProvided};
 
 use crate::package::Package;
-use dependency_sets::{Numbers, enter};
+use crate::row::{Row, close_gap, make_room};
+use dependency_sets::Numbers;
 use relation_fields::{Alternative, Provided};
 use std::alloc::{AllocError, Global};
 use std::collections::BTreeMap;
@@ -20,11 +22,12 @@ use std::collections::BTreeMap;
 #[derive(Drop)]
 pub(crate) struct Index {
     pub(crate) slots: BTreeMap<String, usize>,
-    pub(crate) rows: Vec<Numbers>,
+    pub(crate) rows: Vec<Row>,
 }
 
 impl Index {
-    fn new(alloc: Global) -> Index
+    /// The index of no packages.
+    pub(crate) fn new(alloc: Global) -> Index
         ensures slots { (name : List ℕ) → get_by_text result.slots name ≡ None }
         ensures rows { result.rows.items ≡ [] }
     {
@@ -48,11 +51,21 @@ impl Index {
         ensures rows { OnOk result (self.new.rows.items ≡ self.old.rows.items ++ [] ∷ []) }
     {
         let slot = self.rows.len();
-        self.rows.push(Numbers::new(alloc))?;
+        self.rows.push(Row::new(alloc))?;
         let key = String::from_str(alloc, name)?;
         self.slots.insert(key, slot)?;
         Ok(slot)
     }
+}
+
+fn enter(rows: &mut Vec<Row>, slot: usize, number: usize) -> Result<(), AllocError>
+    requires { slot < length rows.old.items }
+    ensures kept { OnOk result ((s x : ℕ) → Contains (row_at rows.old.items s) x → Contains (row_at rows.new.items s) x) }
+    ensures entered { OnOk result (Contains (row_at rows.new.items slot) number) }
+    ensures len { OnOk result (length rows.new.items ≡ length rows.old.items) }
+{
+    rows[slot].enter(number)?;
+    Ok(())
 }
 
 impl Index {
@@ -74,7 +87,7 @@ impl Index {
         ensures entered { OnOk result (IsEntered (get_by_text self.new.slots) self.new.rows.items name.now number) }
     {
         let slot = self.slot(alloc, name)?;
-        enter(&mut self.rows, number, slot)?;
+        enter(&mut self.rows, slot, number)?;
         Ok(())
     }
 
@@ -94,7 +107,8 @@ impl Index {
         Ok(())
     }
 
-    fn enter_package(
+    /// Enters a package at each name that it bears.
+    pub(crate) fn enter_package(
         &mut self,
         alloc: Global,
         of: &Package,
@@ -118,6 +132,20 @@ impl Index {
             index.enter_package(alloc, of, number)?;
         }
         Ok(index)
+    }
+
+    /// The packages from this number on stand one higher; there were so many packages.
+    pub(crate) fn make_room(&mut self, at: usize, count: usize)
+        ensures { Moves (moved_up at count) (get_by_text self.old.slots) self.old.rows.items (get_by_text self.new.slots) self.new.rows.items }
+    {
+        make_room(&mut self.rows, at, count);
+    }
+
+    /// The packages behind this number stand one lower.
+    pub(crate) fn close_gap(&mut self, at: usize)
+        ensures { Moves (moved_down at) (get_by_text self.old.slots) self.old.rows.items (get_by_text self.new.slots) self.new.rows.items }
+    {
+        close_gap(&mut self.rows, at);
     }
 
     fn row(&self, name: &str) -> &[usize]

@@ -6,6 +6,8 @@ mod clauses;
 mod index;
 mod package;
 mod packages;
+mod places;
+mod row;
 
 pub use package::{Package, PackageState};
 pub use packages::Packages;

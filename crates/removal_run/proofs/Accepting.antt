@@ -43,6 +43,10 @@ accepted_next purge old new waiting name kept are = λ other h.
     let apart : other ≢ name = λ same. false≢true (sym (ap not ((bytes_eq-Decides other name).1 same)) ∙ w.1) in
     ap (rule_of purge) (kept other apart) ∙ are other w.0
 
+-- who still waits, waited before
+pub waited : (name other : List ℕ) (names : List (List ℕ)) → IsTrue (is_among (without name names) other) → IsTrue (is_among names other)
+waited name other names h = (among_filter (λ n. not (bytes_eq n name)) names other h).0
+
 -- one name less waits
 fewer : (test : List ℕ → Bool) (names : List (List ℕ)) → length (filter test names) ≤ length names
 fewer test [] = omega arith

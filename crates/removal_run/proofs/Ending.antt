@@ -3,7 +3,7 @@ use Rattle.std.proofs.Common.{◌≡◌, inl, inr, ℕ, Bool, List, [], ◌∷�
 use Rattle.std.proofs.lemmas.List.{append-nil}
 use Rattle.std.specs.Prelude.{IfSome, IsNone}
 use Rattle.std.proofs.lemmas.Bool.{true≢false}
-use Rattle.dependency_check.specs.Waiting.{IsRemovableNow, Waiting}
+use Rattle.dependency_check.specs.Waiting.{Waiting}
 use Rattle.host_core.specs.Host.{State, faults}
 use Rattle.status_db.specs.declared.record.Record.{Record}
 use Rattle.unit_reports.specs.Held.{Held}
@@ -24,19 +24,14 @@ calls_append : (us vs : List AUnit) → calls_of (us ++ vs) ≡ calls_of us ++ c
 calls_append [] vs = refl
 calls_append (u ∷ us) vs = ap (λ l. u.calls.items ++ l) (calls_append us vs) ∙ sym (append_assoc u.calls.items (calls_of us) (calls_of vs))
 
-left_over : (records : List Record) (waiting : List (List ℕ)) (q : Waiting) (us : List AUnit) → IsNothing records waiting q → AreAllTold q us → AreLeftOver records waiting us
-left_over records waiting q us nothing told = record {
-  packages = q.packages;
-  recorded = nothing.recorded;
-  none = λ x can. nothing.none x (subst (λ (w : Waiting). IsRemovableNow w x) (sym nothing.is) can);
-  told = subst (λ (w : Waiting). AreAllTold w us) nothing.is told;
-}
+left_over : (start now : List Record) (waiting : List (List ℕ)) (q : Waiting) (us : List AUnit) → IsNothing start now waiting q → AreAllTold q us → AreLeftOver start now waiting us
+left_over start now waiting q us nothing told = record { queue = q; is = nothing.queue; none = nothing.none; told = told }
 
-idle_next : (purge : Bool) (waiting : List (List ℕ)) (h : Held) (s : State) (u : AUnit) → IsIdle u → IsBrokenNext purge waiting h s s u
-idle_next purge waiting h s u idle = record { broken = broken_by _ u.reply idle.broken; untouched = idle.touched; called = inl (record { silent = silent_here s; told = idle.calls }) }
+idle_next : (purge : Bool) (start : List Record) (waiting : List (List ℕ)) (h : Held) (s : State) (u : AUnit) → IsIdle u → IsBrokenNext purge start waiting h s s u
+idle_next purge start waiting h s u idle = record { broken = broken_by _ u.reply idle.broken; untouched = idle.touched; called = inl (record { silent = silent_here s; told = idle.calls }) }
 
 module _ (purge : Bool) (names left : List (List ℕ)) (begun mid us : List AUnit) (before after : Held) (s t : State) (turned : HasTurned purge names left before after s t begun mid)
-    (q : Waiting) (nothing : IsNothing after.records.records left q) where
+    (q : Waiting) (nothing : IsNothing before.records.records after.records.records left q) where
   -- where all are told
   pub runs_through : EndsWith q mid us None → RunsThrough purge names begun us before after s t
   runs_through ends = record {
@@ -45,7 +40,7 @@ module _ (purge : Bool) (names left : List (List ℕ)) (begun mid us : List AUni
     units = ends.grown ∙ ap (λ (l : List AUnit). l ++ ends.left) turned.grown ∙ append_assoc begun turned.done ends.left;
     waiting = left;
     turns = turned.turns;
-    last = left_over after.records.records left q ends.left nothing ends.told;
+    last = left_over before.records.records after.records.records left q ends.left nothing ends.told;
   }
 
   pub runs_up_to : (last : Option AUnit) → EndsWith q mid us last → RunsUpTo purge names begun us last before s t
@@ -57,8 +52,8 @@ module _ (purge : Bool) (names left : List (List ℕ)) (begun mid us : List AUni
     after = after;
     end = t;
     turns = turned.turns;
-    rest = inr (left_over after.records.records left q ends.left nothing ends.told);
-    since = since_next_start purge left after t;
+    rest = inr (left_over before.records.records after.records.records left q ends.left nothing ends.told);
+    since = since_next_start purge before.records.records left after t;
     broken = tt;
   }
   runs_up_to (Some u) ends = record {
@@ -70,8 +65,8 @@ module _ (purge : Bool) (names left : List (List ℕ)) (begun mid us : List AUni
     end = t;
     turns = turned.turns;
     rest = inl refl;
-    since = since_next_start purge left after t;
-    broken = idle_next purge left after t u ends.1;
+    since = since_next_start purge before.records.records left after t;
+    broken = idle_next purge before.records.records left after t u ends.1;
   }
 
 -- the calls that are told

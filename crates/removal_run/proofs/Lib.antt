@@ -5,6 +5,7 @@ mod Removals
 mod Calling
 mod Sorting
 mod Following
+mod Queues
 mod Overleft
 mod Accepting
 mod Removable

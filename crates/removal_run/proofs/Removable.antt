@@ -3,7 +3,7 @@ use Rattle.std.proofs.Common.{◌≡◌, ◌&&◌, ℕ, Bool, true, false, not, 
 use Rattle.std.specs.Prelude.{if◌then◌else◌}
 use Rattle.std.proofs.lemmas.Bool.{true≢false}
 use Rattle.recorded_packages.specs.Packages.{is_reinstreq}
-use Rattle.recorded_packages.specs.Relations.{is_essential}
+use Rattle.stated_relations.specs.Relations.{is_essential}
 use Rattle.removal_engine.specs.Extents.{BeginsFrom}
 use Rattle.removal_engine.specs.Units.{IsRemovable}
 use Rattle.status_db.specs.Records.{record_in}

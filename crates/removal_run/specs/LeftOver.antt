@@ -4,13 +4,12 @@ use Rattle.dependency_check.specs.Left.{DependsOnLeft}
 use Rattle.dependency_check.specs.Waiting.{IsRemovableNow, Waiting}
 use Rattle.dependency_sets.specs.Choices.{IsFirst, IsListing}
 use Rattle.dependency_sets.specs.Sets.{has}
-use Rattle.recorded_packages.specs.Packages.{ArePackagesOf}
 use Rattle.relation_index.specs.declared.package.Package.{Package}
 use Rattle.status_db.specs.declared.record.Record.{Record}
 use Rattle.unit_reports.specs.Units.{IsRefusedUnit}
 use Rattle.unit_reports.specs.declared.refusal.Rule.TheVariants.{DependedOn}
 use Rattle.unit_reports.specs.declared.report.Unit.{Unit as AUnit}
-use Rattle.removal_run.specs.Waiting.{name_at, removing}
+use Rattle.removal_run.specs.Waiting.{IsQueueNow, name_at}
 
 -- the package of this number is refused with the first other installed package that has a clause which it meets, and no
 -- installed package but those left over
@@ -36,9 +35,9 @@ pub record AreTold (packages : List Package) (installed left : ℕ → Bool) (us
 abbrev pub AreAllTold : Waiting → List AUnit → Type 0
 AreAllTold q us = AreTold q.packages (has q.installed) (has q.waiting) us
 
--- none of those that wait can be removed, and each is told
-pub record AreLeftOver (records : List Record) (waiting : List (List ℕ)) (us : List AUnit) : Type 0 where
-  pub packages : List Package
-  pub recorded : ArePackagesOf records packages
-  pub none : (x : ℕ) → IsRemovableNow (removing waiting packages) x → ⊥
-  pub told : AreAllTold (removing waiting packages) us
+-- none of those whose names are left can be removed, and each is told
+pub record AreLeftOver (start now : List Record) (names : List (List ℕ)) (us : List AUnit) : Type 0 where
+  pub queue : Waiting
+  pub is : IsQueueNow start now names queue
+  pub none : (x : ℕ) → IsRemovableNow queue x → ⊥
+  pub told : AreAllTold queue us

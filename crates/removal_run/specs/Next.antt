@@ -1,19 +1,21 @@
 -- What is next: a removal, or none where nothing that waits can be removed.
-use Rattle.std.specs.Prelude.{◌≡◌, ℕ, List, IsTrue}
-use Rattle.dependency_check.specs.Waiting.{IsRemovableNow, Waiting}
-use Rattle.recorded_packages.specs.Packages.{ArePackagesOf}
+use Rattle.std.specs.Prelude.{◌≡◌, ℕ, List, Option, Some, None}
+use Rattle.dependency_check.specs.Waiting.{IsNextOfRemovable, IsRemovableNow, Waiting}
 use Rattle.status_db.specs.declared.record.Record.{Record}
-use Rattle.removal_run.specs.Names.{is_among}
-use Rattle.removal_run.specs.Waiting.{IsRemovedNext, removing}
+use Rattle.removal_run.specs.Waiting.{IsQueueNow, name_at}
 use Rattle.removal_run.specs.declared.waiting.Next.{Next}
-use Rattle.removal_run.specs.declared.waiting.Next.TheVariants.{Removed, Nothing}
 
--- all packages are recorded so, and none of those that wait can be removed
-pub record IsNothing (records : List Record) (waiting : List (List ℕ)) (queue : Waiting) : Type 0 where
-  pub recorded : ArePackagesOf records queue.packages
-  pub is : queue ≡ removing waiting queue.packages
-  pub none : (x : ℕ) → IsRemovableNow queue x → ⊥
+-- the next package of a queue
+pub record IsNextIn (q : Waiting) (n : Next) : Type 0 where
+  pub next : IsNextOfRemovable q (Some n.number)
+  pub member : IsRemovableNow q n.number
+  pub named : n.name ≡ name_at q.packages n.number
 
-abbrev pub IsNext : List Record → List (List ℕ) → Next → Type 0
-IsNext records waiting (Removed name) = IsRemovedNext records waiting name × IsTrue (is_among waiting name)
-IsNext records waiting (Nothing queue) = IsNothing records waiting queue
+abbrev pub IsNext : Waiting → Option Next → Type 0
+IsNext q None = (x : ℕ) → IsRemovableNow q x → ⊥
+IsNext q (Some n) = IsNextIn q n
+
+-- this is the queue at a moment, and none of those that wait can be removed
+pub record IsNothing (start now : List Record) (names : List (List ℕ)) (q : Waiting) : Type 0 where
+  pub queue : IsQueueNow start now names q
+  pub none : (x : ℕ) → IsRemovableNow q x → ⊥

@@ -1,7 +1,7 @@
 -- Why nothing is removed of a package (Policy 3.8, 6.8).
 use Rattle.std.specs.Prelude.{◌&&◌, ℕ, Bool, true, false, not, List, [], ◌∷◌, Option, Some, None, is_none, filter, if◌then◌else◌}
 use Rattle.recorded_packages.specs.Packages.{is_reinstreq}
-use Rattle.recorded_packages.specs.Relations.{is_essential}
+use Rattle.stated_relations.specs.Relations.{is_essential}
 use Rattle.status_db.specs.Records.{record_in}
 use Rattle.status_db.specs.declared.record.Record.{Record}
 use Rattle.status_db.specs.declared.words.State.{State}

@@ -4,6 +4,11 @@ use Rattle.dependency_check.specs.Waiting.{Waiting}
 use Rattle.host_core.specs.Events.{Event}
 use Rattle.host_core.specs.Host.{State, AtEachMomentOf}
 use Rattle.host_core.specs.World.{World}
+use Rattle.recorded_packages.specs.Packages.{ArePackagesOf}
+use Rattle.recorded_packages.specs.Renewal.{AreSameBut}
+use Rattle.relation_index.specs.declared.package.Package.{Package}
+use Rattle.status_db.specs.Order.{AreInOrder}
+use Rattle.status_db.specs.declared.record.Record.{Record}
 use Rattle.unit_reports.specs.Held.{Held}
 use Rattle.unit_reports.specs.Units.{IsBrokenBy}
 use Rattle.unit_reports.specs.declared.report.Breakage.TheVariants.{NoMemory}
@@ -28,8 +33,8 @@ pub record RunsThrough (purge : Bool) (names : List (List ℕ)) (refused us : Li
   pub left : List AUnit
   pub units : us ≡ refused ++ (removed ++ left)
   pub waiting : List (List ℕ)
-  pub turns : RemovesTo purge names before s removed waiting after t
-  pub last : AreLeftOver after.records.records waiting left
+  pub turns : RemovesTo purge before.records.records names before s removed waiting after t
+  pub last : AreLeftOver before.records.records after.records.records waiting left
 
 -- The whole command: those that a rule refuses come first.
 pub record IsRemovalRun (names : List (List ℕ)) (purge : Bool) (us : List AUnit) (before after : Held) (s t : State) : Type 0 where
@@ -59,10 +64,10 @@ pub record RunsUpTo (purge : Bool) (names : List (List ℕ)) (refused us : List 
   pub waiting : List (List ℕ)
   pub after : Held
   pub end : State
-  pub turns : RemovesTo purge names before s removed waiting after end
-  pub rest : (left ≡ []) ⊎ AreLeftOver after.records.records waiting left
-  pub since : AtEachMomentOf (IsAmidNext purge waiting after) end t
-  pub broken : IfSome last (IsBrokenNext purge waiting after end t)
+  pub turns : RemovesTo purge before.records.records names before s removed waiting after end
+  pub rest : (left ≡ []) ⊎ AreLeftOver before.records.records after.records.records waiting left
+  pub since : AtEachMomentOf (IsAmidNext purge before.records.records waiting after) end t
+  pub broken : IfSome last (IsBrokenNext purge before.records.records waiting after end t)
 
 pub record HasBegun (names : List (List ℕ)) (purge : Bool) (us : List AUnit) (last : Option AUnit) (before : Held) (s t : State) : Type 0 where
   pub refused : List AUnit
@@ -89,3 +94,7 @@ EndsWith q old new (Some u) = (new ≡ old) × IsIdle u
 
 abbrev pub EndsAs : Waiting → List AUnit → Report → Type 0
 EndsAs q units report = EndsWith q units report.units.items report.last
+
+-- packages of records that were in order, and differed at these names alone, are those of the records of now
+abbrev pub AreRenewed : List (List ℕ) → List Record → List Package → List Package → Type 0
+AreRenewed names now old new = (before : List Record) → AreInOrder before → ArePackagesOf before old → AreSameBut names before now → ArePackagesOf now new

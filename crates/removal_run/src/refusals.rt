@@ -3,7 +3,8 @@ ghost use Rattle.std.specs.Prelude.{◌≡◌, IfOk};
 ghost use Rattle.recorded_packages.specs.Packages.{is_reinstreq};
 ghost use Rattle.removal_run.specs.Refusals.{AreRefused, accepted, is_config_files, refusals, rule_for, rule_of_record};
 
-use recorded_packages::is_essential;
+use crate::names::copied;
+use stated_relations::is_essential;
 use status_db::{Flag, NotedDatabase, Record, State};
 use std::alloc::{AllocError, Global};
 use texts::Text;
@@ -56,11 +57,12 @@ fn rule_for(purge: bool, database: &NotedDatabase, name: &Text) -> Option<Rule>
     }
 }
 
-/// The units that are refused, and the names that wait.
+/// The units that are refused, and the names that wait. Of `waiting` names are struck during the run, of `asked` none.
 #[derive(Drop)]
 pub(crate) struct Sorted {
     pub(crate) refused: Vec<Unit>,
     pub(crate) waiting: Vec<Text>,
+    pub(crate) asked: Vec<Text>,
 }
 
 /// Sorts names by whether a rule refuses them, each in its order.
@@ -72,6 +74,7 @@ pub(crate) fn sort(
 ) -> Result<Sorted, AllocError>
     ensures refused { IfOk result (λ sorted. AreRefused (refusals purge database.now.records names.items) sorted.refused.items) }
     ensures waiting { IfOk result (λ sorted. sorted.waiting.items ≡ accepted purge database.now.records names.items) }
+    ensures asked { IfOk result (λ sorted. sorted.asked.items ≡ sorted.waiting.items) }
 {
     let mut units = Vec::new(alloc);
     let mut waiting = Vec::new(alloc);
@@ -85,8 +88,10 @@ pub(crate) fn sort(
             }
         }
     }
+    let asked = copied(alloc, waiting.as_slice())?;
     Ok(Sorted {
         refused: units,
         waiting,
+        asked,
     })
 }

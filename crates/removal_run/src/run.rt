@@ -6,7 +6,8 @@ ghost use Rattle.host_core.specs.Loss.{IsAnswered};
 ghost use Rattle.file_lists.specs.Owners.{places_in};
 ghost use Rattle.removal_run.specs.Names.{once};
 ghost use Rattle.removal_run.specs.Refusals.{AreRefused, accepted, refusals};
-ghost use Rattle.removal_run.specs.Run.{AddsLeft, EndsAs, HasRun, IsRemovalRun, RunsThrough, RunsUpTo, waiting_for};
+ghost use Rattle.recorded_packages.specs.Packages.{ArePackagesOf};
+ghost use Rattle.removal_run.specs.Run.{AddsLeft, AreRenewed, EndsAs, HasRun, IsRemovalRun, RunsThrough, RunsUpTo, waiting_for};
 ghost use Rattle.removal_run.specs.Waiting.{is_named};
 ghost use Rattle.removal_run.specs.Turns.{AreAccepted, IsAmidTurns};
 ghost use Rattle.unit_parts.specs.Order.{IsInOrder};
@@ -24,6 +25,8 @@ use dependency_check::RemoveQueue;
 use diversions::Diversions;
 use file_lists::FileLists;
 use host_core::{Host, Places};
+use recorded_packages::renew;
+use relation_index::Packages;
 use status_db::NotedDatabase;
 use std::alloc::{AllocError, Global};
 use texts::Text;
@@ -38,6 +41,7 @@ fn sorted(
 ) -> Result<Sorted, AllocError>
     ensures refused { IfOk result (λ sorted. AreRefused (refusals purge database.now.records (once names.items)) sorted.refused.items) }
     ensures waiting { IfOk result (λ sorted. sorted.waiting.items ≡ accepted purge database.now.records (once names.items)) }
+    ensures asked { IfOk result (λ sorted. sorted.asked.items ≡ sorted.waiting.items) }
 {
     let list = once(alloc, names)?;
     sort(alloc, purge, database, list)
@@ -60,38 +64,64 @@ fn append<W: Watcher>(
     Ok(())
 }
 
-// The units of those that are left over, behind the others.
+// The packages go back, and those of which something was asked are read anew.
+fn give_back(
+    alloc: Global,
+    queue: RemoveQueue,
+    packages: &mut Packages,
+    database: &NotedDatabase,
+    asked: &[Text],
+) -> Result<(), AllocError>
+    ensures { OnOk result (AreRenewed asked.now database.now.records queue.packages packages.new) }
+{
+    *packages = queue.into_packages();
+    renew(alloc, packages, database, asked)?;
+    Ok(())
+}
+
+// The units of those that are left over, behind the others, once the packages are given back.
 fn tell_left<W: Watcher>(
     alloc: Global,
-    queue: &RemoveQueue,
+    queue: RemoveQueue,
     waiting: &[Text],
+    packages: &mut Packages,
+    database: &NotedDatabase,
+    asked: &[Text],
     units: &mut Vec<Unit>,
     watcher: &mut W,
 ) -> Result<(), AllocError>
-    requires queue { queue.now.waiting ≡ map (is_named waiting.now) queue.now.packages }
-    requires none { (x : ℕ) → IsRemovableNow queue.now x → ⊥ }
-    ensures ok { OnOk result (AddsLeft queue.now units.old.items units.new.items) }
+    requires queue { queue.waiting ≡ map (is_named waiting.now) queue.packages }
+    requires none { (x : ℕ) → IsRemovableNow queue x → ⊥ }
+    ensures ok { OnOk result (AddsLeft queue units.old.items units.new.items) }
     ensures err { OnErr result (units.new.items ≡ units.old.items) }
+    ensures renewed { OnOk result (AreRenewed asked.now database.now.records queue.packages packages.new) }
     ensures watched { AddsTold W.tells units.old.items units.new.items watcher.old watcher.new }
 {
-    let left = left_over(alloc, queue, waiting)?;
+    let left = left_over(alloc, &queue, waiting)?;
+    give_back(alloc, queue, packages, database, asked)?;
     append(units, left, watcher)
 }
 
 // The report of units behind which those that are left over are told.
 fn ended<W: Watcher>(
     alloc: Global,
-    queue: &RemoveQueue,
+    queue: RemoveQueue,
     waiting: &[Text],
+    packages: &mut Packages,
+    database: &NotedDatabase,
+    asked: &[Text],
     mut units: Vec<Unit>,
     watcher: &mut W,
 ) -> Report
-    requires queue { queue.now.waiting ≡ map (is_named waiting.now) queue.now.packages }
-    requires none { (x : ℕ) → IsRemovableNow queue.now x → ⊥ }
-    ensures ends { EndsAs queue.now units.items result }
+    requires queue { queue.waiting ≡ map (is_named waiting.now) queue.packages }
+    requires none { (x : ℕ) → IsRemovableNow queue x → ⊥ }
+    ensures ends { EndsAs queue units.items result }
+    ensures renewed { IsNone result.last → AreRenewed asked.now database.now.records queue.packages packages.new }
     ensures watched { AddsTold W.tells units.items result.units.items watcher.old watcher.new }
 {
-    match tell_left(alloc, queue, waiting, &mut units, watcher) {
+    match tell_left(
+        alloc, queue, waiting, packages, database, asked, &mut units, watcher,
+    ) {
         Ok(()) => Report { units, last: None },
         Err(_) => Report {
             units,
@@ -105,6 +135,7 @@ fn run_sorted<H: Host, W: Watcher>(
     alloc: Global,
     host: &mut H,
     database: &mut NotedDatabase,
+    packages: &mut Packages,
     lists: &mut FileLists,
     places: &mut Places,
     diversions: &Diversions,
@@ -118,6 +149,8 @@ fn run_sorted<H: Host, W: Watcher>(
     requires kept { places.old ≡ places_in diversions.now.entries lists.old.lists }
     requires accepted { AreAccepted purge database.old.records sorted.waiting.items }
     requires told { calls_of sorted.refused.items ≡ [] }
+    requires asked { sorted.asked.items ≡ sorted.waiting.items }
+    requires indexed { ArePackagesOf database.old.records packages.old }
     ensures whole { IsNone result.last → RunsThrough purge sorted.waiting.items sorted.refused.items result.units.items (held database.old lists.old diversions.now) (held database.new lists.new diversions.now) (H.state host.old) (H.state host.new) }
     ensures part { RunsUpTo purge sorted.waiting.items sorted.refused.items result.units.items result.last (held database.old lists.old diversions.now) (H.state host.old) (H.state host.new) }
     ensures told { TellsCalls (H.state host.old) (H.state host.new) result }
@@ -128,19 +161,24 @@ fn run_sorted<H: Host, W: Watcher>(
     ensures noting { IsNone result.last → database.new.closed ≡ false }
     ensures listing { IsNone result.last → lists.new.closed ≡ false }
     ensures kept { IsNone result.last → places.new ≡ places_in diversions.now.entries lists.new.lists }
+    ensures indexed { IsNone result.last → ArePackagesOf database.new.records packages.new }
     ensures answered { IsNone result.last → IsAnswered (H.state host.old) (H.state host.new) }
     ensures watched { IsTold W.tells watcher.old result.units.items watcher.new }
 {
     let Sorted {
         refused: mut units,
         mut waiting,
+        asked,
     } = sorted;
     what_is_told_in_turn::<W>();
     tell_all(units.as_slice(), watcher);
+    database.law();
+    let taken = std::mem::replace(packages, Packages::new(alloc));
     match run_turns(
         alloc,
         host,
         database,
+        taken,
         lists,
         places,
         diversions,
@@ -149,7 +187,16 @@ fn run_sorted<H: Host, W: Watcher>(
         &mut units,
         watcher,
     ) {
-        Ok(queue) => ended(alloc, &queue, waiting.as_slice(), units, watcher),
+        Ok(queue) => ended(
+            alloc,
+            queue,
+            waiting.as_slice(),
+            packages,
+            database,
+            asked.as_slice(),
+            units,
+            watcher,
+        ),
         Err(unit) => Report {
             units,
             last: Some(unit),
@@ -160,11 +207,13 @@ fn run_sorted<H: Host, W: Watcher>(
 /// Removes packages, or purges them. A second mention of a name is dropped. First those that a rule refuses are told, in the
 /// order given; then packages are removed one after another, each the next of those that can be removed as all are recorded
 /// then; those left over are told last, each with a package that depends on it. The watcher is told each unit as it is
-/// finished; the one that was broken off it isn't told.
+/// finished; the one that was broken off it isn't told. The packages are those of all records, and are so again behind the
+/// command; behind a unit that was broken off they may be any.
 pub fn remove_packages<H: Host, W: Watcher>(
     alloc: Global,
     host: &mut H,
     database: &mut NotedDatabase,
+    packages: &mut Packages,
     lists: &mut FileLists,
     places: &mut Places,
     diversions: &Diversions,
@@ -176,6 +225,7 @@ pub fn remove_packages<H: Host, W: Watcher>(
     requires noting { database.old.closed ≡ false }
     requires listing { lists.old.closed ≡ false }
     requires kept { places.old ≡ places_in diversions.now.entries lists.old.lists }
+    requires indexed { ArePackagesOf database.old.records packages.old }
     ensures whole { IsNone result.last → IsRemovalRun names.items purge result.units.items (held database.old lists.old diversions.now) (held database.new lists.new diversions.now) (H.state host.old) (H.state host.new) }
     ensures part { HasRun names.items purge result.units.items result.last (held database.old lists.old diversions.now) (H.state host.old) (H.state host.new) }
     ensures told { TellsCalls (H.state host.old) (H.state host.new) result }
@@ -186,12 +236,13 @@ pub fn remove_packages<H: Host, W: Watcher>(
     ensures noting { IsNone result.last → database.new.closed ≡ false }
     ensures listing { IsNone result.last → lists.new.closed ≡ false }
     ensures kept { IsNone result.last → places.new ≡ places_in diversions.now.entries lists.new.lists }
+    ensures indexed { IsNone result.last → ArePackagesOf database.new.records packages.new }
     ensures answered { IsNone result.last → IsAnswered (H.state host.old) (H.state host.new) }
     ensures watched { IsTold W.tells watcher.old result.units.items watcher.new }
 {
     match sorted(alloc, purge, database, names) {
         Ok(sorted) => run_sorted(
-            alloc, host, database, lists, places, diversions, purge, sorted, watcher,
+            alloc, host, database, packages, lists, places, diversions, purge, sorted, watcher,
         ),
         Err(_) => Report {
             units: Vec::new(alloc),

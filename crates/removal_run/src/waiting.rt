@@ -1,13 +1,15 @@
 // The packages that wait to be removed, and the next of them.
-ghost use Rattle.std.specs.Prelude.{◌≡◌, ◌<◌, IfOk, length, map};
+ghost use Rattle.std.specs.Prelude.{◌≡◌, ◌<◌, ℕ, List, IfOk, length, map};
+ghost use Rattle.dependency_check.specs.Waiting.{IsRemovableNow};
 ghost use Rattle.recorded_packages.specs.Packages.{ArePackagesOf};
-ghost use Rattle.relation_index.specs.Packages.{is_installed};
+ghost use Rattle.removal_run.specs.Names.{without};
 ghost use Rattle.removal_run.specs.Next.{IsNext};
-ghost use Rattle.removal_run.specs.Waiting.{is_named, name_at, removing};
+ghost use Rattle.removal_run.specs.Units.{AreOthersKept};
+ghost use Rattle.removal_run.specs.Waiting.{IsEven, IsQueueNow, is_installed_in, is_installed_now, is_named, name_at};
+ghost use Rattle.status_db.specs.declared.record.Record.{Record as ARecord};
 
 use crate::names::is_among;
 use dependency_check::RemoveQueue;
-use recorded_packages::packages_of;
 use relation_index::{Package, Packages};
 use status_db::NotedDatabase;
 use std::alloc::{AllocError, Global};
@@ -28,39 +30,71 @@ pub(crate) fn marks_of(
     Ok(marks)
 }
 
-fn installed_of(alloc: Global, packages: &[Package]) -> Result<Vec<bool>, AllocError>
-    ensures { IfOk result (λ marks. marks.items ≡ map is_installed packages.now) }
+fn is_installed_in(database: &NotedDatabase, name: &Text) -> bool
+    ensures { result ≡ is_installed_in database.now.records name.now }
+{
+    match database.get(name) {
+        Some(entry) => entry.state.is_installed(),
+        None => false,
+    }
+}
+
+fn installed_of(
+    alloc: Global,
+    database: &NotedDatabase,
+    packages: &[Package],
+) -> Result<Vec<bool>, AllocError>
+    ensures { IfOk result (λ marks. marks.items ≡ map (is_installed_now database.now.records) packages.now) }
 {
     let mut marks = Vec::new(alloc);
     for package in packages {
-        marks.push(package.is_installed())?;
+        marks.push(is_installed_in(database, &package.name))?;
     }
     Ok(marks)
 }
 
-/// A queue of the packages that wait, as all packages are recorded now.
+/// The queue of these packages at this moment, with what they stated when the command began.
 pub(crate) fn queue_of(
     alloc: Global,
+    packages: Packages,
     database: &NotedDatabase,
     waiting: &[Text],
 ) -> Result<RemoveQueue, AllocError>
-    ensures recorded { IfOk result (λ queue. ArePackagesOf database.now.records queue.packages) }
-    ensures queue { IfOk result (λ queue. queue ≡ removing waiting.now queue.packages) }
+    ensures { IfOk result (λ queue. (start : List ARecord) → ArePackagesOf start packages → IsQueueNow start database.now.records waiting.now queue) }
 {
-    database.law();
-    let packages = packages_of(alloc, database.records())?;
-    let installed = installed_of(alloc, packages.as_slice())?;
+    let installed = installed_of(alloc, database, packages.as_slice())?;
     let marks = marks_of(alloc, waiting, packages.as_slice())?;
     let queue = RemoveQueue::of(alloc, packages, installed.as_slice(), marks.as_slice())?;
     Ok(queue)
 }
 
-/// What is next: the name of the package that is removed.
+/// The queue behind the removal of a package, whatever its end. A package that stays installed meets clauses as it did
+/// before it waited, so then the queue is made anew; where it isn't installed any more the queue goes on.
+pub(crate) fn queue_behind(
+    alloc: Global,
+    queue: RemoveQueue,
+    number: usize,
+    database: &NotedDatabase,
+    waiting: &[Text],
+) -> Result<RemoveQueue, AllocError>
+    requires even { IsEven queue }
+    requires member { IsRemovableNow queue number }
+    ensures { IfOk result (λ later. (start before : List ARecord) (names : List (List ℕ)) → IsQueueNow start before names queue → AreOthersKept (name_at queue.packages number) before database.now.records → waiting.now ≡ without (name_at queue.packages number) names → IsQueueNow start database.now.records waiting.now later) }
+{
+    let mut queue = queue;
+    if is_installed_in(database, &queue.packages().as_slice()[number].name) {
+        let again = queue_of(alloc, queue.into_packages(), database, waiting)?;
+        return Ok(again);
+    }
+    queue.removed(number);
+    Ok(queue)
+}
+
+/// The package that is removed next.
 #[derive(Drop)]
-pub(crate) enum Next {
-    Removed(Text),
-    /// None of those that wait can be removed.
-    Nothing(RemoveQueue),
+pub(crate) struct Next {
+    pub(crate) number: usize,
+    pub(crate) name: Text,
 }
 
 /// The name of the package of this number.
@@ -71,18 +105,17 @@ pub(crate) fn name_of(packages: &Packages, number: usize) -> Result<Text, AllocE
     packages.as_slice()[number].name.copy()
 }
 
-/// What is next of the packages that wait.
-pub(crate) fn next_of(
-    alloc: Global,
-    database: &NotedDatabase,
-    waiting: &[Text],
-) -> Result<Next, AllocError>
-    ensures { IfOk result (IsNext database.now.records waiting.now) }
+/// What is next. None where none of those that wait can be removed.
+pub(crate) fn next_of(alloc: Global, queue: &RemoveQueue) -> Result<Option<Next>, AllocError>
+    requires { IsEven queue.now }
+    ensures { IfOk result (IsNext queue.now) }
 {
-    let queue = queue_of(alloc, database, waiting)?;
     let _members = queue.members();
     match queue.next(alloc)? {
-        Some(number) => Ok(Next::Removed(name_of(queue.packages(), number)?)),
-        None => Ok(Next::Nothing(queue)),
+        Some(number) => {
+            let name = name_of(queue.packages(), number)?;
+            Ok(Some(Next { number, name }))
+        }
+        None => Ok(None),
     }
 }

@@ -13,6 +13,7 @@ use Rattle.relation_index.specs.declared.package.Package.{Package}
 use Rattle.removal_engine.proofs.Tables.{is_named}
 use Rattle.removal_run.specs.Names.{without}
 use Rattle.removal_run.specs.Run.{HasRun as HasRemovalRun}
+use Rattle.status_db.specs.declared.record.Record.{Record}
 use Rattle.removal_run.specs.Turns.{IsAmidNext as IsAmidRemovals, RemovesTo}
 use Rattle.removal_run.specs.Units.{IsAmidRemoval, IsRemoval, extent_of, given_by as removal_given}
 use Rattle.unit_reports.specs.Held.{Held}
@@ -116,23 +117,23 @@ module _ (purge : Bool) where
   removal_opens name before old so_far now sound amid =
       removing_opens (record_names before.records.records) before.entries (removal_given purge name before) old amid.front now (sound_held before old sound) (λ same. subst CanBeOpened (sym same) (sound_opens before old sound)) amid.amid
 
-  removals_run : (waiting : List (List ℕ)) (before : Held) (s : State) (us : List AUnit) (left : List (List ℕ)) (after : Held) (t : State) → RemovesTo purge waiting before s us left after t → Runs before after s t
-  removals_run waiting before s [] left after t turns = runs_same before after s t turns.1 turns.2
-  removals_run waiting before s (u ∷ us) left after t turns =
+  removals_run : (start : List Record) (waiting : List (List ℕ)) (before : Held) (s : State) (us : List AUnit) (left : List (List ℕ)) (after : Held) (t : State) → RemovesTo purge start waiting before s us left after t → Runs before after s t
+  removals_run start waiting before s [] left after t turns = runs_same before after s t turns.1 turns.2
+  removals_run start waiting before s (u ∷ us) left after t turns =
       runs_then before turns.1 after s turns.2 t
       (record {
         goes = removal_goes turns.0 before turns.1 u s turns.2 turns.4.is;
         opened = λ sound. since_weaker_if _ _ s turns.2 (λ h so_far now amid. removal_opens turns.0 before s.world so_far now (sound (turns.4.moments.honest h)) amid) turns.4.moments;
       })
-      (removals_run (without turns.0 waiting) turns.1 turns.2 us left after t turns.5)
+      (removals_run start (without turns.0 waiting) turns.1 turns.2 us left after t turns.5)
 
-  next_removal_opens : (waiting : List (List ℕ)) (before : Held) (old : World) (so_far : List Event) (now : World) → IsSound before old → IsAmidRemovals purge waiting before old so_far now → CanBeOpened now
-  next_removal_opens waiting before old so_far now sound (inl same) = subst CanBeOpened (sym same) (sound_opens before old sound)
-  next_removal_opens waiting before old so_far now sound (inr next) = removal_opens next.0 before old so_far now sound next.2
+  next_removal_opens : (start : List Record) (waiting : List (List ℕ)) (before : Held) (old : World) (so_far : List Event) (now : World) → IsSound before old → IsAmidRemovals purge start waiting before old so_far now → CanBeOpened now
+  next_removal_opens start waiting before old so_far now sound (inl same) = subst CanBeOpened (sym same) (sound_opens before old sound)
+  next_removal_opens start waiting before old so_far now sound (inr next) = removal_opens next.0 before old so_far now sound next.2
 
   pub removal_ends : (names : List (List ℕ)) (us : List AUnit) (last : Option AUnit) (before : Held) (s t : State) → HasRemovalRun names purge us last before s t → Ends before s t
   removal_ends names us last before s t (inl none) sound = subst (Opened s) (sym none.here) (opened_here before s sound)
   removal_ends names us last before s t (inr begun) sound =
       let runs = begun.runs in
-      ends_then before runs.after s runs.end t (removals_run _ before s runs.removed runs.waiting runs.after runs.end runs.turns)
-      (λ there. since_weaker_if _ _ runs.end t (λ h so_far w amid. next_removal_opens runs.waiting runs.after runs.end.world so_far w (there (runs.since.honest h)) amid) runs.since) sound
+      ends_then before runs.after s runs.end t (removals_run before.records.records _ before s runs.removed runs.waiting runs.after runs.end runs.turns)
+      (λ there. since_weaker_if _ _ runs.end t (λ h so_far w amid. next_removal_opens before.records.records runs.waiting runs.after runs.end.world so_far w (there (runs.since.honest h)) amid) runs.since) sound

@@ -9,7 +9,7 @@ use Rattle.host_core.specs.Events.{Event, changes_of}
 use Rattle.host_core.specs.Host.{State}
 use Rattle.host_core.specs.Paths.{Path}
 use Rattle.host_core.specs.World.{World}
-use Rattle.cleanup_stack.specs.Place.{Place}
+use Rattle.cleanup_stack.specs.Place.{Place, Forward}
 use Rattle.cleanup_stack.specs.Transcripts.{Ended, Committed, Unwound}
 use Rattle.control_members.specs.LaidOut.{IsIncoming}
 use Rattle.diversions.specs.declared.entry.Diversion.{Diversion}
@@ -32,11 +32,12 @@ use Rattle.unpack_commit.specs.Takeover.{losing_records, put_records, taken_plac
 use Rattle.unpack_engine.proofs.Cleared.{beginning_kept, has_may, may_loose}
 use Rattle.unpack_engine.proofs.EndNames.{losing_named, puts_named}
 use Rattle.unpack_engine.proofs.EndRecords.{IsKnown, all_known, found_known, has_name, known_name, known_standing, recorded_known, rows_known}
+use Rattle.unpack_engine.proofs.Leaving.{noted_first}
 use Rattle.unpack_engine.proofs.Losing.{loser_named}
 use Rattle.unpack_engine.proofs.Order.{own_list, own_members}
 use Rattle.unpack_engine.specs.Order.{IsInOrder, record_names}
 use Rattle.unpack_engine.proofs.Dropping.{dropped_kept, laying_records}
-use Rattle.unpack_engine.specs.Units.{Begins, Ground, HasLeft, IsRunning, IsStage, IsTableAmid, IsUnderWay, changes, commit_records, end_table, last_place, lists_after, package_name, table_after, task_from, unit_losers}
+use Rattle.unpack_engine.specs.Units.{Begins, Ground, HasLeft, IsRunning, IsStage, IsUnderWay, changes, commit_records, end_table, last_place, lists_after, noted_so_far, package_name, stage_records, table_after, task_from, unit_losers}
 use Rattle.unpack_plan.specs.Planned.{IsPlanned, Job, Planned, name_of}
 use Rattle.unpack_rows.specs.EndStates.{AreRecorded}
 use Rattle.unpack_rows.specs.ForwardRows.{records_of}
@@ -65,6 +66,12 @@ opened_by names entries table w has opens standing known safe incoming =
       spare = safe.spare;
       incoming = incoming;
     }
+
+-- the tables of a unit: those at places of its rows, and with the first records of its commit
+pub data IsUnitTable (g : Ground) (p : Planned) (table : List Record) : Type 0 where
+  in_rows : (place : Place) → table ≡ table_after g p place → IsUnitTable g p table
+  in_commit : (works : List Work) (lists : List PackageList) (front back : List Record) → commit_records g p works lists (table_after g p (last_place g p Committed)) ≡ front ++ back
+      → table ≡ put_records front (table_after g p (last_place g p Committed)) → IsUnitTable g p table
 
 -- the records of a unit are those of before, or of its package
 
@@ -144,17 +151,17 @@ module _ (j : Job) (g : Ground) (p : Planned) (planned : IsPlanned j p) (same : 
         (sym (ap (λ (rs : List Record). record_names rs) are ∙ map-append (λ (r : Record). r.name) front back)) (Contains-append_left (record_names front) (record_names back) q has))
 
   -- the table of a moment
-  pub amid_names : (table : List Record) → IsTableAmid g p table → (q : List ℕ) → Contains (record_names table) q → Contains (own ∷ known_names) q
-  amid_names table (IsTableAmid.noting place within is) q has = rows_names place q (subst (λ (rs : List Record). Contains (record_names rs) q) is has)
-  amid_names table (IsTableAmid.committing works lists front back are is) q has =
+  pub amid_names : (table : List Record) → IsUnitTable g p table → (q : List ℕ) → Contains (record_names table) q → Contains (own ∷ known_names) q
+  amid_names table (IsUnitTable.in_rows place is) q has = rows_names place q (subst (λ (rs : List Record). Contains (record_names rs) q) is has)
+  amid_names table (IsUnitTable.in_commit works lists front back are is) q has =
       elim (puts_named front (table_after g p (last_place g p Committed)) q (subst (λ (rs : List Record). Contains (record_names rs) q) is has)) [
         | inl noted ↦ front_names works lists (last_place g p Committed) front back are q noted
         | inr there ↦ rows_names (last_place g p Committed) q there
       ]
 
-  pub amid_standing : (table : List Record) → IsTableAmid g p table → AreStanding table
-  amid_standing table (IsTableAmid.noting place within is) = subst AreStanding (sym is) (known_standing known_names own (table_after g p place) (rows_all place))
-  amid_standing table (IsTableAmid.committing works lists front back are is) = subst AreStanding (sym is)
+  pub amid_standing : (table : List Record) → IsUnitTable g p table → AreStanding table
+  amid_standing table (IsUnitTable.in_rows place is) = subst AreStanding (sym is) (known_standing known_names own (table_after g p place) (rows_all place))
+  amid_standing table (IsUnitTable.in_commit works lists front back are is) = subst AreStanding (sym is)
       (puts_standing front (table_after g p (last_place g p Committed)) (stands_front front back (subst AreStanding are (commit_standing works lists (last_place g p Committed))))
       (known_standing known_names own (table_after g p (last_place g p Committed)) (rows_all (last_place g p Committed))))
 
@@ -253,6 +260,17 @@ module _ (j : Job) (g : Ground) (p : Planned) (planned : IsPlanned j p) (same : 
       (λ q has. with_good unit_name p.new_list lists (new_good j p planned texts job_good) (lists_good begun stage) q)
       (commit_records g p works lists (table_after g p (last_place g p ended))) (table_after g p (last_place g p ended)) ended last now may))
 
+  -- the records at a stage
+  stage_table : (so_far : List Event) (now : World) (stage : IsStage g p old so_far now) → IsUnitTable g p (stage_records g p old so_far now stage)
+  stage_table so_far now (IsStage.running (IsRunning.beginning none may)) = IsUnitTable.in_rows (Forward 0) refl
+  stage_table so_far now (IsStage.running (IsRunning.running begun before more is none begins stops)) = IsUnitTable.in_rows stops.place refl
+  stage_table so_far now (IsStage.leaving Committed works begun last begins are come may) =
+      let lists = lists_after g p Committed begun in
+      let rows = table_after g p (last_place g p Committed) in
+      let first = noted_first (changes g p works lists) (commit_records g p works lists rows) g.entries lists rows last now Committed may in
+      IsUnitTable.in_commit works lists (noted_so_far (changes g p works lists) (commit_records g p works lists rows) g.entries lists rows Committed last now may) first.0 first.1 refl
+  stage_table so_far now (IsStage.leaving (Unwound fall failed) works begun last begins are come may) = IsUnitTable.in_rows (last_place g p (Unwound fall failed)) refl
+
   -- where it ends
   pub carried_from : (ended : Ended) (mid : Holding) (begun last : State) (new : World) → Begins g p old begun.world → At (task_from g p begun) mid last (last_place g p ended) → IsTrue last.honest
       → HasLeft (changes g p mid.works mid.lists) (commit_records g p mid.works mid.lists mid.database.records) g.entries mid.lists mid.database.records ended last.world new → IsFrom new
@@ -266,10 +284,10 @@ module _ (j : Job) (g : Ground) (p : Planned) (planned : IsPlanned j p) (same : 
       (commit_records g p mid.works mid.lists mid.database.records) mid.database.records ended last.world new left)
 
   -- and the records then
-  pub ended_table : (ended : Ended) (mid : Holding) (begun last : State) → At (task_from g p begun) mid last (last_place g p ended) → IsTableAmid g p (end_table g p ended mid.works mid.lists mid.database.records)
-  ended_table Committed mid begun last at = IsTableAmid.committing mid.works mid.lists (commit_records g p mid.works mid.lists (table_after g p (last_place g p Committed))) [] (sym (append-nil _))
+  pub ended_table : (ended : Ended) (mid : Holding) (begun last : State) → At (task_from g p begun) mid last (last_place g p ended) → IsUnitTable g p (end_table g p ended mid.works mid.lists mid.database.records)
+  ended_table Committed mid begun last at = IsUnitTable.in_commit mid.works mid.lists (commit_records g p mid.works mid.lists (table_after g p (last_place g p Committed))) [] (sym (append-nil _))
       (ap (λ (rs : List Record). put_records (commit_records g p mid.works mid.lists rs) rs) at.records)
-  ended_table (Unwound fall failed) mid begun last at = IsTableAmid.noting (last_place g p (Unwound fall failed)) at.within at.records
+  ended_table (Unwound fall failed) mid begun last at = IsUnitTable.in_rows (last_place g p (Unwound fall failed)) at.records
 
   pub left_records : (ended : Ended) (mid : Holding) (begun last : State) (new : World) → At (task_from g p begun) mid last (last_place g p ended) → IsTrue last.honest
       → HasLeft (changes g p mid.works mid.lists) (commit_records g p mid.works mid.lists mid.database.records) g.entries mid.lists mid.database.records ended last.world new → HasRecords new (end_table g p ended mid.works mid.lists mid.database.records)
@@ -278,9 +296,12 @@ module _ (j : Job) (g : Ground) (p : Planned) (planned : IsPlanned j p) (same : 
       laying_records left.followed new left.removed.rest mid.database.records (dropped_kept (record_in mid.database.records unit_name) unit_name last.world left.followed left.has_followed mid.database (at.world h).kept).holds
 
   pub under_way_opens : (entries : List Diversion) (so_far : List Event) (now : World) → IsSafe (record_names g.records) entries old → IsUnderWay g p old so_far now → CanBeOpened now
-  under_way_opens entries so_far now safe way = elim (stage_from so_far now way.stage) [
-    | inl from ↦ opened_by (unit_name ∷ record_names g.records) entries way.table now way.records way.opens (amid_standing j g p planned same standing recorded way.table way.is_table)
-        (amid_names j g p planned same standing recorded way.table way.is_table) (from_safe entries now from way.loose safe) way.incoming
-    | inr begins ↦ opened_by (record_names g.records) entries g.records now (subst (HasRecords now) records_are begins.1.holds) way.opens standing (λ q has. has)
-        (safe_quiet (record_names g.records) entries old now begins.0 safe way.loose) way.incoming
-  ]
+  under_way_opens entries so_far now safe way =
+      let table = stage_records g p old so_far now way.stage in
+      let is = stage_table so_far now way.stage in
+      elim (stage_from so_far now way.stage) [
+        | inl from ↦ opened_by (unit_name ∷ record_names g.records) entries table now way.records way.opens (amid_standing j g p planned same standing recorded table is)
+            (amid_names j g p planned same standing recorded table is) (from_safe entries now from way.loose safe) way.incoming
+        | inr begins ↦ opened_by (record_names g.records) entries g.records now (subst (HasRecords now) records_are begins.1.holds) way.opens standing (λ q has. has)
+            (safe_quiet (record_names g.records) entries old now begins.0 safe way.loose) way.incoming
+      ]

@@ -470,3 +470,76 @@ fn a_broken_package_is_told_by_whom(rt: HostRuntime) -> Result<(), Fail> {
     assert_eq!(rt; breaking, "alpha");
     Ok(())
 }
+
+const COMING: &[Row] = &[
+    ("mta-b", "1", INSTALLED, &[("Provides", "mta")]),
+    ("zulu", "1", INSTALLED, &[]),
+    ("mta-a", "2", INSTALLED, &[("Provides", "mta (= 2)")]),
+    ("alpha", "1", INSTALLED, &[]),
+];
+
+const CHANGED: Row = ("mta-b", "3", INSTALLED, &[("Provides", "web")]);
+
+// The names of the packages of these numbers, in the order of the packages.
+fn names_of(alloc: Global, packages: &Packages, numbers: &[usize]) -> Result<String, AllocError> {
+    let mut text = String::new(alloc);
+    for (number, package) in packages.as_slice().iter().enumerate() {
+        if numbers.contains(&number) {
+            text.push_str(package.name.as_str())?;
+            text.push(' ')?;
+        }
+    }
+    Ok(text)
+}
+
+fn names_of_all(alloc: Global, packages: &Packages) -> Result<String, AllocError> {
+    let mut numbers = Vec::new(alloc);
+    for number in 0..packages.as_slice().len() {
+        numbers.push(number)?;
+    }
+    names_of(alloc, packages, numbers.as_slice())
+}
+
+// Who meets the one clause of a relation.
+fn who_meets(
+    rt: &(impl Abort + AllocGlobal),
+    packages: &Packages,
+    relation: &str,
+) -> Result<String, Fail> {
+    let alloc = rt.alloc();
+    let read = Relations::read(alloc, relation.as_bytes(), Form::Alternatives)?;
+    let clause = read.clauses().first().expect(rt, "a clause");
+    let numbers = packages.meeters(alloc, clause)?;
+    let names = names_of(alloc, packages, numbers.as_slice())?;
+    Ok(names)
+}
+
+#[test]
+fn packages_come_change_and_go(rt: HostRuntime) -> Result<(), Fail> {
+    let alloc = rt.alloc();
+    let mut packages = Packages::new(alloc);
+    for row in COMING {
+        packages.put(alloc, package(alloc, row)?)?;
+    }
+    assert_eq!(rt;
+        names_of_all(alloc, &packages)?.as_str(),
+        "alpha mta-a mta-b zulu "
+    );
+    assert_eq!(rt; who_meets(&rt, &packages, "mta")?.as_str(), "mta-a mta-b ");
+    assert_eq!(rt; who_meets(&rt, &packages, "mta (>= 2)")?.as_str(), "mta-a ");
+    packages.put(alloc, package(alloc, &CHANGED)?)?;
+    assert_eq!(rt; who_meets(&rt, &packages, "mta")?.as_str(), "mta-a ");
+    assert_eq!(rt;
+        who_meets(&rt, &packages, "web | mta-b (<< 2)")?.as_str(),
+        "mta-b "
+    );
+    packages.remove(&Text::from_str(alloc, "mta-a")?);
+    packages.remove(&Text::from_str(alloc, "nobody")?);
+    assert_eq!(rt;
+        names_of_all(alloc, &packages)?.as_str(),
+        "alpha mta-b zulu "
+    );
+    assert_eq!(rt; who_meets(&rt, &packages, "mta")?.as_str(), "");
+    assert_eq!(rt; who_meets(&rt, &packages, "zulu")?.as_str(), "zulu ");
+    Ok(())
+}

@@ -23,7 +23,6 @@ pub mod Rounds
 pub mod Missing
 pub mod Entering
 pub mod WholeText
-pub mod StatusNode
 pub mod NotePaths
 pub mod Readings
 pub mod NoteRounds
@@ -33,4 +32,3 @@ pub mod NotesRead
 pub mod Marks
 pub mod NoteTexts
 pub mod Entered
-pub mod WholeNotes

@@ -26,14 +26,13 @@ use Rattle.status_db.specs.Notes.{AreNotes, IsNoteAt, Note, below_limit, digits,
 use Rattle.status_db.specs.Noting.{AreMerged, AreNoted, HasRoom, IsEntered, IsMerging, IsNoteFile, IsNoting, IsPlaced, IsStatusFile, note_number}
 use Rattle.status_db.specs.Order.{AreInOrder}
 use Rattle.status_db.specs.Records.{drop_record, put_record, record_in, standing}
-use Rattle.status_db.specs.Status.{IsFileOf, IsFileOrNothing, IsStatusAt}
+use Rattle.status_db.specs.Status.{IsFileOf, IsStatusAt}
 use Rattle.status_db.specs.Held.{AreKept, HasRecords, Holds, IsFree, IsUnblocked, is_record_place}
 use Rattle.status_db.specs.Taking.{HasReplacedNotes, HasTaken, IsReplacingNotes, KeepsBesideRecords}
 use Rattle.status_db.proofs.NotePaths.{note_path_once, spare_path_once, status_is_no_note, status_is_no_spare, spare_status_is_no_note, spare_status_is_no_spare, spare_is_no_note, home_is_no_note, home_is_no_spare, updates_is_no_note, updates_is_no_spare, home_is_no_status, home_is_no_spare_status, updates_is_no_status, updates_is_no_spare_status, odd_is_no_note, odd_is_no_spare, digits_plain}
 use Rattle.status_db.proofs.Ordered.{dropped_order, put_order}
 use Rattle.status_db.proofs.Tables.{record_in-drop_record, record_in-put_record}
 use Rattle.status_db.proofs.Readings.{merged_table, greatest_last}
-use Rattle.status_db.proofs.StatusNode.{stands_no_directory}
 
 -- places of records differ from others
 
@@ -74,13 +73,19 @@ kept_on w v rs notes same home updates is = record {
   free = λ n le lt. same (note_path n) refl ∙ is.free n le lt;
 }
 
--- what stands at a note's place is no directory
+-- what stands at a note's place, or at the status file's, is no directory
 
 note_no_directory : (found : Option Node) (note : Option Note) → IsNoteAt found note → NoDirectory found
 note_no_directory None said is = no_directory_none
 note_no_directory (Some (File bytes access)) said is = no_directory_file (File bytes access) (bytes, access, refl)
 note_no_directory (Some (Dir access)) said is = absurd is
 note_no_directory (Some (Link target)) said is = absurd is
+
+status_no_directory : (found : Option Node) (base : List Record) → IsStatusAt found base → NoDirectory found
+status_no_directory None base is = no_directory_none
+status_no_directory (Some (File bytes access)) base is = no_directory_file (File bytes access) (bytes, access, refl)
+status_no_directory (Some (Dir access)) base is = absurd is
+status_no_directory (Some (Link target)) base is = absurd is
 
 ⊥_prop : (a b : ⊥) → a ≡ b
 ⊥_prop a b = absurd a
@@ -89,16 +94,7 @@ pub notes_loose : (w : World) (rs : List Record) (n : ℕ) → HasRecords w rs �
 notes_loose w rs n has lt is = ∥∥₁_elim has ⊥_prop (λ held. note_no_directory (w (note_path n)) (held.notes n) (held.noted n lt) is)
 
 pub status_loose : (w : World) (rs : List Record) → HasRecords w rs → NoDirectory (w status_path)
-status_loose w rs has is = ∥∥₁_elim has ⊥_prop (λ held. stands_no_directory (w status_path) held.base ∣ held.status ∣₁ is)
-
-pub status_file : (w : World) (rs : List Record) → HasRecords w rs → IsFileOrNothing (w status_path)
-status_file w rs has = at (w status_path) (∥∥₁_map has (λ held. (held.base, held.status)))
-  where
-    at : (found : Option Node) → ∥ ((base : List Record) × IsStatusAt found base) ∥₁ → IsFileOrNothing found
-    at None is = tt
-    at (Some (File bytes access)) is = tt
-    at (Some (Dir access)) is = ∥∥₁_elim is ⊥_prop (λ no. no.1)
-    at (Some (Link target)) is = ∥∥₁_elim is ⊥_prop (λ no. no.1)
+status_loose w rs has is = ∥∥₁_elim has ⊥_prop (λ held. status_no_directory (w status_path) held.base held.status is)
 
 -- they stand in their directories
 

@@ -1,5 +1,5 @@
 -- What writing a note, or merging all notes into the status file, leaves.
-use Rattle.std.specs.Prelude.{◌≡◌, ◌⊎◌, ◌<◌, ◌≤◌, ℕ, List, Some, cond}
+use Rattle.std.specs.Prelude.{◌≡◌, ◌⊎◌, ◌<◌, ◌≤◌, ◌||◌, ℕ, Bool, List, Some, cond, is_some, not}
 use Rattle.std.specs.Ordering.{nat_cmp, is_lt}
 use Rattle.host_core.specs.World.{World, KeepsBut}
 use Rattle.host_core.specs.Nodes.{own_access}
@@ -10,14 +10,23 @@ use Rattle.administration.specs.Places.{status_path}
 use Rattle.status_db.specs.Notes.{IsNote, Note, entered, note_path}
 use Rattle.status_db.specs.Order.{AreInOrder}
 use Rattle.status_db.specs.Recorded.{Recorded}
-use Rattle.status_db.specs.Records.{record_in}
+use Rattle.status_db.specs.Records.{drop_record, put_record, record_in}
 use Rattle.status_db.specs.Status.{IsFileOf, IsStatus}
 use Rattle.status_db.specs.Held.{AreKept, CanOpenRecords, HasRecords, is_record_place}
+use Rattle.status_db.specs.Words.{is_not_installed}
 use Rattle.status_db.specs.declared.record.Record.{Record}
 
 -- the number of a note, where so many came before it: 250 stand at most, then all are merged first
 abbrev pub note_number : ℕ → ℕ
 note_number notes = cond (is_lt (nat_cmp notes 250)) notes 0
+
+-- a record takes its place in a table; one with not-installed takes the package's record away
+abbrev pub entered_in : Record → List Record → List Record
+entered_in r rs = cond (is_not_installed r.state) (drop_record r.name rs) (put_record r rs)
+
+-- a note of it is written; none is where the package is gone and had no record
+abbrev pub writes_note : Record → List Record → Bool
+writes_note r rs = not (is_not_installed r.state) || is_some (record_in rs r.name)
 
 -- the file of a note, of mode 644 and of the superuser
 abbrev pub IsNoteFile : Node → Note → Type 0

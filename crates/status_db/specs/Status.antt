@@ -1,11 +1,10 @@
--- The records that the status file stands for.
-use Rattle.std.specs.Prelude.{◌≡◌, ◌⊎◌, ℕ, List, [], Option, Some, None}
-use Rattle.host_core.specs.World.{World, IsDirectory}
+-- The records that a status file stands for.
+use Rattle.std.specs.Prelude.{◌≡◌, ℕ, List, [], Option, Some, None}
+use Rattle.host_core.specs.World.{World}
 use Rattle.host_core.specs.Nodes.{own_access}
 use Rattle.host_core.specs.declared.node.Node.{Node}
 use Rattle.host_core.specs.declared.node.Node.TheVariants.{File, Dir, Link}
-use Rattle.administration.specs.Places.{status_path, home_path, temporary}
-use Rattle.administration.specs.Files.{NoDirectory, KeepsBesideFile}
+use Rattle.administration.specs.Places.{status_path}
 use Rattle.administration.specs.declared.fault.AdministrationFault.{AdministrationFault}
 use Rattle.administration.specs.declared.fault.AdministrationFault.TheVariants.{Damaged, Device, NoMemory}
 use Rattle.control_fields.specs.Grammar.{Reads, lines_of}
@@ -29,20 +28,6 @@ IsStatusAt None records = IsStatus [] records
 IsStatusAt (Some (File bytes access)) records = IsStatus bytes records
 IsStatusAt (Some (Dir access)) records = ⊥
 IsStatusAt (Some (Link target)) records = ⊥
-
--- the node at the status file's place stands for these records
-abbrev pub StandsFor : Option Node → List Record → Type 0
-StandsFor node records = ∥ IsStatusAt node records ∥₁
-
-abbrev pub HasRecords : World → List Record → Type 0
-HasRecords w records = StandsFor (w status_path) records
-
--- a file, or nothing
-abbrev pub IsFileOrNothing : Option Node → Type 0
-IsFileOrNothing None = Unit {0}
-IsFileOrNothing (Some (File bytes access)) = Unit {0}
-IsFileOrNothing (Some (Dir access)) = ⊥
-IsFileOrNothing (Some (Link target)) = ⊥
 
 -- a file of mode 644, of the superuser, that stands for these records
 abbrev pub IsFileOf : Option Node → List Record → Type 0
@@ -69,23 +54,3 @@ abbrev pub IsFileDamage : List ℕ → AdministrationFault → Type 0
 IsFileDamage text (Damaged file line) = (file ≡ status_path) × IsFirstFault text line
 IsFileDamage text Device = Unit {0}
 IsFileDamage text NoMemory = Unit {0}
-
--- the status file can be replaced
-pub record IsStatusReady (w : World) : Type 0 where
-  pub home : IsDirectory (w home_path)
-  pub target : NoDirectory (w status_path)
-  pub spare : NoDirectory (w (temporary status_path))
-
--- the status file stands for these records, and nothing else has changed
-pub record IsNoted (noted : List Record) (old new : World) : Type 0 where
-  pub records : HasRecords new noted
-  pub file : IsFileOf (new status_path) noted
-  pub ready : IsStatusReady new
-  pub rest : KeepsBesideFile status_path old new
-
--- at each moment: the records of before, or these
-pub record IsNoting (noted : List Record) (old now : World) : Type 0 where
-  pub status : (now status_path ≡ old status_path) ⊎ HasRecords now noted
-  pub file : (now status_path ≡ old status_path) ⊎ IsFileOf (now status_path) noted
-  pub ready : IsStatusReady now
-  pub rest : KeepsBesideFile status_path old now

@@ -6,7 +6,6 @@ mod conffile_fields;
 mod conffile_lists;
 mod conffile_reading;
 mod conffile_writing;
-mod database;
 mod entries;
 mod laws;
 mod merging;
@@ -29,7 +28,6 @@ mod writing;
 
 pub use committed::{Ships, committed_entries};
 pub use conffile_lists::{ConffileEntries, PendingDigests};
-pub use database::Database;
 pub use entries::{ConffileEntry, PendingDigest, is_trimmed};
 pub use laws::{records_are_a_table, records_stand_at_their_places};
 pub use noted_database::NotedDatabase;

@@ -8,15 +8,14 @@ ghost use Rattle.status_db.specs.Conffiles.{has_conffile};
 ghost use Rattle.status_db.specs.Fault.{CountsRecord};
 ghost use Rattle.status_db.specs.NoteDamage.{AreNotesFine, IsRecordsDamage};
 ghost use Rattle.status_db.specs.Notes.{limit, note_path};
-ghost use Rattle.status_db.specs.Noting.{AreMerged, IsMerging, IsNoted, IsNoting, IsPlaced, note_number};
+ghost use Rattle.status_db.specs.Noting.{AreMerged, IsMerging, IsNoted, IsNoting, IsPlaced, entered_in, note_number, writes_note};
 ghost use Rattle.status_db.specs.Order.{AreInOrder};
-ghost use Rattle.status_db.specs.Records.{record_in, put_record, drop_record, standing};
+ghost use Rattle.status_db.specs.Records.{record_in, drop_record, standing};
 ghost use Rattle.status_db.specs.Held.{HasRecords, IsFree, IsKept};
-ghost use Rattle.status_db.specs.Words.{is_not_installed};
 ghost use Rattle.status_db.specs.declared.record_fault.RecordFault.TheVariants.{Closed};
 
 use crate::merging::merge;
-use crate::noting::{forget_record, note_record};
+use crate::noting::{enter_record, forget_record};
 use crate::record::Record;
 use crate::record_fault::RecordFault;
 use crate::status_reading::read_status;
@@ -112,33 +111,33 @@ impl NotedDatabase {
             .any(|record| record.has_conffile(path))
     }
 
-    /// Notes the record of a package: in a file of its own, and then in the table. Where 250 notes stand
-    /// all are merged into the status file first. After an error the value is closed.
+    /// Notes the record of a package: in a file of its own, and then in the table. One with not-installed
+    /// takes the package's record away. Where 250 notes stand all are merged into the status file first.
+    /// After an error the value is closed.
     pub fn note<H: Host>(
         &mut self,
         alloc: Global,
         host: &mut H,
         entry: Record,
     ) -> Result<(), RecordFault>
-        requires stands { is_not_installed entry.state ≡ false }
         requires kept { Needs (H.state host.old) (IsKept self.old) }
-        ensures records { OnOk result (self.new.records ≡ put_record entry self.old.records) }
-        ensures number { OnOk result (self.new.notes ≡ note_number self.old.notes + 1) }
+        ensures records { OnOk result (self.new.records ≡ entered_in entry self.old.records) }
+        ensures number { OnOk result (self.new.notes ≡ cond (writes_note entry self.old.records) (note_number self.old.notes + 1) self.old.notes) }
         ensures opened { OnOk result (self.new.closed ≡ false) }
         ensures err { OnErr result (self.new.closed ≡ true) }
         ensures same { OnErr result (self.new.records ≡ self.old.records) }
         ensures closed { IsErrOf result Closed ↔ (self.old.closed ≡ true) }
         ensures shut { self.old.closed ≡ true → H.state host.new ≡ H.state host.old }
         ensures kept { Leaves result (IsNoted self.new) (H.state host.old) (H.state host.new) }
-        ensures placed { Leaves result (IsPlaced self.old.records self.old.notes) (H.state host.old) (H.state host.new) }
-        ensures any_moment { AtEachMoment (IsNoting self.old.records (put_record entry self.old.records)) (H.state host.old) (H.state host.new) }
+        ensures placed { writes_note entry self.old.records ≡ true → Leaves result (IsPlaced self.old.records self.old.notes) (H.state host.old) (H.state host.new) }
+        ensures any_moment { AtEachMoment (IsNoting self.old.records (entered_in entry self.old.records)) (H.state host.old) (H.state host.new) }
         ensures silent { Silent (H.state host.old) (H.state host.new) }
         ensures counts { CountsRecord (H.state host.old) (H.state host.new) result }
     {
         if self.closed {
             return Err(RecordFault::Closed);
         }
-        match note_record(alloc, host, &mut self.table, &mut self.notes, entry) {
+        match enter_record(alloc, host, &mut self.table, &mut self.notes, entry) {
             Ok(()) => Ok(()),
             Err(fault) => {
                 self.closed = true;

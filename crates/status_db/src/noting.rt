@@ -7,7 +7,7 @@ ghost use Rattle.texts.specs.PackageNames.{is_package_name};
 ghost use Rattle.status_db.specs.declared.record.Record.{Record as ARecord};
 ghost use Rattle.status_db.specs.Notes as place;
 ghost use Rattle.status_db.specs.Notes.{Note};
-ghost use Rattle.status_db.specs.Noting.{AreNoted, HasRoom, IsEntered, IsMerging, IsNoteFile, IsNoting, IsPlaced, note_number};
+ghost use Rattle.status_db.specs.Noting.{AreNoted, HasRoom, IsEntered, IsMerging, IsNoteFile, IsNoting, IsPlaced, entered_in, note_number, writes_note};
 ghost use Rattle.status_db.specs.Records.{record_in, put_record, drop_record};
 ghost use Rattle.status_db.specs.Held.{AreKept, IsUnblocked};
 ghost use Rattle.status_db.specs.Words.{is_not_installed};
@@ -142,8 +142,8 @@ fn write_gone<H: Host>(
     write_next(alloc, host, table, notes, &node)
 }
 
-/// Writes the note of a record, and puts it into the table.
-pub(crate) fn note_record<H: Host>(
+// Writes the note of a record, and puts it into the table.
+fn note_record<H: Host>(
     alloc: Global,
     host: &mut H,
     table: &mut Table,
@@ -195,4 +195,31 @@ pub(crate) fn forget_record<H: Host>(
     write_gone(alloc, host, table, notes, name)?;
     table.remove(name);
     Ok(())
+}
+
+/// Notes a record: one with not-installed takes the package's record out of the table, each other is put
+/// into it.
+pub(crate) fn enter_record<H: Host>(
+    alloc: Global,
+    host: &mut H,
+    table: &mut Table,
+    notes: &mut u16,
+    entry: Record,
+) -> Result<(), HostFault>
+    requires count { notes.old ≤ 10000 }
+    requires kept { Needs (H.state host.old) (AreKept table.old notes.old) }
+    ensures table { OnOk result (table.new ≡ entered_in entry table.old) }
+    ensures err { OnErr result (table.new ≡ table.old) }
+    ensures number { OnOk result (notes.new ≡ cond (writes_note entry table.old) (note_number notes.old + 1) notes.old) }
+    ensures within { notes.new ≤ 10000 }
+    ensures noted { Leaves result (AreNoted table.new notes.new) (H.state host.old) (H.state host.new) }
+    ensures placed { writes_note entry table.old ≡ true → Leaves result (IsPlaced table.old notes.old) (H.state host.old) (H.state host.new) }
+    ensures any_moment { AtEachMoment (IsNoting table.old (entered_in entry table.old)) (H.state host.old) (H.state host.new) }
+    ensures silent { Silent (H.state host.old) (H.state host.new) }
+    ensures counts { Counts (H.state host.old) (H.state host.new) result }
+{
+    match entry.state.is_not_installed() {
+        true => forget_record(alloc, host, table, notes, &entry.name),
+        false => note_record(alloc, host, table, notes, entry),
+    }
 }

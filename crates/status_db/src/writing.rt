@@ -2,7 +2,6 @@
 ghost use Rattle.std.specs.Prelude.{◌≡◌, ◌++◌, ◌∷◌, [], IfOk, OnOk, ℕ, List, IsTrue, IfSome, false, map, codes};
 ghost use Rattle.std.specs.List.{AllByRecursion};
 ghost use Rattle.control_fields.specs.Names.{stands};
-ghost use Rattle.host_core.specs.Host.{AtEachMoment, Counts, Leaves, Needs, Silent};
 ghost use Rattle.host_core.specs.Nodes.{own_access};
 ghost use Rattle.host_core.specs.declared.node.Node.TheVariants.{File};
 ghost use Rattle.version_order.specs.Versions.{IsVersion};
@@ -10,13 +9,12 @@ ghost use Rattle.status_db.specs.Records.{AreApart, standing};
 ghost use Rattle.status_db.specs.ConffileFields.{conffile_line, pending_line};
 ghost use Rattle.status_db.specs.Words.{is_not_installed, status_text};
 ghost use Rattle.status_db.specs.Paragraphs.{line_field, first_fields, config_field, removed_field, lines_field, own_fields, paragraph_of, record_text, HasParts};
-ghost use Rattle.status_db.specs.Status.{IsStatus, IsStatusReady, IsNoted, IsNoting};
+ghost use Rattle.status_db.specs.Status.{IsStatus};
 
 use crate::conffile_writing::{conffile_lines, pending_lines};
 use crate::record::Record;
-use administration::{STATUS, replace};
 use control_fields::{Field, Lines, Paragraph, write_paragraph, write_paragraphs};
-use host_core::{Access, Host, HostFault, Node, RootPath};
+use host_core::{Access, Node};
 use std::alloc::{AllocError, Global};
 use texts::Bytes;
 use version_order::Version;
@@ -208,22 +206,4 @@ pub(crate) fn status_node(alloc: Global, records: &[Record]) -> Result<Node, All
             group: 0,
         },
     })
-}
-
-/// Writes the status file of a table: at each moment the old file stands there or the whole new one.
-pub(crate) fn save<H: Host>(
-    alloc: Global,
-    host: &mut H,
-    records: &[Record],
-) -> Result<(), HostFault>
-    requires apart { AreApart records.now }
-    requires ready { Needs (H.state host.old) IsStatusReady }
-    ensures noted { Leaves result (IsNoted records.now) (H.state host.old) (H.state host.new) }
-    ensures any_moment { AtEachMoment (IsNoting records.now) (H.state host.old) (H.state host.new) }
-    ensures silent { Silent (H.state host.old) (H.state host.new) }
-    ensures counts { Counts (H.state host.old) (H.state host.new) result }
-{
-    let path = RootPath::from_str(alloc, STATUS)?;
-    let node = status_node(alloc, records)?;
-    replace(host, &path, &node)
 }

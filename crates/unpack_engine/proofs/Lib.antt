@@ -24,6 +24,7 @@ pub mod EndOrder
 pub mod Touching
 pub mod Whole
 pub mod UnitMoments
+pub mod Quiet
 pub mod Planning
 pub mod EndRecords
 pub mod InfoSound

@@ -1,6 +1,5 @@
 -- A unit that is planned first: what it only looks at before changes nothing of what is carried out then.
 use Rattle.std.proofs.Common.{◌≡◌, IsTrue, true, List, [], ◌∷◌, ◌++◌, Option, Some, None, inl, inr, refl, sym, ap, subst, ◌∙◌, append_assoc}
-use Rattle.std.specs.Prelude.{Result, Ok, Err, IfOk}
 use Rattle.host_core.specs.Paths.{Path}
 use Rattle.host_core.specs.World.{World}
 use Rattle.host_core.specs.Events.{Event, Did, Finished, Cut, Failed, changes_of, scripts_of}
@@ -12,22 +11,20 @@ use Rattle.cleanup_stack.specs.Transcripts.{Ended}
 use Rattle.control_members.proofs.LaidOut.{incoming_absent}
 use Rattle.control_members.proofs.Starting.{since_here}
 use Rattle.file_lists.specs.declared.paths.PackageList.{PackageList}
+use Rattle.status_db.specs.Held.{HasRecords}
 use Rattle.status_db.specs.Recorded.{Recorded}
 use Rattle.status_db.specs.declared.record.Record.{Record}
 use Rattle.unwind_stack.specs.declared.rows.Called.{Called}
-use Rattle.unwind_stack.specs.declared.rows.Row.{Row}
 use Rattle.unpack_plan.specs.Planned.{IsPlanned, Job, Planned}
-use Rattle.unpack_run.specs.At.{Holding}
-use Rattle.unpack_run.specs.Task.{Task}
 use Rattle.unpack_run.specs.Trail.{HasCome}
 use Rattle.unpack_rows.specs.Kinds.{kinds_of}
 use Rattle.unpack_rows.specs.Stages.{stage_of}
 use Rattle.unpack_engine.specs.Order.{IsInOrder}
-use Rattle.unpack_engine.specs.Units.{Begins, Given, Ground, HasCalled, HasCalledRows, HasCarriedOut, HasRunRows, HasUnpacked, IsAmidUnit, IsPlanFor, IsRunning, IsStage, IsUnderWay, MayBegin, MayClear, ground_of, last_place, package_name, task_from}
+use Rattle.unpack_engine.specs.Units.{Begins, Given, Ground, HasCalled, HasCalledRows, HasCarriedOut, HasUnpacked, IsAmidUnit, IsPlanFor, IsRunning, IsStage, IsUnderWay, MayBegin, MayClear, ground_of, last_place, package_name, stage_records, task_from}
 use Rattle.unpack_engine.proofs.EndOrder.{plan_named}
 use Rattle.unpack_engine.proofs.Order.{own_list, own_members}
 use Rattle.unpack_engine.proofs.Sequel.{called_behind}
-use Rattle.unpack_engine.proofs.UnderWay.{beginning_under_way}
+use Rattle.unpack_engine.proofs.UnderWay.{IsStaged, beginning_under_way}
 
 clear_start : (found : Option Record) (name : Path) (w : World) → MayClear found name w w
 clear_start None name w = record { list = inl refl; members = λ member is. inl refl; rest = λ q beside. refl }
@@ -49,27 +46,24 @@ same_before es fs none = changes_of-append es fs ∙ ap (λ c. c ++ changes_of f
 
 -- what was looked at before is no part of a stage
 module _ (g : Ground) (p : Planned) (old : World) (early : List Event) (none : scripts_of early ≡ []) where
-  running_behind : (so_far : List Event) (now : World) → IsRunning (Begins g p) (MayBegin p.found (package_name g p)) (task_from g p) old so_far now → IsRunning (Begins g p) (MayBegin p.found (package_name g p)) (task_from g p) old (early ++ so_far) now
-  running_behind so_far now (IsRunning.beginning quiet may) = IsRunning.beginning (none_before early so_far none quiet) may
-  running_behind so_far now (IsRunning.running begun before more is quiet begins stops) =
-      IsRunning.running begun (early ++ before) more (ap (λ (l : List Event). early ++ l) is ∙ sym (append_assoc early before more)) (none_before early before none quiet) begins stops
-
-  stage_behind : (so_far : List Event) (now : World) → IsStage g p old so_far now → IsStage g p old (early ++ so_far) now
-  stage_behind so_far now (IsStage.running runs) = IsStage.running (running_behind so_far now runs)
-  stage_behind so_far now (IsStage.leaving ended works begun last begins are come may) =
-      IsStage.leaving ended works begun last begins are
-      (subst (λ c. HasCome (task_from g p begun) (stage_of (kinds_of p.found p.others) (last_place g p ended)) works c last) (sym (same_before early so_far none)) come) may
+  staged_behind : (so_far : List Event) (now : World) (stage : IsStage g p old so_far now) → HasRecords now (stage_records g p old so_far now stage) → IsStaged g p old (early ++ so_far) now
+  staged_behind so_far now (IsStage.running (IsRunning.beginning quiet may)) has = (IsStage.running (IsRunning.beginning (none_before early so_far none quiet) may), has)
+  staged_behind so_far now (IsStage.running (IsRunning.running begun before more is quiet begins stops)) has = (
+    IsStage.running (
+        IsRunning.running begun (early ++ before) more (ap (λ (l : List Event). early ++ l) is ∙ sym (append_assoc early before more)) (none_before early before none quiet) begins stops
+        ),
+    has,
+  )
+  staged_behind so_far now (IsStage.leaving ended works begun last begins are come may) has = (
+    IsStage.leaving ended works begun last begins are
+        (subst (λ c. HasCome (task_from g p begun) (stage_of (kinds_of p.found p.others) (last_place g p ended)) works c last) (sym (same_before early so_far none)) come) may,
+    has,
+  )
 
   pub under_way_behind : (so_far : List Event) (now : World) → IsUnderWay g p old so_far now → IsUnderWay g p old (early ++ so_far) now
-  under_way_behind so_far now is = record {
-    stage = stage_behind so_far now is.stage;
-    table = is.table;
-    is_table = is.is_table;
-    records = is.records;
-    opens = is.opens;
-    incoming = is.incoming;
-    loose = is.loose;
-  }
+  under_way_behind so_far now is =
+      let staged = staged_behind so_far now is.stage is.records in
+      record { stage = staged.0; records = staged.1; opens = is.opens; incoming = is.incoming; loose = is.loose }
 
 none_failed : (es : List Event) → AllFailed es → scripts_of es ≡ []
 none_failed [] all = refl

@@ -212,8 +212,13 @@ module _ (name : Path) (others before table after rs : List Record) (recorded : 
   told_of q (inl same) = or_right (is_named noted q) (bytes_eq q name) ((bytes_eq-Decides q name).1 same)
   told_of q (inr differ) = named_told q (is_named noted q) refl (bytes_eq q name) refl differ
 
+  unmoved : (q : Path) (b : Bool) → is_touched name noted q ≡ b → (is_touched name noted q ≡ true → ⊥) → record_in after q ≡ record_in before q
+  unmoved q true e untold = absurd (untold e)
+  unmoved q false e untold = stays q (λ s. true≢false (sym ((bytes_eq-Decides q name).1 s) ∙ (or_parts (is_named noted q) (bytes_eq q name) e).1)) (or_parts (is_named noted q) (bytes_eq q name) e).0
+
   pub touched_by : (touched : List Path) → AreTold name noted touched → IsTouched name before after touched
   touched_by touched told = record {
     order = told.order;
     exact = λ q. (λ has. told_by q (bytes_eq q name) refl ((told.exact q).0 has), λ either. (told.exact q).1 (told_of q either));
+    others = λ q untold. unmoved q (is_touched name noted q) refl (λ is. untold ((told.exact q).1 is));
   }

@@ -1,15 +1,12 @@
 -- What holds at each moment of a unit: while it begins and its rows run, and after that.
-use Rattle.std.proofs.Common.{◌≡◌, ◌≢◌, ◌≤◌, inl, inr, IsTrue, ℕ, true, false, List, [], ◌∷◌, ◌++◌, Option, Some, None, length, refl, sym, ap, subst, ◌∙◌, arith}
-use Rattle.std.proofs.lemmas.List.{append-nil}
+use Rattle.std.proofs.Common.{◌≡◌, true, List, [], ◌++◌, subst}
 use Rattle.texts.specs.PackageNames.{is_package_name}
 use Rattle.host_core.specs.Paths.{Path}
-use Rattle.host_core.specs.World.{World, IsDirectory, KeepsBut}
-use Rattle.host_core.specs.Events.{Event, changes_of, scripts_of}
+use Rattle.host_core.specs.World.{World}
+use Rattle.host_core.specs.Events.{Event, scripts_of}
 use Rattle.host_core.specs.Host.{State}
-use Rattle.administration.specs.Places.{info_path, list_path, temporary, tmp_path, is_within}
-use Rattle.cleanup_stack.specs.Place.{Place, Forward}
-use Rattle.cleanup_stack.specs.Transcripts.{Ended, Committed, Unwound}
-use Rattle.control_members.specs.LaidOut.{AreLaidOut, IsIncoming, IsLaying}
+use Rattle.administration.specs.Places.{list_path}
+use Rattle.control_members.specs.LaidOut.{AreLaidOut, IsIncoming}
 use Rattle.control_members.specs.Stored.{IsMembersReady}
 use Rattle.control_members.proofs.LaidOut.{laid_elsewhere, laid_incoming}
 use Rattle.file_lists.specs.Info.{AreLoose}
@@ -18,28 +15,25 @@ use Rattle.file_works.specs.Files.{Each}
 use Rattle.file_works.specs.Names.{IsNamed}
 use Rattle.status_db.specs.Held.{HasRecords, IsKept}
 use Rattle.status_db.specs.Recorded.{Recorded}
-use Rattle.unpack_rows.specs.Kinds.{kinds_of}
 use Rattle.unpack_plan.specs.Planned.{Planned}
-use Rattle.unpack_run.specs.Task.{Task}
 use Rattle.unpack_run.specs.At.{Stops}
-use Rattle.unpack_engine.specs.Units.{Begins, Ground, HasBegun, IsRunning, IsStage, IsTableAmid, IsUnderWay, MayBegin, MayBeginOne, package_name, table_after, task_from}
+use Rattle.unpack_engine.specs.Units.{Begins, Ground, IsRunning, IsStage, IsUnderWay, MayBeginOne, package_name, stage_records, task_from}
 use Rattle.unpack_engine.proofs.Apart.{loose_still, tmp_beside}
 use Rattle.unpack_engine.proofs.Cleared.{beginning_incoming, beginning_kept, beginning_loose, begun_loose}
 use Rattle.unpack_engine.proofs.Frames.{IsBeside, amid_same}
 use Rattle.unpack_engine.proofs.Ready.{kept_opens}
 
+-- a stage, and the next opening finds its records
+abbrev pub IsStaged : Ground → Planned → World → List Event → World → Type 0
+IsStaged g p old so_far now = (stage : IsStage g p old so_far now) × HasRecords now (stage_records g p old so_far now stage)
+
 module _ (g : Ground) (p : Planned) (named : is_package_name (package_name g p) ≡ true) (works_named : Each IsNamed p.works) (old : World)
     (list : IsListReady (package_name g p) old) (members : IsMembersReady (package_name g p) old) (loose : AreLoose old) (incoming : IsIncoming old) where
-  no_notes : g.records ≡ table_after g p (Forward 0)
-  no_notes = refl
-
   pub beginning_under_way : (d : Recorded) → IsKept d old → d.records ≡ g.records → (so_far : List Event) (now : World) → scripts_of so_far ≡ [] → MayBeginOne g p old now → IsUnderWay g p old so_far now
   beginning_under_way d kept same so_far now none may =
       let here = beginning_kept p.found (package_name g p) named old list members loose now may d kept in
       record {
         stage = IsStage.running (IsRunning.beginning none may);
-        table = g.records;
-        is_table = IsTableAmid.noting (Forward 0) (omega arith) no_notes;
         records = subst (HasRecords now) same here.holds;
         opens = kept_opens d now here;
         incoming = beginning_incoming p.found (package_name g p) named old list members loose now may incoming;
@@ -59,8 +53,6 @@ module _ (g : Ground) (p : Planned) (named : is_package_name (package_name g p) 
         let same : (q : Path) → IsBeside (list_path (package_name g p)) q → now q ≡ begun.world q = λ q beside. amid_same (task_from g p begun) q beside works_named _ _ now stops.files in
         record {
           stage = IsStage.running (IsRunning.running begun before more is none begins stops);
-          table = table_after g p stops.place;
-          is_table = IsTableAmid.noting stops.place stops.within refl;
           records = stops.records;
           opens = stops.opens;
           incoming = laid_incoming p.members now (still_laid now same);

@@ -12,7 +12,7 @@ use Rattle.administration.specs.Files.{IsDropped, IsDropping}
 use Rattle.administration.specs.Places.{list_path, script_path, tmp_path, is_within}
 use Rattle.unwind_stack.specs.declared.rows.Called.{Called}
 use Rattle.unwind_stack.specs.declared.rows.Row.{Row}
-use Rattle.cleanup_stack.specs.Place.{Place, Forward}
+use Rattle.cleanup_stack.specs.Place.{Place}
 use Rattle.cleanup_stack.specs.Telling.{Begun, HasRun}
 use Rattle.cleanup_stack.specs.Transcripts.{Ended, Committed, Unwound, MayRun}
 use Rattle.control_members.specs.LaidOut.{AreLaidOut, IsIncoming, IsLaying}
@@ -40,7 +40,7 @@ use Rattle.unpack_rows.specs.declared.rows.OtherPackage.{OtherPackage}
 use Rattle.unpack_rows.specs.declared.rows.Present.{Present}
 use Rattle.unpack_run.specs.Task.{Task, lists_at}
 use Rattle.unpack_run.specs.Trail.{HasCome}
-use Rattle.unpack_run.specs.At.{AreWorksAt, At, Holding, IsFileFault, IsWithin, Stops}
+use Rattle.unpack_run.specs.At.{AreWorksAt, At, Holding, IsFileFault, Stops}
 use Rattle.unpack_commit.specs.Commit.{Changes, HasCommitted, MayCommit, committed_lists}
 use Rattle.unpack_commit.specs.Takeover.{losers, losing_records, put_records, taken_places, yields_of}
 use Rattle.unpack_plan.specs.Planned.{Job, Planned, IsPlanned}
@@ -149,6 +149,18 @@ module _ (c : Changes) (records : List Record) (entries : List Diversion) (lists
 
   abbrev pub MayLeave : Ended → World → World → Type 0
   MayLeave ended = MayLeaveBy (HasFollowed ended) (MayFollow ended)
+
+  -- of the commit's records those that are noted so far: none before all else in it is done, and all behind it
+  abbrev pub noted_by_commit : (old now : World) → MayCommit c entries lists records table old now → List Record
+  noted_by_commit old now (MayCommit.renewing may has opens) = []
+  noted_by_commit old now (MayCommit.replacing renewed stale first may has opens) = []
+  noted_by_commit old now (MayCommit.releasing renewed stored stale first second whole may has opens) = []
+  noted_by_commit old now (MayCommit.noting renewed stored released stale first second whole third notes) = notes.front
+
+  abbrev pub noted_so_far : (ended : Ended) (old now : World) → MayLeave ended old now → List Record
+  noted_so_far Committed old now (MayLeaveBy.following may) = noted_by_commit old now may
+  noted_so_far Committed old now (MayLeaveBy.clearing_away followed has opens rest) = records
+  noted_so_far (Unwound fall failed) old now may = []
 
 -- Script calls: rows that begin in some state of the host, before which nothing is called and all is laid out.
 pub record HasRunRows (begins : World → World → Type 0) (task : State → Task) (rows : List Row) (ended : Ended) (mid : Holding) (old last : State) (told now : List Called) : Type 0 where
@@ -262,12 +274,15 @@ module _ (g : Ground) (p : Planned) where
         → MayLeave (changes works (lists_after ended begun)) (commit_records works (lists_after ended begun) (table_after (last_place ended))) g.entries (lists_after ended begun) (table_after (last_place ended)) ended last now
         → IsStage old so_far now
 
-  -- The records at a moment: those of before with the notes up to a place of the rows; where all rows succeeded, also with the
-  -- first records of the commit.
-  pub data IsTableAmid (table : List Record) : Type 0 where
-    noting : (place : Place) → IsWithin (length (kinds_of p.found p.others)) place → table ≡ table_after place → IsTableAmid table
-    committing : (works : List Work) (lists : List PackageList) (front back : List Record) → commit_records works lists (table_after (last_place Committed)) ≡ front ++ back
-        → table ≡ put_records front (table_after (last_place Committed)) → IsTableAmid table
+  -- The records at a stage: while it begins those of before; while its rows run these with the notes up to their place; then those
+  -- that the rows left, with what the commit has noted so far.
+  abbrev pub stage_records : (old : World) (so_far : List Event) (now : World) → IsStage old so_far now → List Record
+  stage_records old so_far now (IsStage.running (IsRunning.beginning none may)) = g.records
+  stage_records old so_far now (IsStage.running (IsRunning.running begun before more is none begins stops)) = table_after stops.place
+  stage_records old so_far now (IsStage.leaving ended works begun last begins are come may) =
+      let lists = lists_after ended begun in
+      let table = table_after (last_place ended) in
+      put_records (noted_so_far (changes works lists) (commit_records works lists table) g.entries lists table ended last now may) table
 
   -- The unit once it is planned: it begins, calls its rows' scripts and none else, and commits or undoes. These records and lists
   -- are left.
@@ -281,13 +296,11 @@ module _ (g : Ground) (p : Planned) where
     pub records : after.records ≡ end_table ended mid.works mid.lists mid.database.records
     pub lists_are : lists ≡ end_lists ended mid.works mid.lists
 
-  -- At each moment of that: it is at some stage, the next opening finds the records of before with the first of the unit's notes,
-  -- and nothing that it can't take away is in its way.
+  -- At each moment of that: it is at some stage, the next opening finds the records at that stage, and nothing that it can't take
+  -- away is in its way.
   pub record IsUnderWay (old : World) (so_far : List Event) (now : World) : Type 0 where
     pub stage : IsStage old so_far now
-    pub table : List Record
-    pub is_table : IsTableAmid table
-    pub records : HasRecords now table
+    pub records : HasRecords now (stage_records old so_far now stage)
     pub opens : CanOpenRecords now
     pub incoming : IsIncoming now
     pub loose : AreLoose now
@@ -345,3 +358,4 @@ pub record HasFailedFor (g : Given) (old new : State) (u : Option Unwinding) : T
 pub record IsTouched (name : List ℕ) (before after : List Record) (touched : List (List ℕ)) : Type 0 where
   pub order : AreIncreasing touched
   pub exact : (q : List ℕ) → Contains touched q ↔ ((q ≡ name) ⊎ (record_in after q ≡ record_in before q → ⊥))
+  pub others : (q : List ℕ) → (Contains touched q → ⊥) → record_in after q ≡ record_in before q

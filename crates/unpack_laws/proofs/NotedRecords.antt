@@ -1,31 +1,39 @@
 -- The record of a name at each place of the rows, and with the first records of the commit.
-use Rattle.std.proofs.Common.{◌≡◌, ◌+◌, ◌&&◌, ℕ, zero, suc, Bool, true, false, cond, List, [], ◌∷◌, ◌++◌, Option, Some, Contains, filter, map, take, drop, refl, sym, subst}
+use Rattle.std.proofs.Common.{◌≡◌, ◌+◌, ◌&&◌, ℕ, zero, suc, Bool, true, false, cond, List, [], ◌∷◌, ◌++◌, Option, Some, Contains, filter, map, take, drop, refl, sym, ap, subst, ◌∙◌}
 use Rattle.std.specs.List.{AllByRecursion, list_any}
 use Rattle.std.specs.Str.{bytes_eq}
-use Rattle.std.proofs.lemmas.Bool.{and_parts}
+use Rattle.std.proofs.lemmas.Bool.{and_parts, true≢false}
 use Rattle.std.proofs.lemmas.Slice.Eq.{bytes_eq-Decides}
+use Rattle.host_core.specs.Events.{Event}
+use Rattle.host_core.specs.Host.{State}
 use Rattle.host_core.specs.Paths.{Path}
+use Rattle.host_core.specs.World.{World}
 use Rattle.cleanup_stack.specs.Place.{Place, Forward, Ready, Back}
-use Rattle.cleanup_stack.specs.Transcripts.{Committed}
+use Rattle.cleanup_stack.specs.Transcripts.{Committed, Unwound}
 use Rattle.cleanup_stack.specs.declared.failed.Failed.{Failed}
 use Rattle.diversions.specs.declared.entry.Diversion.{Diversion}
 use Rattle.file_lists.specs.declared.paths.PackageList.{PackageList}
+use Rattle.file_steps.specs.Unpacked.{IsRearranged}
 use Rattle.file_works.specs.declared.work.Work.{Work}
-use Rattle.status_db.specs.Records.{put_record, record_in}
+use Rattle.status_db.specs.Records.{AreApart, IsWithout, drop_record, put_record, record_in}
 use Rattle.status_db.specs.declared.record.Record.{Record}
-use Rattle.status_db.proofs.Tables.{record_in-put_record}
+use Rattle.status_db.proofs.Tables.{apart_dropped, apart_put, found_here, passed_over, record_in-put_record}
 use Rattle.unpack_commit.specs.Takeover.{loses_conffile, losing_records, put_records, taken_places, without_conffiles}
 use Rattle.unpack_plan.specs.Planned.{Planned}
+use Rattle.unpack_rows.specs.EndStates.{AreRecorded}
 use Rattle.unpack_rows.specs.Failures.{has_failed}
 use Rattle.unpack_rows.specs.Kinds.{first_kinds, has_prerm, is_upgrade, kinds_of, last_kinds, own_of, owner_of, state_of}
 use Rattle.unpack_rows.specs.Notes.{as_before, half_configured, half_installed, listed, note_before, note_undone, noted, notes_at, notes_back, notes_forward, unpacked}
+use Rattle.unpack_rows.specs.Stages.{stage_of}
 use Rattle.unpack_rows.specs.declared.kinds.RowKind.{RowKind}
 use Rattle.unpack_rows.specs.declared.kinds.RowKind.TheVariants.{Prerm, Other, Preinst, Files, Postrm}
 use Rattle.unpack_rows.specs.declared.notes.Note.{Note}
-use Rattle.unpack_rows.specs.declared.notes.Note.TheVariants.{Put}
+use Rattle.unpack_rows.specs.declared.notes.Note.TheVariants.{Drop, Put}
 use Rattle.unpack_rows.proofs.LastNotes.{last_of, note_name, note_value, noted_last}
-use Rattle.unpack_engine.specs.Units.{Ground, IsTableAmid, last_place, table_after, unit_losers}
+use Rattle.unpack_engine.specs.Units.{Ground, IsRunning, IsStage, MayLeave, changes, commit_records, last_place, lists_after, noted_so_far, stage_records, table_after, unit_losers}
+use Rattle.unpack_engine.proofs.Leaving.{noted_first}
 use Rattle.unpack_engine.proofs.ListEnds.{any_has}
+use Rattle.unpack_laws.proofs.Alone.{are_moved}
 
 -- by the notes that name it
 
@@ -154,33 +162,100 @@ module _ (P : Option Record → Type 0) (q : List ℕ) where
           (kinds_then (map (λ r. Other r) others) (last_kinds (is_upgrade s)) (others_good others good.others_are) (last_good (is_upgrade s)))))
           before)
 
--- the records that lose conffiles are of packages that lose places
-module _ (P : Option Record → Type 0) (q : List ℕ) (entries : List Diversion) (places : List Path) (names : List (List ℕ)) (none : Contains names q → ⊥) where
-  pub losing_good : (table : List Record) → AllByRecursion (IsGoodRecord P q) (losing_records entries places names table)
-  losing_good [] = tt
-  losing_good (r ∷ rs) = by (list_any (bytes_eq r.name) names && loses_conffile entries places r) refl (losing_good rs)
+-- each record of a table in which names differ is found by its name
+
+widened : (x : Record) (all rs : List Record) → IsWithout x.name rs → AreRecorded all rs → AreRecorded (x ∷ all) rs
+widened x all [] without recorded = tt
+widened x all (r ∷ rs) without recorded =
+    (passed_over all x r.name (λ e. true≢false (sym ((bytes_eq-Decides r.name x.name).1 (sym e)) ∙ without.0)) ∙ recorded.0, widened x all rs without.1 recorded.1)
+
+each_recorded : (rs : List Record) → AreApart rs → AreRecorded rs rs
+each_recorded [] apart = tt
+each_recorded (r ∷ rs) apart = (found_here rs r r.name refl, widened r rs rs apart.0 (each_recorded rs apart.1))
+
+-- names stay apart while records are noted
+noted_apart : (notes : List Note) (table : List Record) → AreApart table → AreApart (noted table notes)
+noted_apart [] table apart = apart
+noted_apart (Put r ∷ notes) table apart = noted_apart notes (put_record r table) (apart_put r table apart)
+noted_apart (Drop name ∷ notes) table apart = noted_apart notes (drop_record name table) (apart_dropped name table apart)
+
+-- the records that lose conffiles, by what is so of each that may
+module _ (P : Option Record → Type 0) (q : List ℕ) (entries : List Diversion) (places : List Path) (names : List (List ℕ)) where
+  abbrev IsGoodLosing : Record → Type 0
+  IsGoodLosing r = r.name ≡ q → Contains names q → P (Some (without_conffiles entries places r))
+
+  losing_each : (rs : List Record) → AllByRecursion IsGoodLosing rs → AllByRecursion (IsGoodRecord P q) (losing_records entries places names rs)
+  losing_each [] all = tt
+  losing_each (r ∷ rs) all = by (list_any (bytes_eq r.name) names && loses_conffile entries places r) refl (losing_each rs all.1)
     where
       there : list_any (bytes_eq r.name) names && loses_conffile entries places r ≡ true → IsGoodRecord P q (without_conffiles entries places r)
-      there keep same = absurd (none (subst (Contains names) ((bytes_eq-Decides r.name q).0 same) (any_has names r.name (and_parts (list_any (bytes_eq r.name) names) (loses_conffile entries places r) keep).0)))
+      there keep same =
+          let is = (bytes_eq-Decides r.name q).0 same in
+          all.0 is (subst (Contains names) is (any_has names r.name (and_parts (list_any (bytes_eq r.name) names) (loses_conffile entries places r) keep).0))
 
       by : (b : Bool) → list_any (bytes_eq r.name) names && loses_conffile entries places r ≡ b → AllByRecursion (IsGoodRecord P q) (losing_records entries places names rs)
           → AllByRecursion (IsGoodRecord P q) (map (without_conffiles entries places) (cond b (r ∷ filter (λ x. list_any (bytes_eq x.name) names && loses_conffile entries places x) rs) (filter (λ x. list_any (bytes_eq x.name) names && loses_conffile entries places x) rs)))
       by true keep rest = (there keep, rest)
       by false keep rest = rest
 
+  -- none where the name isn't among those that lose places
+  module _ (none : Contains names q → ⊥) where
+    all_spared : (rs : List Record) → AllByRecursion IsGoodLosing rs
+    all_spared [] = tt
+    all_spared (r ∷ rs) = ((λ same has. absurd (none has)), all_spared rs)
+
+    pub losing_good : (table : List Record) → AllByRecursion (IsGoodRecord P q) (losing_records entries places names table)
+    losing_good table = losing_each table (all_spared table)
+
+  -- the one that the table has, where names differ in it
+  module _ (table : List Record) (lost : Contains names q → (r : Record) → record_in table q ≡ Some r → P (Some (without_conffiles entries places r))) where
+    all_found : (rs : List Record) → AreRecorded table rs → AllByRecursion IsGoodLosing rs
+    all_found [] recorded = tt
+    all_found (r ∷ rs) recorded = ((λ same has. lost has r (ap (record_in table) (sym same) ∙ recorded.0)), all_found rs recorded.1)
+
+    losing_found : AreApart table → AllByRecursion (IsGoodRecord P q) (losing_records entries places names table)
+    losing_found apart = losing_each table (all_found table (each_recorded table apart))
+
 pub good_then : (P : Option Record → Type 0) (q : List ℕ) (xs : List Record) (y : Record) → AllByRecursion (IsGoodRecord P q) xs → IsGoodRecord P q y → AllByRecursion (IsGoodRecord P q) (xs ++ y ∷ [])
 good_then P q [] y all last = (last, tt)
 good_then P q (x ∷ xs) y all last = (all.0, good_then P q xs y all.1 last)
 
--- the record of a name that loses no place, at each moment of a unit
-module _ (P : Option Record → Type 0) (q : List ℕ) (g : Ground) (p : Planned) (spared : (works : List Work) (lists : List PackageList) → Contains (unit_losers g p works lists) q → ⊥)
-    (fresh : IsGoodRecord P q p.fresh) (good : AreGoodRows P q p.found p.incoming p.others) (before : P (record_in g.records q)) where
-  pub record_amid : (table : List Record) → IsTableAmid g p table → P (record_in table q)
-  record_amid table (IsTableAmid.noting place within is) = subst (λ (t : List Record). P (record_in t q)) (sym is) (record_at P q p.found p.incoming p.others good g.records place before)
-  record_amid table (IsTableAmid.committing works lists front back are is) =
-      subst (λ (t : List Record). P (record_in t q)) (sym is)
-      (good_records P q front (table_after g p (last_place g p Committed))
-      (good_front P q front back (subst (AllByRecursion (IsGoodRecord P q)) are
-      (good_then P q (losing_records g.entries (taken_places works) (unit_losers g p works lists) (table_after g p (last_place g p Committed))) p.fresh
-      (losing_good P q g.entries (taken_places works) (unit_losers g p works lists) (spared works lists) (table_after g p (last_place g p Committed))) fresh)))
-      (record_at P q p.found p.incoming p.others good g.records (last_place g p Committed) before))
+-- the record of a name at each moment of a unit: with Q beside the rows, and with P behind the commit's other steps
+module _ (Q P : Option Record → Type 0) (q : List ℕ) (g : Ground) (p : Planned) (apart : AreApart g.records) (wider : (o : Option Record) → Q o → P o)
+    (lost : (works : List Work) (begun : State) → IsRearranged p.works works → Contains (unit_losers g p works (lists_after g p Committed begun)) q
+    → (r : Record) → Q (Some r) → P (Some (without_conffiles g.entries (taken_places works) r)))
+    (fresh : IsGoodRecord P q p.fresh) (good : AreGoodRows Q q p.found p.incoming p.others) (before : Q (record_in g.records q)) where
+  record_then : (place : Place) → Q (record_in (table_after g p place) q)
+  record_then place = record_at Q q p.found p.incoming p.others good g.records place before
+
+  module _ (works : List Work) (begun : State) (moved : IsRearranged p.works works) where
+    abbrev lists : List PackageList
+    lists = lists_after g p Committed begun
+
+    abbrev table : List Record
+    table = table_after g p (last_place g p Committed)
+
+    table_apart : AreApart table
+    table_apart = noted_apart (notes_at p.found p.incoming (kinds_of p.found p.others) (last_place g p Committed)) g.records apart
+
+    all_good : AllByRecursion (IsGoodRecord P q) (commit_records g p works lists table)
+    all_good =
+        good_then P q (losing_records g.entries (taken_places works) (unit_losers g p works lists) table) p.fresh
+        (losing_found P q g.entries (taken_places works) (unit_losers g p works lists) table
+        (λ has r is. lost works begun moved has r (subst Q is (record_then (last_place g p Committed)))) table_apart)
+        fresh
+
+    record_noted : (last now : World) (may : MayLeave (changes g p works lists) (commit_records g p works lists table) g.entries lists table Committed last now)
+        → P (record_in (put_records (noted_so_far (changes g p works lists) (commit_records g p works lists table) g.entries lists table Committed last now may) table) q)
+    record_noted last now may =
+        let front = noted_so_far (changes g p works lists) (commit_records g p works lists table) g.entries lists table Committed last now may in
+        let first = noted_first (changes g p works lists) (commit_records g p works lists table) g.entries lists table last now Committed may in
+        good_records P q front table (good_front P q front first.0 (subst (AllByRecursion (IsGoodRecord P q)) first.1 all_good))
+        (wider _ (record_then (last_place g p Committed)))
+
+  pub record_amid : (old : World) (so_far : List Event) (now : World) (stage : IsStage g p old so_far now) → P (record_in (stage_records g p old so_far now stage) q)
+  record_amid old so_far now (IsStage.running (IsRunning.beginning none may)) = wider _ before
+  record_amid old so_far now (IsStage.running (IsRunning.running begun early more is none begins stops)) = wider _ (record_then stops.place)
+  record_amid old so_far now (IsStage.leaving Committed works begun last begins are come may) =
+      record_noted works begun (are_moved g p begun Committed (stage_of (kinds_of p.found p.others) (last_place g p Committed)) works are) last now may
+  record_amid old so_far now (IsStage.leaving (Unwound fall failed) works begun last begins are come may) = wider _ (record_then (last_place g p (Unwound fall failed)))

@@ -1,5 +1,5 @@
 -- The lists of other packages at each moment of a unit.
-use Rattle.std.proofs.Common.{◌≡◌, ◌≢◌, inl, inr, ℕ, cond, List, [], Option, Some, Contains, refl, sym, ap, subst, ◌∙◌}
+use Rattle.std.proofs.Common.{◌≡◌, ◌≢◌, inl, inr, ℕ, cond, List, Option, Some, Contains, refl, sym, ap, subst, ◌∙◌}
 use Rattle.std.proofs.lemmas.Bool.{true≢false}
 use Rattle.host_core.specs.Paths.{Path}
 use Rattle.host_core.specs.World.{World, is_kept}
@@ -31,18 +31,14 @@ use Rattle.unpack_plan.specs.Planned.{IsPlanned, Planned}
 use Rattle.unpack_rows.specs.Kinds.{kinds_of}
 use Rattle.unpack_rows.specs.Stages.{Stage, stage_of}
 use Rattle.unpack_rows.specs.declared.rows.Present.{Present}
-use Rattle.unpack_run.specs.FileMoves.{places_of}
 use Rattle.unpack_run.specs.Task.{lists_at}
-use Rattle.unpack_run.proofs.Rearranged.{places_listed}
-use Rattle.unpack_engine.specs.Others.{is_other_package, yields_beside}
 use Rattle.unpack_engine.specs.Units.{Given, Ground, IsAmidUnit, IsBesideOwn, IsRunning, IsStage, MayLeave, MayLeaveBy, changes, commit_records, ground_of, job_of, last_place, package_name, table_after, task_from}
 use Rattle.unpack_engine.proofs.Begun.{dropped_same, may_drop_same}
 use Rattle.unpack_engine.proofs.ListEnds.{among}
-use Rattle.unpack_engine.proofs.Losing.{among_kept}
 use Rattle.unpack_laws.specs.InHand.{unit_name}
 use Rattle.unpack_laws.specs.Info.{IsOtherList}
 use Rattle.unpack_laws.proofs.Alone.{AreMoved, are_moved, beginning_beside, begun_beside}
-use Rattle.unpack_laws.proofs.Passing.{listed_then, place_in, taken_among, unnamed, with_other, works_are}
+use Rattle.unpack_laws.proofs.Passing.{listed_then, loses_places, unnamed, with_other}
 use Rattle.unpack_laws.proofs.Scripted.{IsSpared, amid_avoids, amid_there, come_avoids, come_there}
 
 module _ (g : Given) (stored : Present) (p : Planned) (plan : IsPlanned (job_of g stored) p) (places : List Path) (q : List ℕ) (other : q ≢ unit_name g) where
@@ -84,9 +80,7 @@ module _ (g : Given) (stored : Present) (p : Planned) (plan : IsPlanned (job_of 
 
     -- a package that loses places has its list without them
     left_is : Contains c.losers q → (w : World) → w theirs ≡ Some (left_file g.entries c.places (renewed_lists c g.entries lists) q) → Left w
-    left_is has w is = IsOtherList.left (taken_places works)
-        (λ at taken. subst (λ (l : List Work). Contains (places_of l) at) (works_are g stored p plan places) (place_in (places_of p.works) works at (places_listed [] p.works works moved) (taken_among works at taken)))
-        (among_kept (is_other_package own) here.yields q (among_kept _ (yields_beside own here.yields) q has))
+    left_is has w is = IsOtherList.left (taken_places works) (loses_places g stored p plan places q other works begun stage moved has)
         (is ∙ ap (λ (l : List Path). Some (list_file (left_paths g.entries (taken_places works) q l))) (with_other own q ne lists p.new_list ∙ listed_then g stored p plan places q other begun stage))
 
     still : (v w : World) → w theirs ≡ v theirs → Left v → Left w

@@ -1,14 +1,18 @@
 -- The paths that a plan touches, by what is given: those at which the unit does nothing, and the lists of packages that keep
 -- their places.
-use Rattle.std.proofs.Common.{◌≡◌, ◌≢◌, ◌||◌, inl, inr, ℕ, zero, suc, Bool, true, false, cond, List, [], ◌∷◌, Contains, map, filter, refl, sym, ap, subst, ◌∙◌, arith}
+use Rattle.std.proofs.Common.{◌≡◌, ◌≢◌, ◌||◌, inl, inr, ℕ, zero, suc, Bool, true, false, cond, not, List, [], ◌∷◌, Option, Some, Contains, map, filter, refl, sym, ap, subst, ◌∙◌, arith}
 use Rattle.std.specs.List.{list_any}
 use Rattle.std.specs.Str.{bytes_eq}
 use Rattle.std.proofs.lemmas.Bool.{cond-false, false_from_ne_true, or_from, true≢false}
-use Rattle.std.proofs.lemmas.List.Elements.{Contains-append_cases, Contains-append_left, Contains-append_right}
+use Rattle.std.proofs.lemmas.List.Elements.{Contains-append_right}
 use Rattle.std.proofs.lemmas.List.Folds.{list_any-append}
 use Rattle.std.proofs.lemmas.Slice.Eq.{bytes_eq-Decides}
 use Rattle.host_core.specs.Paths.{Path}
 use Rattle.host_core.specs.Host.{State}
+use Rattle.host_core.specs.World.{is_directory}
+use Rattle.host_core.specs.declared.node.Kind.{Kind}
+use Rattle.host_core.specs.declared.node.Node.{Node}
+use Rattle.host_core.specs.declared.node.Node.TheVariants.{File, Dir, Link}
 use Rattle.administration.specs.Places.{home_path, list_path, temporary, tmp_path, is_within}
 use Rattle.administration.proofs.Within.{within_is}
 use Rattle.control_members.specs.Stored.{stored_member_path}
@@ -21,6 +25,7 @@ use Rattle.file_removal.specs.Clearing.{is_among}
 use Rattle.file_steps.specs.Unpacked.{IsRearranged}
 use Rattle.file_works.specs.declared.work.Work.{Work}
 use Rattle.file_works.specs.Files.{Each, Misses}
+use Rattle.file_writing.proofs.WorkLists.{each_of}
 use Rattle.status_db.specs.Held.{is_record_place}
 use Rattle.unpack_commit.specs.Takeover.{is_at, is_taken, taken_places}
 use Rattle.unpack_commit.proofs.Left.{list_within, member_within}
@@ -34,12 +39,12 @@ use Rattle.unpack_rows.specs.Stages.{Stage, Unwritten, Wrote, Restored}
 use Rattle.unpack_rows.specs.declared.rows.Present.{Present}
 use Rattle.unpack_run.specs.FileMoves.{places_of}
 use Rattle.unpack_run.specs.Task.{lists_at}
-use Rattle.unpack_run.proofs.Rearranged.{places_listed}
+use Rattle.unpack_run.proofs.Rearranged.{each_rearranged}
 use Rattle.unpack_run.proofs.Standing.{record_below}
 use Rattle.unpack_engine.specs.Others.{is_other_package, yields_beside}
 use Rattle.unpack_engine.specs.Units.{Given, Ground, ground_of, job_of, package_name, task_from, unit_losers}
 use Rattle.unpack_engine.proofs.Losing.{among_kept, kept_passes}
-use Rattle.unpack_laws.specs.InHand.{IsNoLeaving, IsPassedBy, KeepsPlaces, unit_found, unit_name, unit_works}
+use Rattle.unpack_laws.specs.InHand.{IsNoLeaving, IsPassedBy, KeepsPlaces, LosesPlaces, file_places, unit_file_places, unit_found, unit_name, unit_works, unit_yields}
 use Rattle.unpack_laws.proofs.Alone.{IsAlone}
 
 -- what is outside the administration's directory
@@ -84,27 +89,70 @@ any_of test (p ∷ ps) any = by (test p) refl any (any_of test ps)
 among_has : (places : List Path) (q : Path) → list_any (bytes_eq q) places ≡ true → Contains places q
 among_has places q any = let one = any_of (bytes_eq q) places any in subst (λ (p : Path). Contains places p) (sym ((bytes_eq-Decides q one.0).0 one.2)) one.1
 
--- the places that are taken are places of works
-pub taken_among : (works : List Work) (q : Path) → Contains (taken_places works) q → Contains (places_of works) q
-taken_among [] q has = has
-taken_among (x ∷ works) q has = by (is_taken x.node x.had) (taken_among works q) has
-  where
-    by : (b : Bool) → (Contains (taken_places works) q → Contains (places_of works) q) → Contains (map (λ (y : Work). y.place) (cond b (x ∷ filter (λ y. is_taken y.node y.had) works) (filter (λ y. is_taken y.node y.had) works))) q → Contains (places_of (x ∷ works)) q
-    by true rest there = elim (Contains-append_cases (x.place ∷ []) (taken_places works) q there) [
-      | inl one ↦ Contains-append_left (x.place ∷ []) (places_of works) q one
-      | inr later ↦ Contains-append_right (x.place ∷ []) (places_of works) q (rest later)
-    ]
-    by false rest there = Contains-append_right (x.place ∷ []) (places_of works) q (rest there)
+-- a work that has its place among these, where it is of a file or a link
+abbrev pub IsFileAmong : List Path → Work → Type 0
+IsFileAmong places x = not (is_directory (Some x.node)) ≡ true → Contains places x.place
 
-pub place_in : (places : List Path) (works : List Work) (q : Path) → Each (λ x. Contains places x.place) works → Contains (places_of works) q → Contains places q
-place_in places [] q all has = absurd (omega (arith, has.1))
-place_in places (x ∷ works) q all (zero, lt, is) = subst (λ (p : Path). Contains places p) is all.0
-place_in places (x ∷ works) q all (suc k, lt, is) = place_in places works q all.1 (k, omega (arith, lt), is)
+module _ (x : Work) (xs : List Work) where
+  abbrev places_with : Bool → List Path
+  places_with b = places_of (cond b (x ∷ filter (λ y. not (is_directory (Some y.node))) xs) (filter (λ y. not (is_directory (Some y.node))) xs))
+
+  first_file : (b : Bool) → b ≡ true → Contains (places_with b) x.place
+  first_file b is = subst (λ c. Contains (places_with c) x.place) (sym is) (zero, omega arith, refl)
+
+  later_file : (b : Bool) (q : Path) → Contains (file_places xs) q → Contains (places_with b) q
+  later_file true q has = Contains-append_right (x.place ∷ []) (file_places xs) q has
+  later_file false q has = has
+
+files_have : (xs : List Work) → Each (IsFileAmong (file_places xs)) xs
+files_have [] = tt
+files_have (x ∷ xs) =
+    let file = not (is_directory (Some x.node)) in (
+      first_file x xs file,
+      each_of (IsFileAmong (file_places xs)) (IsFileAmong (file_places (x ∷ xs))) (λ y has is. later_file x xs file y.place (has is)) xs (files_have xs),
+    )
+
+files_listed : (xs ys : List Work) → IsRearranged xs ys → Each (IsFileAmong (file_places xs)) ys
+files_listed xs ys moved = each_rearranged (IsFileAmong (file_places xs)) (λ y has. has) (λ y has. has) xs ys moved (files_have xs)
+
+-- the places that are taken are those of files and links
+taken_file : (node : Node) (had : Option Kind) → is_taken node had ≡ true → not (is_directory (Some node)) ≡ true
+taken_file (File bytes access) had is = refl
+taken_file (Dir access) had is = absurd (true≢false (sym is))
+taken_file (Link target) had is = refl
+
+taken_among : (places : List Path) (works : List Work) (q : Path) → Each (IsFileAmong places) works → Contains (taken_places works) q → Contains places q
+taken_among places [] q all has = absurd (omega (arith, has.1))
+taken_among places (x ∷ works) q all has = by (is_taken x.node x.had) refl (taken_among places works q all.1) has
+  where
+    by : (b : Bool) → is_taken x.node x.had ≡ b → (Contains (taken_places works) q → Contains places q)
+        → Contains (map (λ (y : Work). y.place) (cond b (x ∷ filter (λ y. is_taken y.node y.had) works) (filter (λ y. is_taken y.node y.had) works))) q → Contains places q
+    by true is rest (zero, lt, same) = subst (λ (at : Path). Contains places at) same (all.0 (taken_file x.node x.had is))
+    by true is rest (suc k, lt, same) = rest (k, omega (arith, lt), same)
+    by false is rest there = rest there
+
+-- what passes a filter is kept
+kept_among : {X : Type 0} (keep : X → Bool) (xs : List X) (y : X) → Contains xs y → keep y ≡ true → Contains (filter keep xs) y
+kept_among keep [] y has is = absurd (omega (arith, has.1))
+kept_among keep (x ∷ xs) y has is = by (keep x) refl (λ later. kept_among keep xs y later is) has
+  where
+    by : (b : Bool) → keep x ≡ b → (Contains xs y → Contains (filter keep xs) y) → Contains (x ∷ xs) y → Contains (cond b (x ∷ filter keep xs) (filter keep xs)) y
+    by true e rest (zero, lt, same) = (zero, omega arith, same)
+    by true e rest (suc k, lt, same) = Contains-append_right (x ∷ []) (filter keep xs) y (rest (k, omega (arith, lt), same))
+    by false e rest (zero, lt, same) = absurd (true≢false (sym is ∙ ap keep (sym same) ∙ e))
+    by false e rest (suc k, lt, same) = rest (k, omega (arith, lt), same)
 
 -- what another package lists stays while the rows run
 module _ (own q : List ℕ) (other : q ≢ own) (lists : List PackageList) where
   pub with_other : (paths : List Path) → paths_of (with_list own paths lists) q ≡ paths_of lists q
   with_other paths = paths_with lists own q paths ∙ cond-false (bytes_eq q own) paths (paths_of lists q) (false_from_ne_true (bytes_eq q own) (λ e. other ((bytes_eq-Decides q own).0 e)))
+
+-- a package that keeps its places loses none
+pub keeps_or_loses : (g : Given) (q : List ℕ) (taken : List Path) → KeepsPlaces g q → LosesPlaces g q taken → ⊥
+keeps_or_loses g q taken (inl stays) is = stays (among_kept _ (unit_yields g) q is.loses)
+keeps_or_loses g q taken (inr apart) is =
+    let one = any_of (is_at g.entries taken q) (paths_of g.lists q) (kept_passes (λ n. list_any (is_at g.entries taken n) (paths_of g.lists n)) (unit_yields g) q is.loses) in
+    apart one.0 one.1 (is.shipped (place g.entries q one.0) (among_has taken (place g.entries q one.0) one.2))
 
 module _ (g : Given) (stored : Present) (p : Planned) (plan : IsPlanned (job_of g stored) p) (places : List Path) where
   abbrev here : Ground
@@ -116,6 +164,10 @@ module _ (g : Given) (stored : Present) (p : Planned) (plan : IsPlanned (job_of 
   pub works_are : p.works ≡ unit_works g
   works_are = plan.works_are.works_are
 
+  -- what is taken is at the place of a shipped file or link
+  pub taken_shipped : (works : List Work) (q : Path) → IsRearranged p.works works → Contains (taken_places works) q → Contains (unit_file_places g) q
+  taken_shipped works q moved taken = subst (λ (l : List Work). Contains (file_places l) q) works_are (taken_among (file_places p.works) works q (files_listed p.works works moved) taken)
+
   module _ (q : List ℕ) (other : q ≢ unit_name g) where
     pub unnamed : q ≢ package_name here p
     unnamed e = other (e ∙ own_is)
@@ -125,17 +177,21 @@ module _ (g : Given) (stored : Present) (p : Planned) (plan : IsPlanned (job_of 
     listed_then begun Wrote = with_other (package_name here p) q unnamed g.lists p.union
     listed_then begun Restored = with_other (package_name here p) q unnamed (with_list (package_name here p) p.union g.lists) p.listed ∙ with_other (package_name here p) q unnamed g.lists p.union
 
-    -- a package that keeps its places is none of those that lose some
-    pub no_loser : KeepsPlaces g q → (works : List Work) (begun : State) (stage : Stage) → IsRearranged p.works works → Contains (unit_losers here p works (lists_at (task_from here p begun) stage)) q → ⊥
-    no_loser (inl stays) works begun stage moved loses = stays (among_kept (is_other_package (package_name here p)) here.yields q (among_kept _ (yields_beside (package_name here p) here.yields) q loses))
-    no_loser (inr apart) works begun stage moved loses =
+    -- a package that loses places yields, and lists a path at one of them
+    pub loses_places : (works : List Work) (begun : State) (stage : Stage) → IsRearranged p.works works → Contains (unit_losers here p works (lists_at (task_from here p begun) stage)) q → LosesPlaces g q (taken_places works)
+    loses_places works begun stage moved has =
         let had = lists_at (task_from here p begun) stage in
-        let any = kept_passes (λ n. list_any (is_at g.entries (taken_places works) n) (paths_of had n)) (yields_beside (package_name here p) here.yields) q loses in
-        let one = any_of (is_at g.entries (taken_places works) q) (paths_of had q) any in
-        let at = place g.entries q one.0 in
-        apart one.0 (subst (λ (l : List Path). Contains l one.0) (listed_then begun stage) one.1)
-        (subst (λ (l : List Work). Contains (places_of l) at) works_are
-        (place_in (places_of p.works) works at (places_listed [] p.works works moved) (taken_among works at (among_has (taken_places works) at one.2))))
+        let other_yields = yields_beside (package_name here p) here.yields in
+        let lists_one : List PackageList → List ℕ → Bool = λ l n. list_any (is_at g.entries (taken_places works) n) (paths_of l n) in
+        record {
+          shipped = λ at taken. taken_shipped works at moved taken;
+          loses = kept_among (lists_one g.lists) here.yields q (among_kept (is_other_package (package_name here p)) here.yields q (among_kept _ other_yields q has))
+              (ap (λ (l : List Path). list_any (is_at g.entries (taken_places works) q) l) (sym (listed_then begun stage)) ∙ kept_passes (lists_one had) other_yields q has);
+        }
+
+    -- so one that keeps its places is none of them
+    pub no_loser : KeepsPlaces g q → (works : List Work) (begun : State) (stage : Stage) → IsRearranged p.works works → Contains (unit_losers here p works (lists_at (task_from here p begun) stage)) q → ⊥
+    no_loser keeps works begun stage moved has = keeps_or_loses g q (taken_places works) keeps (loses_places works begun stage moved has)
 
   -- the old paths that go, and the names that are cleared
 

@@ -1,6 +1,7 @@
 -- What a unit of an unpack has in hand, by what is given to it (Policy 6.6, 7.6).
-use Rattle.std.specs.Prelude.{◌≡◌, ◌⊎◌, ℕ, false, List, ◌++◌, Option, Contains}
+use Rattle.std.specs.Prelude.{◌≡◌, ◌⊎◌, not, ℕ, false, List, ◌++◌, Option, Some, Contains, filter}
 use Rattle.host_core.specs.Paths.{Path}
+use Rattle.host_core.specs.World.{is_directory}
 use Rattle.administration.specs.Places.{home_path, is_within}
 use Rattle.diversions.specs.Places.{place}
 use Rattle.file_check.specs.Ships.{shipped_works}
@@ -10,7 +11,7 @@ use Rattle.file_works.specs.Files.{Each, Misses}
 use Rattle.file_works.specs.declared.work.Work.{Work}
 use Rattle.status_db.specs.Records.{record_in}
 use Rattle.status_db.specs.declared.record.Record.{Record}
-use Rattle.unpack_commit.specs.Takeover.{yields_of}
+use Rattle.unpack_commit.specs.Takeover.{losers, yields_of}
 use Rattle.unpack_engine.specs.Units.{Given}
 use Rattle.unpack_moves.specs.Areas.{is_leaving_place}
 use Rattle.unpack_plan.specs.Lists.{IsAfter, old_leaving}
@@ -18,6 +19,10 @@ use Rattle.unpack_plan.specs.Names.{known_conffiles, left_names}
 use Rattle.unpack_plan.specs.Planned.{pairs_of}
 use Rattle.unpack_plan.specs.Records.{IsFresh}
 use Rattle.unpack_run.specs.FileMoves.{places_of}
+
+-- the places of the files and links among these works
+abbrev pub file_places : List Work → List Path
+file_places works = places_of (filter (λ x. not (is_directory (Some x.node))) works)
 
 module _ (g : Given) where
   -- the name of the package that is unpacked
@@ -35,14 +40,24 @@ module _ (g : Given) where
   abbrev pub unit_works : List Work
   unit_works = shipped_works g.entries unit_name g.«package».conffiles (pairs_of g.«package».files)
 
+  -- the places of the files and links among that
+  abbrev pub unit_file_places : List Path
+  unit_file_places = file_places unit_works
+
   -- the packages with which no path clashes: those of which only conffiles are left, and those that are given
   abbrev pub unit_yields : List (List ℕ)
   unit_yields = yields_of g.records ++ g.yields
 
-  -- a package that keeps its places: it doesn't yield, or none of its paths has its place where something is shipped
+  -- a package that keeps its places: it doesn't yield, or none of its paths has its place where a file or a link is shipped
   -- (Policy 7.6.1)
   abbrev pub KeepsPlaces : List ℕ → Type 0
-  KeepsPlaces q = (Contains unit_yields q → ⊥) ⊎ ((path : Path) → Contains (paths_of g.lists q) path → Contains (places_of unit_works) (place g.entries q path) → ⊥)
+  KeepsPlaces q = (Contains unit_yields q → ⊥) ⊎ ((path : Path) → Contains (paths_of g.lists q) path → Contains unit_file_places (place g.entries q path) → ⊥)
+
+  -- a package that loses its paths at these places: they are of shipped files and links, it yields, and it lists a path at one of
+  -- them (Policy 7.6)
+  pub record LosesPlaces (q : List ℕ) (taken : List Path) : Type 0 where
+    pub shipped : (at : Path) → Contains taken at → Contains unit_file_places at
+    pub loses : Contains (losers g.entries taken g.lists unit_yields) q
 
   -- it is no place of an old path that goes, whichever the new list is (Policy 6.6, step 6)
   abbrev pub IsNoLeaving : Path → Type 0

@@ -9,8 +9,8 @@ use Rattle.std.proofs.lemmas.Slice.Eq.{bytes_eq-Decides}
 use Rattle.dependency_check.specs.Deconfigured.{IsPlan}
 use Rattle.dependency_check.specs.declared.plan.Plan.{Plan}
 use Rattle.recorded_packages.specs.Packages.{ArePackagesOf}
+use Rattle.relation_index.specs.Packages.{AreInNameOrder}
 use Rattle.relation_index.specs.declared.package.Package.{Package}
-use Rattle.status_db.specs.Order.{AreInOrder}
 use Rattle.status_db.specs.Records.{record_in}
 use Rattle.status_db.specs.declared.record.Record.{Record}
 use Rattle.unpack_relations.specs.Beside.{IsBeside, name_at}
@@ -55,14 +55,14 @@ module _ (records : List Record) (packages : List Package) (incoming : Package) 
       ap (λ (l : List (List ℕ)). l ++ (map (λ d. d.name) b.dependents.items ++ b.conflicting)) named.broken ∙ ap (λ (l : List (List ℕ)). map name plan.broken ++ l) later
       ∙ sym (map-append name plan.broken (numbers ++ plan.conflicting))
 
-  beside_apart : AreInOrder records → AreApart incoming.name records b
+  beside_apart : AreInNameOrder packages → AreApart incoming.name records b
   beside_apart order = record {
     distinct = subst (λ (l : List (List ℕ)). AreDistinct (incoming.name ∷ l)) (sym names_numbered) (
       λ c.
           let found = contains_name (name_at packages) (numbers_beside plan) incoming.name c in
           other_named packages incoming found.0 (plan_other packages incoming plan is found.0 found.1) found.2,
       names_distinct (name_at packages) (numbers_beside plan)
-          (λ x y one other same. named_apart records packages are order x y (plan_other packages incoming plan is x one).1 (plan_other packages incoming plan is y other).1 same)
+          (λ x y one other same. named_apart packages order x y (plan_other packages incoming plan is x one).1 (plan_other packages incoming plan is y other).1 same)
           (plan_unlike packages incoming plan is),
     );
     recorded = subst (All (λ q. is_some (record_in records q) ≡ true)) (sym names_numbered) (
@@ -72,8 +72,7 @@ module _ (records : List Record) (packages : List Package) (incoming : Package) 
         );
   }
 
-pub checked_apart : (records : List Record) (packages : List Package) (incoming : Package) (auto_deconfigure : Bool) (name : List ℕ) (checked : Checked) → AreInOrder records → ArePackagesOf records packages
-    → incoming.name ≡ name → IsCheckedBy packages incoming auto_deconfigure checked → AreBesideApart name records checked
-checked_apart records packages incoming auto_deconfigure name (Refused rule) order are is by = tt
-checked_apart records packages incoming auto_deconfigure name (Planned b) order are is by =
-    subst (λ (n : List ℕ). AreApart n records b) is (beside_apart records packages incoming by.0 b are by.1.2 by.2 order)
+pub checked_apart : (records : List Record) (packages : List Package) (incoming : Package) (auto_deconfigure : Bool) (checked : Checked) → AreInNameOrder packages → ArePackagesOf records packages
+    → IsCheckedBy packages incoming auto_deconfigure checked → AreBesideApart incoming.name records checked
+checked_apart records packages incoming auto_deconfigure (Refused rule) order are by = tt
+checked_apart records packages incoming auto_deconfigure (Planned b) order are by = beside_apart records packages incoming by.0 b are by.1.2 by.2 order

@@ -1,4 +1,3 @@
-pub mod Readable
 pub mod Numbered
 pub mod Members
 pub mod Named

@@ -1,10 +1,10 @@
 -- The package of a tree, as relations see it (Policy 7.1): nothing of it is installed yet.
 use Rattle.std.specs.Prelude.{◌≡◌, false, None}
 use Rattle.package_tree.specs.declared.package.Package.{Package as Tree}
-use Rattle.recorded_packages.specs.Relations.{StatesClauses, StatesProvides, is_essential}
 use Rattle.relation_fields.specs.declared.relation_field.RelationField.TheVariants.{PreDepends, Depends, Breaks, Conflicts, Replaces}
 use Rattle.relation_index.specs.declared.package.Package.{Package}
 use Rattle.relation_index.specs.declared.package.PackageState.TheVariants.{NotInstalled}
+use Rattle.stated_relations.specs.Relations.{StatesClauses, StatesProvides, is_essential}
 
 pub record IsIncomingPackage (tree : Tree) (p : Package) : Type 0 where
   pub name : p.name ≡ tree.name
@@ -14,9 +14,9 @@ pub record IsIncomingPackage (tree : Tree) (p : Package) : Type 0 where
   pub essential : p.essential ≡ is_essential tree.control
   pub configured : p.configured ≡ None
   pub removed_since : p.removed_since ≡ false
-  pub provides : StatesProvides tree.control p.provides
-  pub pre_depends : StatesClauses PreDepends tree.control p.pre_depends
-  pub depends : StatesClauses Depends tree.control p.depends
-  pub breaks : StatesClauses Breaks tree.control p.breaks
-  pub conflicts : StatesClauses Conflicts tree.control p.conflicts
-  pub replaces : StatesClauses Replaces tree.control p.replaces
+  pub provides : ∥ StatesProvides tree.control p.provides ∥₁
+  pub pre_depends : ∥ StatesClauses PreDepends tree.control p.pre_depends ∥₁
+  pub depends : ∥ StatesClauses Depends tree.control p.depends ∥₁
+  pub breaks : ∥ StatesClauses Breaks tree.control p.breaks ∥₁
+  pub conflicts : ∥ StatesClauses Conflicts tree.control p.conflicts ∥₁
+  pub replaces : ∥ StatesClauses Replaces tree.control p.replaces ∥₁

@@ -1,5 +1,7 @@
 // Whether a tree can be unpacked beside the recorded packages.
-ghost use Rattle.std.specs.Prelude.{IfOk};
+ghost use Rattle.std.specs.Prelude.{IfOk, List};
+ghost use Rattle.recorded_packages.specs.Packages.{ArePackagesOf};
+ghost use Rattle.status_db.specs.declared.record.Record.{Record as ARecord};
 ghost use Rattle.unpack_relations.specs.Checks.{AreBesideApart, IsChecked, IsCheckedBy};
 
 use crate::beside::{Beside, beside_of};
@@ -7,9 +9,7 @@ use crate::incoming::incoming_package;
 use crate::refusal::rule_of;
 use dependency_check::{CheckFault, check_unpack};
 use package_tree::Package;
-use recorded_packages::packages_of;
 use relation_index::Packages;
-use status_db::NotedDatabase;
 use std::alloc::{AllocError, Global};
 use unit_reports::Rule;
 
@@ -26,7 +26,8 @@ fn checked_by(
     incoming: &relation_index::Package,
     auto_deconfigure: bool,
 ) -> Result<Checked, AllocError>
-    ensures { IfOk result (IsCheckedBy packages.now incoming.now auto_deconfigure) }
+    ensures checked { IfOk result (IsCheckedBy packages.now incoming.now auto_deconfigure) }
+    ensures apart { IfOk result (λ checked. (records : List ARecord) → ArePackagesOf records packages.now → AreBesideApart incoming.now.name records checked) }
 {
     let list = packages.as_slice();
     match check_unpack(alloc, packages, incoming, auto_deconfigure) {
@@ -38,20 +39,18 @@ fn checked_by(
     }
 }
 
-/// What the unpack of a tree does to other packages, or the first reason that refuses it. Packages are deconfigured only by
-/// leave.
+/// What the unpack of a tree does to other packages, or the first reason that refuses it, by the packages of the records. They are
+/// deconfigured only by leave.
 pub fn check(
     alloc: Global,
-    database: &NotedDatabase,
+    packages: &Packages,
     incoming: &Package,
     auto_deconfigure: bool,
 ) -> Result<Checked, AllocError>
-    ensures checked { IfOk result (IsChecked database.now.records incoming.now auto_deconfigure) }
-    ensures apart { IfOk result (AreBesideApart incoming.now.name database.now.records) }
+    ensures checked { IfOk result (λ checked. (records : List ARecord) → ArePackagesOf records packages.now → IsChecked records incoming.now auto_deconfigure checked) }
+    ensures apart { IfOk result (λ checked. (records : List ARecord) → ArePackagesOf records packages.now → AreBesideApart incoming.now.name records checked) }
 {
-    database.law();
-    let packages = packages_of(alloc, database.records())?;
-    let package = incoming_package(alloc, incoming)?;
-    let checked = checked_by(alloc, &packages, &package, auto_deconfigure)?;
+    let package = incoming_package(incoming)?;
+    let checked = checked_by(alloc, packages, &package, auto_deconfigure)?;
     Ok(checked)
 }

@@ -1,8 +1,13 @@
-use Rattle.std.proofs.Common.{List, subst}
+use Rattle.std.proofs.Common.{List, subst, sym}
+use Rattle.recorded_packages.specs.Packages.{ArePackagesOf}
+use Rattle.relation_index.specs.declared.package.Package.{Package}
 use Rattle.configure_run.specs.Starting.{AreSilentOf}
 use Rattle.status_db.specs.declared.record.Record.{Record}
 use Rattle.configure_run.proofs.Numbers.{are_silent}
 use Rattle.configure_run.proofs.run.begun.Goals as goal
+
+pub of-requires : goal.of-requires
+of-requires g c = subst (ArePackagesOf c.args.database.now.records) (sym {A = List Package} c.replace-taken.ensures.value) c.requires.indexed
 
 pub returns-in-Ok-clause-seen : goal.returns-in-Ok-clause-seen
 returns-in-Ok-clause-seen g c honest =

@@ -10,7 +10,6 @@ use Rattle.configure_run.specs.Early.{early_refusals}
 use Rattle.configure_run.specs.Starting.{AreSilent}
 use Rattle.configure_run.specs.Run.{HasRun}
 use Rattle.configure_run.proofs.Moments.{answered_then, order_read, silent_here}
-use Rattle.configure_run.proofs.Numbers.{are_waiting}
 use Rattle.configure_run.proofs.Refusals.{all_refused}
 use Rattle.configure_run.proofs.Replies.{broken_by, counts_broken_by, counts_from, counts_no_memory, fault_not_closed, not_closed_by}
 use Rattle.configure_run.proofs.Runs.{reads_here, since_run, since_run_reads, since_run_start}
@@ -18,38 +17,35 @@ use Rattle.configure_run.proofs.Told.{refused_calls, some_refused_calls, tells_n
 use Rattle.configure_run.proofs.Units.{no_calls}
 use Rattle.configure_run.proofs.run.run_all.Goals as goal
 
-pub run_turns-requires-clause-wait : goal.run_turns-requires-clause-wait
-run_turns-requires-clause-wait g c = are_waiting c.args.names.now c.args.database.now.records c.in-Ok-begun.turns c.in-Ok-begun.ensures.begun c.law.ensures.order
+pub run_and_renew-requires-clause-order : goal.run_and_renew-requires-clause-order
+run_and_renew-requires-clause-order g c = order_read (held c.args.database.now c.args.lists.now c.args.diversions.now) (g.H.Host.state c.args.host.now) (g.H.Host.state c.begun.new.host) c.begun.ensures.reads c.requires.order
 
-pub run_turns-requires-clause-order : goal.run_turns-requires-clause-order
-run_turns-requires-clause-order g c = order_read (held c.args.database.now c.args.lists.now c.args.diversions.now) (g.H.Host.state c.args.host.now) (g.H.Host.state c.begun.new.host) c.begun.ensures.reads c.requires.order
+pub returns-in-Ok-run_and_renew-clause-ok : goal.returns-in-Ok-run_and_renew-clause-ok
+returns-in-Ok-run_and_renew-clause-ok g c = record { first = c.refuse_first.new.units.items; refused = c.in-Ok.ensures.ok; silent = (has c.as_slice.result.now); start = c.in-Ok-begun.turns; looked = (g.H.Host.state c.begun.new.host); begins = (record { begun = c.in-Ok-begun.ensures.begun; looks = c.begun.ensures.reads; quiet = c.begun.ensures.silent; seen = subst (λ (l : List Bool). IsTrue (g.H.Host.state c.begun.new.host).honest → AreSilent (g.H.Host.state c.args.host.now).world c.in-Ok-begun.turns (has l)) (sym c.as_slice.ensures.value) c.in-Ok-begun.ensures.seen }); turns = c.in-Ok-run_and_renew.ensures.ok }
 
-pub returns-in-Ok-run_turns-clause-ok : goal.returns-in-Ok-run_turns-clause-ok
-returns-in-Ok-run_turns-clause-ok g c = record { first = c.refuse_first.new.units.items; refused = c.in-Ok.ensures.ok; silent = (has c.as_slice.result.now); start = c.in-Ok-begun.turns; looked = (g.H.Host.state c.begun.new.host); begins = (record { begun = c.in-Ok-begun.ensures.begun; looks = c.begun.ensures.reads; quiet = c.begun.ensures.silent; seen = subst (λ (l : List Bool). IsTrue (g.H.Host.state c.begun.new.host).honest → AreSilent (g.H.Host.state c.args.host.now).world c.in-Ok-begun.turns (has l)) (sym c.as_slice.ensures.value) c.in-Ok-begun.ensures.seen }); turns = c.in-Ok-run_turns.ensures.ok }
+pub returns-in-Ok-run_and_renew-clause-answered : goal.returns-in-Ok-run_and_renew-clause-answered
+returns-in-Ok-run_and_renew-clause-answered g c = answered_then (g.H.Host.state c.args.host.now) (g.H.Host.state c.begun.new.host) (g.H.Host.state c.run_and_renew.new.host) (inr c.begun.ensures.reads) c.in-Ok-run_and_renew.ensures.answered
 
-pub returns-in-Ok-run_turns-clause-answered : goal.returns-in-Ok-run_turns-clause-answered
-returns-in-Ok-run_turns-clause-answered g c = answered_then (g.H.Host.state c.args.host.now) (g.H.Host.state c.begun.new.host) (g.H.Host.state c.run_turns.new.host) (inr c.begun.ensures.reads) c.in-Ok-run_turns.ensures.answered
+pub returns-in-Ok-run_and_renew-clause-told : goal.returns-in-Ok-run_and_renew-clause-told
+returns-in-Ok-run_and_renew-clause-told g c = tells_then (g.H.Host.state c.args.host.now) (g.H.Host.state c.begun.new.host) (g.H.Host.state c.run_and_renew.new.host) [] (calls_of c.refuse_first.new.units.items) (calls_of c.run_and_renew.new.units.items) (tells_silent (g.H.Host.state c.args.host.now) (g.H.Host.state c.begun.new.host) [] (calls_of c.refuse_first.new.units.items) c.begun.ensures.silent (refused_calls (early_refusals c.args.database.now.records (each_once c.args.names.now)) c.refuse_first.new.units.items c.in-Ok.ensures.ok)) c.in-Ok-run_and_renew.ensures.told
 
-pub returns-in-Ok-run_turns-clause-told : goal.returns-in-Ok-run_turns-clause-told
-returns-in-Ok-run_turns-clause-told g c = tells_then (g.H.Host.state c.args.host.now) (g.H.Host.state c.begun.new.host) (g.H.Host.state c.run_turns.new.host) [] (calls_of c.refuse_first.new.units.items) (calls_of c.run_turns.new.units.items) (tells_silent (g.H.Host.state c.args.host.now) (g.H.Host.state c.begun.new.host) [] (calls_of c.refuse_first.new.units.items) c.begun.ensures.silent (refused_calls (early_refusals c.args.database.now.records (each_once c.args.names.now)) c.refuse_first.new.units.items c.in-Ok.ensures.ok)) c.in-Ok-run_turns.ensures.told
+pub returns-in-Ok-run_and_renew-clause-any_moment : goal.returns-in-Ok-run_and_renew-clause-any_moment
+returns-in-Ok-run_and_renew-clause-any_moment g c = since_run c.args.names.now c.args.policy (held c.args.database.now c.args.lists.now c.args.diversions.now) (has c.as_slice.result.now) c.in-Ok-begun.turns (g.H.Host.state c.args.host.now) (g.H.Host.state c.begun.new.host) (g.H.Host.state c.run_and_renew.new.host) (record { begun = c.in-Ok-begun.ensures.begun; looks = c.begun.ensures.reads; quiet = c.begun.ensures.silent; seen = subst (λ (l : List Bool). IsTrue (g.H.Host.state c.begun.new.host).honest → AreSilent (g.H.Host.state c.args.host.now).world c.in-Ok-begun.turns (has l)) (sym c.as_slice.ensures.value) c.in-Ok-begun.ensures.seen }) c.run_and_renew.ensures.any_moment
 
-pub returns-in-Ok-run_turns-clause-any_moment : goal.returns-in-Ok-run_turns-clause-any_moment
-returns-in-Ok-run_turns-clause-any_moment g c = since_run c.args.names.now c.args.policy (held c.args.database.now c.args.lists.now c.args.diversions.now) (has c.as_slice.result.now) c.in-Ok-begun.turns (g.H.Host.state c.args.host.now) (g.H.Host.state c.begun.new.host) (g.H.Host.state c.run_turns.new.host) (record { begun = c.in-Ok-begun.ensures.begun; looks = c.begun.ensures.reads; quiet = c.begun.ensures.silent; seen = subst (λ (l : List Bool). IsTrue (g.H.Host.state c.begun.new.host).honest → AreSilent (g.H.Host.state c.args.host.now).world c.in-Ok-begun.turns (has l)) (sym c.as_slice.ensures.value) c.in-Ok-begun.ensures.seen }) c.run_turns.ensures.any_moment
-
-pub returns-in-Ok-run_turns-clause-no_fault : goal.returns-in-Ok-run_turns-clause-no_fault
-returns-in-Ok-run_turns-clause-no_fault g c = c.in-Ok-run_turns.ensures.no_fault ∙ c.in-Ok-begun.ensures.counts
+pub returns-in-Ok-run_and_renew-clause-no_fault : goal.returns-in-Ok-run_and_renew-clause-no_fault
+returns-in-Ok-run_and_renew-clause-no_fault g c = c.in-Ok-run_and_renew.ensures.no_fault ∙ c.in-Ok-begun.ensures.counts
 
 pub returns-in-Ok-begun-clause-err : goal.returns-in-Ok-begun-clause-err
-returns-in-Ok-begun-clause-err g c = HasRun.turning c.refuse_first.new.units.items c.in-Ok.ensures.ok (has c.as_slice.result.now) c.in-Ok-begun.turns (g.H.Host.state c.begun.new.host) (record { begun = c.in-Ok-begun.ensures.begun; looks = c.begun.ensures.reads; quiet = c.begun.ensures.silent; seen = subst (λ (l : List Bool). IsTrue (g.H.Host.state c.begun.new.host).honest → AreSilent (g.H.Host.state c.args.host.now).world c.in-Ok-begun.turns (has l)) (sym c.as_slice.ensures.value) c.in-Ok-begun.ensures.seen }) c.in-Err-run_turns.ensures.err
+returns-in-Ok-begun-clause-err g c = HasRun.turning c.refuse_first.new.units.items c.in-Ok.ensures.ok (has c.as_slice.result.now) c.in-Ok-begun.turns (g.H.Host.state c.begun.new.host) (record { begun = c.in-Ok-begun.ensures.begun; looks = c.begun.ensures.reads; quiet = c.begun.ensures.silent; seen = subst (λ (l : List Bool). IsTrue (g.H.Host.state c.begun.new.host).honest → AreSilent (g.H.Host.state c.args.host.now).world c.in-Ok-begun.turns (has l)) (sym c.as_slice.ensures.value) c.in-Ok-begun.ensures.seen }) c.in-Err-run_and_renew.ensures.err
 
 pub returns-in-Ok-begun-clause-told_broken : goal.returns-in-Ok-begun-clause-told_broken
-returns-in-Ok-begun-clause-told_broken g c = tells_then (g.H.Host.state c.args.host.now) (g.H.Host.state c.begun.new.host) (g.H.Host.state c.run_turns.new.host) [] (calls_of c.refuse_first.new.units.items) (calls_of c.run_turns.new.units.items ++ c.in-Err-run_turns.unit.calls.items) (tells_silent (g.H.Host.state c.args.host.now) (g.H.Host.state c.begun.new.host) [] (calls_of c.refuse_first.new.units.items) c.begun.ensures.silent (refused_calls (early_refusals c.args.database.now.records (each_once c.args.names.now)) c.refuse_first.new.units.items c.in-Ok.ensures.ok)) c.in-Err-run_turns.ensures.told_broken
+returns-in-Ok-begun-clause-told_broken g c = tells_then (g.H.Host.state c.args.host.now) (g.H.Host.state c.begun.new.host) (g.H.Host.state c.run_and_renew.new.host) [] (calls_of c.refuse_first.new.units.items) (calls_of c.run_and_renew.new.units.items ++ c.in-Err-run_and_renew.unit.calls.items) (tells_silent (g.H.Host.state c.args.host.now) (g.H.Host.state c.begun.new.host) [] (calls_of c.refuse_first.new.units.items) c.begun.ensures.silent (refused_calls (early_refusals c.args.database.now.records (each_once c.args.names.now)) c.refuse_first.new.units.items c.in-Ok.ensures.ok)) c.in-Err-run_and_renew.ensures.told_broken
 
 pub returns-in-Ok-begun-clause-any_moment : goal.returns-in-Ok-begun-clause-any_moment
-returns-in-Ok-begun-clause-any_moment g c = since_run c.args.names.now c.args.policy (held c.args.database.now c.args.lists.now c.args.diversions.now) (has c.as_slice.result.now) c.in-Ok-begun.turns (g.H.Host.state c.args.host.now) (g.H.Host.state c.begun.new.host) (g.H.Host.state c.run_turns.new.host) (record { begun = c.in-Ok-begun.ensures.begun; looks = c.begun.ensures.reads; quiet = c.begun.ensures.silent; seen = subst (λ (l : List Bool). IsTrue (g.H.Host.state c.begun.new.host).honest → AreSilent (g.H.Host.state c.args.host.now).world c.in-Ok-begun.turns (has l)) (sym c.as_slice.ensures.value) c.in-Ok-begun.ensures.seen }) c.run_turns.ensures.any_moment
+returns-in-Ok-begun-clause-any_moment g c = since_run c.args.names.now c.args.policy (held c.args.database.now c.args.lists.now c.args.diversions.now) (has c.as_slice.result.now) c.in-Ok-begun.turns (g.H.Host.state c.args.host.now) (g.H.Host.state c.begun.new.host) (g.H.Host.state c.run_and_renew.new.host) (record { begun = c.in-Ok-begun.ensures.begun; looks = c.begun.ensures.reads; quiet = c.begun.ensures.silent; seen = subst (λ (l : List Bool). IsTrue (g.H.Host.state c.begun.new.host).honest → AreSilent (g.H.Host.state c.args.host.now).world c.in-Ok-begun.turns (has l)) (sym c.as_slice.ensures.value) c.in-Ok-begun.ensures.seen }) c.run_and_renew.ensures.any_moment
 
 pub returns-in-Ok-begun-clause-counts : goal.returns-in-Ok-begun-clause-counts
-returns-in-Ok-begun-clause-counts g c = counts_from c.in-Err-run_turns.unit.reply (g.H.Host.state c.args.host.now) (g.H.Host.state c.begun.new.host) (g.H.Host.state c.run_turns.new.host) c.in-Ok-begun.ensures.counts c.in-Err-run_turns.ensures.counts
+returns-in-Ok-begun-clause-counts g c = counts_from c.in-Err-run_and_renew.unit.reply (g.H.Host.state c.args.host.now) (g.H.Host.state c.begun.new.host) (g.H.Host.state c.run_and_renew.new.host) c.in-Ok-begun.ensures.counts c.in-Err-run_and_renew.ensures.counts
 
 pub returns-in-Ok-clause-err : goal.returns-in-Ok-clause-err
 returns-in-Ok-clause-err g c = HasRun.refusing (all_refused (early_refusals c.args.database.now.records (each_once c.args.names.now)) c.refuse_first.new.units.items c.in-Ok.ensures.ok) c.begun.ensures.reads (record { broken = broken_by _ c.broken.result.reply c.broken.ensures.reply; untouched = c.broken.ensures.touched; none = record { silent = c.begun.ensures.silent; told = (c.broken.ensures.told ∙ c.new.ensures.items) } })

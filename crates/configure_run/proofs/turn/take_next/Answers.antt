@@ -6,7 +6,9 @@ use Rattle.host_core.specs.Moments.{since_start, since_weaker}
 use Rattle.unit_reports.specs.Held.{held}
 use Rattle.configure_run.specs.Taking.{IsAmidTurn}
 use Rattle.configure_run.specs.Turns.{IsAmidNext}
+use Rattle.configure_run.proofs.Members.{member_waits}
 use Rattle.configure_run.proofs.Moments.{silent_here, still_here}
+use Rattle.configure_run.proofs.Others.{turn_leaves}
 use Rattle.configure_run.proofs.Replies.{broken_by, counts_no_memory, not_closed_by}
 use Rattle.configure_run.proofs.Taking.{amid_next, broken_at, takes_one}
 use Rattle.configure_run.proofs.Told.{tells_silent}
@@ -21,6 +23,9 @@ take_turn-requires-clause-member g c = subst (λ o. IfSome o (IsConfigurableNow 
 pub returns-in-Ok-clause-ok : goal.returns-in-Ok-clause-ok
 returns-in-Ok-clause-ok g c = takes_one c.args.policy (has c.args.silent.now) c.args.turns.now c.in-Ok-Some.number c.in-Ok.done (held c.args.database.now c.args.lists.now c.args.diversions.now) (held c.take_turn.new.database c.take_turn.new.lists c.args.diversions.now) (g.H.Host.state c.args.host.now) (g.H.Host.state c.take_turn.new.host) c.args.units.now.items c.take_turn.new.units.items (subst (λ o. IsNextOfConfigurable c.args.turns.now (has c.args.silent.now) o) c.in-Ok-Some.field-0-is c.in-Ok-Some.ensures.next) c.in-Ok.ensures.ok
 
+pub returns-in-Ok-clause-others : goal.returns-in-Ok-clause-others
+returns-in-Ok-clause-others g c = turn_leaves c.args.policy c.args.turns.now c.in-Ok-Some.number c.in-Ok.done (held c.args.database.now c.args.lists.now c.args.diversions.now) (held c.take_turn.new.database c.take_turn.new.lists c.args.diversions.now) (g.H.Host.state c.args.host.now) (g.H.Host.state c.take_turn.new.host) c.args.units.now.items c.take_turn.new.units.items (member_waits c.args.turns.now c.in-Ok-Some.number (subst (λ o. IfSome o (IsConfigurableNow c.args.turns.now)) c.in-Ok-Some.field-0-is c.in-Ok-Some.ensures.member)) c.in-Ok.ensures.ok
+
 pub returns-in-Ok-clause-any_moment : goal.returns-in-Ok-clause-any_moment
 returns-in-Ok-clause-any_moment g c = since_weaker (IsAmidTurn c.args.policy c.args.turns.now c.in-Ok-Some.number (held c.args.database.now c.args.lists.now c.args.diversions.now) (g.H.Host.state c.args.host.now).world) (IsAmidNext c.args.policy (has c.args.silent.now) c.args.turns.now (held c.args.database.now c.args.lists.now c.args.diversions.now) (g.H.Host.state c.args.host.now).world) (g.H.Host.state c.args.host.now) (g.H.Host.state c.take_turn.new.host) (λ x w amid. amid_next c.args.policy (has c.args.silent.now) c.args.turns.now c.in-Ok-Some.number (held c.args.database.now c.args.lists.now c.args.diversions.now) (g.H.Host.state c.args.host.now).world x w (subst (λ o. IsNextOfConfigurable c.args.turns.now (has c.args.silent.now) o) c.in-Ok-Some.field-0-is c.in-Ok-Some.ensures.next) amid) c.take_turn.ensures.any_moment
 
@@ -32,6 +37,9 @@ returns-in-Err-take_turn-clause-any_moment g c = since_weaker (IsAmidTurn c.args
 
 pub returns-in-Ok-None-clause-ok : goal.returns-in-Ok-None-clause-ok
 returns-in-Ok-None-clause-ok g c = record { none = (subst (λ o. IsNextOfConfigurable c.args.turns.now (has c.args.silent.now) o) c.in-Ok-None.field-0-is c.in-Ok-None.ensures.next); same_units = refl; same_held = refl; same = refl }
+
+pub returns-in-Ok-None-clause-others : goal.returns-in-Ok-None-clause-others
+returns-in-Ok-None-clause-others g c name none = refl
 
 pub returns-in-Ok-None-clause-none_left : goal.returns-in-Ok-None-clause-none_left
 returns-in-Ok-None-clause-none_left g c = λ none. c.in-Ok-None.ensures.none_left c.in-Ok-None.field-0-is

@@ -16,6 +16,7 @@ use Rattle.configure_run.specs.Taking.{TakesNext}
 use Rattle.configure_run.specs.Turns.{HaveTurned, IsAmidNext, StopTurns, after_turn}
 use Rattle.configure_run.proofs.Members.{member_waits}
 use Rattle.configure_run.proofs.Moments.{answered_here, answered_then, still_here}
+use Rattle.configure_run.proofs.Others.{Leave, leave_more, none_left_out, others_then}
 use Rattle.configure_run.proofs.Progress.{count, fewer_wait, no_turn, one_turn_more, since_turns, since_turns_start}
 use Rattle.configure_run.proofs.Replies.{broken_by, counts_from, counts_no_memory, not_closed_by}
 use Rattle.configure_run.proofs.Taking.{none_more}
@@ -27,6 +28,7 @@ pub loop-taken-init : goal.loop-taken-init
 loop-taken-init g c = record {
   turned = no_turn c.args.policy (has c.args.silent.now) c.args.turns (held c.args.database.now c.args.lists.now c.args.diversions.now) (g.H.Host.state c.args.host.now) c.args.units.now.items;
   wait = c.requires.wait;
+  leaves = none_left_out c.args.turns c.args.database.now.records;
   no_fault = refl;
   told = tells_none (g.H.Host.state c.args.host.now) (g.H.Host.state c.args.host.now) (calls_of c.args.units.now.items) (calls_of c.args.units.now.items) refl refl;
   order = c.requires.order;
@@ -48,6 +50,7 @@ pub loop-taken-preserved : goal.loop-taken-preserved
 loop-taken-preserved g c = record {
   turned = subst (λ (w : Waiting). HaveTurned c.args.policy (has c.args.silent.now) c.args.turns (held c.args.database.now c.args.lists.now c.args.diversions.now) (g.H.Host.state c.args.host.now) c.args.units.now.items c.take_next.new.units.items w (held c.take_next.new.database c.take_next.new.lists c.args.diversions.now) (g.H.Host.state c.take_next.new.host)) (sym c.in-Ok.ensures) (one_turn_more c.args.policy (has c.args.silent.now) c.args.turns (held c.args.database.now c.args.lists.now c.args.diversions.now) (g.H.Host.state c.args.host.now) c.args.units.now.items c.loop-taken.units.items c.take_next.new.units.items c.loop-taken.turns (after_turn c.in-Ok-Some.taken.1 c.in-Ok-Some.taken.0 c.loop-taken.turns) (held c.loop-taken.database c.loop-taken.lists c.args.diversions.now) (held c.take_next.new.database c.take_next.new.lists c.args.diversions.now) (g.H.Host.state c.loop-taken.host) (g.H.Host.state c.take_next.new.host) c.loop-taken.invariant.turned (subst (λ (o : Option (ℕ × Bool)). TakesNext c.args.policy (has c.args.silent.now) c.loop-taken.turns o (held c.loop-taken.database c.loop-taken.lists c.args.diversions.now) (held c.take_next.new.database c.take_next.new.lists c.args.diversions.now) (g.H.Host.state c.loop-taken.host) (g.H.Host.state c.take_next.new.host) c.loop-taken.units.items c.take_next.new.units.items) c.in-Ok-Some.field-0-is c.in-Ok-Some.ensures.ok));
   wait = subst (λ (w : Waiting). AreWaiting w c.take_next.new.database.records) (sym c.in-Ok.ensures) (subst (λ (o : Option (ℕ × Bool)). IfSome o (λ n. AreWaiting (after_turn n.1 n.0 c.loop-taken.turns) c.take_next.new.database.records)) c.in-Ok-Some.field-0-is c.in-Ok-Some.ensures.wait);
+  leaves = subst (λ (w : Waiting). Leave c.args.turns w c.args.database.now.records c.take_next.new.database.records) (sym c.in-Ok.ensures) (leave_more c.args.turns c.loop-taken.turns c.in-Ok-Some.taken.0 c.in-Ok-Some.taken.1 c.args.database.now.records c.loop-taken.database.records c.take_next.new.database.records c.loop-taken.invariant.leaves c.in-Ok-Some.ensures.others);
   no_fault = c.in-Ok-Some.ensures.no_fault ∙ c.loop-taken.invariant.no_fault;
   told = (tells_then (g.H.Host.state c.args.host.now) (g.H.Host.state c.loop-taken.host) (g.H.Host.state c.take_next.new.host) (calls_of c.args.units.now.items) (calls_of c.loop-taken.units.items) (calls_of c.take_next.new.units.items) c.loop-taken.invariant.told c.in-Ok-Some.ensures.told);
   order = c.in-Ok-Some.ensures.order;
@@ -82,6 +85,12 @@ returns-in-Ok-None-clause-ended g c = (subst (λ (o : Option (ℕ × Bool)). Tak
 
 pub returns-in-Ok-None-clause-none_left : goal.returns-in-Ok-None-clause-none_left
 returns-in-Ok-None-clause-none_left g c = c.in-Ok-None.ensures.none_left c.in-Ok-None.field-0-is
+
+pub returns-in-Ok-None-clause-packages : goal.returns-in-Ok-None-clause-packages
+returns-in-Ok-None-clause-packages g c = c.loop-taken.invariant.leaves.packages
+
+pub returns-in-Ok-None-clause-others : goal.returns-in-Ok-None-clause-others
+returns-in-Ok-None-clause-others g c = others_then c.args.turns c.loop-taken.turns c.args.database.now.records c.loop-taken.database.records c.take_next.new.database.records c.loop-taken.invariant.leaves c.in-Ok-None.ensures.others
 
 pub returns-in-Ok-None-clause-answered : goal.returns-in-Ok-None-clause-answered
 returns-in-Ok-None-clause-answered g c = subst (λ (x : State). IsAnswered (g.H.Host.state c.args.host.now) x) (sym (subst (λ (o : Option (ℕ × Bool)). TakesNext c.args.policy (has c.args.silent.now) c.loop-taken.turns o (held c.loop-taken.database c.loop-taken.lists c.args.diversions.now) (held c.take_next.new.database c.take_next.new.lists c.args.diversions.now) (g.H.Host.state c.loop-taken.host) (g.H.Host.state c.take_next.new.host) c.loop-taken.units.items c.take_next.new.units.items) c.in-Ok-None.field-0-is c.in-Ok-None.ensures.ok).same) c.loop-taken.invariant.answered

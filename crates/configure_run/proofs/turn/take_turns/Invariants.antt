@@ -11,6 +11,7 @@ use Rattle.unit_reports.specs.Watching.{AddsTold}
 use Rattle.unwind_stack.specs.Transcript.{TellsAll}
 use Rattle.configure_run.specs.Starting.{AreWaiting}
 use Rattle.configure_run.specs.Turns.{HaveTurned, IsAmidTurns}
+use Rattle.configure_run.proofs.Others.{Leave}
 use Rattle.configure_run.proofs.Progress.{count}
 use Rattle.configure_run.proofs.turn.take_turns.Given as goal
 
@@ -23,6 +24,7 @@ invariant-loop-taken g l =
     record {
       turned : HaveTurned l.policy (has l.silent) l.initial.turns before old l.fn.units.items l.units.items l.turns mid now;
       wait : AreWaiting l.turns l.database.records;
+      leaves : Leave l.initial.turns l.turns l.fn.database.records l.database.records;
       no_fault : faults now ≡ faults old;
       told : TellsAll old now (calls_of l.fn.units.items) (calls_of l.units.items);
       order : Needs now (IsInOrder l.database l.lists.lists);

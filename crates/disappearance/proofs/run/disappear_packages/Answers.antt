@@ -20,6 +20,7 @@ loop-one-init g c =
       kept = c.requires.kept;
       noting = c.requires.noting;
       listing = c.requires.listing;
+      indexed = c.requires.indexed;
       moments = amid_start c.args.incoming.now c.args.version.now c.args.diversions.now.entries c.args.losing.now d f.lists (holding d f) old told c.requires.order;
       counts = refl;
     }
@@ -50,6 +51,7 @@ loop-one-preserved g c =
       kept = c.in-Ok.ensures.kept;
       noting = c.in-Ok.ensures.noting;
       listing = c.in-Ok.ensures.listing;
+      indexed = c.in-Ok.ensures.indexed;
       moments = amid_more incoming version entries losing i x c.loop-one-test.true c.one-item.is l.names l.failed before mid old now told l.told.items inv.disappeared new inv.moments c.disappear.ensures.any_moment;
       counts = c.in-Ok.ensures.counts ∙ inv.counts;
     }

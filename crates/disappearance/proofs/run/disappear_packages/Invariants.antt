@@ -1,6 +1,7 @@
 use Rattle.std.proofs.Common.{◌≡◌, false, take}
 use Rattle.host_core.specs.Host.{Needs, Since, faults}
 use Rattle.file_lists.specs.Owners.{places_in}
+use Rattle.recorded_packages.specs.Packages.{ArePackagesOf}
 use Rattle.unit_parts.specs.Order.{IsInOrder}
 use Rattle.unit_stages.specs.Holding.{holding}
 use Rattle.disappearance.specs.Runs.{HaveDisappeared, IsAmidDisappearances}
@@ -18,6 +19,7 @@ invariant-loop-one g l =
       kept : l.places ≡ places_in entries l.lists.lists;
       noting : l.database.closed ≡ false;
       listing : l.lists.closed ≡ false;
+      indexed : ArePackagesOf l.database.records l.packages;
       moments : Since (IsAmidDisappearances l.incoming l.version entries l.losing before old) old now;
       counts : faults now ≡ faults old;
     }

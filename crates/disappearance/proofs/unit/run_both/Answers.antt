@@ -1,5 +1,7 @@
-use Rattle.unit_stages.specs.Holding.{holding}
-use Rattle.disappearance.proofs.Both.{behind_moments, behind_told, both_ran, calling_moments, gone_fit}
+use Rattle.std.proofs.Common.{subst, sym}
+use Rattle.recorded_packages.specs.Packages.{ArePackagesOf}
+use Rattle.unit_stages.specs.Holding.{Holding, holding}
+use Rattle.disappearance.proofs.Both.{behind_moments, behind_told, both_ran, calling_moments, gone_fit, same}
 use Rattle.disappearance.proofs.Plans.{call_settleable}
 use Rattle.disappearance.proofs.unit.run_both.Goals as goal
 
@@ -19,6 +21,13 @@ pub take_away-requires-clause-fit : goal.take_away-requires-clause-fit
 take_away-requires-clause-fit g c =
     gone_fit c.args.name.now c.args.diversions.now.entries c.args.plan.call.items c.args.plan.gone.items (holding c.args.database.now c.args.lists.now) (g.H.Host.state c.args.host.now) c.requires.planned.0 c.requires.planned.1.calls
     c.in-Ok.failed (holding c.run_stages.new.database c.run_stages.new.lists) (g.H.Host.state c.run_stages.new.host) c.args.told.now.items c.run_stages.new.told.items c.in-Ok.ensures.ran c.requires.planned.1.gone_fits
+
+pub take_away-requires-clause-indexed : goal.take_away-requires-clause-indexed
+take_away-requires-clause-indexed g c =
+    subst (λ (h : Holding). ArePackagesOf h.records c.args.packages.now)
+    (sym (same c.args.name.now c.args.diversions.now.entries c.args.plan.call.items c.args.plan.gone.items (holding c.args.database.now c.args.lists.now) (g.H.Host.state c.args.host.now) c.requires.planned.0 c.requires.planned.1.calls
+    c.in-Ok.failed (holding c.run_stages.new.database c.run_stages.new.lists) (g.H.Host.state c.run_stages.new.host) c.args.told.now.items c.run_stages.new.told.items c.in-Ok.ensures.ran))
+    c.requires.indexed
 
 pub take_away-requires-clause-quiet : goal.take_away-requires-clause-quiet
 take_away-requires-clause-quiet g c = (c.requires.planned.1.entry, c.requires.planned.1.goes)

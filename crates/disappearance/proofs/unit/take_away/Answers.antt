@@ -1,5 +1,6 @@
 use Rattle.unit_stages.specs.Holding.{holding}
-use Rattle.disappearance.proofs.Plans.{gone_begun, gone_settleable, gone_taken}
+use Rattle.disappearance.proofs.Plans.{gone_begun, gone_records, gone_settleable, gone_taken}
+use Rattle.disappearance.proofs.Renewing.{same_but}
 use Rattle.disappearance.proofs.unit.take_away.Goals as goal
 
 pub run_stages-requires-clause-settleable : goal.run_stages-requires-clause-settleable
@@ -25,3 +26,25 @@ returns-in_err-run_stages-clause-untold g c =
 pub returns-in_err-run_stages-clause-silent : goal.returns-in_err-run_stages-clause-silent
 returns-in_err-run_stages-clause-silent g c =
     (gone_begun c.args.name.now c.args.diversions.now.entries c.args.gone.items c.requires.quiet.0 c.requires.quiet.1 (g.H.Host.state c.args.host.now) (g.H.Host.state c.run_stages.new.host) c.args.told.now.items c.run_stages.new.told.items c.run_stages.ensures.told).0
+
+pub returns-in_err-renew_one-clause-untold : goal.returns-in_err-renew_one-clause-untold
+returns-in_err-renew_one-clause-untold g c =
+    (gone_begun c.args.name.now c.args.diversions.now.entries c.args.gone.items c.requires.quiet.0 c.requires.quiet.1 (g.H.Host.state c.args.host.now) (g.H.Host.state c.run_stages.new.host) c.args.told.now.items c.run_stages.new.told.items c.run_stages.ensures.told).1
+
+pub returns-in_err-renew_one-clause-silent : goal.returns-in_err-renew_one-clause-silent
+returns-in_err-renew_one-clause-silent g c =
+    (gone_begun c.args.name.now c.args.diversions.now.entries c.args.gone.items c.requires.quiet.0 c.requires.quiet.1 (g.H.Host.state c.args.host.now) (g.H.Host.state c.run_stages.new.host) c.args.told.now.items c.run_stages.new.told.items c.run_stages.ensures.told).0
+
+pub returns-clause-indexed : goal.returns-clause-indexed
+returns-clause-indexed g c =
+    let name = c.args.name.now in
+    let entries = c.args.diversions.now.entries in
+    let gone = c.args.gone.items in
+    let before = holding c.args.database.now c.args.lists.now in
+    let after = holding c.run_stages.new.database c.run_stages.new.lists in
+    let s = g.H.Host.state c.args.host.now in
+    let t = g.H.Host.state c.run_stages.new.host in
+    let now = c.run_stages.new.told.items in
+    let taken = gone_taken name entries gone c.requires.quiet.0 c.requires.quiet.1 c.in_ok-run_stages.field-0 before after s t c.args.told.now.items now c.in_ok-run_stages.ensures.ran in
+    c.in_ok-renew_one.ensures.ok c.args.database.now.records c.law.ensures.order c.requires.indexed
+    (same_but name c.args.database.now.records c.run_stages.new.database.records (gone_records name entries gone c.requires.quiet.0 c.requires.quiet.1 before after s t now now taken))

@@ -21,6 +21,9 @@ returns-clause-listing g c = not_broken c.unit_of-unit.result.reply c.is_broken.
 pub returns-clause-kept : goal.returns-clause-kept
 returns-clause-kept g c = not_broken c.unit_of-unit.result.reply c.is_broken.result c.if-is_broken.false c.is_broken.ensures c.unit_of-unit.ensures.kept
 
+pub returns-clause-indexed : goal.returns-clause-indexed
+returns-clause-indexed g c = not_broken c.unit_of-unit.result.reply c.is_broken.result c.if-is_broken.false c.is_broken.ensures c.unit_of-unit.ensures.indexed
+
 pub returns-clause-told : goal.returns-clause-told
 returns-clause-told g c =
     let unit = c.unit_of-unit.result in

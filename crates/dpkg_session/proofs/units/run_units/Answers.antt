@@ -25,6 +25,7 @@ loop-candidate-init g c =
       noting = c.requires.noting;
       listing = c.requires.listing;
       kept = c.requires.kept;
+      indexed = c.requires.indexed;
     }
 
 pub loop-candidate-preserved : goal.loop-candidate-preserved
@@ -53,6 +54,7 @@ loop-candidate-preserved g c =
       noting = c.in-Ok.ensures.noting;
       listing = c.in-Ok.ensures.listing;
       kept = c.in-Ok.ensures.kept;
+      indexed = c.in-Ok.ensures.indexed;
     }
 
 pub loop-candidate-smaller : goal.loop-candidate-smaller

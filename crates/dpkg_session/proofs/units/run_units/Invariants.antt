@@ -1,6 +1,8 @@
 use Rattle.std.proofs.Common.{◌≡◌, [], false, length}
+use Rattle.std.specs.Prelude.{IfSome}
 use Rattle.host_core.specs.Host.{faults}
 use Rattle.file_lists.specs.Owners.{places_in}
+use Rattle.recorded_packages.specs.Packages.{ArePackagesOf}
 use Rattle.unwind_stack.specs.Transcript.{TellsAll}
 use Rattle.unit_reports.specs.Held.{held}
 use Rattle.unit_reports.specs.Units.{calls_of}
@@ -24,6 +26,7 @@ invariant-loop-candidate g l =
       noting : l.database.closed ≡ false;
       listing : l.lists.closed ≡ false;
       kept : l.places ≡ places_in l.diversions.entries l.lists.lists;
+      indexed : IfSome l.packages (ArePackagesOf l.database.records);
     }
 
 abbrev pub decreases-loop-candidate : goal.decreases-loop-candidate

@@ -37,6 +37,7 @@ invariant_of-result c =
       named = c.args.control.named;
       written = c.args.control.written;
       readable = c.args.control.readable;
+      stated = c.args.control.stated;
       fitting = ∣ fits_as files _ conffiles _ flagged _ c.new-2.ensures c.new-3.ensures c.new-4.ensures fits ∣₁;
     }
 
@@ -49,6 +50,7 @@ returns c = λ w text there control contents paths lines found.
       text = text;
       there = there;
       control = control;
+      relations = c.args.control.stated;
       scripts = c.scripts_of.ensures w contents paths.files;
       paths = paths;
       lines = found.lines;

@@ -1,4 +1,4 @@
-use Rattle.std.proofs.Common.{◌∙◌, sym, subst}
+use Rattle.std.proofs.Common.{◌∙◌, sym, subst, inr}
 use Rattle.host_core.specs.World.{World}
 use Rattle.host_core.specs.Host.{State, Reads}
 use Rattle.host_core.specs.Moments.{reads_then}
@@ -8,6 +8,7 @@ use Rattle.package_tree.specs.PathFaults.{HasGoodPaths}
 use Rattle.package_tree.specs.Reading.{AreLinesOf, IsFound}
 use Rattle.package_tree.specs.Shipped.{ArePathTexts}
 use Rattle.package_tree.specs.Tree.{IsReadingFault}
+use Rattle.package_tree.specs.declared.fault.TreeFault.TheVariants.{NoMemory}
 use Rattle.package_tree.specs.declared.package.Package.{Package}
 use Rattle.package_tree.proofs.Passing.{passed_fault, passed_counts}
 use Rattle.package_tree.proofs.reading.read_tree.Goals as goal
@@ -19,6 +20,25 @@ first ⨾ second = reads_then _ _ _ first second
 
 pub read_found-requires-clause-texts : goal.read_found-requires-clause-texts
 read_found-requires-clause-texts g c = subst ArePathTexts (sym c.as_slice.ensures.value) c.in_ok-read_contents.ensures.texts
+
+pub returns-in_err-read_contents-clause-fault : goal.returns-in_err-read_contents-clause-fault
+returns-in_err-read_contents-clause-fault g c = λ h.
+    let w = (g.H.Host.state c.args.host.now).world in
+    let fault = c.in_err-read_contents.field-0.0 in
+    passed_fault (IsReadingFault w) c.from_residual-in_err-read_contents.result fault c.from_residual-in_err-read_contents.ensures.1
+    (subst (λ (v : World). IsReadingFault v fault) c.read_control_file.ensures.reads.world (c.in_err-read_contents.ensures.fault h))
+
+pub returns-in_err-read_contents-clause-counts : goal.returns-in_err-read_contents-clause-counts
+returns-in_err-read_contents-clause-counts g c =
+    passed_counts (Unit {0}) Package (g.H.Host.state c.args.host.now) (g.H.Host.state c.read_control_file.new.host) (g.H.Host.state c.read_contents.new.host) c.in_err-read_contents.field-0.0 c.from_residual-in_err-read_contents.result c.from_residual-in_err-read_contents.ensures.1 c.in_ok-control.ensures.counts c.in_err-read_contents.ensures.counts
+
+pub returns-in_err-lines-clause-fault : goal.returns-in_err-lines-clause-fault
+returns-in_err-lines-clause-fault g c = λ h.
+    passed_fault (IsReadingFault (g.H.Host.state c.args.host.now).world) c.from_residual-in_err-lines.result NoMemory c.from_residual-in_err-lines.ensures.1 (inr tt)
+
+pub returns-in_err-lines-clause-counts : goal.returns-in_err-lines-clause-counts
+returns-in_err-lines-clause-counts g c =
+    passed_counts (Unit {0}) Package (g.H.Host.state c.args.host.now) (g.H.Host.state c.read_control_file.new.host) (g.H.Host.state c.read_contents.new.host) NoMemory c.from_residual-in_err-lines.result c.from_residual-in_err-lines.ensures.1 c.in_ok-control.ensures.counts c.in_ok-read_contents.ensures.counts
 
 pub returns-in_err-read_found-clause-reads : goal.returns-in_err-read_found-clause-reads
 returns-in_err-read_found-clause-reads g c = c.read_control_file.ensures.reads ⨾ c.read_contents.ensures.reads ⨾ c.read_found.ensures.reads

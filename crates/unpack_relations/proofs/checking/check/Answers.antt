@@ -1,12 +1,10 @@
-use Rattle.std.proofs.Common.{List, subst}
-use Rattle.recorded_packages.specs.Packages.{ArePackagesOf}
-use Rattle.status_db.specs.declared.record.Record.{Record}
-use Rattle.unpack_relations.proofs.Apart.{checked_apart}
+use Rattle.std.proofs.Common.{ℕ, List, subst}
+use Rattle.unpack_relations.specs.Checks.{AreBesideApart}
 use Rattle.unpack_relations.proofs.checking.check.Goals as goal
 
+pub returns-clause-checked : goal.returns-clause-checked
+returns-clause-checked c = λ records are. (c.args.packages.now, c.in_ok-package.package, are, c.in_ok-package.ensures, c.in_ok-checked.ensures.checked)
+
 pub returns-clause-apart : goal.returns-clause-apart
-returns-clause-apart c =
-    let packages = c.in_ok-packages.packages in
-    let are = subst (λ (l : List Record). ArePackagesOf l packages) c.records.ensures c.in_ok-packages.ensures in
-    checked_apart c.args.database.now.records packages c.in_ok-package.package c.args.auto_deconfigure c.args.incoming.now.name c.in_ok-checked.checked c.law.ensures.order are c.in_ok-package.ensures.name
-    c.in_ok-checked.ensures
+returns-clause-apart c = λ records are.
+    subst (λ (n : List ℕ). AreBesideApart n records c.in_ok-checked.checked) c.in_ok-package.ensures.name (c.in_ok-checked.ensures.apart records are)

@@ -1,21 +1,25 @@
-use Rattle.relation_fields.specs.declared.relation_field.RelationField.TheVariants.{PreDepends, Depends, Breaks, Conflicts, Provides, Replaces}
-use Rattle.unpack_relations.proofs.Readable.{readable}
+use Rattle.std.proofs.Common.{refl, subst, sym}
+use Rattle.std.proofs.Math.Logic.{∥∥₁_map}
+use Rattle.stated_relations.specs.Stated.{States}
+use Rattle.stated_relations.specs.declared.stated.StatedRelations.{StatedRelations}
 use Rattle.unpack_relations.proofs.incoming.incoming_package.Goals as goal
 
-pub provides_of-requires : goal.provides_of-requires
-provides_of-requires c = readable c.args.tree.now Provides
-
-pub relations_of-requires-clause-readable : goal.relations_of-requires-clause-readable
-relations_of-requires-clause-readable c = readable c.args.tree.now PreDepends
-
-pub relations_of-requires-2-clause-readable : goal.relations_of-requires-2-clause-readable
-relations_of-requires-2-clause-readable c = readable c.args.tree.now Depends
-
-pub relations_of-requires-3-clause-readable : goal.relations_of-requires-3-clause-readable
-relations_of-requires-3-clause-readable c = readable c.args.tree.now Breaks
-
-pub relations_of-requires-4-clause-readable : goal.relations_of-requires-4-clause-readable
-relations_of-requires-4-clause-readable c = readable c.args.tree.now Conflicts
-
-pub relations_of-requires-5-clause-readable : goal.relations_of-requires-5-clause-readable
-relations_of-requires-5-clause-readable c = readable c.args.tree.now Replaces
+pub returns : goal.returns
+returns c =
+    let tree = c.args.tree.now in
+    let stated = subst (λ (relations : StatedRelations). ∥ States tree.control relations ∥₁) (sym c.in_ok-provides.ensures) tree.stated in
+    record {
+      name = c.in_ok-copy.ensures;
+      version = c.in_ok-copy-2.ensures;
+      state = refl;
+      reinstreq = refl;
+      essential = c.is_essential.ensures;
+      configured = refl;
+      removed_since = refl;
+      provides = ∥∥₁_map stated (λ known. known.provides);
+      pre_depends = ∥∥₁_map stated (λ known. known.pre_depends);
+      depends = ∥∥₁_map stated (λ known. known.depends);
+      breaks = ∥∥₁_map stated (λ known. known.breaks);
+      conflicts = ∥∥₁_map stated (λ known. known.conflicts);
+      replaces = ∥∥₁_map stated (λ known. known.replaces);
+    }

@@ -252,6 +252,61 @@ done
 ",
 );
 
+const ECHO_WITH_SCRIPTS: &[&str] = &[
+    "write /var/lib/dpkg/status Package: echo\nStatus: install ok installed\nVersion: 1\nDepends: gamma\n\nPackage: foxtrot\nStatus: install ok installed\nVersion: 1\n\nPackage: gamma\nStatus: install ok installed\nVersion: 1\n",
+    "write /var/lib/dpkg/info/echo.prerm #!/bin/sh\n",
+    "write /var/lib/dpkg/info/echo.postinst #!/bin/sh\n",
+];
+
+// One that stays installed keeps what it depends on, and the others go.
+const STAYS_INSTALLED: RemovalRow = (
+    ECHO_WITH_SCRIPTS,
+    &[FAILS],
+    &["dpkg_cli remove gamma echo foxtrot"],
+    "call old echo prerm remove: exit 1
+call old echo postinst abort-remove: exit 0
+state echo 1 install ok installed
+failed echo prerm remove
+state foxtrot none
+done
+refused gamma DependedOn echo
+||1
+",
+);
+
+// One that is only half-configured then needs nothing any more.
+const HALF_CONFIGURED: RemovalRow = (
+    ECHO_WITH_SCRIPTS,
+    &[FAILS, FAILS],
+    &["dpkg_cli remove gamma echo foxtrot"],
+    "call old echo prerm remove: exit 1
+call old echo postinst abort-remove: exit 1
+state echo 1 install ok half-configured
+failed echo prerm remove
+state foxtrot none
+done
+state gamma none
+done
+||1
+",
+);
+
+const CHAIN: RemovalRow = (
+    &[
+        "write /var/lib/dpkg/status Package: aa\nStatus: install ok installed\nVersion: 1\nDepends: bb\n\nPackage: bb\nStatus: install ok installed\nVersion: 1\nPre-Depends: mail\n\nPackage: cc\nStatus: install ok installed\nVersion: 1\nProvides: mail\n",
+    ],
+    &[],
+    &["dpkg_cli purge cc bb aa"],
+    "state aa none
+done
+state bb none
+done
+state cc none
+done
+||0
+",
+);
+
 // What another package lists stays, and all names beside it.
 const SHARED: RemovalRow = (
     &[
@@ -306,6 +361,9 @@ const ROWS: &[RemovalRow] = &[
     PURGE_FAILS,
     REFUSED,
     DEPENDED_ON,
+    STAYS_INSTALLED,
+    HALF_CONFIGURED,
+    CHAIN,
     SHARED,
     DIVERTED,
 ];

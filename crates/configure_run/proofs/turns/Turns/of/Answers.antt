@@ -12,11 +12,11 @@ use Rattle.configure_run.proofs.turns.Turns.of.Goals.{In_ok-queue}
 begun : (c : In_ok-queue) → IsBegun c.args.names.now c.args.database.now.records c.in_ok-queue.queue
 begun c =
     let is = c.in_ok-queue.ensures in
-    let packages : c.in_ok-queue.queue.packages ≡ c.in_ok-packages.packages = ap (λ (q : Waiting). q.packages) is in
+    let packages : c.in_ok-queue.queue.packages ≡ c.args.packages = ap (λ (q : Waiting). q.packages) is in
     record {
-      packages = subst (λ (rs : List Record). ArePackagesOf rs c.in_ok-queue.queue.packages) c.records.ensures (subst (λ (ps : List Package). ArePackagesOf c.records.result.now ps) (sym packages) c.in_ok-packages.ensures);
-      installed = ap (λ (q : Waiting). q.installed) is ∙ c.as_slice.ensures.value ∙ c.in_ok-installed.ensures ∙ ap (map (λ (r : Record). is_installed r.state)) c.records-2.ensures;
-      waiting = ap (λ (q : Waiting). q.waiting) is ∙ c.as_slice-2.ensures.value ∙ c.in_ok-waiting.ensures ∙ ap (map (waits c.args.names.now)) c.records-3.ensures;
+      packages = subst (ArePackagesOf c.args.database.now.records) (sym {A = List Package} packages) c.requires;
+      installed = ap (λ (q : Waiting). q.installed) is ∙ c.as_slice.ensures.value ∙ c.in_ok-installed.ensures ∙ ap (map (λ (r : Record). is_installed r.state)) c.records.ensures;
+      waiting = ap (λ (q : Waiting). q.waiting) is ∙ c.as_slice-2.ensures.value ∙ c.in_ok-waiting.ensures ∙ ap (map (waits c.args.names.now)) c.records-2.ensures;
     }
 
 pub invariant_of-result : goal.invariant_of-result

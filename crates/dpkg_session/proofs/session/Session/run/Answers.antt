@@ -2,10 +2,14 @@ use Rattle.std.proofs.Common.{sym, ◌∙◌}
 use Rattle.dpkg_session.proofs.Standings.{order_standing, standing_run}
 use Rattle.dpkg_session.proofs.Outlasting.{run_answered, run_stands}
 use Rattle.dpkg_session.proofs.Runs.{falls_run}
+use Rattle.dpkg_session.proofs.KeptPackages.{packages_kept, packages_known}
 use Rattle.dpkg_session.proofs.session.Session.run.Goals as goal
 
 pub run_units-report-requires-clause-order : goal.run_units-report-requires-clause-order
 run_units-report-requires-clause-order g c = λ h. order_standing _ _ (c.args.self.now.ready c.if-self.false h)
+
+pub run_units-report-requires-clause-indexed : goal.run_units-report-requires-clause-indexed
+run_units-report-requires-clause-indexed g c = packages_known _ _ (c.args.self.now.indexed c.if-self.false)
 
 pub invariant_of-self : goal.invariant_of-self
 invariant_of-self g c =
@@ -16,6 +20,7 @@ invariant_of-self g c =
           let run = report.run.2.whole left in
           standing_run _ _ _ _ _ _ _ run h (report.order left h) (c.args.self.now.ready c.if-self.false (falls_run _ _ _ _ _ _ _ run h));
       kept = λ open_still. report.kept (sym c.is_some-self.ensures ∙ open_still);
+      indexed = λ open_still. packages_kept _ _ (report.indexed (sym c.is_some-self.ensures ∙ open_still));
       writable = λ open_still. c.args.self.now.writable c.if-self.false;
       noting = λ open_still. report.noting (sym c.is_some-self.ensures ∙ open_still);
       listing = λ open_still. report.listing (sym c.is_some-self.ensures ∙ open_still);

@@ -2,26 +2,31 @@ use Rattle.std.proofs.Common.{sym, ◌∙◌}
 use Rattle.dpkg_session.proofs.Carries.{carries_standing, parts_standing}
 use Rattle.dpkg_session.proofs.Removes.{removal_carries}
 use Rattle.dpkg_session.proofs.Outlasting.{answered_stands, loses_like}
+use Rattle.dpkg_session.proofs.KeptPackages.{packages_kept, packages_known}
 use Rattle.dpkg_session.proofs.session.Session.take.Goals as goal
 
-pub remove_packages-report-requires-clause-order : goal.remove_packages-report-requires-clause-order
-remove_packages-report-requires-clause-order g c = λ h. parts_standing _ _ (c.args.self.now.ready c.if-self.false h)
+pub remove_named-report-requires-clause-order : goal.remove_named-report-requires-clause-order
+remove_named-report-requires-clause-order g c = λ h. parts_standing _ _ (c.args.self.now.ready c.if-self.false h)
+
+pub remove_named-report-requires-clause-indexed : goal.remove_named-report-requires-clause-indexed
+remove_named-report-requires-clause-indexed g c = packages_known _ _ (c.args.self.now.indexed c.if-self.false)
 
 pub invariant_of-self : goal.invariant_of-self
 invariant_of-self g c =
-    let report = c.remove_packages-report.ensures in
+    let report = c.remove_named-report.ensures in
     record {
       ready = λ open_still h.
           let carries = removal_carries _ _ _ _ _ _ _ (report.whole (sym c.is_some-self.ensures ∙ open_still)) in
           carries_standing _ _ _ _ carries h (c.args.self.now.ready c.if-self.false (carries.falls h));
       kept = λ open_still. report.kept (sym c.is_some-self.ensures ∙ open_still);
+      indexed = λ open_still. packages_kept _ _ (report.indexed (sym c.is_some-self.ensures ∙ open_still));
       writable = λ open_still. c.args.self.now.writable c.if-self.false;
       noting = λ open_still. report.noting (sym c.is_some-self.ensures ∙ open_still);
       listing = λ open_still. report.listing (sym c.is_some-self.ensures ∙ open_still);
     }
 
 pub returns-clause-loss : goal.returns-clause-loss
-returns-clause-loss g c = λ open_before. loses_like _ _ _ (g.H.Host.settled c.remove_packages-report.new.host) c.remove_packages-report.ensures.any_moment
+returns-clause-loss g c = λ open_before. loses_like _ _ _ (g.H.Host.settled c.remove_named-report.new.host) c.remove_named-report.ensures.any_moment
 
 pub returns-clause-stands : goal.returns-clause-stands
-returns-clause-stands g c = λ open_before whole. answered_stands _ _ _ c.remove_packages-report.ensures.any_moment (c.remove_packages-report.ensures.answered whole)
+returns-clause-stands g c = λ open_before whole. answered_stands _ _ _ c.remove_named-report.ensures.any_moment (c.remove_named-report.ensures.answered whole)

@@ -13,6 +13,7 @@ invariant_of-self g c =
           let one = report.whole (sym c.is_some-self.ensures ∙ open_still) in
           standing_undiverted c.args.self.now.database c.args.self.now.lists.lists _ _ _ one.0 _ _ one.2 h (c.args.self.now.ready c.if-self.false (report.silent.honest h));
       kept = λ open_still. report.kept (sym c.is_some-self.ensures ∙ open_still);
+      indexed = λ open_still. c.args.self.now.indexed c.if-self.false;
       writable = λ open_still. report.writable (sym c.is_some-self.ensures ∙ open_still);
       noting = λ open_still. c.args.self.now.noting c.if-self.false;
       listing = λ open_still. c.args.self.now.listing c.if-self.false;

@@ -1,0 +1,9 @@
+use Rattle.std.proofs.Common.{List, take}
+use Rattle.status_db.specs.Order.{AreInOrder}
+use Rattle.status_db.specs.declared.record.Record.{Record}
+use Rattle.recorded_packages.specs.Packages.{ArePackagesOf}
+use Rattle.recorded_packages.specs.Renewal.{AreUpToDate}
+use Rattle.recorded_packages.proofs.renewal.renew_each.Given as goal
+
+abbrev pub invariant-loop-name : goal.invariant-loop-name
+invariant-loop-name l = (before : List Record) → AreInOrder before → ArePackagesOf before l.fn.packages → AreUpToDate l.database.records before (take l.name-index l.names) l.packages

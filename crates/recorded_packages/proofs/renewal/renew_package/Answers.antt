@@ -1,0 +1,7 @@
+use Rattle.std.proofs.Common.{Option, subst}
+use Rattle.status_db.specs.declared.record.Record.{Record}
+use Rattle.recorded_packages.specs.Renewal.{IsRenewedBy}
+use Rattle.recorded_packages.proofs.renewal.renew_package.Goals as goal
+
+pub returns : goal.returns
+returns c = subst (λ (o : Option Record). IsRenewedBy o c.args.name.now c.args.packages.now c.put.new.self) c.in-Some.ensures (c.in_ok-renewed.renewed, c.in_ok-renewed.ensures, c.in_ok-put.ensures.ok)
