@@ -11,6 +11,7 @@ pub mod Owners
 pub mod Package
 pub mod PathFaults
 pub mod Reading
+pub mod RootFitting
 pub mod ShipMap
 pub mod Shipped
 pub mod Tree
