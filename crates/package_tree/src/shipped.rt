@@ -12,8 +12,8 @@ pub struct Shipped {
     pub node: Node,
 }
 
-// A link has no owner here.
-fn give_to_root(node: &mut Node)
+/// Gives a file or directory to root; a link has no owner here.
+pub(crate) fn give_to_root(node: &mut Node)
     ensures { node.new ≡ root_node node.old }
 {
     match node {
