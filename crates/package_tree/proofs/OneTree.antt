@@ -25,6 +25,7 @@ use Rattle.package_tree.specs.ConffileFaults.{AreNamed, IsAstray}
 use Rattle.package_tree.proofs.Firsts.{no_bad_path}
 use Rattle.package_tree.specs.OtherNames.{is_other_name}
 use Rattle.package_tree.specs.OtherFiles.{names_of, control_member}
+use Rattle.package_tree.specs.Owners.{root_at}
 use Rattle.package_tree.specs.ShipMap.{paths_of}
 use Rattle.package_tree.specs.declared.conffile_lines.Entry.{Entry}
 use Rattle.package_tree.specs.declared.conffile_lines.Entry.TheVariants.{Plain, Flagged}
@@ -36,10 +37,11 @@ use Rattle.package_tree.specs.declared.fault.FieldName.{FieldName}
 use Rattle.package_tree.specs.declared.fault.FieldName.TheVariants as field
 use Rattle.relation_fields.specs.declared.relation_field.RelationField.{RelationField}
 use Rattle.package_tree.specs.declared.fault.TreeFault.{TreeFault}
-use Rattle.package_tree.specs.declared.fault.TreeFault.TheVariants.{NoControl, Control, FieldMissing, FieldBad, PathBad, Reserved, ConffileNotShipped, ConffileShipped, ConffileFlag, TooLarge, Device, NoMemory}
+use Rattle.package_tree.specs.declared.fault.TreeFault.TheVariants.{Twice, NoControl, Control, FieldMissing, FieldBad, PathBad, Reserved, ConffileNotShipped, ConffileShipped, ConffileFlag, TooLarge, Device, NoMemory}
 use Rattle.package_tree.proofs.Ordered.{none_in, first_or_later, same_list}
 use Rattle.package_tree.proofs.FieldsOnce.{lacked, one_value, not_bad, not_lacked}
 use Rattle.package_tree.proofs.OneStated.{stated_once}
+use Rattle.package_tree.proofs.Owning.{kind_root}
 
 abbrev bytes_of : Option Node → List ℕ
 bytes_of None = []
@@ -70,6 +72,7 @@ first_of_none : (P : Entry → Type 0) (entries : List Entry) (number : ℕ) (en
 first_of_none P entries number entry all first = none_of P first.front first.rest entry (subst (HasNoEntry P) first.is all) first.holds
 
 pub no_fault : (w : World) (p : Package) (fault : TreeFault) → IsTreeOf w p → IsTreeFault w fault → ⊥
+no_fault w p Twice t wrong = wrong
 no_fault w p NoControl t wrong = wrong t.text t.there
 no_fault w p (Control fault) t wrong = wrong.2.1 (no_fault_of_one (lines_of t.text) p.control fault t.control.reads (subst (λ (b : List ℕ). IsFaultOfOne (lines_of b) fault) (one_text w wrong.0 t.text wrong.1 t.there) wrong.2.0))
 no_fault w p (FieldMissing field.Package) t wrong =
@@ -155,21 +158,21 @@ kind_of_file (Dir access) e = absurd (false≢true e)
 kind_of_file (Link target) e = absurd (false≢true e)
 
 -- what is stored has a name for that, and is a file
-stored_at : (w : World) (others : List OtherFile) (name : List ℕ) → AllByRecursion (λ o. w (control_member o.name) ≡ Some o.node) others → Contains (names_of others) name → (is_other_name name ≡ true) × (kind_of (w (control_member name)) ≡ Some kind.File)
+stored_at : (w : World) (others : List OtherFile) (name : List ℕ) → AllByRecursion (λ o. root_at (w (control_member o.name)) ≡ Some o.node) others → Contains (names_of others) name → (is_other_name name ≡ true) × (kind_of (w (control_member name)) ≡ Some kind.File)
 stored_at w [] name all has = absurd (none_in name has)
 stored_at w (o ∷ others) name all has = elim (first_or_later o.name (names_of others) name has) [
-  | inl same ↦ subst (λ (n : List ℕ). (is_other_name n ≡ true) × (kind_of (w (control_member n)) ≡ Some kind.File)) same (o.named, ap kind_of all.0 ∙ kind_of_file o.node o.file)
+  | inl same ↦ subst (λ (n : List ℕ). (is_other_name n ≡ true) × (kind_of (w (control_member n)) ≡ Some kind.File)) same (o.named, sym (kind_root (w (control_member o.name))) ∙ ap kind_of all.0 ∙ kind_of_file o.node o.file)
   | inr on ↦ stored_at w others name all.1 on
 ]
 
-same_others : (w : World) (a b : List OtherFile) → names_of a ≡ names_of b → AllByRecursion (λ o. w (control_member o.name) ≡ Some o.node) a → AllByRecursion (λ o. w (control_member o.name) ≡ Some o.node) b → a ≡ b
+same_others : (w : World) (a b : List OtherFile) → names_of a ≡ names_of b → AllByRecursion (λ o. root_at (w (control_member o.name)) ≡ Some o.node) a → AllByRecursion (λ o. root_at (w (control_member o.name)) ≡ Some o.node) b → a ≡ b
 same_others w [] [] same na nb = refl
 same_others w [] (y ∷ b) same na nb = absurd cc
 same_others w (x ∷ a) [] same na nb = absurd cc
 same_others w (x ∷ a) (y ∷ b) same na nb =
     let name : x.name ≡ y.name = cc same in
     let rest : names_of a ≡ names_of b = cc same in
-    let stands : Some x.node ≡ Some y.node = sym na.0 ∙ ap (λ (n : List ℕ). w (control_member n)) name ∙ nb.0 in
+    let stands : Some x.node ≡ Some y.node = sym na.0 ∙ ap (λ (n : List ℕ). root_at (w (control_member n))) name ∙ nb.0 in
     let node : x.node ≡ y.node = cc stands in
     let first : x ≡ y = λ i. record {
       name = name i;

@@ -14,12 +14,13 @@ use Rattle.host_core.specs.declared.node.Kind.TheVariants.{File}
 use Rattle.host_core.specs.declared.node.Node.{Node}
 use Rattle.package_tree.specs.OtherNames.{is_other_name}
 use Rattle.package_tree.specs.OtherFiles.{names_of, control_member, AreOthersOf, HasTakenOther}
+use Rattle.package_tree.specs.Owners.{root_at}
 use Rattle.package_tree.specs.declared.other_file.OtherFile.{OtherFile}
 use Rattle.package_tree.proofs.Collected.{all_push}
 use Rattle.package_tree.proofs.Drawn.{IsDrawn, IsTaken, HasKept, drawn_over, drawn_more, kept_over, kept_more}
 use Rattle.package_tree.proofs.OtherPaths.{other_is_path, other_is_text, other_plain}
 
-pub taken_file : (name : List ℕ) (stands : Option Node) (old new : List OtherFile) (other : OtherFile) → new ≡ old ++ other ∷ [] → other.name ≡ name → Some other.node ≡ stands → HasTakenOther name stands old new
+pub taken_file : (name : List ℕ) (stands : Option Node) (old new : List OtherFile) (other : OtherFile) → new ≡ old ++ other ∷ [] → other.name ≡ name → Some other.node ≡ root_at stands → HasTakenOther name stands old new
 taken_file name stands old new other pushed named here = inr (other, named, here, pushed)
 
 names_more : (old new : List OtherFile) (other : OtherFile) (name : List ℕ) → new ≡ old ++ other ∷ [] → other.name ≡ name → names_of new ≡ names_of old ++ name ∷ []
@@ -29,12 +30,12 @@ pub other_drawn : (all left rest : Path → Bool) (old new : List OtherFile) (na
 other_drawn all left rest old new name stands is taken (inl passed) = subst (λ (l : List OtherFile). IsDrawn all rest (names_of l)) (sym passed.0) (drawn_over all left rest (names_of old) name is taken)
 other_drawn all left rest old new name stands is taken (inr took) = subst (IsDrawn all rest) (sym (names_more old new took.0 name took.3 took.1)) (drawn_more all left rest (names_of old) name is taken)
 
-pub other_nodes : (w : World) (old new : List OtherFile) (name : List ℕ) → AllByRecursion (λ other. w (control_member other.name) ≡ Some other.node) old → HasTakenOther name (w (control_member name)) old new
-    → AllByRecursion (λ other. w (control_member other.name) ≡ Some other.node) new
-other_nodes w old new name all (inl passed) = subst (AllByRecursion (λ other. w (control_member other.name) ≡ Some other.node)) (sym passed.0) all
+pub other_nodes : (w : World) (old new : List OtherFile) (name : List ℕ) → AllByRecursion (λ other. root_at (w (control_member other.name)) ≡ Some other.node) old → HasTakenOther name (w (control_member name)) old new
+    → AllByRecursion (λ other. root_at (w (control_member other.name)) ≡ Some other.node) new
+other_nodes w old new name all (inl passed) = subst (AllByRecursion (λ other. root_at (w (control_member other.name)) ≡ Some other.node)) (sym passed.0) all
 other_nodes w old new name all (inr took) =
-    subst (AllByRecursion (λ other. w (control_member other.name) ≡ Some other.node)) (sym took.3)
-    (all_push (λ (other : OtherFile). w (control_member other.name) ≡ Some other.node) old took.0 all (ap (λ (n : List ℕ). w (control_member n)) took.1 ∙ sym took.2))
+    subst (AllByRecursion (λ other. root_at (w (control_member other.name)) ≡ Some other.node)) (sym took.3)
+    (all_push (λ (other : OtherFile). root_at (w (control_member other.name)) ≡ Some other.node) old took.0 all (ap (λ (n : List ℕ). root_at (w (control_member n))) took.1 ∙ sym took.2))
 
 pub other_kept : (w : World) (all left rest : Path → Bool) (old new : List OtherFile) (name : List ℕ) → HasKept (λ q. kind_of (w (control_member q)) ≡ Some File) all left (names_of old) → IsTaken name left rest → HasTakenOther name (w (control_member name)) old new
     → HasKept (λ q. kind_of (w (control_member q)) ≡ Some File) all rest (names_of new)

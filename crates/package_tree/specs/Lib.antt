@@ -6,9 +6,12 @@ pub mod Fault
 pub mod LineNames
 pub mod OtherFiles
 pub mod OtherNames
+pub mod OwnedByRoot
+pub mod Owners
 pub mod Package
 pub mod PathFaults
 pub mod Reading
+pub mod RootFitting
 pub mod ShipMap
 pub mod Shipped
 pub mod Tree

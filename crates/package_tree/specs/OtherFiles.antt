@@ -6,6 +6,7 @@ use Rattle.host_core.specs.World.{World, kind_of}
 use Rattle.host_core.specs.declared.node.Kind.TheVariants.{File}
 use Rattle.host_core.specs.declared.node.Node.{Node}
 use Rattle.package_tree.specs.OtherNames.{is_other_name}
+use Rattle.package_tree.specs.Owners.{root_at}
 use Rattle.package_tree.specs.Shipped.{AreInOrder}
 use Rattle.package_tree.specs.declared.other_file.OtherFile.{OtherFile}
 
@@ -17,9 +18,10 @@ names_of others = map (λ other. other.name) others
 abbrev pub control_member : List ℕ → Path
 control_member name = codes "/DEBIAN/" ++ name
 
--- What stands by some of the names is there, if it is a file, in the order of the names; what isn't a file is passed over.
+-- What stands by some of the names is there, if it is a file, given to root, in the order of the names; what isn't a file is
+-- passed over.
 pub record AreOthersOf (w : World) (names : List ℕ → Bool) (others : List OtherFile) : Type 0 where
-  pub nodes : AllByRecursion (λ other. w (control_member other.name) ≡ Some other.node) others
+  pub nodes : AllByRecursion (λ other. root_at (w (control_member other.name)) ≡ Some other.node) others
   pub whole : (name : List ℕ) → names name ≡ true → kind_of (w (control_member name)) ≡ Some File → Contains (names_of others) name
   pub order : AreInOrder (names_of others)
 
@@ -27,6 +29,6 @@ pub record AreOthersOf (w : World) (names : List ℕ → Bool) (others : List Ot
 abbrev pub AreOthers : World → List OtherFile → Type 0
 AreOthers w others = AreOthersOf w is_other_name others
 
--- a file joins those that were found; what isn't one is passed over
+-- a file joins those that were found, given to root; what isn't one is passed over
 abbrev pub HasTakenOther : List ℕ → Option Node → List OtherFile → List OtherFile → Type 0
-HasTakenOther name node old new = ((new ≡ old) × (kind_of node ≢ Some File)) ⊎ ((other : OtherFile) × (other.name ≡ name) × (Some other.node ≡ node) × (new ≡ old ++ other ∷ []))
+HasTakenOther name node old new = ((new ≡ old) × (kind_of node ≢ Some File)) ⊎ ((other : OtherFile) × (other.name ≡ name) × (Some other.node ≡ root_at node) × (new ≡ old ++ other ∷ []))

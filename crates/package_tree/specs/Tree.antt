@@ -12,12 +12,13 @@ use Rattle.package_tree.specs.ConffileFaults.{AreNamed, HasGoodLines, IsAstray, 
 use Rattle.package_tree.specs.Fault.{IsHostFault}
 use Rattle.package_tree.specs.PathFaults.{HasGoodPaths, IsBadPath}
 use Rattle.package_tree.specs.OtherFiles.{AreOthers}
+use Rattle.package_tree.specs.Owners.{root_at}
 use Rattle.package_tree.specs.ShipMap.{AreFiles, IsTooLarge}
 use Rattle.package_tree.specs.Shipped.{HasNoPath, IsFirstPath, IsReserved}
 use Rattle.package_tree.specs.declared.conffile_lines.Entry.TheVariants.{Plain, Flagged}
 use Rattle.package_tree.specs.declared.package.Package.{Package}
 use Rattle.package_tree.specs.declared.fault.TreeFault.{TreeFault}
-use Rattle.package_tree.specs.declared.fault.TreeFault.TheVariants.{NoControl, Control, FieldMissing, FieldBad, PathBad, Reserved, ConffileNotShipped, ConffileShipped, ConffileFlag, TooLarge, Device, NoMemory}
+use Rattle.package_tree.specs.declared.fault.TreeFault.TheVariants.{Twice, NoControl, Control, FieldMissing, FieldBad, PathBad, Reserved, ConffileNotShipped, ConffileShipped, ConffileFlag, TooLarge, Device, NoMemory}
 
 -- the tree's control file has this text
 abbrev pub HasControl : World → List ℕ → Type 0
@@ -31,8 +32,8 @@ pub record IsTreeOf (w : World) (p : Package) : Type 0 where
   pub control : IsControlText text p.control p.name p.version
   -- what its fields say of other packages
   pub relations : ∥ States p.control p.relations ∥₁
-  -- each script is the file in `DEBIAN` by its name, or missing where there is none
-  pub scripts : (script : Script) → file_of (script_of p.scripts script) ≡ w (script_path script)
+  -- each script is the file in `DEBIAN` by its name, given to root, or missing where there is none
+  pub scripts : (script : Script) → file_of (script_of p.scripts script) ≡ root_at (w (script_path script))
   pub paths : HasGoodPaths w
   pub lines : HasGoodLines w
   -- no shipped path is more than a tree may hold
@@ -55,6 +56,7 @@ HasControlFault w fault = (text : List ℕ) × HasControl w text × IsTextFault 
 
 -- the tree has this fault, and none that is looked for before it; the host's faults are none of the tree
 abbrev pub IsTreeFault : World → TreeFault → Type 0
+IsTreeFault w Twice = ⊥
 IsTreeFault w NoControl = (text : List ℕ) → HasControl w text → ⊥
 IsTreeFault w (Control fault) = HasControlFault w (Control fault)
 IsTreeFault w (FieldMissing name) = HasControlFault w (FieldMissing name)

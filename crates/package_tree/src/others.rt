@@ -10,7 +10,7 @@ ghost use Rattle.package_tree.specs.OtherFiles.{names_of, control_member, AreOth
 ghost use Rattle.package_tree.specs.Shipped.{AreInOrder};
 
 use crate::other_file::{OtherFile, is_other_name};
-use host_core::{Host, HostFault, Node, RootPath};
+use host_core::{Access, Host, HostFault, Node, RootPath};
 use std::alloc::{AllocError, Global};
 use std::collections::BTreeSet;
 use texts::Text;
@@ -37,14 +37,15 @@ fn other_names(alloc: Global, names: &[Text]) -> Result<BTreeSet<String>, AllocE
     Ok(set)
 }
 
-// Adds what stands in `DEBIAN` by a name, if it is a file.
+// Adds what stands in `DEBIAN` by a name, if it is a file; it is root's from here on.
 fn push(name: Text, node: Option<Node>, others: &mut Vec<OtherFile>) -> Result<(), AllocError>
     requires { is_other_name name ≡ true }
     ensures { OnOk result (HasTakenOther name node others.old.items others.new.items) }
 {
     match node {
         Some(Node::File { bytes, access }) => {
-            let node = Node::File { bytes, access };
+            let own = Access::own(access.mode);
+            let node = Node::File { bytes, access: own };
             others.push(OtherFile { name, node })?;
             Ok(())
         }

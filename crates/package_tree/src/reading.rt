@@ -13,6 +13,7 @@ ghost use Rattle.package_tree.specs.Debian.{is_wrong, is_entry, is_shipped, list
 ghost use Rattle.package_tree.specs.Conffiles.{is_white, entries_at};
 ghost use Rattle.package_tree.specs.ConffileFaults.{HasGoodLines, IsOfBoth};
 ghost use Rattle.package_tree.specs.ControlFile.{IsControlText};
+ghost use Rattle.package_tree.specs.Owners.{root_at};
 ghost use Rattle.package_tree.specs.PathFaults.{AreGoodPaths, HasGoodPaths, IsBadPath};
 ghost use Rattle.package_tree.specs.Reading.{AreLinesOf, AreTrimmedLines, IsFound, IsWhole};
 ghost use Rattle.package_tree.specs.ShipMap.{paths_of, AreFiles, IsTooLarge};
@@ -32,7 +33,7 @@ use crate::package::Package;
 use crate::path_faults::{first_reserved, lesser};
 use crate::ship_map::ShipMap;
 use crate::ship_paths::ShipPaths;
-use crate::shipped::Shipped;
+use crate::shipped::{Shipped, give_to_root};
 use crate::walk::walk;
 use administration::{ScriptFile, Scripts};
 use host_core::{Host, HostFault, Listing, Node, RootPath, ShipPath};
@@ -175,19 +176,22 @@ fn first_wrong(contents: &Contents) -> Option<&'static str>
     None
 }
 
-// The script that a node is; one that isn't a file was ruled out.
+// The script that a node is, which root will run and so owns; one that isn't a file was ruled out.
 fn script_at(node: Option<Node>) -> Option<ScriptFile>
-    ensures { is_wrong node ≡ false → file_of result ≡ node }
+    ensures { is_wrong node ≡ false → file_of result ≡ root_at node }
 {
     match node {
-        Some(node) => ScriptFile::from_node(node),
+        Some(mut node) => {
+            give_to_root(&mut node);
+            ScriptFile::from_node(node)
+        }
         None => None,
     }
 }
 
 // The scripts, where files stand at their paths.
 fn scripts_of(contents: Contents) -> Scripts
-    ensures { (w : World) → AreContents w contents → HasNoneWrong w member_paths → (script : AScript) → file_of (script_of result script) ≡ w (script_path script) }
+    ensures { (w : World) → AreContents w contents → HasNoneWrong w member_paths → (script : AScript) → file_of (script_of result script) ≡ root_at (w (script_path script)) }
 {
     Scripts {
         preinst: script_at(contents.preinst),

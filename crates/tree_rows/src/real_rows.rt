@@ -39,6 +39,14 @@ const ROWS: &[(&str, &str)] = &[
     ("mkfifo t/usr/pipe", "Device"),
     ("mkfifo t/DEBIAN/preinst", "Device"),
     ("mkdir t/DEBIAN/preinst", "PathBad /DEBIAN/preinst"),
+    (
+        "ln -s control t/DEBIAN/conffiles",
+        "PathBad /DEBIAN/conffiles",
+    ),
+    (
+        "ln -s control t/DEBIAN/postrm; mkdir t/DEBIAN/prerm",
+        "PathBad /DEBIAN/postrm",
+    ),
     ("ln -s ../../outside t/usr/lib", " /usr /usr/lib"),
     ("mv t/DEBIAN debian; ln -s ../debian t/DEBIAN", "NoControl"),
     ("rm t/DEBIAN/control; mkdir t/DEBIAN/control", "NoControl"),
@@ -49,6 +57,13 @@ const ROWS: &[(&str, &str)] = &[
     (">\"t/usr/$(printf 'a\\377')\"", "PathBad /usr"),
     (">\"t/usr/$(printf 'a\\nb')\"", "PathBad /usr"),
     (">\"t/$(printf '\\377')\"", "PathBad /"),
+    // a name without room for our endings is told itself
+    (
+        ">\"t/usr/$(printf '%0246d' 0)\"",
+        "PathBad /usr/00000000000000000000000000000000000000000000000000000000000000000000000000000000\
+00000000000000000000000000000000000000000000000000000000000000000000000000000000000000\
+00000000000000000000000000000000000000000000000000000000000000000000000000000000",
+    ),
 ];
 
 // No directory is closed to the superuser.

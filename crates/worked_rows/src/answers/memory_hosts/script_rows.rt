@@ -81,6 +81,20 @@ pub(crate) const TREES: &[TreeFile] = &[
     ("keep", "/DEBIAN/conffiles", "keep /etc/q\n"),
     ("flag", CONTROL, ALPHA),
     ("flag", "/DEBIAN/conffiles", "remove-on-upgrade\n"),
+    ("ended", CONTROL, ALPHA),
+    (
+        "ended",
+        "/DEBIAN/conffiles",
+        "remove-on-upgrade /etc/q.dpkg-old \n",
+    ),
+    ("unrooted", CONTROL, ALPHA),
+    (
+        "unrooted",
+        "/DEBIAN/conffiles",
+        "remove-on-upgrade etc/q\t\n",
+    ),
+    ("relative", CONTROL, ALPHA),
+    ("relative", "/DEBIAN/conffiles", "\netc/q\n"),
     ("old", CONTROL, ALPHA),
     ("old", "/etc/q.dpkg-old", "x"),
     ("a", CONTROL, ALPHA),
@@ -229,6 +243,18 @@ pub(crate) const REFUSALS: &[(&str, &str)] = &[
     (
         "dpkg_cli unpack flag",
         "refused flag ConffileNotShipped \n||1\n",
+    ),
+    (
+        "dpkg_cli unpack ended",
+        "refused ended ConffileNotShipped /etc/q.dpkg-old\n||1\n",
+    ),
+    (
+        "dpkg_cli unpack unrooted",
+        "refused unrooted ConffileNotShipped etc/q\n||1\n",
+    ),
+    (
+        "dpkg_cli unpack relative",
+        "refused relative ConffileFlag 2\n||1\n",
     ),
     (
         "dpkg_cli unpack old",

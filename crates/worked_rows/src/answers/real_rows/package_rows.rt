@@ -1,4 +1,6 @@
 // Packages are installed, upgraded, removed and purged on real files, with real scripts.
+mod owner_rows;
+
 use super::{NEW_DIRECTORY, RealHosts, is_refused, shell};
 use crate::answers::{answer, is_want};
 use std::alloc::AllocError;
