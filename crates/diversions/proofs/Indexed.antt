@@ -14,6 +14,7 @@ use Rattle.host_core.specs.Paths.{Path}
 use Rattle.diversions.specs.declared.entry.Diversion.{Diversion}
 use Rattle.diversions.specs.Entries.{is_diverted, is_target, entry_of, without, IsFree, IsTable}
 use Rattle.diversions.specs.Index.{entries_of, IsIndex}
+use Rattle.diversions.specs.Targets.{entry_to}
 use Rattle.diversions.proofs.Tables.{turned, table_last, table_without, without_none}
 
 abbrev AreKeyed : {K : Type 0} → (K → List ℕ) → List (K × Diversion) → Type 0
@@ -32,6 +33,13 @@ some_entry (d ∷ entries) p = at (bytes_eq p d.path) (some_entry entries p)
     at : (b : Bool) → is_some (entry_of entries p) ≡ is_diverted entries p → is_some (cond b (Some d) (entry_of entries p)) ≡ b || is_diverted entries p
     at true rest = refl
     at false rest = rest
+
+-- an entry that isn't the one looked for is passed over
+pub none_to : (entries : List Diversion) (p : Path) → is_target entries p ≡ false → entry_to entries p ≡ None
+none_to [] p none = refl
+none_to (d ∷ entries) p none =
+    let parts = or_parts (bytes_eq p d.target) (is_target entries p) none in
+    ap (λ b. cond b (Some d) (entry_to entries p)) parts.0 ∙ none_to entries p parts.1
 
 pub copied_some : (r : Option (Bor Diversion)) → is_some r ≡ is_some (option_copied r)
 copied_some None = refl

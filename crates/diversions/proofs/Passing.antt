@@ -17,7 +17,7 @@ use Rattle.diversions.specs.declared.entry.Diversion.{Diversion}
 use Rattle.diversions.specs.Places.{truename}
 use Rattle.diversions.specs.declared.entry.Owner.{Owner}
 use Rattle.diversions.specs.declared.refusal.Answer.{Answer}
-use Rattle.diversions.specs.declared.refusal.Refusal.TheVariants.{Directory, AlreadyDiverted, TargetDiverted, Conffile, NoParent, TargetExists}
+use Rattle.diversions.specs.declared.refusal.Refusal.TheVariants.{SamePath, Directory, AlreadyDiverted, TargetDiverted, Conffile, NoParent, TargetExists}
 use Rattle.diversions.specs.declared.refusal.Seen.{Seen}
 use Rattle.diversions.specs.declared.sight.Sight.{Sight}
 use Rattle.diversions.proofs.Fronts.{parent_at_front}
@@ -70,6 +70,7 @@ moved_same moves rename listed sight v w from to moved seen same = ap (λ b. mov
 -- an entry that isn't refused
 
 record Passes (sight : Sight) (entries : List Diversion) (d : Diversion) (rename : Bool) (seen : Seen) : Type 0 where
+  other : bytes_eq d.target d.path ≡ false
   path : is_diverted entries d.path ≡ false
   taken : is_target_taken entries d ≡ false
   way : first_holding (move_conditions (moves_node rename seen.listed sight) sight) ≡ None
@@ -79,10 +80,13 @@ passes sight entries d rename seen none =
     let way = move_conditions (moves_node rename seen.listed sight) sight in
     let late = (Conffile, seen.conffile) ∷ way in
     let middle = (TargetDiverted, is_target_taken entries d) ∷ late in
-    let first = none_holds Directory (is_directory_kind sight.from || is_directory_kind sight.to) ((AlreadyDiverted, is_diverted entries d.path) ∷ middle) none in
+    let early = (AlreadyDiverted, is_diverted entries d.path) ∷ middle in
+    let directory = is_directory_kind sight.from || is_directory_kind sight.to in
+    let same = none_holds SamePath (bytes_eq d.target d.path) ((Directory, directory) ∷ early) none in
+    let first = none_holds Directory directory early same.1 in
     let second = none_holds AlreadyDiverted (is_diverted entries d.path) middle first.1 in
     let third = none_holds TargetDiverted (is_target_taken entries d) late second.1 in
-    record { path = second.0; taken = third.0; way = (none_holds Conffile seen.conffile way third.1).1 }
+    record { other = same.0; path = second.0; taken = third.0; way = (none_holds Conffile seen.conffile way third.1).1 }
 
 pub way_of_added : (sight : Sight) (entries : List Diversion) (d : Diversion) (rename : Bool) (seen : Seen) → first_holding (add_conditions sight entries d rename seen) ≡ None → first_holding (move_conditions (moves_node rename seen.listed sight) sight) ≡ None
 way_of_added sight entries d rename seen none = (passes sight entries d rename seen none).way
@@ -90,10 +94,9 @@ way_of_added sight entries d rename seen none = (passes sight entries d rename s
 pub table_with_added : (sight : Sight) (entries : List Diversion) (d : Diversion) (rename : Bool) (seen : Seen) → first_holding (add_conditions sight entries d rename seen) ≡ None → IsWellFormed d → IsTable entries → IsTable (entries ++ d ∷ [])
 table_with_added sight entries d rename seen none formed table =
     let all = passes sight entries d rename seen none in
-    let one = or_parts (bytes_eq d.target d.path) (is_diverted entries d.target || (is_target entries d.target || is_target entries d.path)) all.taken in
-    let two = or_parts (is_diverted entries d.target) (is_target entries d.target || is_target entries d.path) one.1 in
+    let two = or_parts (is_diverted entries d.target) (is_target entries d.target || is_target entries d.path) all.taken in
     let three = or_parts (is_target entries d.target) (is_target entries d.path) two.1 in
-    table_more entries d table record { path = formed.path; target = formed.target; owner = formed.owner; other = apart d.target d.path one.0 }
+    table_more entries d table record { path = formed.path; target = formed.target; owner = formed.owner; other = apart d.target d.path all.other }
     record { not_diverted = all.path; no_target = three.1 } record { not_diverted = two.0; no_target = three.0 }
 
 -- taking away

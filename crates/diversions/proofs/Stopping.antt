@@ -10,7 +10,7 @@ use Rattle.administration.specs.Files.{KeepsBesideFile}
 use Rattle.administration.specs.Places.{diversions_path, temporary}
 use Rattle.diversions.specs.Again.{IsFinishedAgain}
 use Rattle.diversions.specs.Changes.{IsAdding, IsRemoving, IsRecording, diverted, restored, moved_if}
-use Rattle.diversions.specs.Entries.{entry_of, is_diverted, is_target, without, IsEntry, IsTable, IsWellFormed}
+use Rattle.diversions.specs.Entries.{entry_of, is_diverted, without, IsEntry, IsTable, IsWellFormed}
 use Rattle.diversions.specs.Lines.{HasDiversions}
 use Rattle.diversions.specs.Places.{truename, target_of}
 use Rattle.diversions.specs.Refusals.{first_holding, add_refusal, has_same, is_same, is_owned, is_target_taken, move_conditions, owner_conditions, remove_refusal, same_owner}
@@ -18,7 +18,7 @@ use Rattle.diversions.specs.Sights.{sight_of, is_directory_kind, is_loose_kind, 
 use Rattle.diversions.specs.declared.entry.Diversion.{Diversion}
 use Rattle.diversions.specs.declared.entry.Owner.{Owner}
 use Rattle.diversions.specs.declared.refusal.Refusal.{Refusal}
-use Rattle.diversions.specs.declared.refusal.Refusal.TheVariants.{Directory, AlreadyDiverted, TargetDiverted, Conffile, NotDiverted, OtherOwner}
+use Rattle.diversions.specs.declared.refusal.Refusal.TheVariants.{SamePath, Directory, AlreadyDiverted, TargetDiverted, Conffile, NotDiverted, OtherOwner}
 use Rattle.diversions.specs.declared.refusal.Seen.{Seen}
 use Rattle.diversions.specs.declared.sight.Sight.{Sight}
 use Rattle.diversions.proofs.Moving.{own_other}
@@ -84,10 +84,11 @@ module _ (rename listed : Bool) (from to : Path) (old now : World) (ship_from : 
 
 -- adding
 
-other_paths : (entries : List Diversion) (d : Diversion) → is_target_taken entries d ≡ false → d.path ≢ d.target
-other_paths entries d taken e = apart d.target d.path (or_parts (bytes_eq d.target d.path) (is_diverted entries d.target || (is_target entries d.target || is_target entries d.path)) taken).0 (sym e)
+other_paths : (d : Diversion) → bytes_eq d.target d.path ≡ false → d.path ≢ d.target
+other_paths d other e = apart d.target d.path other (sym e)
 
 record AddsTo (w : World) (entries : List Diversion) (d : Diversion) (seen : Seen) : Type 0 where
+  pub other : bytes_eq d.target d.path ≡ false
   pub no_directory : is_directory_kind (kind_of (w d.path)) || is_directory_kind (kind_of (w d.target)) ≡ false
   pub path : is_diverted entries d.path ≡ false
   pub taken : is_target_taken entries d ≡ false
@@ -99,10 +100,13 @@ adds w entries d rename seen none =
     let way = move_conditions (moves_node rename seen.listed sight) sight in
     let late = (Conffile, seen.conffile) ∷ way in
     let middle = (TargetDiverted, is_target_taken entries d) ∷ late in
-    let first = none_holds Directory (is_directory_kind sight.from || is_directory_kind sight.to) ((AlreadyDiverted, is_diverted entries d.path) ∷ middle) none in
+    let early = (AlreadyDiverted, is_diverted entries d.path) ∷ middle in
+    let directory = is_directory_kind sight.from || is_directory_kind sight.to in
+    let same = none_holds SamePath (bytes_eq d.target d.path) ((Directory, directory) ∷ early) none in
+    let first = none_holds Directory directory early same.1 in
     let second = none_holds AlreadyDiverted (is_diverted entries d.path) middle first.1 in
     let third = none_holds TargetDiverted (is_target_taken entries d) late second.1 in
-    record { no_directory = first.0; path = second.0; taken = third.0; conffile = (none_holds Conffile seen.conffile way third.1).0 }
+    record { other = same.0; no_directory = first.0; path = second.0; taken = third.0; conffile = (none_holds Conffile seen.conffile way third.1).0 }
 
 passed_over : {T : Type 0} (x : T) (b : Bool) (cs : List (T × Bool)) → b ≡ false → first_holding cs ≡ None → first_holding ((x, b) ∷ cs) ≡ None
 passed_over x true cs is none = absurd (true≢false is)
@@ -114,17 +118,20 @@ added_again entries d rename seen old now before all =
     let way = move_conditions (moves_node rename seen.listed sight) sight in
     let late = (Conffile, seen.conffile) ∷ way in
     let middle = (TargetDiverted, is_target_taken entries d) ∷ late in
-    passed_over Directory (is_directory_kind sight.from || is_directory_kind sight.to) ((AlreadyDiverted, is_diverted entries d.path) ∷ middle) (all.no_directory before.no_directory)
+    let early = (AlreadyDiverted, is_diverted entries d.path) ∷ middle in
+    let directory = is_directory_kind sight.from || is_directory_kind sight.to in
+    passed_over SamePath (bytes_eq d.target d.path) ((Directory, directory) ∷ early) before.other
+    (passed_over Directory directory early (all.no_directory before.no_directory)
     (passed_over AlreadyDiverted (is_diverted entries d.path) middle before.path
     (passed_over TargetDiverted (is_target_taken entries d) late before.taken
     (passed_over Conffile seen.conffile way before.conffile
-    (way_none (moves_node rename seen.listed sight) sight all.still))))
+    (way_none (moves_node rename seen.listed sight) sight all.still)))))
 
 pub adding_again : (entries : List Diversion) (d : Diversion) (rename : Bool) (seen : Seen) (old now : World) → IsWellFormed d → add_refusal old entries d rename seen ≡ None → IsAdding entries d rename seen old now
     → IsFinishedAgain (entries ++ d ∷ []) (λ w. add_refusal w entries d rename seen) (diverted d rename seen) old now
 adding_again entries d rename seen old now formed none moment =
     let before = adds old entries d rename seen none in
-    finished rename seen.listed d.path d.target old now formed.path.path formed.target.path (other_paths entries d before.taken) (entries ++ d ∷ []) (λ w. add_refusal w entries d rename seen) none
+    finished rename seen.listed d.path d.target old now formed.path.path formed.target.path (other_paths d before.other) (entries ++ d ∷ []) (λ w. add_refusal w entries d rename seen) none
     (added_again entries d rename seen old now before) moment
 
 entry_last : (entries : List Diversion) (d : Diversion) → is_diverted entries d.path ≡ false → entry_of (entries ++ d ∷ []) d.path ≡ Some d

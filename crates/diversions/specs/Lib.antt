@@ -1,5 +1,6 @@
 pub mod Entries
 pub mod Places
+pub mod Targets
 pub mod Lines
 pub mod Index
 pub mod Reading

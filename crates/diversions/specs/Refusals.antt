@@ -13,7 +13,7 @@ use Rattle.diversions.specs.declared.sight.Sight.{Sight}
 use Rattle.diversions.specs.declared.refusal.Answer.{Answer}
 use Rattle.diversions.specs.declared.refusal.Answer.TheVariants.{Done, Refused}
 use Rattle.diversions.specs.declared.refusal.Refusal.{Refusal}
-use Rattle.diversions.specs.declared.refusal.Refusal.TheVariants.{Directory, AlreadyDiverted, TargetDiverted, Conffile, NotDiverted, OtherOwner, TargetExists, NoParent}
+use Rattle.diversions.specs.declared.refusal.Refusal.TheVariants.{SamePath, Directory, AlreadyDiverted, TargetDiverted, Conffile, NotDiverted, OtherOwner, TargetExists, NoParent}
 use Rattle.diversions.specs.declared.refusal.Seen.{Seen}
 
 -- the first that holds
@@ -48,13 +48,14 @@ move_conditions moves sight =
     ∷ (TargetExists, moves && is_some sight.to)
     ∷ []
 
--- the target is the path, or one of them stands in an entry already
+-- the target stands in an entry already, or the path is the target of one
 abbrev pub is_target_taken : List Diversion → Diversion → Bool
-is_target_taken entries d = bytes_eq d.target d.path || (is_diverted entries d.target || (is_target entries d.target || is_target entries d.path))
+is_target_taken entries d = is_diverted entries d.target || (is_target entries d.target || is_target entries d.path)
 
 abbrev pub add_conditions : Sight → List Diversion → Diversion → Bool → Seen → List (Refusal × Bool)
 add_conditions sight entries d rename seen =
-    (Directory, is_directory_kind sight.from || is_directory_kind sight.to)
+    (SamePath, bytes_eq d.target d.path)
+    ∷ (Directory, is_directory_kind sight.from || is_directory_kind sight.to)
     ∷ (AlreadyDiverted, is_diverted entries d.path)
     ∷ (TargetDiverted, is_target_taken entries d)
     ∷ (Conffile, seen.conffile)

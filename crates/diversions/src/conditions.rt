@@ -65,13 +65,13 @@ pub(crate) fn move_refusal(moves: bool, sight: Sight) -> Option<Refusal>
     None
 }
 
-// Whether the target is the path, or one of them stands in an entry.
+// Whether the target stands in an entry, or the path is the target of one.
 fn is_target_taken(table: &Table, entry: &Diversion) -> bool
     ensures { result ≡ is_target_taken table.now entry.now }
 {
     let path = entry.path.as_str();
     let target = entry.target.as_str();
-    target == path || table.is_diverted(target) || table.is_target(target) || table.is_target(path)
+    table.is_diverted(target) || table.is_target(target) || table.is_target(path)
 }
 
 /// Why an entry isn't added.
@@ -84,6 +84,9 @@ pub(crate) fn add_refusal(
 ) -> Option<Refusal>
     ensures { result ≡ first_holding (add_conditions sight table.now entry.now rename seen) }
 {
+    if entry.target.as_str() == entry.path.as_str() {
+        return Some(Refusal::SamePath);
+    }
     if is_directory(sight.from) || is_directory(sight.to) {
         return Some(Refusal::Directory);
     }

@@ -1,5 +1,5 @@
 // The open table.
-ghost use Rattle.std.specs.Prelude.{◌≡◌, ◌↔◌, IfOk, IfErr, OnErr, IsTrue, true, false, length, ◌<◌, ◌^◌};
+ghost use Rattle.std.specs.Prelude.{◌≡◌, ◌↔◌, IfOk, IfErr, OnErr, IsTrue, true, false, length, option_copied, ◌<◌, ◌^◌};
 ghost use Rattle.std.specs.Map.Iter.{ShowsInOrder, deref};
 ghost use Rattle.host_core.specs.Host.{AtEachMoment, Needs, Reads, Silent, Tells};
 ghost use Rattle.administration.specs.Fault.{CountsAdministration};
@@ -15,6 +15,7 @@ ghost use Rattle.diversions.specs.Refusals.{add_answer, has_same, remove_answer}
 ghost use Rattle.diversions.specs.declared.fault.DiversionFault.TheVariants.{Closed};
 ghost use Rattle.diversions.specs.Lines.{HasEntries, HasDiversions, ReadsAs, IsNodeDamage, IsFileDamage, IsDiversionsDamage};
 ghost use Rattle.diversions.specs.Places as spec;
+ghost use Rattle.diversions.specs.Targets.{entry_to};
 
 use crate::changing::{add_diversion, remove_diversion};
 use crate::entry::{Diversion, Owner};
@@ -125,6 +126,13 @@ impl Diversions {
         ensures fits { length self.now.entries < 2 ^ 63 }
     {
         self.table.entries()
+    }
+
+    /// The entry that has a path as its target.
+    pub fn entry_to(&self, path: &RootPath) -> Option<&Diversion>
+        ensures { option_copied result ≡ entry_to self.now.entries path.now }
+    {
+        self.table.entry_to(path.as_str())
     }
 
     /// Where a path is for each package but the owner of its diversion.

@@ -1,6 +1,7 @@
 // An entry of the table.
 ghost use Rattle.std.specs.Prelude.{◌≡◌, ◌↔◌, IfOk, IsTrue};
 ghost use Rattle.diversions.specs.Places.{holds_for};
+ghost use Rattle.diversions.specs.Targets.{owner_name};
 
 use host_core::ShipPath;
 use std::alloc::AllocError;
@@ -32,6 +33,16 @@ impl Owner {
         match self {
             Owner::Local => true,
             Owner::Package(name) => !name.is(user),
+        }
+    }
+
+    /// The package by its name, or none for the administrator.
+    pub fn name(&self) -> Result<Option<Text>, AllocError>
+        ensures { IfOk result (λ name. name ≡ owner_name self.now) }
+    {
+        match self {
+            Owner::Local => Ok(None),
+            Owner::Package(name) => Ok(Some(name.copy()?)),
         }
     }
 

@@ -4,13 +4,16 @@ use thiserror::Error;
 /// Why a diversion isn't added or taken away.
 #[derive(Clone, Copy, Debug, PartialEq, Error)]
 pub enum Refusal {
+    /// The target is the path itself.
+    #[error("SamePath")]
+    SamePath,
     /// A directory stands at the path or the target.
     #[error("Directory")]
     Directory,
     /// The path has another diversion.
     #[error("AlreadyDiverted")]
     AlreadyDiverted,
-    /// The target is the path, or one of them stands in another diversion.
+    /// The target stands in another diversion, or the path is the target of one.
     #[error("TargetDiverted")]
     TargetDiverted,
     /// The path is a conffile of a record.

@@ -6,6 +6,7 @@ ghost use Rattle.std.specs.String.{string_bytes};
 ghost use Rattle.diversions.specs.declared.entry.Diversion.{Diversion as ADiversion};
 ghost use Rattle.diversions.specs.Entries.{is_diverted, is_target, entry_of, without, IsFree, IsTable};
 ghost use Rattle.diversions.specs.Index.{entries_of, IsIndex};
+ghost use Rattle.diversions.specs.Targets.{entry_to};
 
 use crate::entry::Diversion;
 use indexmap::map::Values;
@@ -94,6 +95,22 @@ impl Table {
         ensures { result ≡ is_target self.now path.now }
     {
         self.targets.contains(path)
+    }
+
+    /// The entry that has a path as its target. Only where there is one the entries are gone over.
+    pub(crate) fn entry_to(&self, target: &str) -> Option<&Diversion>
+        ensures { option_copied result ≡ entry_to self.now target.now }
+    {
+        if !self.is_target(target) {
+            return None;
+        }
+        let mut entries = self.entries();
+        while let Some(entry) = entries.next() {
+            if entry.target.as_str() == target {
+                return Some(entry);
+            }
+        }
+        None
     }
 
     /// Whether a path stands in no entry, neither as diverted nor as target.

@@ -63,6 +63,7 @@ tree_text NoMemory = codes "NoMemory"
 
 -- why a diversion isn't added or taken away
 abbrev pub divert_word : ItsRefusal → List ℕ
+divert_word diverted.SamePath = codes "SamePath"
 divert_word diverted.Directory = codes "Directory"
 divert_word diverted.AlreadyDiverted = codes "AlreadyDiverted"
 divert_word diverted.TargetDiverted = codes "TargetDiverted"

@@ -107,6 +107,7 @@ fn divert_word(refusal: diversions::Refusal) -> &'static str
     ensures { result.now ≡ divert_word refusal }
 {
     match refusal {
+        diversions::Refusal::SamePath => "SamePath",
         diversions::Refusal::Directory => "Directory",
         diversions::Refusal::AlreadyDiverted => "AlreadyDiverted",
         diversions::Refusal::TargetDiverted => "TargetDiverted",

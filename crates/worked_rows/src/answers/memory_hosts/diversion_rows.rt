@@ -54,6 +54,8 @@ const REFUSALS: &[&str] = &[
     "dpkg_cli divert --local /usr",
     "dpkg_cli divert --package bravo /usr/bin/w",
     "dpkg_cli divert --local --divert /usr/bin/w.real /usr/bin/v",
+    "dpkg_cli divert --local --divert /usr /usr",
+    "dpkg_cli divert --local --divert /usr/bin/w /usr/bin/w",
     "dpkg_cli divert --local --rename --divert /none/v /usr/bin/v",
     "dpkg_cli undivert --package bravo /usr/bin/w",
     "dpkg_cli undivert --local /usr/bin/v",
@@ -69,6 +71,10 @@ fn diversions_are_refused(rt: HostRuntime) -> Result<(), Fail> {
 refused /usr/bin/w AlreadyDiverted
 ||1
 refused /usr/bin/v TargetDiverted
+||1
+refused /usr SamePath
+||1
+refused /usr/bin/w SamePath
 ||1
 refused /usr/bin/v NoParent
 ||1
