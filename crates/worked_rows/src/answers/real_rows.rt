@@ -7,7 +7,7 @@ mod link_rows;
 mod package_rows;
 
 use super::{answer, is_refusing, is_want, text_of};
-use command_line::{Hosts, RootFault};
+use command_line::{Hosts, RootFault, ScriptStreams, TreeOwners};
 use host_core::HostFault;
 use host_files::{FilesHost, Unknown};
 use std::alloc::AllocError;
@@ -57,12 +57,16 @@ impl Hosts for RealHosts {
     // these tests have their roots to themselves
     ghost locked = { λ _ _. ⊥ };
 
-    fn open_root(&mut self, directory: &str) -> Result<RealHost, RootFault> {
-        Ok(self.open_tree(directory)?)
+    fn open_root(
+        &mut self,
+        directory: &str,
+        _streams: ScriptStreams,
+    ) -> Result<RealHost, RootFault> {
+        Ok(self.open_tree(directory, TreeOwners::Kept)?)
     }
 
     // With a full count nothing is opened any more.
-    fn open_tree(&mut self, tree: &str) -> Result<RealHost, HostFault> {
+    fn open_tree(&mut self, tree: &str, _owners: TreeOwners) -> Result<RealHost, HostFault> {
         if self.opened == u64::MAX {
             return Err(HostFault::NoMemory);
         }
