@@ -2,7 +2,7 @@
 ghost use Rattle.std.specs.Prelude.{◌≡◌, ⊤, IsTrue, Some, option_map};
 ghost use Rattle.host_memory.specs.Memory.{memory_state};
 
-use command_line::{Hosts, RootFault, run_words};
+use command_line::{Hosts, RootFault, ScriptStreams, TreeOwners, run_words};
 use host_core::{Access, Host, HostFault, Node, RootPath};
 use host_memory::{Ending, Entry, MemoryHost, Planned};
 use std::alloc::{AllocError, Global};
@@ -247,14 +247,18 @@ impl Hosts for Machine {
     // no other program has the root
     ghost locked = { λ _ _. ⊥ };
 
-    fn open_root(&mut self, _directory: &str) -> Result<MemoryHost, RootFault> {
+    fn open_root(
+        &mut self,
+        _directory: &str,
+        _streams: ScriptStreams,
+    ) -> Result<MemoryHost, RootFault> {
         match self.root.take() {
             Some(host) => Ok(host),
             None => Err(RootFault::Host(HostFault::NoMemory)),
         }
     }
 
-    fn open_tree(&mut self, tree: &str) -> Result<MemoryHost, HostFault> {
+    fn open_tree(&mut self, tree: &str, _owners: TreeOwners) -> Result<MemoryHost, HostFault> {
         Ok(tree_of(self.alloc, self.trees, tree)?)
     }
 

@@ -26,8 +26,8 @@ use crate::printing::{Flow, Printer};
 use crate::questions::{Inquiry, bad_path, inquire_under, inquiry_of};
 use crate::unpacking::{Done, unpack};
 use command_words::{
-    Asked, Comparison, Configuring, Diverting, Query, Removing, Topic, Undiverting, Unpacking,
-    Verdict, WordsFault, bad_version_line, command_of, help_text, subcommand_names,
+    Asked, Comparison, Configuring, Diverting, Query, Removing, ScriptStreams, Topic, Undiverting,
+    Unpacking, Verdict, WordsFault, bad_version_line, command_of, help_text, subcommand_names,
 };
 use conffiles::ConfPolicy;
 use dpkg_session::{Report, Unit};
@@ -265,6 +265,7 @@ fn work_telling<S: Hosts, O: Write>(
     alloc: Global,
     hosts: &mut S,
     root: &Text,
+    streams: ScriptStreams,
     asked: &Work,
     printer: &mut Printer<'_, O>,
 ) -> Result<Report, NotOpened>
@@ -274,13 +275,14 @@ fn work_telling<S: Hosts, O: Write>(
     ensures told { printer.old.flow ≡ Whole → IfOk result (λ done. HasPrinted (flat_map unit_lines done.units.items) printer.new.flow (O.contents printer.old.out.now) (O.contents printer.new.out.now)) }
     ensures untold { OnErr result (printer.new ≡ printer.old) }
 {
-    work_under(alloc, hosts, root, asked, printer)
+    work_under(alloc, hosts, root, streams, asked, printer)
 }
 
 fn worked<S: Hosts, O: Write>(
     alloc: Global,
     hosts: &mut S,
     root: &Text,
+    streams: ScriptStreams,
     asked: &Work,
     out: &mut O,
 ) -> Result<Left, AllocError>
@@ -294,7 +296,7 @@ fn worked<S: Hosts, O: Write>(
         out,
         flow: Flow::Whole,
     };
-    let ended = work_telling(alloc, hosts, root, asked, &mut printer);
+    let ended = work_telling(alloc, hosts, root, streams, asked, &mut printer);
     let flow = printer.flow;
     match ended {
         Ok(done) => units_left(alloc, flow, &done.last, report_status(&done)),
@@ -316,10 +318,11 @@ fn configured<S: Hosts, O: Write>(
     let Configuring {
         root,
         names,
+        streams,
         forced,
     } = asked;
     let work = Work::Configure(names, policy_of(forced));
-    worked(alloc, hosts, &root, &work, out)
+    worked(alloc, hosts, &root, streams, &work, out)
 }
 
 fn removed<S: Hosts, O: Write>(
@@ -333,9 +336,13 @@ fn removed<S: Hosts, O: Write>(
         × IsLeft (ended_answer asked.root ended) (O.contents out.old) (O.contents out.new) result }
     ensures bound { IfOk result (λ left. status_left left ≤ 2) }
 {
-    let Removing { root, names } = asked;
+    let Removing {
+        root,
+        names,
+        streams,
+    } = asked;
     let work = Work::Remove(names);
-    worked(alloc, hosts, &root, &work, out)
+    worked(alloc, hosts, &root, streams, &work, out)
 }
 
 fn purged<S: Hosts, O: Write>(
@@ -349,9 +356,13 @@ fn purged<S: Hosts, O: Write>(
         × IsLeft (ended_answer asked.root ended) (O.contents out.old) (O.contents out.new) result }
     ensures bound { IfOk result (λ left. status_left left ≤ 2) }
 {
-    let Removing { root, names } = asked;
+    let Removing {
+        root,
+        names,
+        streams,
+    } = asked;
     let work = Work::Purge(names);
-    worked(alloc, hosts, &root, &work, out)
+    worked(alloc, hosts, &root, streams, &work, out)
 }
 
 fn diverted<S: Hosts>(alloc: Global, hosts: &mut S, asked: &Diverting) -> Result<Answer, AllocError>

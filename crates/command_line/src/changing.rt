@@ -8,6 +8,7 @@ ghost use Rattle.command_line.specs.Roots.{IsRefusedOn, IsRootFault, IsStoppedOn
 use crate::fault::{NotOpened, RootFault};
 use crate::hosts::Hosts;
 use administration::AdministrationFault;
+use command_words::ScriptStreams;
 use diversions::Owner;
 use dpkg_session::{Diverting, Report, Session, Undiverting};
 use host_core::{Host, ShipPath};
@@ -129,7 +130,7 @@ pub(crate) fn change_under<S: Hosts>(
     ensures done { IfOk result (HasChangedUnder (around (S.root hosts.old) (S.tree hosts.old) (S.left hosts.new) (S.seen hosts.new) (S.faults hosts.old < S.faults hosts.new) (S.unopened hosts.old hosts.new) (S.locked hosts.old)) root.now asked.now) }
     ensures refused { IfErr result (IsRootFault (around (S.root hosts.old) (S.tree hosts.old) (S.left hosts.new) (S.seen hosts.new) (S.faults hosts.old < S.faults hosts.new) (S.unopened hosts.old hosts.new) (S.locked hosts.old)) root.now) }
 {
-    match hosts.open_root(root.as_str()) {
+    match hosts.open_root(root.as_str(), ScriptStreams::Own) {
         Ok(host) => match change_on(alloc, hosts, host, asked) {
             Ok(done) => Ok(done),
             Err(fault) => Err(NotOpened::Opening(fault)),

@@ -5,6 +5,7 @@ ghost use Rattle.host_core.specs.declared.fault.HostFault.TheVariants.{Device};
 ghost use Rattle.command_line.specs.declared.fault.RootFault.TheVariants.{Host as OfHost, Locked};
 
 use crate::fault::RootFault;
+use command_words::{ScriptStreams, TreeOwners};
 use host_core::{Host, HostFault};
 
 /// Opens the root and the trees that words name, and takes them back.
@@ -32,8 +33,13 @@ pub trait Hosts {
     /// Whether another program holds the root behind a word.
     ghost locked: { Self → List ℕ → Type 0 };
 
-    /// The host for the directory of `--root`, which is held until it is given back, so that no other program opens it.
-    fn open_root(&mut self, directory: &str) -> Result<Self::Opened, RootFault>
+    /// The host for the directory of `--root`, which is held until it is given back, so that no other program opens it. What
+    /// its scripts write goes to these streams.
+    fn open_root(
+        &mut self,
+        directory: &str,
+        streams: ScriptStreams,
+    ) -> Result<Self::Opened, RootFault>
         ensures opened { IfOk result (λ host. root self.old directory.now (Self.Opened.state host)) }
         ensures unopened { OnErr result (unopened self.old self.new) }
         ensures trees { (word : List ℕ) (s : State) → tree self.new word s → tree self.old word s }
@@ -42,8 +48,8 @@ pub trait Hosts {
         ensures cause { IsErrOf result (OfHost Device) → faults self.old < faults self.new }
         ensures locked { IsErrOf result Locked → locked self.old directory.now };
 
-    /// The host for a TREE as it was given.
-    fn open_tree(&mut self, directory: &str) -> Result<Self::Opened, HostFault>
+    /// The host for a TREE as it was given. It shows the tree's own owners, whatever they become.
+    fn open_tree(&mut self, directory: &str, owners: TreeOwners) -> Result<Self::Opened, HostFault>
         ensures opened { IfOk result (λ host. tree self.old directory.now (Self.Opened.state host)) }
         ensures trees { (word : List ℕ) (s : State) → tree self.new word s → tree self.old word s }
         ensures seen { (s : State) → seen self.old s → seen self.new s }

@@ -15,5 +15,6 @@ mod writing;
 
 pub use answer::FAILED;
 pub use command::run_words;
+pub use command_words::{ScriptStreams, TreeOwners};
 pub use fault::RootFault;
 pub use hosts::Hosts;

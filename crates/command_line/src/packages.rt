@@ -9,7 +9,7 @@ ghost use Rattle.command_line.specs.Roots.{IsRefusedOn, IsRootFault, IsStoppedOn
 use crate::fault::{NotOpened, RootFault};
 use crate::hosts::Hosts;
 use administration::AdministrationFault;
-use command_words::Forced;
+use command_words::{Forced, ScriptStreams};
 use conffiles::{Changed, ConfPolicy};
 use dpkg_session::{Report, Session, Watcher};
 use host_core::Host;
@@ -126,6 +126,7 @@ pub(crate) fn work_under<S: Hosts, W: Watcher>(
     alloc: Global,
     hosts: &mut S,
     root: &Text,
+    streams: ScriptStreams,
     asked: &Work,
     watcher: &mut W,
 ) -> Result<Report, NotOpened>
@@ -134,7 +135,7 @@ pub(crate) fn work_under<S: Hosts, W: Watcher>(
     ensures watched { IfOk result (λ done. IsTold W.tells watcher.old done.units.items watcher.new) }
     ensures unwatched { OnErr result (watcher.new ≡ watcher.old) }
 {
-    match hosts.open_root(root.as_str()) {
+    match hosts.open_root(root.as_str(), streams) {
         Ok(host) => match work_on(alloc, hosts, host, asked, watcher) {
             Ok(done) => Ok(done),
             Err(fault) => Err(NotOpened::Opening(fault)),

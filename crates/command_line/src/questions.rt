@@ -11,7 +11,7 @@ use crate::answer::{Answer, complained, printed, told};
 use crate::fault::{NotOpened, RootFault};
 use crate::hosts::Hosts;
 use administration::AdministrationFault;
-use command_words::Question;
+use command_words::{Question, ScriptStreams};
 use dpkg_session::{QueryFault, Session};
 use host_core::{Host, RootPath};
 use std::alloc::{AllocError, Global};
@@ -177,7 +177,7 @@ pub(crate) fn inquire_under<S: Hosts>(
     ensures answer { IfOk result (HasInquired (around (S.root hosts.old) (S.tree hosts.old) (S.left hosts.new) (S.seen hosts.new) (S.faults hosts.old < S.faults hosts.new) (S.unopened hosts.old hosts.new) (S.locked hosts.old)) root.now asked.now) }
     ensures refused { IfErr result (IsRootFault (around (S.root hosts.old) (S.tree hosts.old) (S.left hosts.new) (S.seen hosts.new) (S.faults hosts.old < S.faults hosts.new) (S.unopened hosts.old hosts.new) (S.locked hosts.old)) root.now) }
 {
-    match hosts.open_root(root.as_str()) {
+    match hosts.open_root(root.as_str(), ScriptStreams::Own) {
         Ok(host) => match inquire_on(alloc, hosts, host, asked) {
             Ok(done) => Ok(done),
             Err(fault) => Err(NotOpened::Opening(fault)),

@@ -6,6 +6,7 @@ ghost use Rattle.command_line.specs.Reading.{HaveGoneOn, IsReadFor};
 ghost use Rattle.command_line.specs.Roots.{around};
 
 use crate::hosts::Hosts;
+use command_words::TreeOwners;
 use dpkg_session::{Candidate, Trees};
 use package_tree::{Package, TreeFault, read_tree};
 use std::alloc::Global;
@@ -17,6 +18,7 @@ use texts::Text;
 pub(crate) struct TreeWords<'a, S: Hosts> {
     pub(crate) alloc: Global,
     pub(crate) hosts: &'a mut S,
+    pub(crate) owners: TreeOwners,
     pub(crate) left: &'a mut IntoIter<Text>,
 }
 
@@ -34,7 +36,7 @@ impl<'a, S: Hosts> Trees for TreeWords<'a, S> {
         }
         match self.left.next() {
             Some(label) => {
-                let tree = read_package(self.alloc, self.hosts, label.as_str());
+                let tree = read_package(self.alloc, self.hosts, label.as_str(), self.owners);
                 Some(Candidate { label, tree })
             }
             None => None,
@@ -43,11 +45,16 @@ impl<'a, S: Hosts> Trees for TreeWords<'a, S> {
 }
 
 // What a tree gives; one that can't be opened has the host's fault.
-fn read_package<S: Hosts>(alloc: Global, hosts: &mut S, tree: &str) -> Result<Package, TreeFault>
+fn read_package<S: Hosts>(
+    alloc: Global,
+    hosts: &mut S,
+    tree: &str,
+    owners: TreeOwners,
+) -> Result<Package, TreeFault>
     ensures read { IsReadFor (around (S.root hosts.old) (S.tree hosts.old) (S.left hosts.new) (S.seen hosts.new) (S.faults hosts.old < S.faults hosts.new) (S.unopened hosts.old hosts.new) (S.locked hosts.old)) tree.now result }
     ensures on { HaveGoneOn (S.tree hosts.old) (S.tree hosts.new) (S.seen hosts.old) (S.seen hosts.new) (S.faults hosts.old) (S.faults hosts.new) }
 {
-    match hosts.open_tree(tree) {
+    match hosts.open_tree(tree, owners) {
         Ok(mut host) => {
             let read = read_tree(alloc, &mut host);
             hosts.close_tree(host);

@@ -83,6 +83,7 @@ fn run_trees<S: Hosts, W: Watcher>(
     let mut trees = TreeWords {
         alloc,
         hosts,
+        owners: unpacking.owners,
         left: &mut left,
     };
     let auto_deconfigure = unpacking.auto_deconfigure;
@@ -132,7 +133,7 @@ pub(crate) fn unpack<S: Hosts, W: Watcher>(
     ensures watched { IfOk result (λ done. IsTold W.tells watcher.old (units_of done) watcher.new) }
     ensures unwatched { OnErr result (watcher.new ≡ watcher.old) }
 {
-    match hosts.open_root(unpacking.root.as_str()) {
+    match hosts.open_root(unpacking.root.as_str(), unpacking.streams) {
         Ok(host) => match unpack_on(alloc, hosts, host, unpacking, policy, watcher) {
             Ok(done) => Ok(done),
             Err(fault) => Err(NotOpened::Opening(fault)),

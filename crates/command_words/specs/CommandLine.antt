@@ -70,17 +70,24 @@ undivert_app = with_diverted (with_owner (rooted_app (codes "undivert")))
 abbrev pub with_forced : App → App
 with_forced a = with_rule (with_rule (with_rule a (flag_rule (codes "force-confold"))) (flag_rule (codes "force-confnew"))) (flag_rule (codes "force-confmiss"))
 
--- `install [--root DIR] [--auto-deconfigure] [--force-confold | --force-confnew] [--force-confmiss] TREE..`; `unpack` likewise
+-- a subcommand that has a root and calls scripts: `--scripts-stderr`
+abbrev pub calling_app : Text → App
+calling_app name = with_rule (rooted_app name) (flag_rule (codes "scripts-stderr"))
+
+-- `install [--root DIR] [--scripts-stderr] [--owner-root] [--auto-deconfigure] [--force-confold | --force-confnew]
+-- [--force-confmiss] TREE..`; `unpack` likewise
 abbrev pub trees_app : Text → App
-trees_app name = with_rule (with_forced (with_rule (rooted_app name) (flag_rule (codes "auto-deconfigure")))) (words_rule (codes "TREE") true)
+trees_app name =
+    with_rule (with_forced (with_rule (with_rule (calling_app name) (flag_rule (codes "owner-root"))) (flag_rule (codes "auto-deconfigure"))))
+    (words_rule (codes "TREE") true)
 
--- `configure [--root DIR] [--force-confold | --force-confnew] [--force-confmiss] [PKG..]`
+-- `configure [--root DIR] [--scripts-stderr] [--force-confold | --force-confnew] [--force-confmiss] [PKG..]`
 abbrev pub configure_app : App
-configure_app = with_rule (with_forced (rooted_app (codes "configure"))) (words_rule (codes "PKG") false)
+configure_app = with_rule (with_forced (calling_app (codes "configure"))) (words_rule (codes "PKG") false)
 
--- `remove [--root DIR] PKG..`; `purge` likewise
+-- `remove [--root DIR] [--scripts-stderr] PKG..`; `purge` likewise
 abbrev pub removing_app : Text → App
-removing_app name = with_rule (rooted_app name) (words_rule (codes "PKG") true)
+removing_app name = with_rule (calling_app name) (words_rule (codes "PKG") true)
 
 -- clap's own flag and subcommand for help are none of ours
 abbrev pub without_help : App → App

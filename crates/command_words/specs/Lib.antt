@@ -1,6 +1,8 @@
 pub mod CommandLine
 pub mod Comparisons
 pub mod Given
+pub mod Owners
+pub mod Streams
 pub mod Topics
 pub mod Queries
 pub mod Forced

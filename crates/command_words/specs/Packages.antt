@@ -3,26 +3,29 @@ use Rattle.std.specs.Prelude.{List, Option, Some, None, codes, if◌then◌else�
 use Rattle.clap.specs.Words.{Row, Text, all_of, first_of}
 use Rattle.command_words.specs.Forced.{forced_of}
 use Rattle.command_words.specs.Given.{is_absolute}
+use Rattle.command_words.specs.Streams.{streams_of}
 use Rattle.command_words.specs.declared.forced.Forced.{Forced}
 use Rattle.command_words.specs.declared.packages.Configuring.{Configuring}
 use Rattle.command_words.specs.declared.packages.Removing.{Removing}
+use Rattle.command_words.specs.declared.streams.ScriptStreams.{ScriptStreams}
 
 abbrev pub names_of : List Row → Option (List Text)
 names_of rows = all_of (codes "PKG") rows
 
 -- packages to be configured under an absolute root, or all where none is named
-abbrev pub configuring_from : Option Text → Option (List Text) → Option Forced → Option Configuring
-configuring_from (Some root) names (Some forced) =
-    if is_absolute root then Some (record { root = root; names = names; forced = forced }) else None
-configuring_from _ _ _ = None
+abbrev pub configuring_from : Option Text → Option (List Text) → ScriptStreams → Option Forced → Option Configuring
+configuring_from (Some root) names streams (Some forced) =
+    if is_absolute root then Some (record { root = root; names = names; streams = streams; forced = forced }) else None
+configuring_from _ _ _ _ = None
 
 abbrev pub configuring_of : List Row → Option Configuring
-configuring_of rows = configuring_from (first_of (codes "root") rows) (names_of rows) (forced_of rows)
+configuring_of rows = configuring_from (first_of (codes "root") rows) (names_of rows) (streams_of rows) (forced_of rows)
 
 -- packages to be removed or purged under an absolute root
-abbrev pub removing_from : Option Text → Option (List Text) → Option Removing
-removing_from (Some root) (Some names) = if is_absolute root then Some (record { root = root; names = names }) else None
-removing_from _ _ = None
+abbrev pub removing_from : Option Text → Option (List Text) → ScriptStreams → Option Removing
+removing_from (Some root) (Some names) streams =
+    if is_absolute root then Some (record { root = root; names = names; streams = streams }) else None
+removing_from _ _ _ = None
 
 abbrev pub removing_of : List Row → Option Removing
-removing_of rows = removing_from (first_of (codes "root") rows) (names_of rows)
+removing_of rows = removing_from (first_of (codes "root") rows) (names_of rows) (streams_of rows)

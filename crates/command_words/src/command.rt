@@ -2,7 +2,7 @@
 ghost use Rattle.std.specs.Prelude.{◌≡◌, IfOk, codes, false, string_bytes, true};
 ghost use Rattle.clap.specs.Words.{app_of, new_app, rule_of, with_rule, with_subcommand};
 ghost use Rattle.clap.specs.declared.builder.command.Command.TheViews.{out-Command as fields_of};
-ghost use Rattle.command_words.specs.CommandLine.{are_ascending, asking_app, compare_versions_app, configure_app, divert_app, first_apps, flag_rule, fourth_apps, help_app, last_apps, lines, maybe_word_rule, option_rule, removing_app, root_rule, rooted_app, second_apps, subcommand_names, third_apps, trees_app, truename_app, undivert_app, whole_app, with_all, with_diverted, with_forced, with_owner, without_help, word_rule, words_rule};
+ghost use Rattle.command_words.specs.CommandLine.{are_ascending, asking_app, calling_app, compare_versions_app, configure_app, divert_app, first_apps, flag_rule, fourth_apps, help_app, last_apps, lines, maybe_word_rule, option_rule, removing_app, root_rule, rooted_app, second_apps, subcommand_names, third_apps, trees_app, truename_app, undivert_app, whole_app, with_all, with_diverted, with_forced, with_owner, without_help, word_rule, words_rule};
 
 use clap::{Arg, ArgAction, Command};
 use std::alloc::{AllocError, Global};
@@ -163,12 +163,21 @@ fn with_forced<'a>(alloc: Global, command: Command<'a>) -> Result<Command<'a>, A
     with_arg(command, flag(alloc, "force-confmiss"))
 }
 
+// A subcommand under a root that calls scripts.
+fn calling<'a>(alloc: Global, name: &'a str) -> Result<Command<'a>, AllocError>
+    ensures app { IfOk result (λ c. app_of c ≡ calling_app name.entry.now) }
+    ensures local { IfOk result (λ c. (fields_of c).has_globals ≡ false) }
+{
+    with_arg(rooted(alloc, name)?, flag(alloc, "scripts-stderr"))
+}
+
 // A subcommand that takes trees.
 fn taking_trees<'a>(alloc: Global, name: &'a str) -> Result<Command<'a>, AllocError>
     ensures app { IfOk result (λ c. app_of c ≡ trees_app name.entry.now) }
     ensures local { IfOk result (λ c. (fields_of c).has_globals ≡ false) }
 {
-    let command = with_arg(rooted(alloc, name)?, flag(alloc, "auto-deconfigure"))?;
+    let command = with_arg(calling(alloc, name)?, flag(alloc, "owner-root"))?;
+    let command = with_arg(command, flag(alloc, "auto-deconfigure"))?;
     let command = with_forced(alloc, command)?;
     with_arg(command, words(alloc, "TREE", true))
 }
@@ -177,7 +186,7 @@ fn configure_command<'a>(alloc: Global) -> Result<Command<'a>, AllocError>
     ensures app { IfOk result (λ c. app_of c ≡ configure_app) }
     ensures local { IfOk result (λ c. (fields_of c).has_globals ≡ false) }
 {
-    let command = with_forced(alloc, rooted(alloc, "configure")?)?;
+    let command = with_forced(alloc, calling(alloc, "configure")?)?;
     with_arg(command, words(alloc, "PKG", false))
 }
 
@@ -186,7 +195,7 @@ fn removing<'a>(alloc: Global, name: &'a str) -> Result<Command<'a>, AllocError>
     ensures app { IfOk result (λ c. app_of c ≡ removing_app name.entry.now) }
     ensures local { IfOk result (λ c. (fields_of c).has_globals ≡ false) }
 {
-    with_arg(rooted(alloc, name)?, words(alloc, "PKG", true))
+    with_arg(calling(alloc, name)?, words(alloc, "PKG", true))
 }
 
 // Clap makes no flag and no subcommand for help: the subcommand is ours, and a flag for it is a usage fault.

@@ -63,6 +63,7 @@ const CONFIGURE: &str =
 of all that wait for it where none is named.
 
   --root DIR        the root, an absolute directory; / if it isn't given
+  --scripts-stderr  what scripts write goes to standard error
   --force-confold   an edited conffile stays, as without a flag
   --force-confnew   the package's takes the place of an edited conffile
   --force-confmiss  a deleted conffile is made again
@@ -98,6 +99,8 @@ const INSTALL: &str =
     "Unpacks the packages of trees, which dpkg-deb -R makes, and then configures them.
 
   --root DIR          the root, an absolute directory; / if it isn't given
+  --scripts-stderr    what scripts write goes to standard error
+  --owner-root        files get user and group 0, whoever made the tree
   --auto-deconfigure  installed packages may be deconfigured in their favour
   --force-confold     an edited conffile stays, as without a flag
   --force-confnew     the package's takes the place of an edited conffile
@@ -122,14 +125,16 @@ Example: coizkerra listfiles --root /srv/root hello
 
 const PURGE: &str = "Removes packages with their conffiles, in the order that relations ask for.
 
-  --root DIR  the root, an absolute directory; / if it isn't given
+  --root DIR        the root, an absolute directory; / if it isn't given
+  --scripts-stderr  what scripts write goes to standard error
 
 Example: coizkerra purge --root /srv/root hello
 ";
 
 const REMOVE: &str = "Removes packages but their conffiles, in the order that relations ask for.
 
-  --root DIR  the root, an absolute directory; / if it isn't given
+  --root DIR        the root, an absolute directory; / if it isn't given
+  --scripts-stderr  what scripts write goes to standard error
 
 Example: coizkerra remove --root /srv/root hello
 ";
@@ -171,6 +176,8 @@ const UNPACK: &str =
     "Puts the files of trees, which dpkg-deb -R makes, in place; configure makes the packages ready.
 
   --root DIR          the root, an absolute directory; / if it isn't given
+  --scripts-stderr    what scripts write goes to standard error
+  --owner-root        files get user and group 0, whoever made the tree
   --auto-deconfigure  installed packages may be deconfigured in their favour
 
 The flags for conffiles are taken, and not needed.
@@ -213,23 +220,23 @@ impl Topic {
             Topic::Audit => "audit [--root DIR]",
             Topic::CompareVersions => "compare-versions A OP B",
             Topic::Configure =>
-                "configure [--root DIR] [--force-confold | --force-confnew] [--force-confmiss] [PKG..]",
+                "configure [--root DIR] [--scripts-stderr] [--force-confold | --force-confnew] [--force-confmiss] [PKG..]",
             Topic::Diversions => "diversions [--root DIR]",
             Topic::Divert =>
                 "divert [--root DIR] (--package P | --local) [--divert TARGET] [--rename] PATH",
             Topic::Help => "help [COMMAND]",
             Topic::Install =>
-                "install [--root DIR] [--auto-deconfigure] [--force-confold | --force-confnew] [--force-confmiss] TREE..",
+                "install [--root DIR] [--scripts-stderr] [--owner-root] [--auto-deconfigure] [--force-confold | --force-confnew] [--force-confmiss] TREE..",
             Topic::List => "list [--root DIR]",
             Topic::ListFiles => "listfiles [--root DIR] PKG",
-            Topic::Purge => "purge [--root DIR] PKG..",
-            Topic::Remove => "remove [--root DIR] PKG..",
+            Topic::Purge => "purge [--root DIR] [--scripts-stderr] PKG..",
+            Topic::Remove => "remove [--root DIR] [--scripts-stderr] PKG..",
             Topic::Search => "search [--root DIR] PATH",
             Topic::Status => "status [--root DIR] PKG",
             Topic::Truename => "truename [--root DIR] [--package P] PATH",
             Topic::Undivert => "undivert [--root DIR] (--package P | --local) [--rename] PATH",
             Topic::Unpack =>
-                "unpack [--root DIR] [--auto-deconfigure] [--force-confold | --force-confnew] [--force-confmiss] TREE..",
+                "unpack [--root DIR] [--scripts-stderr] [--owner-root] [--auto-deconfigure] [--force-confold | --force-confnew] [--force-confmiss] TREE..",
         }
     }
 

@@ -5,6 +5,7 @@ ghost use Rattle.command_words.specs.Packages.{configuring_from, configuring_of,
 
 use crate::forced::{Forced, forced_of};
 use crate::found::{all_texts_of, copies, is_absolute, text_of};
+use crate::streams::{ScriptStreams, streams_of};
 use clap::ArgMatches;
 use std::alloc::{AllocError, Global};
 use texts::{Text, Texts};
@@ -15,6 +16,7 @@ use texts::{Text, Texts};
 pub struct Configuring {
     pub root: Text,
     pub names: Option<Texts>,
+    pub streams: ScriptStreams,
     pub forced: Forced,
 }
 
@@ -23,6 +25,7 @@ pub struct Configuring {
 pub struct Removing {
     pub root: Text,
     pub names: Texts,
+    pub streams: ScriptStreams,
 }
 
 fn names_of(alloc: Global, found: &ArgMatches<'_>) -> Result<Option<Texts>, AllocError>
@@ -38,9 +41,11 @@ fn configuring_from(
     alloc: Global,
     root: Option<&str>,
     names: Option<Texts>,
+    streams: ScriptStreams,
     forced: Option<Forced>,
 ) -> Result<Option<Configuring>, AllocError>
-    ensures { IfOk result (λ asked. asked ≡ configuring_from (option_map (λ s. s.now) root.entry) names forced) }
+    ensures { IfOk result (λ asked. asked
+        ≡ configuring_from (option_map (λ s. s.now) root.entry) names streams forced) }
 {
     let (Some(root), Some(forced)) = (root, forced) else {
         return Ok(None);
@@ -52,6 +57,7 @@ fn configuring_from(
     Ok(Some(Configuring {
         root,
         names,
+        streams,
         forced,
     }))
 }
@@ -64,15 +70,22 @@ pub(crate) fn configuring_of(
     ensures { IfOk result (λ asked. asked ≡ configuring_of (rows_of (found_of found.now))) }
 {
     let names = names_of(alloc, found)?;
-    configuring_from(alloc, text_of(found, "root"), names, forced_of(found))
+    configuring_from(
+        alloc,
+        text_of(found, "root"),
+        names,
+        streams_of(found),
+        forced_of(found),
+    )
 }
 
 fn removing_from(
     alloc: Global,
     root: Option<&str>,
     names: Option<Texts>,
+    streams: ScriptStreams,
 ) -> Result<Option<Removing>, AllocError>
-    ensures { IfOk result (λ asked. asked ≡ removing_from (option_map (λ s. s.now) root.entry) names) }
+    ensures { IfOk result (λ asked. asked ≡ removing_from (option_map (λ s. s.now) root.entry) names streams) }
 {
     let (Some(root), Some(names)) = (root, names) else {
         return Ok(None);
@@ -81,7 +94,11 @@ fn removing_from(
         return Ok(None);
     }
     let root = Text::from_str(alloc, root)?;
-    Ok(Some(Removing { root, names }))
+    Ok(Some(Removing {
+        root,
+        names,
+        streams,
+    }))
 }
 
 /// The packages that are to be removed or purged, unless the words have a fault.
@@ -92,5 +109,5 @@ pub(crate) fn removing_of(
     ensures { IfOk result (λ asked. asked ≡ removing_of (rows_of (found_of found.now))) }
 {
     let names = names_of(alloc, found)?;
-    removing_from(alloc, text_of(found, "root"), names)
+    removing_from(alloc, text_of(found, "root"), names, streams_of(found))
 }

@@ -5,6 +5,8 @@ ghost use Rattle.command_words.specs.Unpacks.{unpacking_from, unpacking_of};
 
 use crate::forced::{Forced, forced_of};
 use crate::found::{all_texts_of, copies, flag_of, is_absolute, text_of};
+use crate::owners::{TreeOwners, owners_of};
+use crate::streams::{ScriptStreams, streams_of};
 use clap::ArgMatches;
 use std::alloc::{AllocError, Global};
 use texts::{Text, Texts};
@@ -17,6 +19,8 @@ pub struct Unpacking {
     pub trees: Texts,
     /// Installed packages may be deconfigured in favour of one that is unpacked.
     pub auto_deconfigure: bool,
+    pub owners: TreeOwners,
+    pub streams: ScriptStreams,
     pub forced: Forced,
 }
 
@@ -25,10 +29,14 @@ fn unpacking_from(
     root: Option<&str>,
     trees: Option<&[&str]>,
     auto_deconfigure: bool,
+    owners: TreeOwners,
+    streams: ScriptStreams,
     forced: Option<Forced>,
 ) -> Result<Option<Unpacking>, AllocError>
     ensures { IfOk result (λ asked. asked
-        ≡ unpacking_from (option_map (λ s. s.now) root.entry) (option_map (λ s. map (λ t. t.now) s.now) trees.entry) auto_deconfigure forced) }
+        ≡ unpacking_from (option_map (λ s. s.now) root.entry)
+        (option_map (λ s. map (λ t. t.now) s.now) trees.entry)
+        auto_deconfigure owners streams forced) }
 {
     let (Some(root), Some(trees), Some(forced)) = (root, trees, forced) else {
         return Ok(None);
@@ -42,6 +50,8 @@ fn unpacking_from(
         root,
         trees,
         auto_deconfigure,
+        owners,
+        streams,
         forced,
     }))
 }
@@ -58,6 +68,8 @@ pub(crate) fn unpacking_of(
         text_of(found, "root"),
         all_texts_of(found, "TREE"),
         flag_of(found, "auto-deconfigure"),
+        owners_of(found),
+        streams_of(found),
         forced_of(found),
     )
 }

@@ -4,7 +4,7 @@ ghost use Rattle.host_core.specs.declared.fault.HostFault.TheVariants.{Device};
 ghost use Rattle.command_line.specs.declared.fault.RootFault.TheVariants.{Host as OfHost};
 
 use crate::progress::Line;
-use command_line::{Hosts, RootFault};
+use command_line::{Hosts, RootFault, ScriptStreams, TreeOwners};
 use host_core::HostFault;
 use host_files::{FilesHost, Unknown};
 use std::fs::{File, TryLockError};
@@ -139,12 +139,20 @@ impl Hosts for Directories {
     // nor of what other programs hold
     ghost locked = { λ _ _. ⊤ };
 
-    fn open_root(&mut self, directory: &str) -> Result<FilesHost<Unknown>, RootFault> {
+    fn open_root(
+        &mut self,
+        directory: &str,
+        _streams: ScriptStreams,
+    ) -> Result<FilesHost<Unknown>, RootFault> {
         self.lock(directory)?;
         Ok(self.open_locked(directory)?)
     }
 
-    fn open_tree(&mut self, tree: &str) -> Result<FilesHost<Unknown>, HostFault> {
+    fn open_tree(
+        &mut self,
+        tree: &str,
+        _owners: TreeOwners,
+    ) -> Result<FilesHost<Unknown>, HostFault> {
         self.line.show_tree(tree, self.trees);
         self.trees = self.trees.saturating_add(1);
         self.open(tree)

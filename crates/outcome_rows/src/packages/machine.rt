@@ -6,7 +6,7 @@ mod prediction;
 
 use super::Package;
 use crate::tables::SCRIPTS;
-use command_line::{Hosts, RootFault, run_words};
+use command_line::{Hosts, RootFault, ScriptStreams, TreeOwners, run_words};
 use host_core::{Access, Host, HostFault, Node, Outcome, RootPath};
 use host_memory::{Ending, Entry, MemoryHost, Planned};
 use std::alloc::{AllocError, Global};
@@ -258,14 +258,18 @@ impl Hosts for Machine {
     // no other program has the root
     ghost locked = { λ _ _. ⊥ };
 
-    fn open_root(&mut self, _directory: &str) -> Result<MemoryHost, RootFault> {
+    fn open_root(
+        &mut self,
+        _directory: &str,
+        _streams: ScriptStreams,
+    ) -> Result<MemoryHost, RootFault> {
         match self.root.take() {
             Some(host) => Ok(host),
             None => Err(RootFault::Host(HostFault::NoMemory)),
         }
     }
 
-    fn open_tree(&mut self, _tree: &str) -> Result<MemoryHost, HostFault> {
+    fn open_tree(&mut self, _tree: &str, _owners: TreeOwners) -> Result<MemoryHost, HostFault> {
         let mut host = MemoryHost::new(self.alloc)?;
         for (path, text) in self.case.tree.files {
             put(self.alloc, &mut host, path, text)?;

@@ -16,7 +16,7 @@ mod upgrade_rows;
 mod word_rows;
 
 use super::{answer, expect, path_of, text_of};
-use command_line::{Hosts, RootFault};
+use command_line::{Hosts, RootFault, ScriptStreams, TreeOwners};
 use host_core::{Access, Host, HostFault, Node, Outcome, RootPath};
 use host_memory::{Ending, Entry, MemoryHost, Planned};
 use std::alloc::{AllocError, Global};
@@ -304,14 +304,18 @@ impl Hosts for MemoryHosts {
     // no other program has the root
     ghost locked = { λ _ _. ⊥ };
 
-    fn open_root(&mut self, _directory: &str) -> Result<MemoryHost, RootFault> {
+    fn open_root(
+        &mut self,
+        _directory: &str,
+        _streams: ScriptStreams,
+    ) -> Result<MemoryHost, RootFault> {
         match self.root.take() {
             Some(host) => Ok(host),
             None => Err(RootFault::Host(HostFault::NoMemory)),
         }
     }
 
-    fn open_tree(&mut self, tree: &str) -> Result<MemoryHost, HostFault> {
+    fn open_tree(&mut self, tree: &str, _owners: TreeOwners) -> Result<MemoryHost, HostFault> {
         Ok(tree_of(self.alloc, self.trees, tree)?)
     }
 

@@ -7,7 +7,7 @@ mod link_rows;
 mod package_rows;
 
 use super::{answer, is_refusing, is_want, text_of};
-use command_line::{Hosts, RootFault};
+use command_line::{Hosts, RootFault, ScriptStreams, TreeOwners};
 use host_core::HostFault;
 use host_files::{FilesHost, Unknown};
 use std::alloc::AllocError;
@@ -57,12 +57,16 @@ impl Hosts for RealHosts {
     // these tests have their roots to themselves
     ghost locked = { λ _ _. ⊥ };
 
-    fn open_root(&mut self, directory: &str) -> Result<RealHost, RootFault> {
-        Ok(self.open_tree(directory)?)
+    fn open_root(
+        &mut self,
+        directory: &str,
+        _streams: ScriptStreams,
+    ) -> Result<RealHost, RootFault> {
+        Ok(self.open_tree(directory, TreeOwners::Kept)?)
     }
 
     // With a full count nothing is opened any more.
-    fn open_tree(&mut self, tree: &str) -> Result<RealHost, HostFault> {
+    fn open_tree(&mut self, tree: &str, _owners: TreeOwners) -> Result<RealHost, HostFault> {
         if self.opened == u64::MAX {
             return Err(HostFault::NoMemory);
         }
@@ -296,6 +300,10 @@ root=${0%/var/lib/dpkg/tmp.ci/preinst}
 [ \"$DPKG_ADMINDIR\" = \"$root/var/lib/dpkg\" ] || exit 13
 [ \"$DPKG_MAINTSCRIPT_PACKAGE\" = alpha ] || exit 14
 [ \"$DPKG_MAINTSCRIPT_NAME\" = preinst ] || exit 15
+[ \"$DPKG_MAINTSCRIPT_PACKAGE_REFCOUNT\" = 1 ] || exit 20
+[ \"$DPKG_MAINTSCRIPT_DEBUG\" = 0 ] || exit 21
+[ \"$DPKG_RUNNING_VERSION\" = 1.21.22 ] || exit 22
+[ \"$DPKG_FORCE\" = security-mac,downgrade ] || exit 23
 [ \"$PATH\" = /usr/sbin:/usr/bin:/sbin:/bin ] || exit 16
 [ \"$#$*\" = 1install ] || exit 17
 [ \"$(readlink \"/proc/$$/fd/0\")\" = /dev/null ] || exit 18
