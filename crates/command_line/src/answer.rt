@@ -32,6 +32,7 @@ use command_words::{
 use conffiles::ConfPolicy;
 use dpkg_session::{Report, Unit};
 use report_lines::{opening_line, report_status, report_text, unit_text};
+use shown_lines::line;
 use std::alloc::{AllocError, Global};
 use std::io::Write;
 use texts::{Bytes, Text};
@@ -180,10 +181,11 @@ fn whole(answer: Result<Answer, AllocError>) -> Result<Left, AllocError>
 
 // The line that tells that another program holds the root.
 fn locked_line(alloc: Global, root: &Text) -> Result<String, AllocError>
-    ensures { IfOk result (λ line. string_bytes line ≡ locked_line root.now) }
+    ensures { IfOk result (λ printed. string_bytes printed ≡ locked_line root.now) }
 {
     let root = root.as_str();
-    format!(in alloc; "locked {root}\n")
+    let content = format!(in alloc; "locked {root}")?;
+    line(alloc, content.as_str())
 }
 
 fn not_opened(alloc: Global, root: &Text, fault: &NotOpened) -> Result<Answer, AllocError>

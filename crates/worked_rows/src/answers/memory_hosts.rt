@@ -10,6 +10,7 @@ mod memory_rows;
 mod query_rows;
 mod removal_rows;
 mod script_rows;
+mod shown_rows;
 mod tree_rows;
 mod unpack_relation_rows;
 mod upgrade_rows;
