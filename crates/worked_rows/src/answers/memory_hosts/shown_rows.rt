@@ -22,6 +22,7 @@ const LINES: &[&str] = &[
     "dpkg_cli configure a\nb",
     "dpkg_cli status a\tb",
     "dpkg_cli truename a\nb",
+    "dpkg_cli compare-versions 1\n eq 1",
 ];
 
 const ROW: &str = "refused c\\x0a\\x1b[2J NoControl
@@ -52,6 +53,8 @@ refused a\\x0ab Unknown
 refused a\\x09b Unknown
 ||1
 |bad path a\\x0ab
+|2
+|bad version 1\\x0a: Char 1
 |2
 ";
 
