@@ -21,3 +21,4 @@ pub mod OtherPaths
 pub mod OthersTaken
 pub mod Filtered
 pub mod Judged
+pub mod Owning

@@ -7,7 +7,7 @@ use Rattle.host_core.specs.Host.{State, faults}
 use Rattle.package_tree.specs.Fault.{CountsTree}
 use Rattle.package_tree.specs.ControlFile.{IsFieldFault, IsTextFault}
 use Rattle.package_tree.specs.declared.fault.TreeFault.{TreeFault}
-use Rattle.package_tree.specs.declared.fault.TreeFault.TheVariants.{NoControl, Control, FieldMissing, FieldBad, PathBad, Reserved, ConffileNotShipped, ConffileShipped, ConffileFlag, TooLarge, Device, NoMemory}
+use Rattle.package_tree.specs.declared.fault.TreeFault.TheVariants.{Twice, NoControl, Control, FieldMissing, FieldBad, PathBad, Reserved, ConffileNotShipped, ConffileShipped, ConffileFlag, TooLarge, Device, NoMemory}
 
 -- it is that of the call
 pub passed_fault : {T : Type 0} (P : TreeFault → Type 0) (r : Result T TreeFault) (fault : TreeFault) → IsErrAnd r (λ e. e ≡ fault) → P fault → IfErr r P
@@ -16,6 +16,7 @@ passed_fault P (Err e) fault passed told = subst P (sym passed) told
 
 -- a fault of the fields is one of the text that has them
 pub told_fields : (text : List ℕ) (paragraph : List Field) (fault : TreeFault) → ReadsOne (lines_of text) paragraph → IsFieldFault paragraph fault → IsTextFault text fault
+told_fields text paragraph Twice reads is = absurd is
 told_fields text paragraph NoControl reads is = absurd is
 told_fields text paragraph (Control fault) reads is = absurd is
 told_fields text paragraph (FieldMissing name) reads is = (paragraph, reads, is)
@@ -31,6 +32,7 @@ told_fields text paragraph NoMemory reads is = tt
 
 -- The counts of a fault are those since an earlier state from which none was counted.
 counts_since : (T U : Type 0) (a b c : State) (fault : TreeFault) → faults b ≡ faults a → CountsTree {T = T} b c (Err fault) → CountsTree {T = U} a c (Err fault)
+counts_since T U a b c Twice same told = told ∙ same
 counts_since T U a b c NoControl same told = told ∙ same
 counts_since T U a b c (Control fault) same told = told ∙ same
 counts_since T U a b c (FieldMissing name) same told = told ∙ same

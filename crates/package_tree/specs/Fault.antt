@@ -4,7 +4,7 @@ use Rattle.host_core.specs.Host.{State, faults, HasFailed}
 use Rattle.host_core.specs.declared.fault.HostFault.{HostFault}
 use Rattle.host_core.specs.declared.fault.HostFault.TheVariants as host
 use Rattle.package_tree.specs.declared.fault.TreeFault.{TreeFault}
-use Rattle.package_tree.specs.declared.fault.TreeFault.TheVariants.{NoControl, Control, FieldMissing, FieldBad, PathBad, Reserved, ConffileNotShipped, ConffileShipped, ConffileFlag, TooLarge, Device, NoMemory}
+use Rattle.package_tree.specs.declared.fault.TreeFault.TheVariants.{Twice, NoControl, Control, FieldMissing, FieldBad, PathBad, Reserved, ConffileNotShipped, ConffileShipped, ConffileFlag, TooLarge, Device, NoMemory}
 
 abbrev pub fault_of : HostFault → TreeFault
 fault_of host.Device = Device
@@ -13,6 +13,7 @@ fault_of host.NoMemory = NoMemory
 -- Device is told exactly where the device failed: once, and then nothing was done
 abbrev pub CountsTree : {T : Type 0} → State → State → Result T TreeFault → Type 0
 CountsTree old new (Ok x) = faults new ≡ faults old
+CountsTree old new (Err Twice) = faults new ≡ faults old
 CountsTree old new (Err NoControl) = faults new ≡ faults old
 CountsTree old new (Err (Control fault)) = faults new ≡ faults old
 CountsTree old new (Err (FieldMissing name)) = faults new ≡ faults old
@@ -28,6 +29,7 @@ CountsTree old new (Err NoMemory) = faults new ≡ faults old
 
 -- no fault of the tree: the device failed, or memory was refused
 abbrev pub IsHostFault : TreeFault → Type 0
+IsHostFault Twice = ⊥
 IsHostFault NoControl = ⊥
 IsHostFault (Control fault) = ⊥
 IsHostFault (FieldMissing name) = ⊥

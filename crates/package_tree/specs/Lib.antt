@@ -6,6 +6,8 @@ pub mod Fault
 pub mod LineNames
 pub mod OtherFiles
 pub mod OtherNames
+pub mod OwnedByRoot
+pub mod Owners
 pub mod Package
 pub mod PathFaults
 pub mod Reading

@@ -44,6 +44,10 @@ impl LineName {
 /// they happen.
 #[derive(Debug, Drop, Error)]
 pub enum TreeFault {
+    /// The same tree was named before in the command. Who reads the trees of a command tells it; the
+    /// reading of a tree never does.
+    #[error("Twice")]
+    Twice,
     /// No file stands at `DEBIAN/control`.
     #[error("NoControl")]
     NoControl,
@@ -88,6 +92,7 @@ impl TreeFault {
         ensures { IfOk result (λ copy. copy ≡ self.now) }
     {
         match self {
+            TreeFault::Twice => Ok(TreeFault::Twice),
             TreeFault::NoControl => Ok(TreeFault::NoControl),
             TreeFault::Control(fault) => Ok(TreeFault::Control(*fault)),
             TreeFault::FieldMissing(name) => Ok(TreeFault::FieldMissing(*name)),

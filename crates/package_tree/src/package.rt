@@ -66,6 +66,8 @@ fn copy_scripts(scripts: &Scripts) -> Result<Scripts, AllocError>
 }
 
 impl Package {
+    ghost use Rattle.package_tree.specs.OwnedByRoot.{owned_by_root};
+
     /// An equal package, or want of memory.
     pub fn copy(&self) -> Result<Package, AllocError>
         ensures { IfOk result (λ copy. copy ≡ self.now) }
@@ -83,5 +85,12 @@ impl Package {
             ships: self.ships,
             has_conffiles: self.has_conffiles,
         })
+    }
+
+    /// Gives each shipped file and directory to root: user and group are 0 then, and the mode stays.
+    pub fn give_to_root(&mut self)
+        ensures { self.new ≡ owned_by_root self.old }
+    {
+        self.files.give_to_root();
     }
 }

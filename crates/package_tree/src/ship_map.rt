@@ -1,6 +1,7 @@
 // What a package ships: paths in their order, each with what stands there.
 ghost use Rattle.std.specs.Prelude.{◌≡◌, List, IfOk};
 ghost use Rattle.package_tree.specs.Shipped.{AreInOrder};
+ghost use Rattle.package_tree.specs.Owners.{root_files};
 ghost use Rattle.package_tree.specs.ShipMap.{paths_of};
 ghost use Rattle.package_tree.specs.declared.shipped.Shipped.{Shipped as AShipped};
 
@@ -21,6 +22,14 @@ impl Model for ShipMap {
     ghost view = { λ m. m.items.items };
 
     ghost invariant = { λ m. AreInOrder (paths_of m.items.items) };
+}
+
+fn give_to_root(files: &mut Vec<Shipped>)
+    ensures { files.new.items ≡ root_files files.old.items }
+{
+    for file in files.iter_mut() {
+        file.give_to_root();
+    }
 }
 
 impl ShipMap {
@@ -64,5 +73,12 @@ impl ShipMap {
             alloc: self.alloc,
             items,
         })
+    }
+
+    /// Gives each file and directory to root.
+    pub(crate) fn give_to_root(&mut self)
+        ensures { self.new ≡ root_files self.old }
+    {
+        give_to_root(&mut self.items);
     }
 }

@@ -9,7 +9,7 @@ use Rattle.package_tree.specs.declared.fault.FieldName.TheVariants as field
 use Rattle.package_tree.specs.declared.fault.LineName.{LineName}
 use Rattle.package_tree.specs.declared.fault.LineName.TheVariants as named
 use Rattle.package_tree.specs.declared.fault.TreeFault.{TreeFault}
-use Rattle.package_tree.specs.declared.fault.TreeFault.TheVariants.{NoControl, Control, FieldMissing, FieldBad, PathBad, Reserved, ConffileNotShipped, ConffileShipped, ConffileFlag, TooLarge, Device, NoMemory}
+use Rattle.package_tree.specs.declared.fault.TreeFault.TheVariants.{Twice, NoControl, Control, FieldMissing, FieldBad, PathBad, Reserved, ConffileNotShipped, ConffileShipped, ConffileFlag, TooLarge, Device, NoMemory}
 use Rattle.relation_fields.specs.Printing.{print_clause}
 use Rattle.relation_fields.specs.RelationFields.{relation_name}
 use Rattle.diversions.specs.declared.refusal.Refusal.{Refusal as ItsRefusal}
@@ -47,6 +47,7 @@ line_text (named.Number number) = decimal number
 
 -- a tree's fault
 abbrev pub tree_text : TreeFault → List ℕ
+tree_text Twice = codes "Twice"
 tree_text NoControl = codes "NoControl"
 tree_text (Control fault) = codes "Control " ++ control_text fault
 tree_text (FieldMissing name) = codes "FieldMissing " ++ field_word name

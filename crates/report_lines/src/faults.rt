@@ -73,6 +73,7 @@ fn tree_text(alloc: Global, fault: &TreeFault) -> Result<String, AllocError>
     ensures { IfOk result (λ text. string_bytes text ≡ tree_text fault.now) }
 {
     match fault {
+        TreeFault::Twice => String::from_str(alloc, "Twice"),
         TreeFault::NoControl => String::from_str(alloc, "NoControl"),
         TreeFault::Control(fault) => {
             let fault = control_text(alloc, *fault)?;
