@@ -12,6 +12,7 @@ mod removal_rows;
 mod script_rows;
 mod shown_rows;
 mod tree_rows;
+mod twice_rows;
 mod unpack_relation_rows;
 mod upgrade_rows;
 mod word_rows;
