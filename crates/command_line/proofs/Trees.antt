@@ -1,7 +1,8 @@
 -- What was read for words, and the run of it, between a moment before and one after.
-use Rattle.std.proofs.Common.{◌≡◌, ◌<◌, ◌∷◌, ◌∙◌, [], ℕ, Bool, false, List, Option, Some, Result, ap, arith, inl, inr, subst, sym}
-use Rattle.std.specs.List.{All}
-use Rattle.std.proofs.lemmas.List.Elements.{All-cons, All-nil, All-weaker}
+use Rattle.std.proofs.Common.{◌≡◌, ◌<◌, ◌-◌, ◌++◌, ◌∷◌, ◌∙◌, [], ℕ, Bool, true, false, length, map, append_assoc, List, Option, Some, Result, ap, arith, inl, inr, subst, sym}
+use Rattle.std.specs.Prelude.{MatchBool}
+use Rattle.std.proofs.lemmas.List.{length-append}
+use Rattle.std.proofs.Math.Seq.{take-append_seam}
 use Rattle.host_core.specs.Host.{State}
 use Rattle.diversions.specs.Diverted.{Diverted}
 use Rattle.file_lists.specs.Filed.{Filed}
@@ -14,9 +15,10 @@ use Rattle.dpkg_session.specs.Trees.{AreRead}
 use Rattle.dpkg_session.specs.declared.report.Candidate.{Candidate}
 use Rattle.command_line.specs.declared.unpacking.Done.{Done}
 use Rattle.command_line.specs.declared.fault.NotOpened.{NotOpened}
+use Rattle.command_words.specs.declared.owners.TreeOwners.{TreeOwners}
 use Rattle.command_words.specs.declared.unpacking.Unpacking.{Unpacking}
 use Rattle.command_line.specs.Reports.{HasEndedAs}
-use Rattle.command_line.specs.Reading.{AreReadFor, HaveGoneOn, IsLabelled, IsReadFor}
+use Rattle.command_line.specs.Reading.{AreReadFor, AreReadOnce, HaveGoneOn, IsReadFor, IsReadOnce, is_among, words_before}
 use Rattle.command_line.specs.Roots.{Around, Behind, Given, around, held_anew}
 use Rattle.command_line.specs.Unpacks.{HasRunTrees, IsUnpackedOn}
 
@@ -26,8 +28,8 @@ pub record Within (outer inner : Around) : Type 0 where
   pub seen : (s : State) → inner.seen s → outer.seen s
   pub failed : inner.failed → outer.failed
 
-pub read_within : (outer inner : Around) → Within outer inner → (word : List ℕ) (read : Result Package TreeFault) → IsReadFor inner word read → IsReadFor outer word read
-read_within outer inner within word read (inl r) = inl (record {
+read_within : (outer inner : Around) → Within outer inner → (owners : TreeOwners) (word : List ℕ) (read : Result Package TreeFault) → IsReadFor inner owners word read → IsReadFor outer owners word read
+read_within outer inner within owners word read (inl r) = inl (record {
   state = r.state;
   behind = within.tree word r.state r.behind;
   end = r.end;
@@ -37,34 +39,53 @@ read_within outer inner within word read (inl r) = inl (record {
   given = within.seen r.end r.given;
   counts = r.counts;
 })
-read_within outer inner within word read (inr (inl failed)) = inr (inl (failed.0, within.failed failed.1))
-read_within outer inner within word read (inr (inr memory)) = inr (inr memory)
+read_within outer inner within owners word read (inr (inl failed)) = inr (inl (failed.0, within.failed failed.1))
+read_within outer inner within owners word read (inr (inr memory)) = inr (inr memory)
 
-pub labelled_within : (outer inner : Around) → Within outer inner → (cs : List Candidate) → All (IsLabelled inner) cs → All (IsLabelled outer) cs
-labelled_within outer inner within = All-weaker (IsLabelled inner) (IsLabelled outer) (λ c. read_within outer inner within c.label c.tree)
+case_within : (b : Bool) {P Q R : Type 0} → (Q → R) → MatchBool b P Q → MatchBool b P R
+case_within true so h = h
+case_within false so h = so h
 
-pub run_within : (outer inner : Around) → Within outer inner → (policy : Option ConfPolicy) (words : List (List ℕ)) (auto : Bool) (done : Done) (before : Held) (s end : State)
-    → HasRunTrees inner policy words auto done before s end → HasRunTrees outer policy words auto done before s end
-run_within outer inner within policy words auto done before s end ran = record {
+once_within : (outer inner : Around) → Within outer inner → (owners : TreeOwners) (earlier : List (List ℕ)) (word : List ℕ) (read : Result Package TreeFault) → IsReadOnce inner owners earlier word read → IsReadOnce outer owners earlier word read
+once_within outer inner within owners earlier word read = case_within (is_among earlier word) (read_within outer inner within owners word read)
+
+pub all_within : (outer inner : Around) → Within outer inner → (owners : TreeOwners) (earlier : List (List ℕ)) (cs : List Candidate) → AreReadOnce inner owners earlier cs → AreReadOnce outer owners earlier cs
+all_within outer inner within owners earlier [] h = h
+all_within outer inner within owners earlier (c ∷ cs) h =
+    (once_within outer inner within owners earlier c.label c.tree h.0, all_within outer inner within owners (earlier ++ c.label ∷ []) cs h.1)
+
+pub run_within : (outer inner : Around) → Within outer inner → (policy : Option ConfPolicy) (u : Unpacking) (done : Done) (before : Held) (s end : State)
+    → HasRunTrees inner policy u done before s end → HasRunTrees outer policy u done before s end
+run_within outer inner within policy u done before s end ran = record {
   candidates = ran.candidates;
   left = ran.left;
-  read = record { labels = ran.read.labels; read = labelled_within outer inner within ran.candidates ran.read.read };
+  read = record { labels = ran.read.labels; read = all_within outer inner within u.owners [] ran.candidates ran.read.read };
   all = ran.all;
 }
 
+-- the words before those that are left are the earlier ones
+before_left : (earlier left : List (List ℕ)) → words_before (earlier ++ left) (length left) ≡ earlier
+before_left earlier left =
+    let count : length (earlier ++ left) - length left ≡ length earlier = omega (arith, length-append earlier left) in
+    rw count (take-append_seam earlier left)
+
 -- trees that are read one after another
-module _ {T : Type 0} (reads : T → Candidate → T → Type 0) (root tree : T → Behind) (left seen : T → Given) (faults : T → ℕ) (unopened : T → T → Type 0) (locked : T → List ℕ → Type 0) (words : T → List (List ℕ)) where
+module _ {T : Type 0} (reads : T → Candidate → T → Type 0) (root tree : T → Behind) (left seen : T → Given) (faults : T → ℕ) (unopened : T → T → Type 0) (locked : T → List ℕ → Type 0) (words : T → List (List ℕ)) (asked : T → Unpacking) where
   abbrev between : T → T → Around
   between old new = around (root old) (tree old) (left new) (seen new) (faults old < faults new) (unopened old new) (locked old)
 
   abbrev Goes : T → T → Type 0
   Goes old new = HaveGoneOn (tree old) (tree new) (seen old) (seen new) (faults old) (faults new)
 
-  module _ (one : (old : T) (c : Candidate) (new : T) → reads old c new → IsReadFor (between old new) c.label c.tree × Goes old new × (words old ≡ c.label ∷ words new)) where
+  abbrev Step : T → Candidate → T → Type 0
+  Step old c new = (asked new ≡ asked old) × IsReadOnce (between old new) (asked old).owners (words_before (asked old).trees (length (words old))) c.label c.tree
+      × Goes old new × (words old ≡ c.label ∷ words new)
+
+  module _ (one : (old : T) (c : Candidate) (new : T) → reads old c new → Step old c new) where
     pub gone_on : (cs : List Candidate) (old new : T) → AreRead reads old cs new → Goes old new
     gone_on [] old new same = subst (Goes old) (sym same) (record { trees = λ word s h. h; seen = λ s h. h; faults = omega arith })
     gone_on (c ∷ cs) old new read =
-        let first = (one old c read.0 read.1).1 in
+        let first = (one old c read.0 read.1).2 in
         let rest = gone_on cs read.0 new read.2 in
         record {
           trees = λ word s h. first.trees word s (rest.trees word s h);
@@ -72,19 +93,28 @@ module _ {T : Type 0} (reads : T → Candidate → T → Type 0) (root tree : T 
           faults = omega (arith, first.faults, rest.faults);
         }
 
-    pub read_for : (cs : List Candidate) (old new : T) → AreRead reads old cs new → AreReadFor (between old new) (words old) cs (words new)
-    read_for [] old new same = record { labels = ap words (sym same); read = All-nil (IsLabelled (between old new)) }
-    read_for (c ∷ cs) old new read =
+    read_behind : (u : Unpacking) (earlier : List (List ℕ)) (cs : List Candidate) (old new : T) → asked old ≡ u → u.trees ≡ earlier ++ words old → AreRead reads old cs new
+        → (words old ≡ map (λ (c : Candidate). c.label) cs ++ words new) × AreReadOnce (between old new) u.owners earlier cs
+    read_behind u earlier [] old new same whole read = (ap words (sym read), tt)
+    read_behind u earlier (c ∷ cs) old new same whole read =
         let mid = read.0 in
         let step = one old c mid read.1 in
-        let rest = read_for cs mid new read.2 in
+        let further = ap (λ (l : List (List ℕ)). earlier ++ l) step.3 ∙ sym (append_assoc earlier (c.label ∷ []) (words mid)) in
+        let rest = read_behind u (earlier ++ c.label ∷ []) cs mid new (step.0 ∙ same) (whole ∙ further) read.2 in
         let gone = gone_on cs mid new read.2 in
-        record {
-          labels = step.2 ∙ ap (λ (l : List (List ℕ)). c.label ∷ l) rest.labels;
-          read = All-cons (IsLabelled (between old new)) c cs
-              (read_within (between old new) (between old mid) (record { tree = λ word s h. h; seen = gone.seen; failed = λ h. omega (arith, h, gone.faults) }) c.label c.tree step.0)
-              (labelled_within (between old new) (between mid new) (record { tree = step.1.trees; seen = λ s h. h; failed = λ h. omega (arith, h, step.1.faults) }) cs rest.read);
-        }
+        let before : words_before (asked old).trees (length (words old)) ≡ earlier =
+        ap (λ (x : Unpacking). words_before x.trees (length (words old))) same ∙ ap (λ (l : List (List ℕ)). words_before l (length (words old))) whole ∙ before_left earlier (words old) in
+        let first = subst (λ (l : List (List ℕ)). IsReadOnce (between old mid) u.owners l c.label c.tree) before
+        (subst (λ (x : Unpacking). IsReadOnce (between old mid) x.owners (words_before (asked old).trees (length (words old))) c.label c.tree) same step.1) in (
+          step.3 ∙ ap (λ (l : List (List ℕ)). c.label ∷ l) rest.0,
+          once_within (between old new) (between old mid) (record { tree = λ word s h. h; seen = gone.seen; failed = λ h. omega (arith, h, gone.faults) }) u.owners earlier c.label c.tree first,
+          all_within (between old new) (between mid new) (record { tree = step.2.trees; seen = λ s h. h; failed = λ h. omega (arith, h, step.2.faults) }) u.owners (earlier ++ c.label ∷ []) cs rest.1,
+        )
+
+    pub read_for : (u : Unpacking) (cs : List Candidate) (old new : T) → asked old ≡ u → words old ≡ u.trees → AreRead reads old cs new → AreReadFor (between old new) u.owners u.trees cs (words new)
+    read_for u cs old new same unread read =
+        let all = read_behind u [] cs old new same (sym unread) read in
+        record { labels = sym unread ∙ all.0; read = all.1 }
 
 pub unpacked_within : (outer inner : Around) → Within outer inner → ((s : State) → inner.left s → outer.left s)
     → (begun : State) (policy : Option ConfPolicy) (asked : Unpacking) (done : Done) → IsUnpackedOn inner begun policy asked done → IsUnpackedOn outer begun policy asked done
@@ -96,7 +126,7 @@ unpacked_within outer inner within left begun policy asked done u = record {
   opened = u.opened;
   end = u.end;
   given = left u.end u.given;
-  ran = run_within outer inner within policy asked.trees asked.auto_deconfigure done (held_anew u.table u.lists u.entries) u.state u.end u.ran;
+  ran = run_within outer inner within policy asked done (held_anew u.table u.lists u.entries) u.state u.end u.ran;
 }
 
 -- what is held after an opening that merged the notes

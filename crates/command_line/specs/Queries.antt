@@ -6,6 +6,7 @@ use Rattle.command_line.specs.declared.fault.NotOpened.{NotOpened}
 use Rattle.diversions.specs.declared.entry.Diversion.{Diversion}
 use Rattle.file_lists.specs.declared.paths.PackageList.{PackageList}
 use Rattle.status_db.specs.declared.record.Record.{Record}
+use Rattle.shown_lines.specs.Lines.{line}
 use Rattle.queries.specs.Files.{files_text, search_text}
 use Rattle.queries.specs.Places.{diversions_text, truename_text}
 use Rattle.queries.specs.Records.{audit_text, list_text, status_text}
@@ -33,7 +34,7 @@ inquiry_of (question.Truename user path) = on_path (inquiry.Truename user) path
 
 -- a text that names no path is told on standard error
 abbrev pub bad_path_answer : List ℕ → Answer
-bad_path_answer text = record { output = []; error = codes "bad path " ++ (text ++ codes "\n"); status = 2 }
+bad_path_answer text = record { output = []; error = line (codes "bad path " ++ text); status = 2 }
 
 -- a text is printed
 abbrev pub text_answer : List ℕ → Answer
@@ -42,7 +43,7 @@ text_answer text = record { output = text; error = []; status = 0 }
 -- what is told of a package; one without a record is unknown
 abbrev pub package_answer : List ℕ → Option (List ℕ) → Answer
 package_answer name (Some text) = text_answer text
-package_answer name None = record { output = codes "refused " ++ (name ++ codes " Unknown\n"); error = []; status = 1 }
+package_answer name None = record { output = line (codes "refused " ++ (name ++ codes " Unknown")); error = []; status = 1 }
 
 -- what is found is printed; where nothing is, the status is 1
 abbrev pub search_answer : List ℕ → Answer

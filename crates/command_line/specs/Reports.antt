@@ -2,12 +2,11 @@
 use Rattle.std.specs.Prelude.{ℕ, List, [], ◌++◌, ◌⊎◌, ◌≡◌, max, Bool, true, false, Option, Some, None, Result, Ok, Err, codes, if◌then◌else◌, is_ok}
 use Rattle.std.specs.Option.{option_map_or}
 use Rattle.std.specs.Io.KnownBytes.{Appends, Keeps}
-use Rattle.version_order.specs.VersionOrder.{version_order}
 use Rattle.version_order.specs.declared.fault.VersionFault.{VersionFault}
 use Rattle.command_line.specs.declared.fault.NotOpened.{NotOpened}
 use Rattle.unit_reports.specs.declared.report.Report.{Report}
 use Rattle.report_lines.specs.Reports.{report_lines, report_status}
-use Rattle.command_words.specs.Comparisons.{bad_version, bad_version_line, holds}
+use Rattle.command_words.specs.Comparisons.{bad_version, bad_version_line, holds_of}
 use Rattle.command_line.specs.declared.answer.Answer.{Answer}
 use Rattle.command_line.specs.Changes.{HasEndedChange, IsDivertOf, IsUndivertOf, bad_of_divert, bad_of_undivert, is_good}
 use Rattle.command_line.specs.Packages.{HasEndedWork, policy_of, work_of}
@@ -23,16 +22,20 @@ use Rattle.command_line.specs.declared.unpacking.Done.{Done}
 use Rattle.command_line.specs.declared.unpacking.Done.TheVariants as done
 use Rattle.dpkg_session.specs.declared.installing.Installed.{Installed}
 use Rattle.command_words.specs.CommandLine.{lines, subcommand_names}
-use Rattle.command_words.specs.Topics.{HasScreen, IsScreen}
+use Rattle.command_words.specs.Topics.{HasScreen, IsScreen, version_line}
 use Rattle.command_words.specs.declared.comparison.Comparison.{Comparison}
 use Rattle.command_words.specs.declared.help.Topic.{Topic}
 use Rattle.command_words.specs.declared.words.Asked.{Asked}
-use Rattle.command_words.specs.declared.words.Asked.TheVariants.{Names, CompareVersions, Help, Configure, Divert, Install, Purge, Query, Remove, Undivert, Unpack}
+use Rattle.command_words.specs.declared.words.Asked.TheVariants.{Names, Version, CompareVersions, Help, Configure, Divert, Install, Purge, Query, Remove, Undivert, Unpack}
 use Rattle.command_words.specs.declared.unpacking.Unpacking.{Unpacking}
 
 -- the names of the subcommands, one a line
 abbrev pub names_answer : Answer
 names_answer = record { output = lines subcommand_names; error = []; status = 0 }
+
+-- the program's name and version
+abbrev pub version_answer : Answer
+version_answer = text_answer version_line
 
 -- a text that isn't a version is named on standard error
 abbrev pub bad_answer : List ℕ × VersionFault → Answer
@@ -42,7 +45,7 @@ bad_answer bad = record { output = []; error = bad_version_line bad; status = 2 
 abbrev pub comparison_answer : Comparison → Answer
 comparison_answer c = option_map_or bad_answer
     (bad_version c.first c.second)
-    (record { output = []; error = []; status = if holds c.operator (version_order c.first c.second) then 0 else 1 })
+    (record { output = []; error = []; status = if holds_of c.first c.operator c.second then 0 else 1 })
 
 -- the lines of a report, and its status
 abbrev pub report_answer : Report → Answer
@@ -99,6 +102,7 @@ IsHelpAnswer topic answer = (text : List ℕ) × IsScreen topic text × (answer 
 -- the answer to what is asked for
 abbrev pub IsAnswerTo : Around → Asked → Answer → Type 0
 IsAnswerTo a Names answer = answer ≡ names_answer
+IsAnswerTo a Version answer = answer ≡ version_answer
 IsAnswerTo a (Help topic) answer = IsHelpAnswer topic answer
 IsAnswerTo a (CompareVersions c) answer = answer ≡ comparison_answer c
 IsAnswerTo a (Query q) answer = IsQueryAnswer a q answer
@@ -127,6 +131,7 @@ IsAnswerOf a named None answer = (text : List ℕ) × HasScreen named text × (a
 -- only to these is anything written to standard output
 abbrev pub prints : Option Asked → Bool
 prints (Some Names) = true
+prints (Some Version) = true
 prints (Some (Help topic)) = true
 prints (Some (CompareVersions c)) = false
 prints (Some (Query q)) = is_ok (inquiry_of q.question)
@@ -142,6 +147,7 @@ prints None = false
 -- only for these is a root opened: not for a question about a text that names no path, nor for such a diversion
 abbrev pub opens_root : Option Asked → Bool
 opens_root (Some Names) = false
+opens_root (Some Version) = false
 opens_root (Some (Help topic)) = false
 opens_root (Some (CompareVersions c)) = false
 opens_root (Some (Query q)) = is_ok (inquiry_of q.question)
@@ -173,6 +179,7 @@ IsGiven answer output_old output_new error_old error_new ended = IsWritten answe
 -- these have units, each of which is told as it is finished
 abbrev pub has_units : Option Asked → Bool
 has_units (Some Names) = false
+has_units (Some Version) = false
 has_units (Some (Help topic)) = false
 has_units (Some (CompareVersions c)) = false
 has_units (Some (Query q)) = false

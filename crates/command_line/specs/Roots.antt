@@ -12,6 +12,7 @@ use Rattle.opening.specs.Leaving.{IsOpeningOrMerging}
 use Rattle.status_db.specs.declared.record.Record.{Record}
 use Rattle.unit_reports.specs.Held.{Held}
 use Rattle.dpkg_session.specs.Standing.{CountsRefusal, OpensAll}
+use Rattle.shown_lines.specs.Lines.{line}
 use Rattle.report_lines.specs.Openings.{opening_line}
 use Rattle.command_line.specs.declared.answer.Answer.{Answer}
 
@@ -73,7 +74,7 @@ IsRootFault a word (Opening fault) =
 
 -- the line that tells that another program holds the root
 abbrev pub locked_line : List ℕ → List ℕ
-locked_line word = codes "locked " ++ (word ++ codes "\n")
+locked_line word = line (codes "locked " ++ word)
 
 -- why the root of a word can't be opened is told on standard error
 abbrev pub opening_answer : List ℕ → NotOpened → Answer

@@ -41,12 +41,13 @@ HasDoneAll auto_deconfigure (Some policy) (done.Unpacked report) cs left before 
 HasDoneAll auto_deconfigure (Some policy) (done.Installed reports) cs left before s end = HasInstalledAll auto_deconfigure policy reports cs left before s end
 
 -- this came of some candidates, which are what was read, one after another, for the first of the words of the trees, from what
--- was held before; packages were deconfigured in their favour only where the words have the flag for it
-pub record HasRunTrees (a : Around) (policy : Option ConfPolicy) (words : List (List ℕ)) (auto_deconfigure : Bool) (came : Done) (before : Held) (s end : State) : Type 0 where
+-- was held before; their paths have the owners that the words ask for, and packages were deconfigured in their favour only where
+-- the words have the flag for it
+pub record HasRunTrees (a : Around) (policy : Option ConfPolicy) (u : Unpacking) (came : Done) (before : Held) (s end : State) : Type 0 where
   pub candidates : List Candidate
   pub left : List (List ℕ)
-  pub read : AreReadFor a words candidates left
-  pub all : HasDoneAll auto_deconfigure policy came candidates left before s end
+  pub read : AreReadFor a u.owners u.trees candidates left
+  pub all : HasDoneAll u.auto_deconfigure policy came candidates left before s end
 
 -- the same, from what the administration that was opened on a host holds, to the state in which this host was given back
 pub record IsUnpackedOn (a : Around) (begun : State) (policy : Option ConfPolicy) (u : Unpacking) (came : Done) : Type 0 where
@@ -57,7 +58,7 @@ pub record IsUnpackedOn (a : Around) (begun : State) (policy : Option ConfPolicy
   pub opened : IsOpenedOn begun state table lists entries
   pub end : State
   pub given : a.left end
-  pub ran : HasRunTrees a policy u.trees u.auto_deconfigure came (held_anew table lists entries) state end
+  pub ran : HasRunTrees a policy u came (held_anew table lists entries) state end
 
 -- the same, on a host behind the root's word
 abbrev pub HasUnpacked : Around → Option ConfPolicy → Unpacking → Done → Type 0

@@ -10,7 +10,7 @@ ghost use Rattle.command_line.specs.Changes.{HasEndedChange, IsDivertOf, IsUndiv
 ghost use Rattle.command_line.specs.Packages.{HasEndedWork, HasWorkedUnder, work_of};
 ghost use Rattle.command_line.specs.Printing.{HasPrinted, IsLeft, output_left, status_left, units_answer, units_of};
 ghost use Rattle.command_line.specs.Queries.{IsInquired, IsQueryAnswer, bad_path_answer, inquiry_of};
-ghost use Rattle.command_line.specs.Reports.{HasEndedAs, IsAnswerOf, IsHelpAnswer, IsReadChange, comparison_answer, done_answer, ended_answer, has_units, memory_answer, names_answer, opens_root, prints, report_answer, trees_answer};
+ghost use Rattle.command_line.specs.Reports.{HasEndedAs, IsAnswerOf, IsHelpAnswer, IsReadChange, comparison_answer, done_answer, ended_answer, has_units, memory_answer, names_answer, opens_root, prints, report_answer, trees_answer, version_answer};
 ghost use Rattle.command_line.specs.Roots.{IsRootFault, around, locked_line, opening_answer};
 ghost use Rattle.command_line.specs.Unpacks.{HasUnpacked};
 ghost use Rattle.command_line.specs.declared.answer.Answer.{Answer as AnAnswer};
@@ -28,10 +28,12 @@ use crate::unpacking::{Done, unpack};
 use command_words::{
     Asked, Comparison, Configuring, Diverting, Query, Removing, ScriptStreams, Topic, Undiverting,
     Unpacking, Verdict, WordsFault, bad_version_line, command_of, help_text, subcommand_names,
+    version_text,
 };
 use conffiles::ConfPolicy;
 use dpkg_session::{Report, Unit};
 use report_lines::{opening_line, report_status, report_text, unit_text};
+use shown_lines::line;
 use std::alloc::{AllocError, Global};
 use std::io::Write;
 use texts::{Bytes, Text};
@@ -94,6 +96,12 @@ fn names(alloc: Global) -> Result<Answer, AllocError>
     ensures { IfOk result (λ answer. answer ≡ names_answer) }
 {
     Ok(printed(alloc, subcommand_names(alloc)?, 0))
+}
+
+fn versioned(alloc: Global) -> Result<Answer, AllocError>
+    ensures { IfOk result (λ answer. answer ≡ version_answer) }
+{
+    Ok(printed(alloc, version_text(alloc)?, 0))
 }
 
 fn helped(alloc: Global, topic: Topic) -> Result<Answer, AllocError>
@@ -180,10 +188,11 @@ fn whole(answer: Result<Answer, AllocError>) -> Result<Left, AllocError>
 
 // The line that tells that another program holds the root.
 fn locked_line(alloc: Global, root: &Text) -> Result<String, AllocError>
-    ensures { IfOk result (λ line. string_bytes line ≡ locked_line root.now) }
+    ensures { IfOk result (λ printed. string_bytes printed ≡ locked_line root.now) }
 {
     let root = root.as_str();
-    format!(in alloc; "locked {root}\n")
+    let content = format!(in alloc; "locked {root}")?;
+    line(alloc, content.as_str())
 }
 
 fn not_opened(alloc: Global, root: &Text, fault: &NotOpened) -> Result<Answer, AllocError>
@@ -451,6 +460,7 @@ pub(crate) fn answer_to<S: Hosts, O: Write>(
 {
     match command_of(alloc, words) {
         Ok(Asked::Names) => whole(names(alloc)),
+        Ok(Asked::Version) => whole(versioned(alloc)),
         Ok(Asked::Help(topic)) => whole(helped(alloc, topic)),
         Ok(Asked::CompareVersions(comparison)) => whole(compared(alloc, &comparison)),
         Ok(Asked::Divert(asked)) => whole(diverted(alloc, hosts, &asked)),

@@ -14,6 +14,7 @@ use administration::AdministrationFault;
 use command_words::{Question, ScriptStreams};
 use dpkg_session::{QueryFault, Session};
 use host_core::{Host, RootPath};
+use shown_lines::line;
 use std::alloc::{AllocError, Global};
 use texts::{Bytes, Text};
 
@@ -77,8 +78,8 @@ pub(crate) fn bad_path(alloc: Global, text: &Text) -> Result<Answer, AllocError>
     ensures { IfOk result (λ answer. answer ≡ bad_path_answer text.now) }
 {
     let text = text.as_str();
-    let line = format!(in alloc; "bad path {text}\n")?;
-    Ok(complained(alloc, line))
+    let content = format!(in alloc; "bad path {text}")?;
+    Ok(complained(alloc, line(alloc, content.as_str())?))
 }
 
 fn text_answer(alloc: Global, text: Result<Bytes, QueryFault>) -> Result<Answer, AllocError>
@@ -101,8 +102,8 @@ fn package_answer(
         Ok(text) => Ok(told(alloc, text, 0)),
         Err(QueryFault::Unknown) => {
             let name = name.as_str();
-            let line = format!(in alloc; "refused {name} Unknown\n")?;
-            Ok(printed(alloc, line, 1))
+            let content = format!(in alloc; "refused {name} Unknown")?;
+            Ok(printed(alloc, line(alloc, content.as_str())?, 1))
         }
         Err(_) => Err(AllocError),
     }

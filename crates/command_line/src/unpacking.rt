@@ -45,16 +45,17 @@ impl Done {
 fn run_session<S: Hosts, W: Watcher>(
     session: &mut Session<S::Opened>,
     trees: &mut TreeWords<'_, S>,
-    auto_deconfigure: bool,
     policy: Option<ConfPolicy>,
     watcher: &mut W,
 ) -> Done
-    requires { session.old.closed ≡ false }
+    requires open { session.old.closed ≡ false }
+    requires unread { into_iter_items trees.old.left.now ≡ trees.old.asked.now.trees }
     ensures same_hosts { trees.new.hosts.ghost_name ≡ trees.old.hosts.ghost_name }
-    ensures done { HasRunTrees (around (S.root trees.old.hosts.now) (S.tree trees.old.hosts.now) (S.left trees.new.hosts.now) (S.seen trees.new.hosts.now) (S.faults trees.old.hosts.now < S.faults trees.new.hosts.now) (S.unopened trees.old.hosts.now trees.new.hosts.now) (S.locked trees.old.hosts.now)) policy (into_iter_items trees.old.left.now) auto_deconfigure result (held session.old.database session.old.lists session.old.diversions) (S.Opened.state session.old.host) (S.Opened.state session.new.host) }
+    ensures done { HasRunTrees (around (S.root trees.old.hosts.now) (S.tree trees.old.hosts.now) (S.left trees.new.hosts.now) (S.seen trees.new.hosts.now) (S.faults trees.old.hosts.now < S.faults trees.new.hosts.now) (S.unopened trees.old.hosts.now trees.new.hosts.now) (S.locked trees.old.hosts.now)) policy trees.old.asked.now result (held session.old.database session.old.lists session.old.diversions) (S.Opened.state session.old.host) (S.Opened.state session.new.host) }
     ensures on { HaveGoneOn (S.tree trees.old.hosts.now) (S.tree trees.new.hosts.now) (S.seen trees.old.hosts.now) (S.seen trees.new.hosts.now) (S.faults trees.old.hosts.now) (S.faults trees.new.hosts.now) }
     ensures watched { IsTold W.tells watcher.old (units_of result) watcher.new }
 {
+    let auto_deconfigure = trees.asked.auto_deconfigure;
     match policy {
         Some(policy) => {
             Done::Installed(session.install(trees, auto_deconfigure, policy, watcher))
@@ -73,7 +74,7 @@ fn run_trees<S: Hosts, W: Watcher>(
     watcher: &mut W,
 ) -> Result<Done, AllocError>
     requires { session.old.closed ≡ false }
-    ensures done { IfOk result (λ done. HasRunTrees (around (S.root hosts.old) (S.tree hosts.old) (S.left hosts.new) (S.seen hosts.new) (S.faults hosts.old < S.faults hosts.new) (S.unopened hosts.old hosts.new) (S.locked hosts.old)) policy unpacking.now.trees unpacking.now.auto_deconfigure done (held session.old.database session.old.lists session.old.diversions) (S.Opened.state session.old.host) (S.Opened.state session.new.host)) }
+    ensures done { IfOk result (λ done. HasRunTrees (around (S.root hosts.old) (S.tree hosts.old) (S.left hosts.new) (S.seen hosts.new) (S.faults hosts.old < S.faults hosts.new) (S.unopened hosts.old hosts.new) (S.locked hosts.old)) policy unpacking.now done (held session.old.database session.old.lists session.old.diversions) (S.Opened.state session.old.host) (S.Opened.state session.new.host)) }
     ensures unread { OnErr result (S.Opened.state session.new.host ≡ S.Opened.state session.old.host) }
     ensures on { HaveGoneOn (S.tree hosts.old) (S.tree hosts.new) (S.seen hosts.old) (S.seen hosts.new) (S.faults hosts.old) (S.faults hosts.new) }
     ensures watched { IfOk result (λ done. IsTold W.tells watcher.old (units_of done) watcher.new) }
@@ -83,11 +84,10 @@ fn run_trees<S: Hosts, W: Watcher>(
     let mut trees = TreeWords {
         alloc,
         hosts,
-        owners: unpacking.owners,
+        asked: unpacking,
         left: &mut left,
     };
-    let auto_deconfigure = unpacking.auto_deconfigure;
-    Ok(run_session(session, &mut trees, auto_deconfigure, policy, watcher))
+    Ok(run_session(session, &mut trees, policy, watcher))
 }
 
 // The units on the host of the root, which is given back.

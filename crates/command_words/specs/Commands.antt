@@ -1,5 +1,6 @@
 -- What the words of a command line ask for.
 use Rattle.std.specs.Prelude.{List, [], ◌∷◌, length, Option, Some, None, option_and_then, option_map, codes, if◌then◌else◌, nat_le}
+use Rattle.std.specs.Option.{option_or}
 use Rattle.std.specs.Str.{bytes_eq}
 use Rattle.clap.specs.Words.{Kinds, Row, Text, fault_of, first_of, subcommand_of}
 use Rattle.command_words.specs.CommandLine.{whole_app}
@@ -7,12 +8,13 @@ use Rattle.command_words.specs.Comparisons.{operator_of}
 use Rattle.command_words.specs.Queries.{query_of}
 use Rattle.command_words.specs.Diversions.{diverting_of, undiverting_of}
 use Rattle.command_words.specs.Packages.{configuring_of, removing_of}
-use Rattle.command_words.specs.Topics.{topic_in}
+use Rattle.command_words.specs.Topics.{has_help_flag, is_help_flag, topic_in, topic_of}
+use Rattle.command_words.specs.declared.help.Topic.TheVariants.{Program}
 use Rattle.command_words.specs.Unpacks.{unpacking_of}
 use Rattle.command_words.specs.declared.comparison.Comparison.{Comparison}
 use Rattle.command_words.specs.declared.words.Asked.{Asked}
 use Rattle.command_words.specs.declared.words.Compared.{Compared}
-use Rattle.command_words.specs.declared.words.Asked.TheVariants.{Names, Help, CompareVersions, Divert, Undivert, Unpack, Install, Configure, Remove, Purge, Query}
+use Rattle.command_words.specs.declared.words.Asked.TheVariants.{Names, Version, Help, CompareVersions, Divert, Undivert, Unpack, Install, Configure, Remove, Purge, Query}
 
 -- the subcommand that the words enter, with the texts of its arguments
 abbrev pub entered : List Text → Option (Text × List Row)
@@ -53,8 +55,25 @@ abbrev pub unless_faulty : Kinds → Option Asked → Option Asked
 unless_faulty [] asked = asked
 unless_faulty (kind ∷ kinds) asked = None
 
+-- what words ask for as a subcommand with its arguments
+unfoldable pub parsed_of : List Text → Option Asked
+parsed_of words = unless_faulty (fault_of whole_app words) (asked_in (entered words))
+
+-- what a flag in the place of a subcommand or behind one asks for: the version, or help on the program or the subcommand
+abbrev pub flagged_by : Text → List Text → Option Asked
+flagged_by word rest =
+    if bytes_eq word (codes "--version") then Some Version
+    else if is_help_flag word then Some (Help Program)
+    else if has_help_flag rest then option_map Help (topic_of word)
+    else None
+
+abbrev pub flagged : List Text → Option Asked
+flagged [] = None
+flagged (program ∷ []) = None
+flagged (program ∷ word ∷ rest) = flagged_by word rest
+
 -- What the words ask for, the first of which is the program's name. A usage fault asks for nothing.
 unfoldable pub asked_of : List Text → Option Asked
 asked_of words =
     if nat_le (length words) 1 then Some Names
-    else unless_faulty (fault_of whole_app words) (asked_in (entered words))
+    else option_or (flagged words) (parsed_of words)

@@ -1,5 +1,5 @@
 -- What help is asked on, and its screen.
-use Rattle.std.specs.Prelude.{◌≡◌, ℕ, List, [], ◌∷◌, ◌++◌, Option, Some, None, codes, if◌then◌else◌, string_bytes}
+use Rattle.std.specs.Prelude.{◌≡◌, ◌||◌, Bool, true, false, ℕ, List, [], ◌∷◌, ◌++◌, Option, Some, None, codes, if◌then◌else◌, string_bytes}
 use Rattle.std.specs.Str.{bytes_eq}
 use Rattle.clap.specs.Words.{Text}
 use Rattle.command_words.specs.declared.help.Topic.{Topic}
@@ -43,6 +43,21 @@ abbrev pub named_in : List Text → Topic
 named_in [] = topic.Program
 named_in (program ∷ []) = topic.Program
 named_in (program ∷ name ∷ rest) = topic_named (topic_of name)
+
+-- the program's name and version
+abbrev pub version_line : List ℕ
+version_line = codes "coizkerra 0.2.0\n"
+
+abbrev pub is_help_flag : Text → Bool
+is_help_flag word = bytes_eq word (codes "-h") || bytes_eq word (codes "--help")
+
+-- a flag for help among words; behind `--` no word is a flag
+abbrev pub has_help_flag : List Text → Bool
+has_help_flag [] = false
+has_help_flag (word ∷ words) =
+    if bytes_eq word (codes "--") then false
+    else if is_help_flag word then true
+    else has_help_flag words
 
 -- how the words of a topic are put
 abbrev pub usage_words : Topic → List ℕ

@@ -1,14 +1,14 @@
 // The comparison of two versions by an operator, and its answer.
-ghost use Rattle.std.specs.Prelude.{◌≡◌, ◌⊎◌, IfOk, Some, string_bytes};
-ghost use Rattle.command_words.specs.Comparisons.{IsBadText, IsVerdict, bad_version_line, holds, operator_of};
-ghost use Rattle.version_order.specs.Versions.{fault_of};
+ghost use Rattle.std.specs.Prelude.{◌≡◌, ◌⊎◌, IfOk, IfErr, OnOk, Some, None, option_map, string_bytes};
+ghost use Rattle.command_words.specs.Comparisons.{IsBadText, IsVerdict, bad_version_line, beside_empty, fault_text, holds, late_operator, named_operator, operator_of, order_of, sign_operator, text_fault, version_text};
 
+use shown_lines::line;
 use std::alloc::{AllocError, Global};
 use std::cmp::Ordering;
 use texts::Text;
 use version_order::{Version, VersionFault};
 
-/// An operator of `compare-versions`.
+/// An operator of `compare-versions`. For those whose names end in `Nl` an empty text stands behind all versions.
 #[derive(Clone, Copy)]
 pub enum Operator {
     Lt,
@@ -17,12 +17,24 @@ pub enum Operator {
     Ne,
     Ge,
     Gt,
+    LtNl,
+    LeNl,
+    GeNl,
+    GtNl,
 }
 
 impl Operator {
     /// The operator that dpkg names by this word.
     pub(crate) fn read(word: &str) -> Option<Operator>
         ensures { result ≡ operator_of word.now }
+    {
+        Operator::named(word)
+            .or(Operator::late(word))
+            .or(Operator::sign(word))
+    }
+
+    fn named(word: &str) -> Option<Operator>
+        ensures { result ≡ named_operator word.now }
     {
         match word {
             "lt" => Some(Operator::Lt),
@@ -35,17 +47,71 @@ impl Operator {
         }
     }
 
-    // Whether it holds of two versions in this order.
+    fn late(word: &str) -> Option<Operator>
+        ensures { result ≡ late_operator word.now }
+    {
+        match word {
+            "lt-nl" => Some(Operator::LtNl),
+            "le-nl" => Some(Operator::LeNl),
+            "ge-nl" => Some(Operator::GeNl),
+            "gt-nl" => Some(Operator::GtNl),
+            _ => None,
+        }
+    }
+
+    // The signs of control files. `<` and `>` are old names of `<=` and `>=`.
+    fn sign(word: &str) -> Option<Operator>
+        ensures { result ≡ sign_operator word.now }
+    {
+        match word {
+            "<<" => Some(Operator::Lt),
+            "<=" => Some(Operator::Le),
+            "<" => Some(Operator::Le),
+            "=" => Some(Operator::Eq),
+            ">=" => Some(Operator::Ge),
+            ">" => Some(Operator::Ge),
+            ">>" => Some(Operator::Gt),
+            _ => None,
+        }
+    }
+
+    // Whether it holds of two texts in this order.
     fn holds(self, order: Ordering) -> bool
         ensures { result ≡ holds self order }
     {
         match self {
-            Operator::Lt => order.is_lt(),
-            Operator::Le => order.is_le(),
+            Operator::Lt | Operator::LtNl => order.is_lt(),
+            Operator::Le | Operator::LeNl => order.is_le(),
             Operator::Eq => order.is_eq(),
             Operator::Ne => order.is_ne(),
-            Operator::Ge => order.is_ge(),
-            Operator::Gt => order.is_gt(),
+            Operator::Ge | Operator::GeNl => order.is_ge(),
+            Operator::Gt | Operator::GtNl => order.is_gt(),
+        }
+    }
+
+    // How an empty text stands beside a version.
+    fn beside_empty(self) -> Ordering
+        ensures { result ≡ beside_empty self }
+    {
+        match self {
+            Operator::LtNl | Operator::LeNl | Operator::GeNl | Operator::GtNl => Ordering::Greater,
+            _ => Ordering::Less,
+        }
+    }
+
+    // The order of two versions, or of empty texts in their places.
+    fn order_of(self, first: &Option<Version>, second: &Option<Version>) -> Ordering
+        ensures { result ≡ order_of self first.now second.now }
+    {
+        match first {
+            Some(first) => match second {
+                Some(second) => first.compare(second),
+                None => self.beside_empty().reverse(),
+            },
+            None => match second {
+                Some(_) => self.beside_empty(),
+                None => Ordering::Equal,
+            },
         }
     }
 }
@@ -68,9 +134,21 @@ pub enum Verdict<'a> {
     OutOfMemory,
 }
 
-// What `Version::parse` says against a text.
+// The version of a text; an empty one has none.
+fn version_of(alloc: Global, text: &str) -> Result<Option<Version>, VersionFault>
+    ensures version { IfOk result (λ version. version ≡ version_text text.now) }
+    ensures good { OnOk result (text_fault text.now ≡ None) }
+    ensures bad { IfErr result (λ fault. (fault ≡ VersionFault.NoMemory) ⊎ (text_fault text.now ≡ Some fault)) }
+{
+    match text {
+        "" => Ok(None),
+        text => Ok(Some(Version::parse(alloc, text.as_bytes())?)),
+    }
+}
+
+// What is said against a text.
 fn fault_verdict(text: &str, fault: VersionFault) -> Verdict<'_>
-    requires { (fault ≡ VersionFault.NoMemory) ⊎ (fault_of text.now ≡ Some fault) }
+    requires { (fault ≡ VersionFault.NoMemory) ⊎ (text_fault text.now ≡ Some fault) }
     ensures { IsBadText text.now result }
 {
     match fault {
@@ -84,19 +162,31 @@ impl Comparison {
     pub fn verdict(&self, alloc: Global) -> Verdict<'_>
         ensures { IsVerdict self.now.first self.now.operator self.now.second result }
     {
-        let first = match Version::parse(alloc, self.first.as_str().as_bytes()) {
+        let first = match version_of(alloc, self.first.as_str()) {
             Ok(version) => version,
             Err(fault) => return fault_verdict(self.first.as_str(), fault),
         };
-        let second = match Version::parse(alloc, self.second.as_str().as_bytes()) {
+        let second = match version_of(alloc, self.second.as_str()) {
             Ok(version) => version,
             Err(fault) => return fault_verdict(self.second.as_str(), fault),
         };
-        if self.operator.holds(first.compare(&second)) {
+        if self.operator.holds(self.operator.order_of(&first, &second)) {
             Verdict::Holds
         } else {
             Verdict::Fails
         }
+    }
+}
+
+fn fault_text(alloc: Global, fault: VersionFault) -> Result<String, AllocError>
+    ensures { IfOk result (λ text. string_bytes text ≡ fault_text fault) }
+{
+    match fault {
+        VersionFault::Empty => String::from_str(alloc, "Empty"),
+        VersionFault::Epoch => String::from_str(alloc, "Epoch"),
+        VersionFault::EmptyPart => String::from_str(alloc, "EmptyPart"),
+        VersionFault::Char(place) => format!(in alloc; "Char {place}"),
+        VersionFault::NoMemory => String::from_str(alloc, "NoMemory"),
     }
 }
 
@@ -106,13 +196,9 @@ pub fn bad_version_line(
     text: &str,
     fault: VersionFault,
 ) -> Result<String, AllocError>
-    ensures { IfOk result (λ line. string_bytes line ≡ bad_version_line (text.now, fault)) }
+    ensures { IfOk result (λ printed. string_bytes printed ≡ bad_version_line (text.now, fault)) }
 {
-    match fault {
-        VersionFault::Empty => format!(in alloc; "bad version {text}: Empty\n"),
-        VersionFault::Epoch => format!(in alloc; "bad version {text}: Epoch\n"),
-        VersionFault::EmptyPart => format!(in alloc; "bad version {text}: EmptyPart\n"),
-        VersionFault::Char(place) => format!(in alloc; "bad version {text}: Char {place}\n"),
-        VersionFault::NoMemory => format!(in alloc; "bad version {text}: NoMemory\n"),
-    }
+    let fault = fault_text(alloc, fault)?;
+    let content = format!(in alloc; "bad version {text}: {fault}")?;
+    line(alloc, content.as_str())
 }

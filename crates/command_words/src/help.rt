@@ -1,6 +1,6 @@
 // What help is asked on, and a screen for it.
 ghost use Rattle.std.specs.Prelude.{◌≡◌, ◌++◌, IfOk, codes, map, option_map, string_bytes};
-ghost use Rattle.command_words.specs.Topics.{HasScreen, IsScreen, named_in, topic_in, topic_of, usage_words};
+ghost use Rattle.command_words.specs.Topics.{HasScreen, IsScreen, has_help_flag, is_help_flag, named_in, topic_in, topic_of, usage_words, version_line};
 
 use std::alloc::{AllocError, Global};
 
@@ -26,6 +26,9 @@ pub enum Topic {
     Unpack,
 }
 
+/// The program's name and version.
+const VERSION: &str = "coizkerra 0.2.0\n";
+
 const PROGRAM: &str =
     "Installs, configures and removes Debian packages that are given as directories.
 
@@ -38,7 +41,8 @@ const PROGRAM: &str =
   divert PATH, undivert PATH     files of packages go to another place; or no longer
   diversions                     all diversions
   compare-versions A OP B        whether it holds, by the status
-  help [COMMAND]                 this screen, or that of a subcommand
+  help [COMMAND], --help         this screen, or that of a subcommand
+  --version                      the program's version
 
 Example: dpkg-deb -R hello.deb hello && coizkerra install --root /srv/root hello
 ";
@@ -53,7 +57,8 @@ Example: coizkerra audit --root /srv/root
 
 const COMPARE_VERSIONS: &str = "Ends with status 0 where A OP B holds, and with 1 where it doesn't.
 
-  OP  one of lt le eq ne ge gt
+  OP  one of lt le eq ne ge gt, for which an empty version is earlier than any; of lt-nl le-nl ge-nl
+      gt-nl, for which it is later; or, as in control files, of << <= = >= >>
 
 Example: coizkerra compare-versions 1.0~rc1 lt 1.0
 ";
@@ -262,6 +267,34 @@ impl Topic {
             Topic::Unpack => UNPACK,
         }
     }
+}
+
+/// The line with the program's name and version.
+pub fn version_text(alloc: Global) -> Result<String, AllocError>
+    ensures { IfOk result (λ text. string_bytes text ≡ version_line) }
+{
+    String::from_str(alloc, VERSION)
+}
+
+pub(crate) fn is_help_flag(word: &str) -> bool
+    ensures { result ≡ is_help_flag word.now }
+{
+    word == "-h" || word == "--help"
+}
+
+/// Whether a flag for help stands among words; behind `--` no word is a flag.
+pub(crate) fn has_help_flag(words: &[String]) -> bool
+    ensures { result ≡ has_help_flag (map string_bytes words.now) }
+{
+    for word in words {
+        if word.as_str() == "--" {
+            return false;
+        }
+        if is_help_flag(word.as_str()) {
+            return true;
+        }
+    }
+    false
 }
 
 /// What help is asked on: the program where no subcommand is named.

@@ -2,7 +2,7 @@
 ghost use Rattle.std.specs.Prelude.{◌≡◌, ◌⊎◌, IfErr, IfOk, None, Some, codes, map, option_map, string_bytes};
 ghost use Rattle.clap.specs.Words.{first_of, found_of, kind_of, rows_of, subcommand_rows_of};
 ghost use Rattle.clap.specs.declared.error.kind.ErrorKind.TheVariants.{OutOfMemory};
-ghost use Rattle.command_words.specs.Commands.{asked_by, asked_in, asked_of, comparison_from, comparison_in, comparison_of};
+ghost use Rattle.command_words.specs.Commands.{asked_by, asked_in, asked_of, comparison_from, comparison_in, comparison_of, flagged, flagged_by, parsed_of};
 ghost use Rattle.command_words.specs.Diversions.{diverting_of, undiverting_of};
 ghost use Rattle.command_words.specs.Packages.{configuring_of, removing_of};
 ghost use Rattle.command_words.specs.Queries.{query_of};
@@ -14,46 +14,27 @@ use crate::command::whole_command;
 use crate::comparison::{Comparison, Operator};
 use crate::diverting::{Diverting, Undiverting, diverting_of, undiverting_of};
 use crate::found::text_of;
-use crate::help::{Topic, named_in, topic_in, usage_text};
+use crate::help::{Topic, has_help_flag, is_help_flag, named_in, topic_in, usage_text};
+use crate::mistakes::mistake_text;
 use crate::packages::{Configuring, Removing, configuring_of, removing_of};
 use crate::query::{Query, query_of};
 use crate::unpacking::{Unpacking, unpacking_of};
 use clap::ArgMatches;
 use clap::error::ErrorKind;
+use shown_lines::shown;
 use std::alloc::{AllocError, Global};
 use texts::Text;
 use thiserror::Error;
 
-// Why words ask for nothing in which clap has no fault.
 const NO_SUBCOMMAND: &str = "error: a subcommand is wanted";
-
-const NO_OPERATOR: &str = "error: OP is one of lt, le, eq, ne, ge, gt";
-
-const NO_TOPIC: &str = "error: no subcommand has this name";
-
-const ROOT: &str = "error: DIR is an absolute path";
-
-const ROOT_AND_FORCED: &str =
-    "error: DIR is an absolute path, and --force-confold and --force-confnew exclude each other";
-
-const ROOT_AND_OWNER: &str = "error: DIR is an absolute path, P the name of a package, and of \
---package and --local one is wanted";
-
-const ROOT_AND_PACKAGE: &str = "error: DIR is an absolute path, and P the name of a package";
-
-// Why the words of a question ask for nothing.
-fn query_fault(name: &str) -> &'static str {
-    match name {
-        "truename" => ROOT_AND_PACKAGE,
-        _ => ROOT,
-    }
-}
 
 /// What is asked of the program.
 #[derive(Drop)]
 pub enum Asked {
     /// The names of the subcommands.
     Names,
+    /// The program's name and version.
+    Version,
     /// The screen of a topic.
     Help(Topic),
     CompareVersions(Comparison),
@@ -100,13 +81,25 @@ fn before_usage(text: &str) -> &str {
     }
 }
 
-fn fault_of(alloc: Global, error: &clap::Error) -> WordsFault
+// Clap's text for words in which it finds a fault, which it quotes: as they are shown in a line.
+fn clap_text(alloc: Global, words: &[String]) -> Result<String, AllocError> {
+    let mut all = Vec::new(alloc);
+    for word in words {
+        all.push(shown(alloc, word.as_str())?)?;
+    }
+    match whole_command(alloc)?.try_get_matches_from(all.as_slice()) {
+        Ok(_) => String::from_str(alloc, NO_SUBCOMMAND),
+        Err(error) => format!(in alloc; "{error}"),
+    }
+}
+
+fn fault_of(alloc: Global, error: &clap::Error, words: &[String]) -> WordsFault
     ensures { kind_of error.now ≡ OutOfMemory → result ≡ NoMemory }
 {
     if error.kind() == ErrorKind::OutOfMemory {
         return WordsFault::NoMemory;
     }
-    match format!(in alloc; "{error}") {
+    match clap_text(alloc, words) {
         Ok(text) => usage(alloc, before_usage(text.as_str())),
         Err(_) => WordsFault::NoMemory,
     }
@@ -168,124 +161,44 @@ fn texts_compared<'a>(found: &ArgMatches<'a>) -> Option<Compared<'a>>
     )
 }
 
-fn comparison_asked(alloc: Global, found: &ArgMatches<'_>) -> Result<Asked, WordsFault>
-    ensures asked { IfOk result (λ asked. option_map Asked.CompareVersions (comparison_of (rows_of (found_of found.now))) ≡ Some asked) }
-    ensures usage { IfErr result (λ fault. (fault ≡ NoMemory) ⊎ (comparison_of (rows_of (found_of found.now)) ≡ None)) }
+fn comparison_asked(alloc: Global, found: &ArgMatches<'_>) -> Result<Option<Asked>, AllocError>
+    ensures { IfOk result (λ asked. asked
+        ≡ option_map Asked.CompareVersions (comparison_of (rows_of (found_of found.now)))) }
 {
     match texts_compared(found) {
-        Some(c) => Ok(Asked::CompareVersions(owned_comparison(
+        Some(c) => Ok(Some(Asked::CompareVersions(owned_comparison(
             alloc, c.first, c.operator, c.second,
-        )?)),
-        None => Err(usage(alloc, NO_OPERATOR)),
+        )?))),
+        None => Ok(None),
     }
 }
 
-fn unpack_asked(alloc: Global, found: &ArgMatches<'_>) -> Result<Asked, WordsFault>
-    ensures asked { IfOk result (λ asked. option_map Asked.Unpack (unpacking_of (rows_of (found_of found.now))) ≡ Some asked) }
-    ensures usage { IfErr result (λ fault. (fault ≡ NoMemory) ⊎ (unpacking_of (rows_of (found_of found.now)) ≡ None)) }
-{
-    match unpacking_of(alloc, found)? {
-        Some(asked) => Ok(Asked::Unpack(asked)),
-        None => Err(usage(alloc, ROOT_AND_FORCED)),
-    }
-}
-
-fn install_asked(alloc: Global, found: &ArgMatches<'_>) -> Result<Asked, WordsFault>
-    ensures asked { IfOk result (λ asked. option_map Asked.Install (unpacking_of (rows_of (found_of found.now))) ≡ Some asked) }
-    ensures usage { IfErr result (λ fault. (fault ≡ NoMemory) ⊎ (unpacking_of (rows_of (found_of found.now)) ≡ None)) }
-{
-    match unpacking_of(alloc, found)? {
-        Some(asked) => Ok(Asked::Install(asked)),
-        None => Err(usage(alloc, ROOT_AND_FORCED)),
-    }
-}
-
-fn configure_asked(alloc: Global, found: &ArgMatches<'_>) -> Result<Asked, WordsFault>
-    ensures asked { IfOk result (λ asked. option_map Asked.Configure (configuring_of (rows_of (found_of found.now))) ≡ Some asked) }
-    ensures usage { IfErr result (λ fault. (fault ≡ NoMemory) ⊎ (configuring_of (rows_of (found_of found.now)) ≡ None)) }
-{
-    match configuring_of(alloc, found)? {
-        Some(asked) => Ok(Asked::Configure(asked)),
-        None => Err(usage(alloc, ROOT_AND_FORCED)),
-    }
-}
-
-fn remove_asked(alloc: Global, found: &ArgMatches<'_>) -> Result<Asked, WordsFault>
-    ensures asked { IfOk result (λ asked. option_map Asked.Remove (removing_of (rows_of (found_of found.now))) ≡ Some asked) }
-    ensures usage { IfErr result (λ fault. (fault ≡ NoMemory) ⊎ (removing_of (rows_of (found_of found.now)) ≡ None)) }
-{
-    match removing_of(alloc, found)? {
-        Some(asked) => Ok(Asked::Remove(asked)),
-        None => Err(usage(alloc, ROOT)),
-    }
-}
-
-fn purge_asked(alloc: Global, found: &ArgMatches<'_>) -> Result<Asked, WordsFault>
-    ensures asked { IfOk result (λ asked. option_map Asked.Purge (removing_of (rows_of (found_of found.now))) ≡ Some asked) }
-    ensures usage { IfErr result (λ fault. (fault ≡ NoMemory) ⊎ (removing_of (rows_of (found_of found.now)) ≡ None)) }
-{
-    match removing_of(alloc, found)? {
-        Some(asked) => Ok(Asked::Purge(asked)),
-        None => Err(usage(alloc, ROOT)),
-    }
-}
-
-fn divert_asked(alloc: Global, found: &ArgMatches<'_>) -> Result<Asked, WordsFault>
-    ensures asked { IfOk result (λ asked. option_map Asked.Divert (diverting_of (rows_of (found_of found.now))) ≡ Some asked) }
-    ensures usage { IfErr result (λ fault. (fault ≡ NoMemory) ⊎ (diverting_of (rows_of (found_of found.now)) ≡ None)) }
-{
-    match diverting_of(alloc, found)? {
-        Some(asked) => Ok(Asked::Divert(asked)),
-        None => Err(usage(alloc, ROOT_AND_OWNER)),
-    }
-}
-
-fn undivert_asked(alloc: Global, found: &ArgMatches<'_>) -> Result<Asked, WordsFault>
-    ensures asked { IfOk result (λ asked. option_map Asked.Undivert (undiverting_of (rows_of (found_of found.now))) ≡ Some asked) }
-    ensures usage { IfErr result (λ fault. (fault ≡ NoMemory) ⊎ (undiverting_of (rows_of (found_of found.now)) ≡ None)) }
-{
-    match undiverting_of(alloc, found)? {
-        Some(asked) => Ok(Asked::Undivert(asked)),
-        None => Err(usage(alloc, ROOT_AND_OWNER)),
-    }
-}
-
-fn help_asked(alloc: Global, found: &ArgMatches<'_>) -> Result<Asked, WordsFault>
-    ensures asked { IfOk result (λ asked. option_map Asked.Help (topic_in (first_of (codes "COMMAND") (rows_of (found_of found.now)))) ≡ Some asked) }
-    ensures usage { IfErr result (λ fault. (fault ≡ NoMemory) ⊎ (topic_in (first_of (codes "COMMAND") (rows_of (found_of found.now))) ≡ None)) }
-{
-    match topic_in(text_of(found, "COMMAND")) {
-        Some(topic) => Ok(Asked::Help(topic)),
-        None => Err(usage(alloc, NO_TOPIC)),
-    }
-}
-
-fn query_asked(alloc: Global, name: &str, found: &ArgMatches<'_>) -> Result<Asked, WordsFault>
-    ensures asked { IfOk result (λ asked. option_map Asked.Query (query_of name.now (rows_of (found_of found.now))) ≡ Some asked) }
-    ensures usage { IfErr result (λ fault. (fault ≡ NoMemory) ⊎ (query_of name.now (rows_of (found_of found.now)) ≡ None)) }
-{
-    match query_of(alloc, name, found)? {
-        Some(query) => Ok(Asked::Query(query)),
-        None => Err(usage(alloc, query_fault(name))),
-    }
-}
-
-// What a subcommand asks for.
-fn asked_by(alloc: Global, name: &str, found: &ArgMatches<'_>) -> Result<Asked, WordsFault>
-    ensures asked { IfOk result (λ asked. asked_by name.now (rows_of (found_of found.now)) ≡ Some asked) }
-    ensures usage { IfErr result (λ fault. (fault ≡ NoMemory) ⊎ (asked_by name.now (rows_of (found_of found.now)) ≡ None)) }
+// What a subcommand asks for, unless its words have a mistake.
+fn asked_by(alloc: Global, name: &str, found: &ArgMatches<'_>) -> Result<Option<Asked>, AllocError>
+    ensures { IfOk result (λ asked. asked ≡ asked_by name.now (rows_of (found_of found.now))) }
 {
     match name {
         "compare-versions" => comparison_asked(alloc, found),
-        "configure" => configure_asked(alloc, found),
-        "divert" => divert_asked(alloc, found),
-        "help" => help_asked(alloc, found),
-        "install" => install_asked(alloc, found),
-        "purge" => purge_asked(alloc, found),
-        "remove" => remove_asked(alloc, found),
-        "undivert" => undivert_asked(alloc, found),
-        "unpack" => unpack_asked(alloc, found),
-        _ => query_asked(alloc, name, found),
+        "configure" => Ok(configuring_of(alloc, found)?.map(Asked::Configure)),
+        "divert" => Ok(diverting_of(alloc, found)?.map(Asked::Divert)),
+        "help" => Ok(topic_in(text_of(found, "COMMAND")).map(Asked::Help)),
+        "install" => Ok(unpacking_of(alloc, found)?.map(Asked::Install)),
+        "purge" => Ok(removing_of(alloc, found)?.map(Asked::Purge)),
+        "remove" => Ok(removing_of(alloc, found)?.map(Asked::Remove)),
+        "undivert" => Ok(undiverting_of(alloc, found)?.map(Asked::Undivert)),
+        "unpack" => Ok(unpacking_of(alloc, found)?.map(Asked::Unpack)),
+        _ => Ok(query_of(alloc, name, found)?.map(Asked::Query)),
+    }
+}
+
+// What a subcommand asks for, or the mistake in its words.
+fn asked_or_mistake(alloc: Global, name: &str, found: &ArgMatches<'_>) -> Result<Asked, WordsFault>
+    ensures asked { IfOk result (λ asked. asked_by name.now (rows_of (found_of found.now)) ≡ Some asked) }
+    ensures usage { IfErr result (λ fault. (fault ≡ NoMemory) ⊎ (asked_by name.now (rows_of (found_of found.now)) ≡ None)) }
+{
+    match asked_by(alloc, name, found)? {
+        Some(asked) => Ok(asked),
+        None => Err(WordsFault::Usage(mistake_text(alloc, name, found)?)),
     }
 }
 
@@ -294,8 +207,44 @@ fn asked_in(alloc: Global, matches: &ArgMatches<'_>) -> Result<Asked, WordsFault
     ensures usage { IfErr result (λ fault. (fault ≡ NoMemory) ⊎ (asked_in (subcommand_rows_of matches.now) ≡ None)) }
 {
     match matches.subcommand() {
-        Some((name, found)) => asked_by(alloc, name, found),
+        Some((name, found)) => asked_or_mistake(alloc, name, found),
         None => Err(usage(alloc, NO_SUBCOMMAND)),
+    }
+}
+
+// What a flag in the place of a subcommand or behind one asks for: the version, or help.
+fn flagged_by(word: &str, rest: &[String]) -> Option<Asked>
+    ensures { result ≡ flagged_by word.now (map string_bytes rest.now) }
+{
+    if word == "--version" {
+        return Some(Asked::Version);
+    }
+    if is_help_flag(word) {
+        return Some(Asked::Help(Topic::Program));
+    }
+    if !has_help_flag(rest) {
+        return None;
+    }
+    Topic::read(word).map(Asked::Help)
+}
+
+fn flagged(words: &[String]) -> Option<Asked>
+    ensures { result ≡ flagged (map string_bytes words.now) }
+{
+    match words.get(1) {
+        Some(word) => flagged_by(word.as_str(), &words[2..]),
+        None => None,
+    }
+}
+
+// What words without such a flag ask for, or why they ask for nothing.
+fn parsed(alloc: Global, words: &[String]) -> Result<Asked, WordsFault>
+    ensures asked { IfOk result (λ asked. parsed_of (map string_bytes words.now) ≡ Some asked) }
+    ensures usage { IfErr result (λ fault. (fault ≡ NoMemory) ⊎ (parsed_of (map string_bytes words.now) ≡ None)) }
+{
+    match whole_command(alloc)?.try_get_matches_from(words) {
+        Ok(matches) => asked_in(alloc, &matches),
+        Err(error) => Err(fault_of(alloc, &error, words)),
     }
 }
 
@@ -307,9 +256,9 @@ fn read_words(alloc: Global, words: &[String]) -> Result<Asked, WordsFault>
     if words.len() <= 1 {
         return Ok(Asked::Names);
     }
-    match whole_command(alloc)?.try_get_matches_from(words) {
-        Ok(matches) => asked_in(alloc, &matches),
-        Err(error) => Err(fault_of(alloc, &error)),
+    match flagged(words) {
+        Some(asked) => Ok(asked),
+        None => parsed(alloc, words),
     }
 }
 

@@ -8,6 +8,7 @@ use Rattle.file_lists.specs.declared.paths.PackageList.{PackageList}
 use Rattle.file_lists.specs.declared.paths.Listed.{Listed}
 use Rattle.status_db.specs.Records.{record_in}
 use Rattle.status_db.specs.declared.record.Record.{Record}
+use Rattle.shown_lines.specs.Lines.{line}
 use Rattle.queries.specs.Paths.{path_text, path_line}
 
 -- a list: `/.`, and then its paths
@@ -20,7 +21,7 @@ files_text records lists name = option_map (λ r. listing_text (paths_of lists n
 
 -- `PKG: LISTED`
 abbrev pub search_line : Listed → List ℕ
-search_line l = l.name ++ (codes ": " ++ (path_text l.path ++ codes "\n"))
+search_line l = line (l.name ++ (codes ": " ++ path_text l.path))
 
 -- each listed path that lies at a place
 abbrev pub search_text : List Diversion → List PackageList → Path → List ℕ

@@ -6,6 +6,7 @@ use Rattle.diversions.specs.Places.{place, truename}
 use Rattle.diversions.specs.declared.entry.Owner.{Owner}
 use Rattle.diversions.specs.declared.entry.Owner.TheVariants.{Local, Package}
 use Rattle.diversions.specs.declared.entry.Diversion.{Diversion}
+use Rattle.shown_lines.specs.Lines.{line}
 use Rattle.queries.specs.Paths.{path_line}
 
 -- where a path is: for the files of a package, or for all packages but the owner of its diversion
@@ -24,7 +25,7 @@ owner_text (Package name) = name
 
 -- `local` or the package, the path and its target
 abbrev pub diversion_line : Diversion → List ℕ
-diversion_line d = owner_text d.owner ++ (codes " " ++ (d.path ++ (codes " " ++ (d.target ++ codes "\n"))))
+diversion_line d = line (owner_text d.owner ++ (codes " " ++ (d.path ++ (codes " " ++ d.target))))
 
 -- each diversion's line, in the order of adding
 abbrev pub diversions_text : List Diversion → List ℕ

@@ -1,6 +1,7 @@
 -- What is told of the records: their states, and what the status file says of a package.
 use Rattle.std.specs.Prelude.{ℕ, Bool, true, false, List, [], ◌∷◌, ◌++◌, Option, codes, option_map, if◌then◌else◌}
 use Rattle.std.specs.List.{flat_map}
+use Rattle.shown_lines.specs.Lines.{line}
 use Rattle.status_db.specs.Paragraphs.{record_text}
 use Rattle.status_db.specs.Records.{place_record, record_in}
 use Rattle.status_db.specs.Words.{flag_word, state_word}
@@ -22,7 +23,7 @@ reinstreq_mark Reinstreq = codes " reinstreq"
 
 -- `PKG VERSION STATE`, and ` reinstreq` where that is set
 abbrev pub list_line : Record → List ℕ
-list_line r = r.name ++ (codes " " ++ (r.version ++ (codes " " ++ (state_word r.state ++ (reinstreq_mark r.flag ++ codes "\n")))))
+list_line r = line (r.name ++ (codes " " ++ (r.version ++ (codes " " ++ (state_word r.state ++ reinstreq_mark r.flag)))))
 
 -- each package's line
 abbrev pub list_text : List Record → List ℕ
@@ -44,7 +45,7 @@ is_settled Reinstreq state = false
 
 -- `PKG STATE FLAG`
 abbrev pub audit_line : Record → List ℕ
-audit_line r = r.name ++ (codes " " ++ (state_word r.state ++ (codes " " ++ (flag_word r.flag ++ codes "\n"))))
+audit_line r = line (r.name ++ (codes " " ++ (state_word r.state ++ (codes " " ++ flag_word r.flag))))
 
 -- the line of a package with which something has to be done
 abbrev pub audit_lines : Record → List ℕ

@@ -4,20 +4,21 @@ ghost use Rattle.std.specs.List.{flat_map};
 ghost use Rattle.queries.specs.Files.{files_text, listing_text, search_line, search_text};
 ghost use Rattle.queries.specs.Paths.{path_line};
 
-use crate::paths::path_text;
+use crate::paths::{path_line, path_text};
 use diversions::Diversions;
 use file_lists::{FileLists, Listed};
 use host_core::RootPath;
+use shown_lines::line;
 use status_db::NotedDatabase;
 use std::alloc::{AllocError, Global};
 use texts::{Bytes, Text};
 
-fn add_paths(lines: &mut String, paths: &[RootPath]) -> Result<(), AllocError>
+fn add_paths(alloc: Global, lines: &mut String, paths: &[RootPath]) -> Result<(), AllocError>
     ensures { OnOk result (string_bytes lines.new ≡ string_bytes lines.old ++ flat_map path_line paths.now) }
 {
     for path in paths {
-        lines.push_str(path_text(path))?;
-        lines.push_str("\n")?;
+        let line = path_line(alloc, path)?;
+        lines.push_str(line.as_str())?;
     }
     Ok(())
 }
@@ -26,7 +27,7 @@ fn listing_text(alloc: Global, paths: &[RootPath]) -> Result<Bytes, AllocError>
     ensures { IfOk result (λ text. text ≡ listing_text paths.now) }
 {
     let mut lines = String::from_str(alloc, "/.\n")?;
-    add_paths(&mut lines, paths)?;
+    add_paths(alloc, &mut lines, paths)?;
     Ok(Bytes::new(lines.into_bytes()))
 }
 
@@ -46,11 +47,12 @@ pub fn files_text(
 }
 
 fn search_line(alloc: Global, listed: &Listed) -> Result<String, AllocError>
-    ensures { IfOk result (λ line. string_bytes line ≡ search_line listed.now) }
+    ensures { IfOk result (λ printed. string_bytes printed ≡ search_line listed.now) }
 {
     let name = listed.name.as_str();
     let path = path_text(&listed.path);
-    format!(in alloc; "{name}: {path}\n")
+    let content = format!(in alloc; "{name}: {path}")?;
+    line(alloc, content.as_str())
 }
 
 fn add_listed(alloc: Global, lines: &mut String, all: &[Listed]) -> Result<(), AllocError>

@@ -2,9 +2,10 @@
 ghost use Rattle.std.specs.Prelude.{◌≡◌, IfOk, option_copied, string_bytes};
 ghost use Rattle.queries.specs.Places.{diversion_line, diversions_text, owner_text, place_for, truename_text};
 
-use crate::paths::path_text;
+use crate::paths::path_line;
 use diversions::{Diversion, Diversions, Owner};
 use host_core::RootPath;
+use shown_lines::line;
 use std::alloc::{AllocError, Global};
 use texts::{Bytes, Text};
 
@@ -33,9 +34,8 @@ pub fn truename_text(
     ensures { IfOk result (λ text. text ≡ truename_text diversions.now.entries (option_copied user.entry) path.now) }
 {
     let place = place_for(diversions, user, path)?;
-    let place = path_text(&place);
-    let line = format!(in alloc; "{place}\n")?;
-    Ok(Bytes::new(line.into_bytes()))
+    let printed = path_line(alloc, &place)?;
+    Ok(Bytes::new(printed.into_bytes()))
 }
 
 fn owner_text(owner: &Owner) -> &str
@@ -48,12 +48,13 @@ fn owner_text(owner: &Owner) -> &str
 }
 
 fn diversion_line(alloc: Global, entry: &Diversion) -> Result<String, AllocError>
-    ensures { IfOk result (λ line. string_bytes line ≡ diversion_line entry.now) }
+    ensures { IfOk result (λ printed. string_bytes printed ≡ diversion_line entry.now) }
 {
     let owner = owner_text(&entry.owner);
     let path = entry.path.as_str();
     let target = entry.target.as_str();
-    format!(in alloc; "{owner} {path} {target}\n")
+    let content = format!(in alloc; "{owner} {path} {target}")?;
+    line(alloc, content.as_str())
 }
 
 /// The diversions in the order of adding, a line each.

@@ -7,6 +7,7 @@ ghost use Rattle.status_db.specs.Records.{place_record};
 ghost use Rattle.status_db.specs.declared.record.Record.{Record as ARecord};
 ghost use Rattle.queries.specs.Records.{audit_line, audit_lines, audit_text, by_name, is_final, is_settled, list_line, list_text, reinstreq_mark, status_text};
 
+use shown_lines::line;
 use status_db::{Flag, NotedDatabase, Record, State, record_text};
 use std::alloc::{AllocError, Global};
 use std::cmp::Ordering;
@@ -61,13 +62,14 @@ fn reinstreq_mark(flag: Flag) -> &'static str
 }
 
 fn list_line(alloc: Global, entry: &Record) -> Result<String, AllocError>
-    ensures { IfOk result (λ line. string_bytes line ≡ list_line entry.now) }
+    ensures { IfOk result (λ printed. string_bytes printed ≡ list_line entry.now) }
 {
     let name = entry.name.as_str();
     let version = entry.version.text();
     let state = entry.state.name();
     let mark = reinstreq_mark(entry.flag);
-    format!(in alloc; "{name} {version} {state}{mark}\n")
+    let content = format!(in alloc; "{name} {version} {state}{mark}")?;
+    line(alloc, content.as_str())
 }
 
 fn add_list(alloc: Global, lines: &mut String, entries: &[&Record]) -> Result<(), AllocError>
@@ -114,17 +116,18 @@ fn is_settled(flag: Flag, state: State) -> bool
 }
 
 fn audit_line(alloc: Global, entry: &Record) -> Result<String, AllocError>
-    ensures { IfOk result (λ line. string_bytes line ≡ audit_line entry.now) }
+    ensures { IfOk result (λ printed. string_bytes printed ≡ audit_line entry.now) }
 {
     let name = entry.name.as_str();
     let state = entry.state.name();
     let flag = entry.flag.name();
-    format!(in alloc; "{name} {state} {flag}\n")
+    let content = format!(in alloc; "{name} {state} {flag}")?;
+    line(alloc, content.as_str())
 }
 
 // The line of a package with which something has to be done.
 fn audit_lines(alloc: Global, entry: &Record) -> Result<String, AllocError>
-    ensures { IfOk result (λ line. string_bytes line ≡ audit_lines entry.now) }
+    ensures { IfOk result (λ printed. string_bytes printed ≡ audit_lines entry.now) }
 {
     if is_settled(entry.flag, entry.state) {
         return Ok(String::new(alloc));

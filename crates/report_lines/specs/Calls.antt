@@ -9,6 +9,7 @@ use Rattle.host_core.specs.declared.call.Side.{Side}
 use Rattle.host_core.specs.declared.call.Side.TheVariants.{Old, New}
 use Rattle.host_core.specs.declared.call.Outcome.{Outcome}
 use Rattle.host_core.specs.declared.call.Outcome.TheVariants.{Exit, Killed, NotStarted}
+use Rattle.shown_lines.specs.Lines.{line}
 use Rattle.unwind_stack.specs.declared.rows.Called.{Called}
 
 -- a script that is stored, or one of the incoming tree
@@ -16,13 +17,13 @@ abbrev pub side_word : Side → List ℕ
 side_word Old = codes "old"
 side_word New = codes "new"
 
--- an argument as it is shown: an empty one as a pair of quotes
-abbrev pub shown : List ℕ → List ℕ
-shown arg = if bytes_eq arg (codes "") then codes "\"\"" else arg
+-- an argument as it is told: an empty one as a pair of quotes
+abbrev pub arg_word : List ℕ → List ℕ
+arg_word arg = if bytes_eq arg (codes "") then codes "\"\"" else arg
 
 -- an argument behind its blank
 abbrev pub arg_text : List ℕ → List ℕ
-arg_text arg = codes " " ++ shown arg
+arg_text arg = codes " " ++ arg_word arg
 
 -- a package, its script and the arguments
 abbrev pub call_text : List ℕ → Call → List ℕ
@@ -37,5 +38,5 @@ outcome_text NotStarted = codes "not started"
 -- `call old|new PKG SCRIPT ARGS: OUTCOME`
 abbrev pub call_line : Called → List ℕ
 call_line called =
-    codes "call " ++ (side_word called.call.side ++ (codes " " ++ (call_text called.call.package called.call
-    ++ (codes ": " ++ (outcome_text called.outcome ++ codes "\n")))))
+    line (codes "call " ++ (side_word called.call.side ++ (codes " " ++ (call_text called.call.package called.call
+    ++ (codes ": " ++ outcome_text called.outcome)))))

@@ -5,6 +5,7 @@ use Rattle.std.specs.Fmt.{decimal}
 use Rattle.administration.specs.declared.fault.AdministrationFault.{AdministrationFault}
 use Rattle.administration.specs.declared.fault.AdministrationFault.TheVariants.{Damaged, Device, NoMemory}
 use Rattle.report_lines.specs.Faults.{path_text}
+use Rattle.shown_lines.specs.Lines.{line}
 
 -- what a line of a file of the administration is to have: a list, the diversions, or records
 abbrev pub line_expectation : List ℕ → List ℕ
@@ -23,8 +24,12 @@ whole_expectation file =
 abbrev pub expectation : List ℕ → ℕ → List ℕ
 expectation file line = if nat_eq line 0 then whole_expectation file else line_expectation file
 
+-- a line of a file by the file's full path under the root, and its number
+abbrev pub damaged_line : List ℕ → ℕ → List ℕ
+damaged_line file at = line (codes "damaged " ++ (path_text file ++ (codes " " ++ decimal at)))
+
 -- `damaged FILE LINE`, the file by its full path under the root, and what was expected there; `broken device` or `broken memory`
 abbrev pub opening_line : AdministrationFault → List ℕ
-opening_line (Damaged file line) = codes "damaged " ++ (path_text file ++ (codes " " ++ (decimal line ++ (codes "\nexpected: " ++ (expectation file line ++ codes "\n")))))
+opening_line (Damaged file at) = damaged_line file at ++ (codes "expected: " ++ (expectation file at ++ codes "\n"))
 opening_line Device = codes "broken device\n"
 opening_line NoMemory = codes "broken memory\n"

@@ -6,6 +6,7 @@ use Rattle.unit_reports.specs.declared.report.Reply.{Reply}
 use Rattle.unit_reports.specs.declared.report.Reply.TheVariants.{Done, Refused, Failed, Broken}
 use Rattle.report_lines.specs.Calls.{call_text}
 use Rattle.report_lines.specs.Faults.{rule_text, step_text}
+use Rattle.shown_lines.specs.Lines.{line}
 use Rattle.stack_run.specs.declared.failure.Failure.{Failure as Cause}
 use Rattle.stack_run.specs.declared.failure.Failure.TheVariants.{OfCall, OfFiles}
 
@@ -23,8 +24,8 @@ cause_text p (OfFiles fault) = p ++ (codes " " ++ step_text fault)
 -- `done`, `refused PKG RULE` with its detail, `failed PKG SCRIPT ARGS`, `failed PKG STEPFAULT PATH` with the owner, or `broken WHY`
 abbrev pub reply_line : Reply → List ℕ
 reply_line Done = codes "done\n"
-reply_line (Refused r) = codes "refused " ++ (r.package ++ (codes " " ++ (rule_text r.rule ++ codes "\n")))
-reply_line (Failed f) = codes "failed " ++ (cause_text f.package f.cause ++ codes "\n")
+reply_line (Refused r) = line (codes "refused " ++ (r.package ++ (codes " " ++ rule_text r.rule)))
+reply_line (Failed f) = line (codes "failed " ++ cause_text f.package f.cause)
 reply_line (Broken breakage) = codes "broken " ++ (breakage_word breakage ++ codes "\n")
 
 -- only of a unit that was carried out the touched packages are told

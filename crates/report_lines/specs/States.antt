@@ -2,6 +2,7 @@
 use Rattle.std.specs.Prelude.{ℕ, List, ◌++◌, Option, Some, None, codes}
 use Rattle.status_db.specs.Words.{want_word, flag_word, state_word}
 use Rattle.status_db.specs.declared.record.Record.{Record}
+use Rattle.shown_lines.specs.Lines.{line}
 use Rattle.unit_reports.specs.declared.report.Touched.{Touched}
 
 -- version, want, flag and state of a record, or that there is none
@@ -11,4 +12,4 @@ state_text (Some r) = r.version ++ (codes " " ++ (want_word r.want ++ (codes " "
 
 -- `state PKG VERSION WANT FLAG STATE` or `state PKG none`
 abbrev pub state_line : Touched → List ℕ
-state_line t = codes "state " ++ (t.package ++ (codes " " ++ (state_text t.entry ++ codes "\n")))
+state_line t = line (codes "state " ++ (t.package ++ (codes " " ++ state_text t.entry)))

@@ -2,13 +2,14 @@
 ghost use Rattle.std.specs.Prelude.{◌≡◌, ◌++◌, IfOk, codes, string_bytes};
 ghost use Rattle.relation_fields.specs.Printing.{print_clause};
 ghost use Rattle.report_lines.specs.Faults.{control_text, divert_word, field_word, line_text, path_text, rule_text, step_text, tree_text};
-ghost use Rattle.report_lines.specs.Openings.{expectation, line_expectation, opening_line, whole_expectation};
+ghost use Rattle.report_lines.specs.Openings.{damaged_line, expectation, line_expectation, opening_line, whole_expectation};
 
 use administration::AdministrationFault;
 use control_fields::ControlFault;
 use host_core::RootPath;
 use package_tree::{FieldName, LineName, TreeFault};
 use relation_fields::Clause;
+use shown_lines::line;
 use std::alloc::{AllocError, Global};
 use texts::Text;
 use unit_reports::Rule;
@@ -212,16 +213,23 @@ fn expectation(file: &[u8], line: u64) -> &'static str
     }
 }
 
+fn damaged_line(alloc: Global, file: &RootPath, at: u64) -> Result<String, AllocError>
+    ensures { IfOk result (λ printed. string_bytes printed ≡ damaged_line file.now at) }
+{
+    let file = path_text(file);
+    let content = format!(in alloc; "damaged {file} {at}")?;
+    line(alloc, content.as_str())
+}
+
 /// The lines of a fault on opening, for standard error: the fault, and of damage what was expected there.
 pub fn opening_line(alloc: Global, fault: &AdministrationFault) -> Result<String, AllocError>
-    ensures { IfOk result (λ line. string_bytes line ≡ opening_line fault.now) }
+    ensures { IfOk result (λ printed. string_bytes printed ≡ opening_line fault.now) }
 {
     match fault {
         AdministrationFault::Damaged { file, line } => {
-            let line = *line;
-            let expected = expectation(file.as_str().as_bytes(), line);
-            let file = path_text(file);
-            format!(in alloc; "damaged {file} {line}\nexpected: {expected}\n")
+            let expected = expectation(file.as_str().as_bytes(), *line);
+            let damage = damaged_line(alloc, file, *line)?;
+            format!(in alloc; "{damage}expected: {expected}\n")
         }
         AdministrationFault::Device => String::from_str(alloc, "broken device\n"),
         AdministrationFault::NoMemory => String::from_str(alloc, "broken memory\n"),

@@ -1,13 +1,14 @@
 // The lines of a report, and its status.
 ghost use Rattle.std.specs.Prelude.{◌≡◌, ◌≤◌, ◌++◌, IfOk, OnOk, string_bytes};
 ghost use Rattle.std.specs.List.{flat_map};
-ghost use Rattle.report_lines.specs.Calls.{arg_text, call_line, call_text, outcome_text, shown, side_word};
+ghost use Rattle.report_lines.specs.Calls.{arg_text, arg_word, call_line, call_text, outcome_text, side_word};
 ghost use Rattle.report_lines.specs.Replies.{breakage_word, cause_text, reply_line, reply_status, tells_states};
 ghost use Rattle.report_lines.specs.Reports.{report_lines, report_status, states_lines, unit_lines, units_status};
 ghost use Rattle.report_lines.specs.States.{state_line, state_text};
 
 use crate::faults::{rule_text, step_text};
 use host_core::{Call, Outcome, Side};
+use shown_lines::line;
 use stack_run::Failure as Cause;
 use status_db::Record;
 use std::alloc::{AllocError, Global};
@@ -24,8 +25,8 @@ fn side_word(side: Side) -> &'static str
     }
 }
 
-fn shown(arg: &str) -> &str
-    ensures { result.now ≡ shown arg.now }
+fn arg_word(arg: &str) -> &str
+    ensures { result.now ≡ arg_word arg.now }
 {
     match arg {
         "" => "\"\"",
@@ -38,7 +39,7 @@ fn add_args(text: &mut String, args: &[Text]) -> Result<(), AllocError>
 {
     for arg in args {
         text.push_str(" ")?;
-        text.push_str(shown(arg.as_str()))?;
+        text.push_str(arg_word(arg.as_str()))?;
     }
     Ok(())
 }
@@ -65,12 +66,13 @@ fn outcome_text(alloc: Global, outcome: Outcome) -> Result<String, AllocError>
 }
 
 fn call_line(alloc: Global, called: &Called) -> Result<String, AllocError>
-    ensures { IfOk result (λ line. string_bytes line ≡ call_line called.now) }
+    ensures { IfOk result (λ printed. string_bytes printed ≡ call_line called.now) }
 {
     let side = side_word(called.call.side);
     let call = call_text(alloc, &called.call.package, &called.call)?;
     let outcome = outcome_text(alloc, called.outcome)?;
-    format!(in alloc; "call {side} {call}: {outcome}\n")
+    let content = format!(in alloc; "call {side} {call}: {outcome}")?;
+    line(alloc, content.as_str())
 }
 
 fn state_text(alloc: Global, entry: &Option<Record>) -> Result<String, AllocError>
@@ -89,11 +91,12 @@ fn state_text(alloc: Global, entry: &Option<Record>) -> Result<String, AllocErro
 }
 
 fn state_line(alloc: Global, touched: &Touched) -> Result<String, AllocError>
-    ensures { IfOk result (λ line. string_bytes line ≡ state_line touched.now) }
+    ensures { IfOk result (λ printed. string_bytes printed ≡ state_line touched.now) }
 {
     let package = touched.package.as_str();
     let state = state_text(alloc, &touched.entry)?;
-    format!(in alloc; "state {package} {state}\n")
+    let content = format!(in alloc; "state {package} {state}")?;
+    line(alloc, content.as_str())
 }
 
 fn breakage_word(breakage: Breakage) -> &'static str
@@ -107,11 +110,12 @@ fn breakage_word(breakage: Breakage) -> &'static str
 }
 
 fn refused_line(alloc: Global, refusal: &Refusal) -> Result<String, AllocError>
-    ensures { IfOk result (λ line. string_bytes line ≡ reply_line (Reply.Refused refusal.now)) }
+    ensures { IfOk result (λ printed. string_bytes printed ≡ reply_line (Reply.Refused refusal.now)) }
 {
     let package = refusal.package.as_str();
     let rule = rule_text(alloc, &refusal.rule)?;
-    format!(in alloc; "refused {package} {rule}\n")
+    let content = format!(in alloc; "refused {package} {rule}")?;
+    line(alloc, content.as_str())
 }
 
 fn files_text(alloc: Global, package: &Text, fault: &StepFault) -> Result<String, AllocError>
@@ -133,14 +137,15 @@ fn cause_text(alloc: Global, package: &Text, cause: &Cause) -> Result<String, Al
 }
 
 fn failed_line(alloc: Global, failure: &Failure) -> Result<String, AllocError>
-    ensures { IfOk result (λ line. string_bytes line ≡ reply_line (Reply.Failed failure.now)) }
+    ensures { IfOk result (λ printed. string_bytes printed ≡ reply_line (Reply.Failed failure.now)) }
 {
     let cause = cause_text(alloc, &failure.package, &failure.cause)?;
-    format!(in alloc; "failed {cause}\n")
+    let content = format!(in alloc; "failed {cause}")?;
+    line(alloc, content.as_str())
 }
 
 fn reply_line(alloc: Global, reply: &Reply) -> Result<String, AllocError>
-    ensures { IfOk result (λ line. string_bytes line ≡ reply_line reply.now) }
+    ensures { IfOk result (λ printed. string_bytes printed ≡ reply_line reply.now) }
 {
     match reply {
         Reply::Done => String::from_str(alloc, "done\n"),

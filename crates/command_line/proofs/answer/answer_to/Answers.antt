@@ -1,8 +1,8 @@
 use Rattle.std.proofs.Common.{rules, ◌≡◌, ◌<◌, ◌∙◌, [], ap, map, string_bytes, true, None, Some, refl, inl, inr, subst, sym}
 use Rattle.command_words.specs.Commands.{asked_of}
 use Rattle.command_words.specs.Topics.{HasScreen, named_in}
-use Rattle.command_words.specs.declared.words.Asked.TheVariants.{CompareVersions, Configure, Divert, Help, Install, Names, Purge, Query, Remove, Undivert, Unpack}
-use Rattle.command_line.specs.Reports.{comparison_answer, ended_answer, memory_answer, names_answer, prints, trees_answer, usage_answer}
+use Rattle.command_words.specs.declared.words.Asked.TheVariants.{CompareVersions, Configure, Divert, Help, Install, Names, Purge, Query, Remove, Undivert, Unpack, Version}
+use Rattle.command_line.specs.Reports.{comparison_answer, ended_answer, memory_answer, names_answer, prints, trees_answer, usage_answer, version_answer}
 use Rattle.command_line.specs.declared.answer.Answer.{Answer}
 use Rattle.command_line.proofs.Held.{appends_nothing}
 use Rattle.command_line.specs.Packages.{policy_of}
@@ -17,6 +17,11 @@ pub returns-in-Ok-Names-clause-answered : goal.returns-in-Ok-Names-clause-answer
 returns-in-Ok-Names-clause-answered g c =
     let asked : asked_of (map string_bytes c.args.words.now) ≡ Some Names = search rules in
     (names_answer, rw asked (inl refl), c.whole.ensures.left names_answer (g.O.Write.contents c.args.out.now) c.names.ensures)
+
+pub returns-in-Ok-Version-clause-answered : goal.returns-in-Ok-Version-clause-answered
+returns-in-Ok-Version-clause-answered g c =
+    let asked : asked_of (map string_bytes c.args.words.now) ≡ Some Version = search rules in
+    (version_answer, rw asked (inl refl), c.whole-in-Ok-Version.ensures.left version_answer (g.O.Write.contents c.args.out.now) c.versioned.ensures)
 
 pub returns-in-Ok-Help-clause-answered : goal.returns-in-Ok-Help-clause-answered
 returns-in-Ok-Help-clause-answered g c =

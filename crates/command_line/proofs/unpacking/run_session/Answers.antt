@@ -1,4 +1,4 @@
-use Rattle.std.proofs.Common.{◌<◌, Option, sym, subst}
+use Rattle.std.proofs.Common.{◌<◌, Option, refl, sym, subst}
 use Rattle.std.specs.Vec.Iter.{into_iter_items}
 use Rattle.conffiles.specs.declared.decisions.ConfPolicy.{ConfPolicy}
 use Rattle.unit_reports.specs.Held.{held}
@@ -11,50 +11,50 @@ use Rattle.command_line.proofs.unpacking.run_session.Goals as goal
 
 pub returns-in-Some-clause-same_hosts : goal.returns-in-Some-clause-same_hosts
 returns-in-Some-clause-same_hosts g c =
-    let run = c.install.ensures.run c.requires in
+    let run = c.install.ensures.run c.requires.open in
     reads_keep _ (λ t. t.hosts.ghost_name) (λ s t x h. h.0) run.0 c.args.trees.now c.install.new.trees run.1
 
 pub returns-in-Some-clause-done : goal.returns-in-Some-clause-done
 returns-in-Some-clause-done g c =
-    let run = c.install.ensures.run c.requires in
+    let run = c.install.ensures.run c.requires.open in
     let old = c.args.trees.now in
     let new = c.install.new.trees in
     let session = c.args.session.now in
     let left = c.install.new.self in
     let a : Around = around (g.S.Hosts.root old.hosts.now) (g.S.Hosts.tree old.hosts.now) (g.S.Hosts.left new.hosts.now) (g.S.Hosts.seen new.hosts.now) (g.S.Hosts.faults old.hosts.now < g.S.Hosts.faults new.hosts.now) (g.S.Hosts.unopened old.hosts.now new.hosts.now) (g.S.Hosts.locked old.hosts.now) in
-    subst (λ (policy : Option ConfPolicy). HasRunTrees a policy (into_iter_items old.left.now) c.args.auto_deconfigure (Installed c.install.result) (held session.database session.lists session.diversions) (g.S.Opened.Host.state session.host) (g.S.Opened.Host.state left.host)) (sym c.in-Some.is) record {
+    subst (λ (policy : Option ConfPolicy). HasRunTrees a policy old.asked.now (Installed c.install.result) (held session.database session.lists session.diversions) (g.S.Opened.Host.state session.host) (g.S.Opened.Host.state left.host)) (sym c.in-Some.is) record {
       candidates = run.0;
       left = into_iter_items new.left.now;
-      read = read_for _ (λ t. g.S.Hosts.root t.hosts.now) (λ t. g.S.Hosts.tree t.hosts.now) (λ t. g.S.Hosts.left t.hosts.now) (λ t. g.S.Hosts.seen t.hosts.now) (λ t. g.S.Hosts.faults t.hosts.now) (λ s t. g.S.Hosts.unopened s.hosts.now t.hosts.now) (λ t. g.S.Hosts.locked t.hosts.now) (λ t. into_iter_items t.left.now) (λ s x t h. (h.1, h.2, h.3)) run.0 old new run.1;
-      all = record { after = held left.database left.lists left.diversions; install = run.2; counts = c.install.ensures.counts c.requires; told = c.install.ensures.told };
+      read = read_for _ (λ t. g.S.Hosts.root t.hosts.now) (λ t. g.S.Hosts.tree t.hosts.now) (λ t. g.S.Hosts.left t.hosts.now) (λ t. g.S.Hosts.seen t.hosts.now) (λ t. g.S.Hosts.faults t.hosts.now) (λ s t. g.S.Hosts.unopened s.hosts.now t.hosts.now) (λ t. g.S.Hosts.locked t.hosts.now) (λ t. into_iter_items t.left.now) (λ t. t.asked.now) (λ s x t h. (h.1, h.2, h.3, h.4)) old.asked.now run.0 old new refl c.requires.unread run.1;
+      all = record { after = held left.database left.lists left.diversions; install = run.2; counts = c.install.ensures.counts c.requires.open; told = c.install.ensures.told };
     }
 
 pub returns-in-Some-clause-on : goal.returns-in-Some-clause-on
 returns-in-Some-clause-on g c =
-    let run = c.install.ensures.run c.requires in
-    gone_on _ (λ t. g.S.Hosts.root t.hosts.now) (λ t. g.S.Hosts.tree t.hosts.now) (λ t. g.S.Hosts.left t.hosts.now) (λ t. g.S.Hosts.seen t.hosts.now) (λ t. g.S.Hosts.faults t.hosts.now) (λ s t. g.S.Hosts.unopened s.hosts.now t.hosts.now) (λ t. g.S.Hosts.locked t.hosts.now) (λ t. into_iter_items t.left.now) (λ s x t h. (h.1, h.2, h.3)) run.0 c.args.trees.now c.install.new.trees run.1
+    let run = c.install.ensures.run c.requires.open in
+    gone_on _ (λ t. g.S.Hosts.root t.hosts.now) (λ t. g.S.Hosts.tree t.hosts.now) (λ t. g.S.Hosts.left t.hosts.now) (λ t. g.S.Hosts.seen t.hosts.now) (λ t. g.S.Hosts.faults t.hosts.now) (λ s t. g.S.Hosts.unopened s.hosts.now t.hosts.now) (λ t. g.S.Hosts.locked t.hosts.now) (λ t. into_iter_items t.left.now) (λ t. t.asked.now) (λ s x t h. (h.1, h.2, h.3, h.4)) run.0 c.args.trees.now c.install.new.trees run.1
 
 pub returns-in-None-clause-same_hosts : goal.returns-in-None-clause-same_hosts
 returns-in-None-clause-same_hosts g c =
-    let run = c.run.ensures.run c.requires in
+    let run = c.run.ensures.run c.requires.open in
     reads_keep _ (λ t. t.hosts.ghost_name) (λ s t x h. h.0) run.0 c.args.trees.now c.run.new.trees run.1
 
 pub returns-in-None-clause-done : goal.returns-in-None-clause-done
 returns-in-None-clause-done g c =
-    let run = c.run.ensures.run c.requires in
+    let run = c.run.ensures.run c.requires.open in
     let old = c.args.trees.now in
     let new = c.run.new.trees in
     let session = c.args.session.now in
     let left = c.run.new.self in
     let a : Around = around (g.S.Hosts.root old.hosts.now) (g.S.Hosts.tree old.hosts.now) (g.S.Hosts.left new.hosts.now) (g.S.Hosts.seen new.hosts.now) (g.S.Hosts.faults old.hosts.now < g.S.Hosts.faults new.hosts.now) (g.S.Hosts.unopened old.hosts.now new.hosts.now) (g.S.Hosts.locked old.hosts.now) in
-    subst (λ (policy : Option ConfPolicy). HasRunTrees a policy (into_iter_items old.left.now) c.args.auto_deconfigure (Unpacked c.run.result) (held session.database session.lists session.diversions) (g.S.Opened.Host.state session.host) (g.S.Opened.Host.state left.host)) (sym c.in-None.is) record {
+    subst (λ (policy : Option ConfPolicy). HasRunTrees a policy old.asked.now (Unpacked c.run.result) (held session.database session.lists session.diversions) (g.S.Opened.Host.state session.host) (g.S.Opened.Host.state left.host)) (sym c.in-None.is) record {
       candidates = run.0;
       left = into_iter_items new.left.now;
-      read = read_for _ (λ t. g.S.Hosts.root t.hosts.now) (λ t. g.S.Hosts.tree t.hosts.now) (λ t. g.S.Hosts.left t.hosts.now) (λ t. g.S.Hosts.seen t.hosts.now) (λ t. g.S.Hosts.faults t.hosts.now) (λ s t. g.S.Hosts.unopened s.hosts.now t.hosts.now) (λ t. g.S.Hosts.locked t.hosts.now) (λ t. into_iter_items t.left.now) (λ s x t h. (h.1, h.2, h.3)) run.0 old new run.1;
-      all = record { after = held left.database left.lists left.diversions; run = run.2; counts = c.run.ensures.counts c.requires; told = c.run.ensures.told };
+      read = read_for _ (λ t. g.S.Hosts.root t.hosts.now) (λ t. g.S.Hosts.tree t.hosts.now) (λ t. g.S.Hosts.left t.hosts.now) (λ t. g.S.Hosts.seen t.hosts.now) (λ t. g.S.Hosts.faults t.hosts.now) (λ s t. g.S.Hosts.unopened s.hosts.now t.hosts.now) (λ t. g.S.Hosts.locked t.hosts.now) (λ t. into_iter_items t.left.now) (λ t. t.asked.now) (λ s x t h. (h.1, h.2, h.3, h.4)) old.asked.now run.0 old new refl c.requires.unread run.1;
+      all = record { after = held left.database left.lists left.diversions; run = run.2; counts = c.run.ensures.counts c.requires.open; told = c.run.ensures.told };
     }
 
 pub returns-in-None-clause-on : goal.returns-in-None-clause-on
 returns-in-None-clause-on g c =
-    let run = c.run.ensures.run c.requires in
-    gone_on _ (λ t. g.S.Hosts.root t.hosts.now) (λ t. g.S.Hosts.tree t.hosts.now) (λ t. g.S.Hosts.left t.hosts.now) (λ t. g.S.Hosts.seen t.hosts.now) (λ t. g.S.Hosts.faults t.hosts.now) (λ s t. g.S.Hosts.unopened s.hosts.now t.hosts.now) (λ t. g.S.Hosts.locked t.hosts.now) (λ t. into_iter_items t.left.now) (λ s x t h. (h.1, h.2, h.3)) run.0 c.args.trees.now c.run.new.trees run.1
+    let run = c.run.ensures.run c.requires.open in
+    gone_on _ (λ t. g.S.Hosts.root t.hosts.now) (λ t. g.S.Hosts.tree t.hosts.now) (λ t. g.S.Hosts.left t.hosts.now) (λ t. g.S.Hosts.seen t.hosts.now) (λ t. g.S.Hosts.faults t.hosts.now) (λ s t. g.S.Hosts.unopened s.hosts.now t.hosts.now) (λ t. g.S.Hosts.locked t.hosts.now) (λ t. into_iter_items t.left.now) (λ t. t.asked.now) (λ s x t h. (h.1, h.2, h.3, h.4)) run.0 c.args.trees.now c.run.new.trees run.1

@@ -31,7 +31,7 @@ returns-in_ok-done-in-Ok-clause-done g c =
       };
       end = g.S.Opened.Host.state c.into_host.result;
       given = c.close_root.ensures.given;
-      ran = subst (λ host. HasRunTrees outer c.args.policy c.args.unpacking.now.trees c.args.unpacking.now.auto_deconfigure done anew begun (g.S.Opened.Host.state host)) (sym c.into_host.ensures)
-          (run_within outer inner (record { tree = λ word s h. h; seen = c.close_root.ensures.seen; failed = λ h. omega arith }) c.args.policy c.args.unpacking.now.trees c.args.unpacking.now.auto_deconfigure done anew begun (g.S.Opened.Host.state c.run_trees-done.new.session.host)
-          (subst (λ (h : Held). HasRunTrees inner c.args.policy c.args.unpacking.now.trees c.args.unpacking.now.auto_deconfigure done h begun (g.S.Opened.Host.state c.run_trees-done.new.session.host)) same c.in_ok-done-in-Ok.ensures.done));
+      ran = subst (λ host. HasRunTrees outer c.args.policy c.args.unpacking.now done anew begun (g.S.Opened.Host.state host)) (sym c.into_host.ensures)
+          (run_within outer inner (record { tree = λ word s h. h; seen = c.close_root.ensures.seen; failed = λ h. omega arith }) c.args.policy c.args.unpacking.now done anew begun (g.S.Opened.Host.state c.run_trees-done.new.session.host)
+          (subst (λ (h : Held). HasRunTrees inner c.args.policy c.args.unpacking.now done h begun (g.S.Opened.Host.state c.run_trees-done.new.session.host)) same c.in_ok-done-in-Ok.ensures.done));
     }

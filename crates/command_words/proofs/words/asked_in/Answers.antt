@@ -7,12 +7,12 @@ use Rattle.command_words.proofs.words.asked_in.Goals as goal
 pub returns-in-Some-clause-asked : goal.returns-in-Some-clause-asked
 returns-in-Some-clause-asked c =
     let entered : subcommand_rows_of c.args.matches.now ≡ Some (c.in-Some.name.now, rows_of (found_of c.in-Some.found.now)) = search rules in
-    IfOk-weaker c.asked_by.result _ _ (λ asked h. ap asked_in entered ∙ h) c.asked_by.ensures.asked
+    IfOk-weaker c.asked_or_mistake.result _ _ (λ asked h. ap asked_in entered ∙ h) c.asked_or_mistake.ensures.asked
 
 pub returns-in-Some-clause-usage : goal.returns-in-Some-clause-usage
 returns-in-Some-clause-usage c =
     let entered : subcommand_rows_of c.args.matches.now ≡ Some (c.in-Some.name.now, rows_of (found_of c.in-Some.found.now)) = search rules in
-    IfErr-weaker c.asked_by.result _ _ (λ fault h. elim h [
+    IfErr-weaker c.asked_or_mistake.result _ _ (λ fault h. elim h [
       | inl memory ↦ inl memory
       | inr none ↦ inr (ap asked_in entered ∙ none)
-    ]) c.asked_by.ensures.usage
+    ]) c.asked_or_mistake.ensures.usage

@@ -1,35 +1,28 @@
-use Rattle.std.proofs.Common.{map, string_bytes, length, ◌<◌, ◌∙◌, inl, inr}
+use Rattle.std.proofs.Common.{map, string_bytes, length, ◌<◌, ◌∙◌, ap, sym, inl, inr}
 use Rattle.std.proofs.lemmas.List.{length-map}
 use Rattle.std.proofs.lemmas.Result.{IfOk-weaker, IfErr-weaker}
-use Rattle.clap.specs.Words.{app_of}
-use Rattle.command_words.proofs.Asking.{asked_names, asked_taken, asked_refused, whole_is_simple}
+use Rattle.command_words.proofs.Asking.{asked_flagged, asked_names, asked_parsed}
 use Rattle.command_words.proofs.words.read_words.Goals as goal
 
 pub returns-then-words-le1-clause-asked : goal.returns-then-words-le1-clause-asked
 returns-then-words-le1-clause-asked c = asked_names (map string_bytes c.args.words.now) (rw (length-map c.args.words.now string_bytes) c.if-words-le1.true)
 
-pub returns-in-Ok-clause-asked : goal.returns-in-Ok-clause-asked
-returns-in-Ok-clause-asked c =
+pub returns-in-Some-clause-asked : goal.returns-in-Some-clause-asked
+returns-in-Some-clause-asked c =
     let more : 1 < length (map string_bytes c.args.words.now) = rw (length-map c.args.words.now string_bytes) c.if-words-le1.false in
-    let taken = asked_taken (app_of c.in_ok-whole_command.field-0) (map string_bytes c.args.words.now) c.in-Ok.matches
-    c.in_ok-whole_command.ensures more c.in-Ok.ensures.matches c.in-Ok.ensures.kinds in
-    IfOk-weaker c.asked_in.result _ _ (λ asked h. taken ∙ h) c.asked_in.ensures.asked
+    asked_flagged (map string_bytes c.args.words.now) c.in-Some.asked more (sym c.flagged.ensures ∙ c.in-Some.is)
 
-pub returns-in-Ok-clause-usage : goal.returns-in-Ok-clause-usage
-returns-in-Ok-clause-usage c =
+pub returns-in-None-clause-asked : goal.returns-in-None-clause-asked
+returns-in-None-clause-asked c =
     let more : 1 < length (map string_bytes c.args.words.now) = rw (length-map c.args.words.now string_bytes) c.if-words-le1.false in
-    let taken = asked_taken (app_of c.in_ok-whole_command.field-0) (map string_bytes c.args.words.now) c.in-Ok.matches
-    c.in_ok-whole_command.ensures more c.in-Ok.ensures.matches c.in-Ok.ensures.kinds in
-    IfErr-weaker c.asked_in.result _ _ (λ fault h. elim h [
+    let same = asked_parsed (map string_bytes c.args.words.now) more (sym c.flagged.ensures ∙ c.in-None.is) in
+    IfOk-weaker c.parsed.result _ _ (λ asked h. same ∙ h) c.parsed.ensures.asked
+
+pub returns-in-None-clause-usage : goal.returns-in-None-clause-usage
+returns-in-None-clause-usage c =
+    let more : 1 < length (map string_bytes c.args.words.now) = rw (length-map c.args.words.now string_bytes) c.if-words-le1.false in
+    let same = asked_parsed (map string_bytes c.args.words.now) more (sym c.flagged.ensures ∙ c.in-None.is) in
+    IfErr-weaker c.parsed.result _ _ (λ fault h. elim h [
       | inl memory ↦ inl memory
-      | inr none ↦ inr (taken ∙ none)
-    ]) c.asked_in.ensures.usage
-
-pub returns-in-Err-clause-usage : goal.returns-in-Err-clause-usage
-returns-in-Err-clause-usage c =
-    let app = c.in_ok-whole_command.ensures in
-    let more : 1 < length (map string_bytes c.args.words.now) = rw (length-map c.args.words.now string_bytes) c.if-words-le1.false in
-    elim (c.in-Err.ensures.kinds (whole_is_simple _ app)) [
-      | inl memory ↦ inl (c.fault_of.ensures memory)
-      | inr among ↦ inr (asked_refused (app_of c.in_ok-whole_command.field-0) (map string_bytes c.args.words.now) _ app more among)
-    ]
+      | inr none ↦ inr (same ∙ none)
+    ]) c.parsed.ensures.usage

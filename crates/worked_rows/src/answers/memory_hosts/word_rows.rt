@@ -1,5 +1,5 @@
 // What words ask for: the names of the subcommands, comparisons of versions, and faults of usage.
-use super::{check, check_usage, worded};
+use super::{check, check_usage, expect, worded};
 use std::test::Fail;
 
 const COMPARISONS: &[&str] = &[
@@ -33,7 +33,8 @@ pub(crate) const FAULTS: &[&str] = &[
     "dpkg_cli truename --package A /usr/bin/v",
     "dpkg_cli divert /usr/bin/v",
     "dpkg_cli undivert --local --package a /usr/bin/v",
-    "dpkg_cli --help",
+    "dpkg_cli fetch --help",
+    "dpkg_cli list --version",
     "dpkg_cli help fetch",
     "dpkg_cli help install unpack",
 ];
@@ -71,6 +72,116 @@ fn versions_are_compared(rt: HostRuntime) -> Result<(), Fail> {
     check(&rt, &[], &[], COMPARISONS, row)
 }
 
+// As dpkg compares them, an empty version with each kind of operator and the signs of control files.
+const COMPARISONS_LIKE_DPKG: &[(&str, &str)] = &[
+    ("dpkg_cli compare-versions  lt 1", "||0\n"),
+    ("dpkg_cli compare-versions 1 lt ", "||1\n"),
+    ("dpkg_cli compare-versions  eq ", "||0\n"),
+    ("dpkg_cli compare-versions  ne 1", "||0\n"),
+    ("dpkg_cli compare-versions  lt-nl 1", "||1\n"),
+    ("dpkg_cli compare-versions 1 lt-nl ", "||0\n"),
+    ("dpkg_cli compare-versions  le-nl 1", "||1\n"),
+    ("dpkg_cli compare-versions  ge-nl 1", "||0\n"),
+    ("dpkg_cli compare-versions  gt-nl 1", "||0\n"),
+    ("dpkg_cli compare-versions 1 gt-nl ", "||1\n"),
+    ("dpkg_cli compare-versions 1 < 1", "||0\n"),
+    ("dpkg_cli compare-versions 1 > 1", "||0\n"),
+    ("dpkg_cli compare-versions 1 << 1", "||1\n"),
+    ("dpkg_cli compare-versions 1 <= 1", "||0\n"),
+    ("dpkg_cli compare-versions 1 = 1", "||0\n"),
+    ("dpkg_cli compare-versions 1 >= ", "||0\n"),
+    ("dpkg_cli compare-versions 1 >> 1", "||1\n"),
+    (
+        "dpkg_cli compare-versions  lt 1-",
+        "|bad version 1-: EmptyPart\n|2\n",
+    ),
+];
+
+#[test]
+fn versions_are_compared_as_dpkg_does(rt: HostRuntime) -> Result<(), Fail> {
+    for (line, row) in COMPARISONS_LIKE_DPKG {
+        expect(&rt, worded(rt.alloc(), line), row)?;
+    }
+    Ok(())
+}
+
+#[test]
+fn version_is_told(rt: HostRuntime) -> Result<(), Fail> {
+    let row = "coizkerra 0.2.0\n||0\n";
+    expect(&rt, worded(rt.alloc(), "dpkg_cli --version"), row)
+}
+
+// The one thing that is wrong, with its word.
+const FAULTS_BY_WORD: &[(&str, &str)] = &[
+    (
+        "dpkg_cli list --root srv/root",
+        "--root: \"srv/root\" isn't absolute",
+    ),
+    (
+        "dpkg_cli unpack --root rel --force-confold --force-confnew t",
+        "--root: \"rel\" isn't absolute",
+    ),
+    (
+        "dpkg_cli install --force-confnew --force-confold t",
+        "--force-confold and --force-confnew exclude each other",
+    ),
+    (
+        "dpkg_cli truename --package A /usr/bin/v",
+        "--package: \"A\" isn't the name of a package",
+    ),
+    (
+        "dpkg_cli divert --package A /usr/bin/v",
+        "--package: \"A\" isn't the name of a package",
+    ),
+    (
+        "dpkg_cli divert /usr/bin/v",
+        "--package P or --local is wanted",
+    ),
+    (
+        "dpkg_cli undivert --local --package aa /usr/bin/v",
+        "--package and --local exclude each other",
+    ),
+    (
+        "dpkg_cli compare-versions 1 is 1",
+        "OP: \"is\" is none of lt le eq ne ge gt lt-nl le-nl ge-nl gt-nl << <= = >= >>",
+    ),
+    (
+        "dpkg_cli help fetch",
+        "COMMAND: \"fetch\" isn't a subcommand",
+    ),
+    (
+        "dpkg_cli list --root a\n\x1bb",
+        "--root: \"a\\x0a\\x1bb\" isn't absolute",
+    ),
+];
+
+// What stands behind the bar up to the line's end.
+fn first_of(text: &str) -> &str {
+    let behind = text.strip_prefix("|error: ").unwrap_or(text);
+    match behind.split_once('\n') {
+        Some((first, _)) => first,
+        None => behind,
+    }
+}
+
+#[test]
+fn a_fault_of_usage_names_its_word(rt: HostRuntime) -> Result<(), Fail> {
+    for (line, row) in FAULTS_BY_WORD {
+        let answer = worded(rt.alloc(), line)?;
+        assert_eq!(rt; first_of(answer.as_str()), *row);
+    }
+    Ok(())
+}
+
+// What clap says quotes the word, as it is shown in a line.
+#[test]
+fn an_unknown_word_is_shown_in_one_line(rt: HostRuntime) -> Result<(), Fail> {
+    let answer = worded(rt.alloc(), "dpkg_cli fe\ntch\x1b[2J")?;
+    let first = first_of(answer.as_str());
+    assert!(rt; first.contains("fe\\x0atch\\x1b[2J"), "{first}");
+    Ok(())
+}
+
 #[test]
 fn faults_of_usage_are_told(rt: HostRuntime) -> Result<(), Fail> {
     for line in FAULTS {
@@ -84,6 +195,11 @@ const ASKED_FOR_HELP: &[&str] = &[
     "dpkg_cli help",
     "dpkg_cli help install",
     "dpkg_cli help help",
+    "dpkg_cli -h",
+    "dpkg_cli --help",
+    "dpkg_cli --help unpack",
+    "dpkg_cli install --help",
+    "dpkg_cli remove --root rel -h alpha",
 ];
 
 #[test]

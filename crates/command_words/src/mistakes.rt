@@ -1,0 +1,75 @@
+// What is wrong with the words of a subcommand in which clap finds no fault: one thing, with its word.
+use crate::found::{flag_of, is_absolute, is_package, text_of};
+use clap::ArgMatches;
+use shown_lines::shown;
+use std::alloc::{AllocError, Global};
+
+const NO_OPERATOR: &str = "is none of lt le eq ne ge gt lt-nl le-nl ge-nl gt-nl << <= = >= >>";
+
+// A word that can't stand where it does.
+fn wrong_word(
+    alloc: Global,
+    place: &str,
+    word: Option<&str>,
+    why: &str,
+) -> Result<String, AllocError> {
+    match word {
+        Some(word) => {
+            let word = shown(alloc, word)?;
+            let word = word.as_str();
+            format!(in alloc; "error: {place}: \"{word}\" {why}")
+        }
+        None => format!(in alloc; "error: {place} is wanted"),
+    }
+}
+
+fn of_root(alloc: Global, found: &ArgMatches<'_>) -> Result<Option<String>, AllocError> {
+    let root = text_of(found, "root");
+    match root {
+        Some(word) if !is_absolute(word) => {
+            Ok(Some(wrong_word(alloc, "--root", root, "isn't absolute")?))
+        }
+        _ => Ok(None),
+    }
+}
+
+fn of_package(alloc: Global, found: &ArgMatches<'_>) -> Result<String, AllocError> {
+    let name = text_of(found, "package");
+    wrong_word(alloc, "--package", name, "isn't the name of a package")
+}
+
+fn of_owner(alloc: Global, found: &ArgMatches<'_>) -> Result<String, AllocError> {
+    let name = text_of(found, "package");
+    match (name.is_some(), flag_of(found, "local")) {
+        (true, true) => String::from_str(alloc, "error: --package and --local exclude each other"),
+        (true, false) => of_package(alloc, found),
+        (false, _) => String::from_str(alloc, "error: --package P or --local is wanted"),
+    }
+}
+
+/// What is wrong: first with the root, then with what else the subcommand takes.
+pub(crate) fn mistake_text(
+    alloc: Global,
+    name: &str,
+    found: &ArgMatches<'_>,
+) -> Result<String, AllocError> {
+    if let Some(text) = of_root(alloc, found)? {
+        return Ok(text);
+    }
+    match name {
+        "compare-versions" => {
+            let word = text_of(found, "OP");
+            wrong_word(alloc, "OP", word, NO_OPERATOR)
+        }
+        "help" => {
+            let word = text_of(found, "COMMAND");
+            wrong_word(alloc, "COMMAND", word, "isn't a subcommand")
+        }
+        "divert" | "undivert" => of_owner(alloc, found),
+        "truename" => of_package(alloc, found),
+        _ => String::from_str(
+            alloc,
+            "error: --force-confold and --force-confnew exclude each other",
+        ),
+    }
+}
