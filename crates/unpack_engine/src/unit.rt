@@ -23,7 +23,7 @@ use file_works::Work;
 use host_core::{Host, HostFault, Places};
 use package_tree::Package;
 use status_db::NotedDatabase;
-use std::alloc::Global;
+use std::alloc::{AllocError, Global};
 use texts::Texts;
 use unpack_plan::{Plan, plan_of};
 use unpack_rows::OtherPackage;
@@ -178,9 +178,8 @@ fn carry_out<H: Host>(
     }
 }
 
-/// Unpacks a package that was checked, with the rows of other packages. The places that scripts leave alone are left in no
-/// particular order: the caller computes them anew.
-pub fn unpack<H: Host>(
+// Plans, and carries the plan out.
+fn plan_and_carry_out<H: Host>(
     alloc: Global,
     host: &mut H,
     database: &mut NotedDatabase,
@@ -215,4 +214,54 @@ pub fn unpack<H: Host>(
         }
         Err(fault) => Err(fault),
     }
+}
+
+// To make the lists' index costs about as much as to look through all lists once for each of so many paths.
+const FEW_PATHS: usize = 30;
+
+// Makes the lists' index where the tree ships many paths, each of whose owners is asked for.
+fn index_where_many(
+    alloc: Global,
+    lists: &mut FileLists,
+    incoming: &Package,
+) -> Result<(), AllocError>
+    ensures { lists.new ≡ lists.old }
+{
+    if incoming.files.as_slice().len() > FEW_PATHS {
+        lists.index(alloc)?;
+    }
+    Ok(())
+}
+
+/// Unpacks a package that was checked, with the rows of other packages. The places that scripts leave alone are left in no
+/// particular order: the caller computes them anew.
+pub fn unpack<H: Host>(
+    alloc: Global,
+    host: &mut H,
+    database: &mut NotedDatabase,
+    lists: &mut FileLists,
+    places: &mut Places,
+    diversions: &Diversions,
+    incoming: Package,
+    others: Others,
+    told: &mut Vec<Called>,
+) -> Result<Unpacked, HostFault>
+    requires noting { database.old.closed ≡ false }
+    requires listing { lists.old.closed ≡ false }
+    requires order { Needs (H.state host.old) (IsInOrder database.old lists.old.lists) }
+    requires others { AreOthers incoming.name database.old.records others.packages.items }
+    ensures unit { IfOk result (λ u. HasUnpacked (given_beside incoming database.old.records lists.old.lists diversions.now.entries others.packages.items others.yields) places.old (ended_as u.unwinding) database.new lists.new.lists (H.state host.old) (H.state host.new) told.old.items told.new.items) }
+    ensures cause { IfOk result (λ u. HasFailedFor (given_beside incoming database.old.records lists.old.lists diversions.now.entries others.packages.items others.yields) (H.state host.old) (H.state host.new) u.unwinding) }
+    ensures touched { IfOk result (λ u. IsTouched incoming.name database.old.records database.new.records u.touched) }
+    ensures told { HasCalled (given_beside incoming database.old.records lists.old.lists diversions.now.entries others.packages.items others.yields) (H.state host.old) (H.state host.new) told.old.items told.new.items }
+    ensures order { IfOk result (λ u. Needs (H.state host.new) (IsInOrder database.new lists.new.lists)) }
+    ensures noting { OnOk result (database.new.closed ≡ false) }
+    ensures listing { OnOk result (lists.new.closed ≡ false) }
+    ensures any_moment { AtEachMomentOf (IsAmidUnit (given_beside incoming database.old.records lists.old.lists diversions.now.entries others.packages.items others.yields) places.old) (H.state host.old) (H.state host.new) }
+    ensures counts { Counts (H.state host.old) (H.state host.new) result }
+{
+    index_where_many(alloc, lists, &incoming)?;
+    plan_and_carry_out(
+        alloc, host, database, lists, places, diversions, incoming, others, told,
+    )
 }
