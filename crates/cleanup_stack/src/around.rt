@@ -49,7 +49,8 @@ pub trait Around<H: Host> {
         requires row { fits (task self.old) index row.now }
         requires calls { row.now.owner ≢ Files }
         ensures place { OnOk result (at self.new (H.state host.new) (Ready index)) }
-        ensures any_moment { AtEachStop (stops (task self.old)) (H.state host.old) (H.state host.new) }
+        ensures any_moment { AtEachStop (stops (task self.old)) (H.state host.old)
+            (H.state host.new) }
         ensures task { task self.new ≡ task self.old }
         ensures reference { reference self.new ≡ reference self.old }
         ensures silent { Silent (H.state host.old) (H.state host.new) }
@@ -67,7 +68,8 @@ pub trait Around<H: Host> {
         requires row { fits (task self.old) index row.now }
         requires calls { row.now.owner ≢ Files }
         ensures place { OnOk result (at self.new (H.state host.new) (called index succeeded)) }
-        ensures any_moment { AtEachStop (stops (task self.old)) (H.state host.old) (H.state host.new) }
+        ensures any_moment { AtEachStop (stops (task self.old)) (H.state host.old)
+            (H.state host.new) }
         ensures task { task self.new ≡ task self.old }
         ensures reference { reference self.new ≡ reference self.old }
         ensures silent { Silent (H.state host.old) (H.state host.new) }
@@ -83,9 +85,12 @@ pub trait Around<H: Host> {
         requires place { at self.old (H.state host.old) (Forward index) }
         requires row { fits (task self.old) index row.now }
         requires files { row.now.owner ≡ Files }
-        ensures fault { IfOk result (IfHonest (H.state host.new) (file_step_fault (task self.old)) (calls (H.state host.old))) }
+        ensures fault { IfOk result
+            (IfHonest (H.state host.new) (file_step_fault (task self.old))
+            (calls (H.state host.old))) }
         ensures place { IfOk result (λ fault. at self.new (H.state host.new) (worked index fault)) }
-        ensures any_moment { AtEachStop (stops (task self.old)) (H.state host.old) (H.state host.new) }
+        ensures any_moment { AtEachStop (stops (task self.old)) (H.state host.old)
+            (H.state host.new) }
         ensures task { task self.new ≡ task self.old }
         ensures reference { reference self.new ≡ reference self.old }
         ensures silent { Silent (H.state host.old) (H.state host.new) }
@@ -104,8 +109,11 @@ pub trait Around<H: Host> {
         requires place { at self.old (H.state host.old) (Back (index + 1) fall.now failed.now) }
         requires row { fits (task self.old) index row.now }
         requires calls { row.now.owner ≢ Files }
-        ensures place { OnOk result (at self.new (H.state host.new) (Back index fall.now (blamed fails index row.now.owner failed.now))) }
-        ensures any_moment { AtEachStop (stops (task self.old)) (H.state host.old) (H.state host.new) }
+        ensures place { OnOk result
+            (at self.new (H.state host.new)
+            (Back index fall.now (blamed fails index row.now.owner failed.now))) }
+        ensures any_moment { AtEachStop (stops (task self.old)) (H.state host.old)
+            (H.state host.new) }
         ensures task { task self.new ≡ task self.old }
         ensures reference { reference self.new ≡ reference self.old }
         ensures silent { Silent (H.state host.old) (H.state host.new) }
@@ -123,16 +131,21 @@ pub trait Around<H: Host> {
         requires place { at self.old (H.state host.old) (Back (index + 1) fall.now failed.now) }
         requires row { fits (task self.old) index row.now }
         requires files { row.now.owner ≡ Files }
-        ensures place { OnOk result (at self.new (H.state host.new) (Back index fall.now failed.now)) }
-        ensures any_moment { AtEachStop (stops (task self.old)) (H.state host.old) (H.state host.new) }
+        ensures place { OnOk result
+            (at self.new (H.state host.new) (Back index fall.now failed.now)) }
+        ensures any_moment { AtEachStop (stops (task self.old)) (H.state host.old)
+            (H.state host.new) }
         ensures task { task self.new ≡ task self.old }
         ensures reference { reference self.new ≡ reference self.old }
         ensures silent { Silent (H.state host.old) (H.state host.new) }
         ensures counts { Counts (H.state host.old) (H.state host.new) result };
 
     /// Script calls lead to no other place.
-    ghost stays: { (a : Self) (s t : State) (p : Place) (ts : List Ran) → at a s p → Calls (is_kept (kept a)) ts s t → at a t p };
+    ghost stays: { (a : Self) (s t : State) (p : Place) (ts : List Ran) → at a s p
+        → Calls (is_kept (kept a)) ts s t → at a t p };
 
     /// At a place, while scripts run and where one is cut off, it holds.
-    ghost holds: { (a : Self) (s : State) (p : Place) (more : List Event) (v : World) → at a s p → IsTrue s.honest → OnlyScripts (is_kept (kept a)) s.world more v → stops (task a) (s.events ++ more) v };
+    ghost holds: { (a : Self) (s : State) (p : Place) (more : List Event) (v : World) → at a s p
+        → IsTrue s.honest → OnlyScripts (is_kept (kept a)) s.world more v
+        → stops (task a) (s.events ++ more) v };
 }

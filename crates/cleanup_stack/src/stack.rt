@@ -47,11 +47,16 @@ impl Stack {
         requires row { A.fits (A.task around.old) (length self.old) row }
         ensures rows { OnOk result (self.new ≡ self.old ++ row ∷ []) }
         ensures ended { OnErr result (self.new ≡ []) }
-        ensures calls { IfOk result (λ fall. HasStepped (A.file_step_fault (A.task around.old)) row fall (H.state host.old) (H.state host.new) told.old.items told.new.items) }
+        ensures calls { IfOk result
+            (λ fall. HasStepped (A.file_step_fault (A.task around.old)) row fall (H.state host.old)
+            (H.state host.new) told.old.items told.new.items) }
         ensures row { IfOk result (λ fall. IfSome fall (λ one. one.row ≡ length self.old)) }
-        ensures told { Begun (MayStep row) (H.state host.old) (H.state host.new) told.old.items told.new.items }
-        ensures place { IfOk result (λ fall. A.at around.new (H.state host.new) (leads (length self.old) fall)) }
-        ensures any_moment { AtEachStop (A.stops (A.task around.old)) (H.state host.old) (H.state host.new) }
+        ensures told { Begun (MayStep row) (H.state host.old) (H.state host.new) told.old.items
+            told.new.items }
+        ensures place { IfOk result
+            (λ fall. A.at around.new (H.state host.new) (leads (length self.old) fall)) }
+        ensures any_moment { AtEachStop (A.stops (A.task around.old)) (H.state host.old)
+            (H.state host.new) }
         ensures task { A.task around.new ≡ A.task around.old }
         ensures reference { A.reference around.new ≡ A.reference around.old }
         ensures counts { Counts (H.state host.old) (H.state host.new) result }
@@ -80,10 +85,16 @@ impl Stack {
         requires place { A.at around.old (H.state host.old) (Back (length self.old) fall.now []) }
         requires rows { Fit (A.fits (A.task around.old)) self.old }
         ensures rows { self.new ≡ [] }
-        ensures calls { IfOk result (λ failed. HasUnwound self.old failed.items (H.state host.old) (H.state host.new) told.old.items told.new.items) }
-        ensures told { Begun (MayUnwind self.old) (H.state host.old) (H.state host.new) told.old.items told.new.items }
-        ensures place { IfOk result (λ failed. A.at around.new (H.state host.new) (Back 0 fall.now failed.items)) }
-        ensures any_moment { AtEachStop (A.stops (A.task around.old)) (H.state host.old) (H.state host.new) }
+        ensures calls { IfOk result
+            (λ failed.
+            HasUnwound self.old failed.items (H.state host.old) (H.state host.new) told.old.items
+            told.new.items) }
+        ensures told { Begun (MayUnwind self.old) (H.state host.old) (H.state host.new)
+            told.old.items told.new.items }
+        ensures place { IfOk result
+            (λ failed. A.at around.new (H.state host.new) (Back 0 fall.now failed.items)) }
+        ensures any_moment { AtEachStop (A.stops (A.task around.old)) (H.state host.old)
+            (H.state host.new) }
         ensures task { A.task around.new ≡ A.task around.old }
         ensures reference { A.reference around.new ≡ A.reference around.old }
         ensures counts { Counts (H.state host.old) (H.state host.new) result }

@@ -37,10 +37,14 @@ fn step_calls<H: Host, A: Around<H>>(
     requires place { A.at around.old (H.state host.old) (Forward index) }
     requires row { A.fits (A.task around.old) index row.now }
     requires calls { row.now.owner ≢ Files }
-    ensures calls { IfOk result (λ ok. Made (λ ts. Tries row.now ts ok) (H.state host.old) (H.state host.new) told.old.items told.new.items) }
-    ensures told { Begun (TriesRow row.now) (H.state host.old) (H.state host.new) told.old.items told.new.items }
+    ensures calls { IfOk result
+        (λ ok. Made (λ ts. Tries row.now ts ok) (H.state host.old) (H.state host.new) told.old.items
+        told.new.items) }
+    ensures told { Begun (TriesRow row.now) (H.state host.old) (H.state host.new) told.old.items
+        told.new.items }
     ensures place { IfOk result (λ ok. A.at around.new (H.state host.new) (called index ok)) }
-    ensures any_moment { AtEachStop (A.stops (A.task around.old)) (H.state host.old) (H.state host.new) }
+    ensures any_moment { AtEachStop (A.stops (A.task around.old)) (H.state host.old)
+        (H.state host.new) }
     ensures task { A.task around.new ≡ A.task around.old }
     ensures reference { A.reference around.new ≡ A.reference around.old }
     ensures counts { Counts (H.state host.old) (H.state host.new) result }
@@ -64,11 +68,15 @@ pub(crate) fn step<H: Host, A: Around<H>>(
 ) -> Result<Option<Fall>, HostFault>
     requires place { A.at around.old (H.state host.old) (Forward index) }
     requires row { A.fits (A.task around.old) index row.now }
-    ensures calls { IfOk result (λ fall. HasStepped (A.file_step_fault (A.task around.old)) row.now fall (H.state host.old) (H.state host.new) told.old.items told.new.items) }
+    ensures calls { IfOk result
+        (λ fall. HasStepped (A.file_step_fault (A.task around.old)) row.now fall (H.state host.old)
+        (H.state host.new) told.old.items told.new.items) }
     ensures row { IfOk result (λ fall. IfSome fall (λ one. one.row ≡ index)) }
-    ensures told { Begun (MayStep row.now) (H.state host.old) (H.state host.new) told.old.items told.new.items }
+    ensures told { Begun (MayStep row.now) (H.state host.old) (H.state host.new) told.old.items
+        told.new.items }
     ensures place { IfOk result (λ fall. A.at around.new (H.state host.new) (leads index fall)) }
-    ensures any_moment { AtEachStop (A.stops (A.task around.old)) (H.state host.old) (H.state host.new) }
+    ensures any_moment { AtEachStop (A.stops (A.task around.old)) (H.state host.old)
+        (H.state host.new) }
     ensures task { A.task around.new ≡ A.task around.old }
     ensures reference { A.reference around.new ≡ A.reference around.old }
     ensures counts { Counts (H.state host.old) (H.state host.new) result }
@@ -101,9 +109,14 @@ fn undo_call<H: Host>(
     told: &mut Vec<Called>,
 ) -> Result<bool, HostFault>
     requires calls { row.now.owner ≢ Files }
-    ensures calls { IfOk result (λ fails. Makes (is_kept keep.now) (λ ts. Undoes row.now failed.now ts fails) (H.state host.old) (H.state host.new) told.old.items told.new.items) }
-    ensures told { Begins (is_kept keep.now) (MayUndo row.now failed.now) (H.state host.old) (H.state host.new) told.old.items told.new.items }
-    ensures any_moment { AtEachMomentOf (OnlyScripts (is_kept keep.now)) (H.state host.old) (H.state host.new) }
+    ensures calls { IfOk result
+        (λ fails.
+        Makes (is_kept keep.now) (λ ts. Undoes row.now failed.now ts fails) (H.state host.old)
+        (H.state host.new) told.old.items told.new.items) }
+    ensures told { Begins (is_kept keep.now) (MayUndo row.now failed.now) (H.state host.old)
+        (H.state host.new) told.old.items told.new.items }
+    ensures any_moment { AtEachMomentOf (OnlyScripts (is_kept keep.now)) (H.state host.old)
+        (H.state host.new) }
     ensures counts { Counts (H.state host.old) (H.state host.new) result }
 {
     if has_failed(failed, &row.owner) {
@@ -128,10 +141,17 @@ fn undo_calls<H: Host, A: Around<H>>(
     requires place { A.at around.old (H.state host.old) (Back (index + 1) fall.now failed.now) }
     requires row { A.fits (A.task around.old) index row.now }
     requires calls { row.now.owner ≢ Files }
-    ensures calls { IfOk result (λ fails. Made (λ ts. Undoes row.now failed.now ts fails) (H.state host.old) (H.state host.new) told.old.items told.new.items) }
-    ensures told { Begun (MayUndo row.now failed.now) (H.state host.old) (H.state host.new) told.old.items told.new.items }
-    ensures place { IfOk result (λ fails. A.at around.new (H.state host.new) (Back index fall.now (blamed fails index row.now.owner failed.now))) }
-    ensures any_moment { AtEachStop (A.stops (A.task around.old)) (H.state host.old) (H.state host.new) }
+    ensures calls { IfOk result
+        (λ fails.
+        Made (λ ts. Undoes row.now failed.now ts fails) (H.state host.old) (H.state host.new)
+        told.old.items told.new.items) }
+    ensures told { Begun (MayUndo row.now failed.now) (H.state host.old) (H.state host.new)
+        told.old.items told.new.items }
+    ensures place { IfOk result
+        (λ fails. A.at around.new (H.state host.new)
+        (Back index fall.now (blamed fails index row.now.owner failed.now))) }
+    ensures any_moment { AtEachStop (A.stops (A.task around.old)) (H.state host.old)
+        (H.state host.new) }
     ensures task { A.task around.new ≡ A.task around.old }
     ensures reference { A.reference around.new ≡ A.reference around.old }
     ensures counts { Counts (H.state host.old) (H.state host.new) result }
@@ -155,12 +175,18 @@ fn undo<H: Host, A: Around<H>>(
     failed: &mut Vec<Failed>,
     told: &mut Vec<Called>,
 ) -> Result<(), HostFault>
-    requires place { A.at around.old (H.state host.old) (Back (index + 1) fall.now failed.old.items) }
+    requires place { A.at around.old (H.state host.old)
+        (Back (index + 1) fall.now failed.old.items) }
     requires row { A.fits (A.task around.old) index row.now }
-    ensures calls { OnOk result (Made (λ ts. UndoesAt index row.now failed.old.items ts failed.new.items) (H.state host.old) (H.state host.new) told.old.items told.new.items) }
-    ensures told { Begun (MayUndo row.now failed.old.items) (H.state host.old) (H.state host.new) told.old.items told.new.items }
-    ensures place { OnOk result (A.at around.new (H.state host.new) (Back index fall.now failed.new.items)) }
-    ensures any_moment { AtEachStop (A.stops (A.task around.old)) (H.state host.old) (H.state host.new) }
+    ensures calls { OnOk result
+        (Made (λ ts. UndoesAt index row.now failed.old.items ts failed.new.items) (H.state host.old)
+        (H.state host.new) told.old.items told.new.items) }
+    ensures told { Begun (MayUndo row.now failed.old.items) (H.state host.old) (H.state host.new)
+        told.old.items told.new.items }
+    ensures place { OnOk result
+        (A.at around.new (H.state host.new) (Back index fall.now failed.new.items)) }
+    ensures any_moment { AtEachStop (A.stops (A.task around.old)) (H.state host.old)
+        (H.state host.new) }
     ensures task { A.task around.new ≡ A.task around.old }
     ensures reference { A.reference around.new ≡ A.reference around.old }
     ensures counts { Counts (H.state host.old) (H.state host.new) result }
@@ -196,10 +222,15 @@ pub(crate) fn unwind<H: Host, A: Around<H>>(
     requires place { A.at around.old (H.state host.old) (Back (length rows.now) fall.now []) }
     requires rows { Fit (A.fits (A.task around.old)) rows.now }
     requires none { failed.old.items ≡ [] }
-    ensures calls { OnOk result (HasUnwound rows.now failed.new.items (H.state host.old) (H.state host.new) told.old.items told.new.items) }
-    ensures told { Begun (MayUnwind rows.now) (H.state host.old) (H.state host.new) told.old.items told.new.items }
-    ensures place { OnOk result (A.at around.new (H.state host.new) (Back 0 fall.now failed.new.items)) }
-    ensures any_moment { AtEachStop (A.stops (A.task around.old)) (H.state host.old) (H.state host.new) }
+    ensures calls { OnOk result
+        (HasUnwound rows.now failed.new.items (H.state host.old) (H.state host.new) told.old.items
+        told.new.items) }
+    ensures told { Begun (MayUnwind rows.now) (H.state host.old) (H.state host.new) told.old.items
+        told.new.items }
+    ensures place { OnOk result
+        (A.at around.new (H.state host.new) (Back 0 fall.now failed.new.items)) }
+    ensures any_moment { AtEachStop (A.stops (A.task around.old)) (H.state host.old)
+        (H.state host.new) }
     ensures task { A.task around.new ≡ A.task around.old }
     ensures reference { A.reference around.new ≡ A.reference around.old }
     ensures counts { Counts (H.state host.old) (H.state host.new) result }

@@ -27,11 +27,17 @@ fn enter<H: Host>(
 ) -> Result<(), HostFault>
     requires may { IsTable (table.old ++ entry.now ∷ []) }
     requires ready { Needs (H.state host.old) IsTableReady }
-    requires can { Needs (H.state host.old) (λ w. IsTrue moves → CanMove entry.now.path entry.now.target w) }
+    requires can { Needs (H.state host.old)
+        (λ w. IsTrue moves → CanMove entry.now.path entry.now.target w) }
     ensures table { OnOk result (table.new ≡ table.old ++ entry.now ∷ []) }
     ensures err { OnErr result (table.new ≡ table.old) }
-    ensures done { Leaves result (λ old new. IsRecorded (table.old ++ entry.now ∷ []) (moved_if moves entry.now.path entry.now.target old) new) (H.state host.old) (H.state host.new) }
-    ensures any_moment { AtEachMoment (IsUnderWay (moved_if moves entry.now.path entry.now.target) (table.old ++ entry.now ∷ [])) (H.state host.old) (H.state host.new) }
+    ensures done { Leaves result
+        (λ old new. IsRecorded (table.old ++ entry.now ∷ [])
+        (moved_if moves entry.now.path entry.now.target old) new)
+        (H.state host.old) (H.state host.new) }
+    ensures any_moment { AtEachMoment
+        (IsUnderWay (moved_if moves entry.now.path entry.now.target) (table.old ++ entry.now ∷ []))
+        (H.state host.old) (H.state host.new) }
     ensures silent { Silent (H.state host.old) (H.state host.new) }
     ensures counts { Counts (H.state host.old) (H.state host.new) result }
 {
@@ -51,13 +57,19 @@ fn add_other<H: Host>(
 ) -> Result<Answer, HostFault>
     requires formed { IsWellFormed entry.now }
     requires ready { Needs (H.state host.old) IsTableReady }
-    ensures answer { Tells result (λ answer w. answer ≡ answer_of (refusals.add_refusal w table.old entry.now rename seen)) (H.state host.old) (H.state host.new) }
+    ensures answer { Tells result
+        (λ answer w. answer ≡ answer_of (refusals.add_refusal w table.old entry.now rename seen))
+        (H.state host.old) (H.state host.new) }
     ensures table { OnDone result (table.new ≡ table.old ++ entry.now ∷ []) }
     ensures refused { OnRefused result (table.new ≡ table.old) }
     ensures err { OnErr result (table.new ≡ table.old) }
     ensures same { OnRefused result (Reads (H.state host.old) (H.state host.new)) }
-    ensures done { LeavesDone result (λ old new. IsRecorded (table.old ++ entry.now ∷ []) (diverted entry.now rename seen old) new) (H.state host.old) (H.state host.new) }
-    ensures any_moment { AtEachMoment (IsAdding table.old entry.now rename seen) (H.state host.old) (H.state host.new) }
+    ensures done { LeavesDone result
+        (λ old new.
+        IsRecorded (table.old ++ entry.now ∷ []) (diverted entry.now rename seen old) new)
+        (H.state host.old) (H.state host.new) }
+    ensures any_moment { AtEachMoment (IsAdding table.old entry.now rename seen) (H.state host.old)
+        (H.state host.new) }
     ensures silent { Silent (H.state host.old) (H.state host.new) }
     ensures counts { Counts (H.state host.old) (H.state host.new) result }
 {
@@ -81,14 +93,19 @@ fn add_entry<H: Host>(
 ) -> Result<Answer, HostFault>
     requires formed { IsWellFormed entry.now }
     requires ready { Needs (H.state host.old) IsTableReady }
-    ensures answer { Tells result (λ answer w. answer ≡ add_answer w table.old entry.now rename seen) (H.state host.old) (H.state host.new) }
+    ensures answer { Tells result
+        (λ answer w. answer ≡ add_answer w table.old entry.now rename seen) (H.state host.old)
+        (H.state host.new) }
     ensures table { OnDone result (table.new ≡ with_entry table.old entry.now) }
     ensures refused { OnRefused result (table.new ≡ table.old) }
     ensures err { OnErr result (table.new ≡ table.old) }
     ensures same { OnRefused result (Reads (H.state host.old) (H.state host.new)) }
-    ensures again { refusals.has_same table.old entry.now ≡ true → Reads (H.state host.old) (H.state host.new) }
-    ensures done { LeavesDone result (HasAdded table.old entry.now rename seen) (H.state host.old) (H.state host.new) }
-    ensures any_moment { AtEachMoment (IsAdding table.old entry.now rename seen) (H.state host.old) (H.state host.new) }
+    ensures again { refusals.has_same table.old entry.now ≡ true
+        → Reads (H.state host.old) (H.state host.new) }
+    ensures done { LeavesDone result (HasAdded table.old entry.now rename seen) (H.state host.old)
+        (H.state host.new) }
+    ensures any_moment { AtEachMoment (IsAdding table.old entry.now rename seen) (H.state host.old)
+        (H.state host.new) }
     ensures silent { Silent (H.state host.old) (H.state host.new) }
     ensures counts { Counts (H.state host.old) (H.state host.new) result }
 {
@@ -119,14 +136,23 @@ pub(crate) fn add_diversion<H: Host>(
 ) -> Result<Answer, HostFault>
     requires owner { is_owner owner.now ≡ true }
     requires ready { Needs (H.state host.old) IsTableReady }
-    ensures answer { Tells result (λ answer w. answer ≡ add_answer w table.old (diversion_of path.now target.now owner.now) rename seen) (H.state host.old) (H.state host.new) }
-    ensures table { OnDone result (table.new ≡ with_entry table.old (diversion_of path.now target.now owner.now)) }
+    ensures answer { Tells result
+        (λ answer w.
+        answer ≡ add_answer w table.old (diversion_of path.now target.now owner.now) rename seen)
+        (H.state host.old) (H.state host.new) }
+    ensures table { OnDone result
+        (table.new ≡ with_entry table.old (diversion_of path.now target.now owner.now)) }
     ensures refused { OnRefused result (table.new ≡ table.old) }
     ensures err { OnErr result (table.new ≡ table.old) }
     ensures same { OnRefused result (Reads (H.state host.old) (H.state host.new)) }
-    ensures again { refusals.has_same table.old (diversion_of path.now target.now owner.now) ≡ true → Reads (H.state host.old) (H.state host.new) }
-    ensures done { LeavesDone result (HasAdded table.old (diversion_of path.now target.now owner.now) rename seen) (H.state host.old) (H.state host.new) }
-    ensures any_moment { AtEachMoment (IsAdding table.old (diversion_of path.now target.now owner.now) rename seen) (H.state host.old) (H.state host.new) }
+    ensures again { refusals.has_same table.old (diversion_of path.now target.now owner.now) ≡ true
+        → Reads (H.state host.old) (H.state host.new) }
+    ensures done { LeavesDone result
+        (HasAdded table.old (diversion_of path.now target.now owner.now) rename seen)
+        (H.state host.old) (H.state host.new) }
+    ensures any_moment { AtEachMoment
+        (IsAdding table.old (diversion_of path.now target.now owner.now) rename seen)
+        (H.state host.old) (H.state host.new) }
     ensures silent { Silent (H.state host.old) (H.state host.new) }
     ensures counts { Counts (H.state host.old) (H.state host.new) result }
 {
@@ -153,8 +179,13 @@ fn strike<H: Host>(
     requires can { Needs (H.state host.old) (λ w. IsTrue moves → CanMove target.now path.now w) }
     ensures table { OnOk result (table.new ≡ without path.now table.old) }
     ensures err { OnErr result (table.new ≡ table.old) }
-    ensures done { Leaves result (λ old new. IsRecorded (without path.now table.old) (moved_if moves target.now path.now old) new) (H.state host.old) (H.state host.new) }
-    ensures any_moment { AtEachMoment (IsUnderWay (moved_if moves target.now path.now) (without path.now table.old)) (H.state host.old) (H.state host.new) }
+    ensures done { Leaves result
+        (λ old new.
+        IsRecorded (without path.now table.old) (moved_if moves target.now path.now old) new)
+        (H.state host.old) (H.state host.new) }
+    ensures any_moment { AtEachMoment
+        (IsUnderWay (moved_if moves target.now path.now) (without path.now table.old))
+        (H.state host.old) (H.state host.new) }
     ensures silent { Silent (H.state host.old) (H.state host.new) }
     ensures counts { Counts (H.state host.old) (H.state host.new) result }
 {
@@ -173,13 +204,24 @@ fn take_away<H: Host>(
     rename: bool,
 ) -> Result<Answer, HostFault>
     requires ready { Needs (H.state host.old) IsTableReady }
-    ensures answer { Tells result (λ answer w. answer ≡ answer_of (first_holding (move_conditions (sights.moves_node rename false (sight_of w target.now path.now)) (sight_of w target.now path.now)))) (H.state host.old) (H.state host.new) }
+    ensures answer { Tells result
+        (λ answer w. answer
+        ≡ answer_of
+        (first_holding
+        (move_conditions (sights.moves_node rename false (sight_of w target.now path.now))
+        (sight_of w target.now path.now))))
+        (H.state host.old) (H.state host.new) }
     ensures table { OnDone result (table.new ≡ without path.now table.old) }
     ensures refused { OnRefused result (table.new ≡ table.old) }
     ensures err { OnErr result (table.new ≡ table.old) }
     ensures same { OnRefused result (Reads (H.state host.old) (H.state host.new)) }
-    ensures done { LeavesDone result (λ old new. IsRecorded (without path.now table.old) (restored path.now target.now rename old) new) (H.state host.old) (H.state host.new) }
-    ensures any_moment { AtEachMoment (IsUnderWay (restored path.now target.now rename) (without path.now table.old)) (H.state host.old) (H.state host.new) }
+    ensures done { LeavesDone result
+        (λ old new.
+        IsRecorded (without path.now table.old) (restored path.now target.now rename old) new)
+        (H.state host.old) (H.state host.new) }
+    ensures any_moment { AtEachMoment
+        (IsUnderWay (restored path.now target.now rename) (without path.now table.old))
+        (H.state host.old) (H.state host.new) }
     ensures silent { Silent (H.state host.old) (H.state host.new) }
     ensures counts { Counts (H.state host.old) (H.state host.new) result }
 {
@@ -203,13 +245,17 @@ pub(crate) fn remove_diversion<H: Host>(
     rename: bool,
 ) -> Result<Answer, HostFault>
     requires ready { Needs (H.state host.old) IsTableReady }
-    ensures answer { Tells result (λ answer w. answer ≡ remove_answer w table.old path.now owner.now rename) (H.state host.old) (H.state host.new) }
+    ensures answer { Tells result
+        (λ answer w. answer ≡ remove_answer w table.old path.now owner.now rename)
+        (H.state host.old) (H.state host.new) }
     ensures table { OnDone result (table.new ≡ without path.now table.old) }
     ensures refused { OnRefused result (table.new ≡ table.old) }
     ensures err { OnErr result (table.new ≡ table.old) }
     ensures same { OnRefused result (Reads (H.state host.old) (H.state host.new)) }
-    ensures done { LeavesDone result (HasRemoved table.old path.now rename) (H.state host.old) (H.state host.new) }
-    ensures any_moment { AtEachMoment (IsRemoving table.old path.now rename) (H.state host.old) (H.state host.new) }
+    ensures done { LeavesDone result (HasRemoved table.old path.now rename) (H.state host.old)
+        (H.state host.new) }
+    ensures any_moment { AtEachMoment (IsRemoving table.old path.now rename) (H.state host.old)
+        (H.state host.new) }
     ensures silent { Silent (H.state host.old) (H.state host.new) }
     ensures counts { Counts (H.state host.old) (H.state host.new) result }
 {

@@ -108,7 +108,11 @@ pub(crate) fn own_target(
     path: &ShipPath,
     owner: &Owner,
 ) -> Result<Result<ShipPath, Refusal>, AllocError>
-    ensures { IfOk result (λ found. MatchResult found (λ target. (first_holding (owner_conditions table.now path.now owner.now) ≡ None) × (target ≡ truename table.now path.now)) (λ refusal. first_holding (owner_conditions table.now path.now owner.now) ≡ Some refusal)) }
+    ensures { IfOk result
+        (λ found. MatchResult found
+        (λ target. (first_holding (owner_conditions table.now path.now owner.now) ≡ None)
+        × (target ≡ truename table.now path.now))
+        (λ refusal. first_holding (owner_conditions table.now path.now owner.now) ≡ Some refusal)) }
 {
     match table.get(path.as_str()) {
         Some(entry) => {

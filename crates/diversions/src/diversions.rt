@@ -82,9 +82,12 @@ fn read_node(
 }
 
 fn read_table<H: Host>(alloc: Global, host: &mut H) -> Result<Table, AdministrationFault>
-    ensures entries { Tells result (λ table w. HasDiversions w table) (H.state host.old) (H.state host.new) }
-    ensures damage { IsTrue (H.state host.new).honest → IfErr result (IsDiversionsDamage (H.state host.old).world) }
-    ensures loose { Tells result (λ table w. NoDirectory (w diversions_path)) (H.state host.old) (H.state host.new) }
+    ensures entries { Tells result (λ table w. HasDiversions w table) (H.state host.old)
+        (H.state host.new) }
+    ensures damage { IsTrue (H.state host.new).honest
+        → IfErr result (IsDiversionsDamage (H.state host.old).world) }
+    ensures loose { Tells result (λ table w. NoDirectory (w diversions_path)) (H.state host.old)
+        (H.state host.new) }
     ensures reads { Reads (H.state host.old) (H.state host.new) }
     ensures silent { Silent (H.state host.old) (H.state host.new) }
     ensures counts { CountsAdministration (H.state host.old) (H.state host.new) result }
@@ -97,10 +100,13 @@ fn read_table<H: Host>(alloc: Global, host: &mut H) -> Result<Table, Administrat
 impl Diversions {
     /// Reads the file; a missing one has no entries.
     pub fn open<H: Host>(alloc: Global, host: &mut H) -> Result<Diversions, AdministrationFault>
-        ensures entries { Tells result (λ d w. HasDiversions w d.entries) (H.state host.old) (H.state host.new) }
+        ensures entries { Tells result (λ d w. HasDiversions w d.entries) (H.state host.old)
+            (H.state host.new) }
         ensures opened { IfOk result (λ d. d.closed ≡ false) }
-        ensures damage { IsTrue (H.state host.new).honest → IfErr result (IsDiversionsDamage (H.state host.old).world) }
-        ensures loose { Tells result (λ d w. NoDirectory (w diversions_path)) (H.state host.old) (H.state host.new) }
+        ensures damage { IsTrue (H.state host.new).honest
+            → IfErr result (IsDiversionsDamage (H.state host.old).world) }
+        ensures loose { Tells result (λ d w. NoDirectory (w diversions_path)) (H.state host.old)
+            (H.state host.new) }
         ensures reads { Reads (H.state host.old) (H.state host.new) }
         ensures silent { Silent (H.state host.old) (H.state host.new) }
         ensures counts { CountsAdministration (H.state host.old) (H.state host.new) result }
@@ -189,16 +195,28 @@ impl Diversions {
     ) -> Result<Answer, DiversionFault>
         requires owner { is_owner owner.now ≡ true }
         requires ready { Needs (H.state host.old) IsTableReady }
-        ensures answer { Tells result (λ answer w. answer ≡ add_answer w self.old.entries (diversion_of path.now target.now owner.now) rename seen) (H.state host.old) (H.state host.new) }
-        ensures table { OnDone result (self.new ≡ record self.old { entries = with_entry self.old.entries (diversion_of path.now target.now owner.now) }) }
+        ensures answer { Tells result
+            (λ answer w. answer
+            ≡ add_answer w self.old.entries (diversion_of path.now target.now owner.now) rename
+            seen)
+            (H.state host.old) (H.state host.new) }
+        ensures table { OnDone result
+            (self.new
+            ≡ record self.old
+            { entries = with_entry self.old.entries (diversion_of path.now target.now owner.now) }) }
         ensures refused { OnRefused result (self.new ≡ self.old) }
         ensures err { OnErr result (self.new ≡ record self.old { closed = true }) }
         ensures closed { IsErrOf result Closed ↔ (self.old.closed ≡ true) }
         ensures shut { self.old.closed ≡ true → H.state host.new ≡ H.state host.old }
         ensures same { OnRefused result (Reads (H.state host.old) (H.state host.new)) }
-        ensures again { has_same self.old.entries (diversion_of path.now target.now owner.now) ≡ true → Reads (H.state host.old) (H.state host.new) }
-        ensures done { LeavesDone result (HasAdded self.old.entries (diversion_of path.now target.now owner.now) rename seen) (H.state host.old) (H.state host.new) }
-        ensures any_moment { AtEachMoment (IsAdding self.old.entries (diversion_of path.now target.now owner.now) rename seen) (H.state host.old) (H.state host.new) }
+        ensures again { has_same self.old.entries (diversion_of path.now target.now owner.now)
+            ≡ true → Reads (H.state host.old) (H.state host.new) }
+        ensures done { LeavesDone result
+            (HasAdded self.old.entries (diversion_of path.now target.now owner.now) rename seen)
+            (H.state host.old) (H.state host.new) }
+        ensures any_moment { AtEachMoment
+            (IsAdding self.old.entries (diversion_of path.now target.now owner.now) rename seen)
+            (H.state host.old) (H.state host.new) }
         ensures silent { Silent (H.state host.old) (H.state host.new) }
         ensures counts { CountsDiversion (H.state host.old) (H.state host.new) result }
     {
@@ -234,15 +252,20 @@ impl Diversions {
         rename: bool,
     ) -> Result<Answer, DiversionFault>
         requires ready { Needs (H.state host.old) IsTableReady }
-        ensures answer { Tells result (λ answer w. answer ≡ remove_answer w self.old.entries path.now owner.now rename) (H.state host.old) (H.state host.new) }
-        ensures table { OnDone result (self.new ≡ record self.old { entries = without path.now self.old.entries }) }
+        ensures answer { Tells result
+            (λ answer w. answer ≡ remove_answer w self.old.entries path.now owner.now rename)
+            (H.state host.old) (H.state host.new) }
+        ensures table { OnDone result
+            (self.new ≡ record self.old { entries = without path.now self.old.entries }) }
         ensures refused { OnRefused result (self.new ≡ self.old) }
         ensures err { OnErr result (self.new ≡ record self.old { closed = true }) }
         ensures closed { IsErrOf result Closed ↔ (self.old.closed ≡ true) }
         ensures shut { self.old.closed ≡ true → H.state host.new ≡ H.state host.old }
         ensures same { OnRefused result (Reads (H.state host.old) (H.state host.new)) }
-        ensures done { LeavesDone result (HasRemoved self.old.entries path.now rename) (H.state host.old) (H.state host.new) }
-        ensures any_moment { AtEachMoment (IsRemoving self.old.entries path.now rename) (H.state host.old) (H.state host.new) }
+        ensures done { LeavesDone result (HasRemoved self.old.entries path.now rename)
+            (H.state host.old) (H.state host.new) }
+        ensures any_moment { AtEachMoment (IsRemoving self.old.entries path.now rename)
+            (H.state host.old) (H.state host.new) }
         ensures silent { Silent (H.state host.old) (H.state host.new) }
         ensures counts { CountsDiversion (H.state host.old) (H.state host.new) result }
     {

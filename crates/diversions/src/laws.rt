@@ -16,18 +16,32 @@ ghost use Rattle.diversions.specs.declared.refusal.Seen.{Seen};
 /// At whatever moment a change was stopped, the same change asked for again finishes it: the file has the new table and all is
 /// done, or it has the old one, and then the change isn't refused. A diversion that was added is there when it is added again.
 pub fn a_stopped_change_is_finished()
-    ensures add { (entries : List Diversion) (d : Diversion) (rename : Bool) (seen : Seen) (old now : World) → IsWellFormed d → add_refusal old entries d rename seen ≡ None → IsAdding entries d rename seen old now → IsFinishedAgain (entries ++ d ∷ []) (λ w. add_refusal w entries d rename seen) (diverted d rename seen) old now }
-    ensures there { (entries : List Diversion) (d : Diversion) (rename : Bool) (seen : Seen) (old : World) → add_refusal old entries d rename seen ≡ None → has_same (entries ++ d ∷ []) d ≡ true }
-    ensures remove { (entries : List Diversion) (path : Path) (owner : Owner) (rename : Bool) (old now : World) → IsTable entries → is_ship_text path ≡ true → remove_refusal old entries path owner rename ≡ None → IsRemoving entries path rename old now → IsFinishedAgain (without path entries) (λ w. remove_refusal w entries path owner rename) (restored path (truename entries path) rename) old now }
+    ensures add { (entries : List Diversion) (d : Diversion) (rename : Bool) (seen : Seen)
+        (old now : World) → IsWellFormed d → add_refusal old entries d rename seen ≡ None
+        → IsAdding entries d rename seen old now
+        → IsFinishedAgain (entries ++ d ∷ []) (λ w. add_refusal w entries d rename seen)
+        (diverted d rename seen) old now }
+    ensures there { (entries : List Diversion) (d : Diversion) (rename : Bool) (seen : Seen)
+        (old : World) → add_refusal old entries d rename seen ≡ None
+        → has_same (entries ++ d ∷ []) d ≡ true }
+    ensures remove { (entries : List Diversion) (path : Path) (owner : Owner) (rename : Bool)
+        (old now : World) → IsTable entries → is_ship_text path ≡ true
+        → remove_refusal old entries path owner rename ≡ None
+        → IsRemoving entries path rename old now
+        → IsFinishedAgain (without path entries) (λ w. remove_refusal w entries path owner rename)
+        (restored path (truename entries path) rename) old now }
 {}
 
 /// A node that is moved stands whole at one of the two names.
 pub fn a_node_is_moved_whole()
-    ensures { (moves : Bool) (from to : Path) (w : World) → from ≢ to → IsMovedWhole from to w (moved_if moves from to w) }
+    ensures { (moves : Bool) (from to : Path) (w : World) → from ≢ to
+        → IsMovedWhole from to w (moved_if moves from to w) }
 {}
 
 /// A table that is written is read back as itself, and a file has one table.
 pub fn a_table_is_read_as_written()
-    ensures written { (entries : List Diversion) → IsTable entries → ReadsAs (table_text entries) entries }
-    ensures once { (w : World) (entries others : List Diversion) → HasDiversions w entries → HasDiversions w others → entries ≡ others }
+    ensures written { (entries : List Diversion) → IsTable entries
+        → ReadsAs (table_text entries) entries }
+    ensures once { (w : World) (entries others : List Diversion) → HasDiversions w entries
+        → HasDiversions w others → entries ≡ others }
 {}

@@ -59,9 +59,12 @@ fn first_line(text: &[u8]) -> Option<(&[u8], &[u8])>
 }
 
 fn cut_entry(text: &[u8]) -> Option<EntryLines<'_>>
-    ensures some { IfSome result (λ e. lines_in text.now ≡ e.path.now ∷ e.target.now ∷ e.owner.now ∷ lines_in e.after.now) }
+    ensures some { IfSome result
+        (λ e. lines_in text.now ≡ e.path.now ∷ e.target.now ∷ e.owner.now ∷ lines_in e.after.now) }
     ensures less { IfSome result (λ e. length e.after.now + 3 ≤ length text.now) }
-    ensures none { IfNone result ((path target owner : List ℕ) (rest : List (List ℕ)) → lines_in text.now ≢ path ∷ target ∷ owner ∷ rest) }
+    ensures none { IfNone result
+        ((path target owner : List ℕ) (rest : List (List ℕ))
+        → lines_in text.now ≢ path ∷ target ∷ owner ∷ rest) }
 {
     let (path, behind) = first_line(text)?;
     let (target, behind) = first_line(behind)?;
@@ -75,7 +78,8 @@ fn cut_entry(text: &[u8]) -> Option<EntryLines<'_>>
 }
 
 fn ship_path(alloc: Global, line: &[u8]) -> Result<Option<ShipPath>, AllocError>
-    ensures { IfOk result (λ o. MatchOption o (IsShipLine line.now → ⊥) (λ p. IsShipLine line.now × (p ≡ line.now))) }
+    ensures { IfOk result
+        (λ o. MatchOption o (IsShipLine line.now → ⊥) (λ p. IsShipLine line.now × (p ≡ line.now))) }
 {
     let Ok(text) = str::from_utf8(line) else {
         return Ok(None);
@@ -84,7 +88,10 @@ fn ship_path(alloc: Global, line: &[u8]) -> Result<Option<ShipPath>, AllocError>
 }
 
 fn owner_of(alloc: Global, line: &[u8]) -> Result<Option<Owner>, AllocError>
-    ensures { IfOk result (λ o. MatchOption o ((owner : AnOwner) → is_owner owner ≡ true → owner_line owner ≢ line.now) (λ owner. (is_owner owner ≡ true) × (owner_line owner ≡ line.now))) }
+    ensures { IfOk result
+        (λ o.
+        MatchOption o ((owner : AnOwner) → is_owner owner ≡ true → owner_line owner ≢ line.now)
+        (λ owner. (is_owner owner ≡ true) × (owner_line owner ≡ line.now))) }
 {
     if line == b":".as_slice() {
         return Ok(Some(Owner::Local));
@@ -122,7 +129,8 @@ fn entry_of(alloc: Global, lines: &EntryLines<'_>) -> Result<Option<Diversion>, 
 // Whether an entry may stand in the table after those that do.
 fn may_follow(table: &Table, entry: &Diversion) -> bool
     requires { IsEntry entry.now }
-    ensures { MatchBool result (IsTable (table.now ++ entry.now ∷ [])) (IsTable (table.now ++ entry.now ∷ []) → ⊥) }
+    ensures { MatchBool result (IsTable (table.now ++ entry.now ∷ []))
+        (IsTable (table.now ++ entry.now ∷ []) → ⊥) }
 {
     table.law();
     table.is_free(entry.path.as_str()) && table.is_free(entry.target.as_str())
@@ -130,7 +138,10 @@ fn may_follow(table: &Table, entry: &Diversion) -> bool
 
 // Takes the entry of three lines, if the table may have it.
 fn take_entry(alloc: Global, lines: &EntryLines<'_>, table: &mut Table) -> Result<bool, AllocError>
-    ensures { IfOk result (λ taken. IsNext lines.now.path.now lines.now.target.now lines.now.owner.now table.old table.new taken) }
+    ensures { IfOk result
+        (λ taken.
+        IsNext lines.now.path.now lines.now.target.now lines.now.owner.now table.old table.new
+        taken) }
 {
     let Some(entry) = entry_of(alloc, lines)? else {
         return Ok(false);

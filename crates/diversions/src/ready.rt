@@ -12,7 +12,8 @@ use std::alloc::Global;
 // Whether a directory stands at a path.
 fn is_directory_at<H: Host>(alloc: Global, host: &mut H, path: &str) -> Result<bool, HostFault>
     requires { is_path path.now ≡ true }
-    ensures found { Tells result (λ is w. is ≡ is_directory (w path.now)) (H.state host.old) (H.state host.new) }
+    ensures found { Tells result (λ is w. is ≡ is_directory (w path.now)) (H.state host.old)
+        (H.state host.new) }
     ensures reads { Reads (H.state host.old) (H.state host.new) }
     ensures silent { Silent (H.state host.old) (H.state host.new) }
     ensures counts { Counts (H.state host.old) (H.state host.new) result }
@@ -36,7 +37,8 @@ fn is_clear(home: bool, file: bool, spare: bool) -> bool
 /// Whether the file can be written: its directory is there, and none stands in its place or at its temporary name.
 #[tactic(auto, using(host_core::specs::Moments::reads_then))]
 pub fn can_write_table<H: Host>(alloc: Global, host: &mut H) -> Result<bool, HostFault>
-    ensures ready { Tells result (λ ready w. IsTrue ready → IsTableReady w) (H.state host.old) (H.state host.new) }
+    ensures ready { Tells result (λ ready w. IsTrue ready → IsTableReady w) (H.state host.old)
+        (H.state host.new) }
     ensures reads { Reads (H.state host.old) (H.state host.new) }
     ensures silent { Silent (H.state host.old) (H.state host.new) }
     ensures counts { Counts (H.state host.old) (H.state host.new) result }

@@ -35,7 +35,8 @@ fn directory_of(alloc: Global, path: &ShipPath) -> Result<RootPath, AllocError>
 }
 
 fn kind_at<H: Host>(host: &mut H, path: &ShipPath) -> Result<Option<Kind>, HostFault>
-    ensures found { Tells result (λ kind w. kind ≡ kind_of (w path.now)) (H.state host.old) (H.state host.new) }
+    ensures found { Tells result (λ kind w. kind ≡ kind_of (w path.now)) (H.state host.old)
+        (H.state host.new) }
     ensures reads { Reads (H.state host.old) (H.state host.new) }
     ensures silent { Silent (H.state host.old) (H.state host.new) }
     ensures counts { Counts (H.state host.old) (H.state host.new) result }
@@ -49,7 +50,8 @@ fn kind_above<H: Host>(
     host: &mut H,
     path: &ShipPath,
 ) -> Result<Option<Kind>, HostFault>
-    ensures found { Tells result (λ kind w. kind ≡ kind_of (w (front_of path.now))) (H.state host.old) (H.state host.new) }
+    ensures found { Tells result (λ kind w. kind ≡ kind_of (w (front_of path.now)))
+        (H.state host.old) (H.state host.new) }
     ensures reads { Reads (H.state host.old) (H.state host.new) }
     ensures silent { Silent (H.state host.old) (H.state host.new) }
     ensures counts { Counts (H.state host.old) (H.state host.new) result }
@@ -66,7 +68,8 @@ pub(crate) fn look_around<H: Host>(
     from: &ShipPath,
     to: &ShipPath,
 ) -> Result<Sight, HostFault>
-    ensures found { Tells result (λ sight w. sight ≡ sight_of w from.now to.now) (H.state host.old) (H.state host.new) }
+    ensures found { Tells result (λ sight w. sight ≡ sight_of w from.now to.now) (H.state host.old)
+        (H.state host.new) }
     ensures reads { Reads (H.state host.old) (H.state host.new) }
     ensures silent { Silent (H.state host.old) (H.state host.new) }
     ensures counts { Counts (H.state host.old) (H.state host.new) result }

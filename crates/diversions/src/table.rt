@@ -43,7 +43,8 @@ fn enter(
     requires target { string_bytes target ≡ entry.target }
     requires table { IsTable (entries_of entries.old.entries ++ entry ∷ []) }
     ensures indexed { IsIndex string_bytes entries.new.entries (contains_text targets.new) }
-    ensures ok { OnOk result (entries_of entries.new.entries ≡ entries_of entries.old.entries ++ entry ∷ []) }
+    ensures ok { OnOk result
+        (entries_of entries.new.entries ≡ entries_of entries.old.entries ++ entry ∷ []) }
     ensures err { OnErr result (entries_of entries.new.entries ≡ entries_of entries.old.entries) }
 {
     targets.reserve(1)?;

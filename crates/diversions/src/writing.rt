@@ -45,7 +45,8 @@ fn write_entry(text: &mut Vec<u8>, entry: &Diversion) -> Result<(), AllocError>
 
 // Writes an entry, unless it is that of a path.
 fn write_other(text: &mut Vec<u8>, entry: &Diversion, path: &str) -> Result<(), AllocError>
-    ensures { OnOk result (text.new.items ≡ text.old.items ++ table_text (without path.now (entry.now ∷ []))) }
+    ensures { OnOk result
+        (text.new.items ≡ text.old.items ++ table_text (without path.now (entry.now ∷ []))) }
 {
     if path == entry.path.as_str() {
         return Ok(());
@@ -91,8 +92,10 @@ fn file_of(text: Vec<u8>) -> Node
 fn save<H: Host>(alloc: Global, host: &mut H, node: &Node) -> Result<(), HostFault>
     requires file { IsFile node.now }
     requires ready { Needs (H.state host.old) IsTableReady }
-    ensures saved { Leaves result (IsReplaced diversions_path node.now) (H.state host.old) (H.state host.new) }
-    ensures any_moment { AtEachMoment (IsReplacing diversions_path node.now) (H.state host.old) (H.state host.new) }
+    ensures saved { Leaves result (IsReplaced diversions_path node.now) (H.state host.old)
+        (H.state host.new) }
+    ensures any_moment { AtEachMoment (IsReplacing diversions_path node.now) (H.state host.old)
+        (H.state host.new) }
     ensures silent { Silent (H.state host.old) (H.state host.new) }
     ensures counts { Counts (H.state host.old) (H.state host.new) result }
 {
@@ -108,8 +111,11 @@ fn move_node<H: Host>(
     moves: bool,
 ) -> Result<(), HostFault>
     requires { Needs (H.state host.old) (λ w. IsTrue moves → CanMove from.now to.now w) }
-    ensures moved { Leaves result (λ old new. new ≡ moved_if moves from.now to.now old) (H.state host.old) (H.state host.new) }
-    ensures any_moment { AtEachMoment (λ old now. (now ≡ old) ⊎ (now ≡ moved_if moves from.now to.now old)) (H.state host.old) (H.state host.new) }
+    ensures moved { Leaves result (λ old new. new ≡ moved_if moves from.now to.now old)
+        (H.state host.old) (H.state host.new) }
+    ensures any_moment { AtEachMoment
+        (λ old now. (now ≡ old) ⊎ (now ≡ moved_if moves from.now to.now old)) (H.state host.old)
+        (H.state host.new) }
     ensures silent { Silent (H.state host.old) (H.state host.new) }
     ensures counts { Counts (H.state host.old) (H.state host.new) result }
 {
@@ -134,8 +140,13 @@ fn carry_out<H: Host>(
     requires file { IsFile node.now }
     requires ready { Needs (H.state host.old) IsTableReady }
     requires can { Needs (H.state host.old) (λ w. IsTrue moves → CanMove from.now to.now w) }
-    ensures done { Leaves result (λ old new. IsReplaced diversions_path node.now (moved_if moves from.now to.now old) new) (H.state host.old) (H.state host.new) }
-    ensures any_moment { AtEachMoment (λ old now. (now ≡ old) ⊎ IsReplacing diversions_path node.now (moved_if moves from.now to.now old) now) (H.state host.old) (H.state host.new) }
+    ensures done { Leaves result
+        (λ old new. IsReplaced diversions_path node.now (moved_if moves from.now to.now old) new)
+        (H.state host.old) (H.state host.new) }
+    ensures any_moment { AtEachMoment
+        (λ old now.
+        (now ≡ old) ⊎ IsReplacing diversions_path node.now (moved_if moves from.now to.now old) now)
+        (H.state host.old) (H.state host.new) }
     ensures silent { Silent (H.state host.old) (H.state host.new) }
     ensures counts { Counts (H.state host.old) (H.state host.new) result }
 {
@@ -155,9 +166,15 @@ pub(crate) fn record_new<H: Host>(
 ) -> Result<(), HostFault>
     requires may { IsTable (table.now ++ entry.now ∷ []) }
     requires ready { Needs (H.state host.old) IsTableReady }
-    requires can { Needs (H.state host.old) (λ w. IsTrue moves → CanMove entry.now.path entry.now.target w) }
-    ensures done { Leaves result (λ old new. IsRecorded (table.now ++ entry.now ∷ []) (moved_if moves entry.now.path entry.now.target old) new) (H.state host.old) (H.state host.new) }
-    ensures any_moment { AtEachMoment (IsUnderWay (moved_if moves entry.now.path entry.now.target) (table.now ++ entry.now ∷ [])) (H.state host.old) (H.state host.new) }
+    requires can { Needs (H.state host.old)
+        (λ w. IsTrue moves → CanMove entry.now.path entry.now.target w) }
+    ensures done { Leaves result
+        (λ old new. IsRecorded (table.now ++ entry.now ∷ [])
+        (moved_if moves entry.now.path entry.now.target old) new)
+        (H.state host.old) (H.state host.new) }
+    ensures any_moment { AtEachMoment
+        (IsUnderWay (moved_if moves entry.now.path entry.now.target) (table.now ++ entry.now ∷ []))
+        (H.state host.old) (H.state host.new) }
     ensures silent { Silent (H.state host.old) (H.state host.new) }
     ensures counts { Counts (H.state host.old) (H.state host.new) result }
 {
@@ -178,8 +195,13 @@ pub(crate) fn record_without<H: Host>(
 ) -> Result<(), HostFault>
     requires ready { Needs (H.state host.old) IsTableReady }
     requires can { Needs (H.state host.old) (λ w. IsTrue moves → CanMove target.now path.now w) }
-    ensures done { Leaves result (λ old new. IsRecorded (without path.now table.now) (moved_if moves target.now path.now old) new) (H.state host.old) (H.state host.new) }
-    ensures any_moment { AtEachMoment (IsUnderWay (moved_if moves target.now path.now) (without path.now table.now)) (H.state host.old) (H.state host.new) }
+    ensures done { Leaves result
+        (λ old new.
+        IsRecorded (without path.now table.now) (moved_if moves target.now path.now old) new)
+        (H.state host.old) (H.state host.new) }
+    ensures any_moment { AtEachMoment
+        (IsUnderWay (moved_if moves target.now path.now) (without path.now table.now))
+        (H.state host.old) (H.state host.new) }
     ensures silent { Silent (H.state host.old) (H.state host.new) }
     ensures counts { Counts (H.state host.old) (H.state host.new) result }
 {

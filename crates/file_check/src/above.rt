@@ -20,14 +20,17 @@ pub(crate) enum Above {
 }
 
 fn cut_last(path: &str) -> Option<(&str, &str)>
-    ensures { MatchOption result ((i : ℕ) → i < length path.now → get_or path.now i 0 ≢ 47) (λ x. (path.now ≡ x.0.now ++ 47 ∷ x.1.now) × ((i : ℕ) → i < length x.1.now → get_or x.1.now i 0 ≢ 47)) }
+    ensures { MatchOption result ((i : ℕ) → i < length path.now → get_or path.now i 0 ≢ 47)
+        (λ x. (path.now ≡ x.0.now ++ 47 ∷ x.1.now)
+        × ((i : ℕ) → i < length x.1.now → get_or x.1.now i 0 ≢ 47)) }
 {
     path.rsplit_once('/')
 }
 
 fn kind_at<H: Host>(alloc: Global, host: &mut H, path: &str) -> Result<Option<Kind>, HostFault>
     requires { is_path path.now ≡ true }
-    ensures found { Tells result (λ kind w. kind ≡ kind_of (w path.now)) (H.state host.old) (H.state host.new) }
+    ensures found { Tells result (λ kind w. kind ≡ kind_of (w path.now)) (H.state host.old)
+        (H.state host.new) }
     ensures reads { Reads (H.state host.old) (H.state host.new) }
     ensures silent { Silent (H.state host.old) (H.state host.new) }
     ensures counts { Counts (H.state host.old) (H.state host.new) result }
@@ -82,7 +85,8 @@ pub(crate) fn look_above<H: Host>(
     place: &str,
 ) -> Result<Above, HostFault>
     requires { is_path place.now ≡ true }
-    ensures above { Tells result (λ above w. IsAbove (contains_text made.now) w place.now above) (H.state host.old) (H.state host.new) }
+    ensures above { Tells result (λ above w. IsAbove (contains_text made.now) w place.now above)
+        (H.state host.old) (H.state host.new) }
     ensures reads { Reads (H.state host.old) (H.state host.new) }
     ensures silent { Silent (H.state host.old) (H.state host.new) }
     ensures counts { Counts (H.state host.old) (H.state host.new) result }

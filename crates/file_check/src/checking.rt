@@ -26,8 +26,15 @@ fn check_one<H: Host>(
     shipped: &Work,
 ) -> Result<Option<StepFault>, HostFault>
     requires seen { Needs (H.state host.old) (λ w. IsSeen w shipped.now) }
-    ensures found { Tells result (λ found w. MatchOption found (IsSound owning.now (contains_text index.now.made) (contains_text index.now.twice) w shipped.now) (IsFaultOf owning.now (contains_text index.now.made) (contains_text index.now.twice) w shipped.now)) (H.state host.old) (H.state host.new) }
-    ensures apart { IfOk result (λ found. IfNone found (contains_text index.now.twice shipped.now.place ≡ false)) }
+    ensures found { Tells result
+        (λ found w. MatchOption found
+        (IsSound owning.now (contains_text index.now.made) (contains_text index.now.twice) w
+        shipped.now)
+        (IsFaultOf owning.now (contains_text index.now.made) (contains_text index.now.twice) w
+        shipped.now))
+        (H.state host.old) (H.state host.new) }
+    ensures apart { IfOk result
+        (λ found. IfNone found (contains_text index.now.twice shipped.now.place ≡ false)) }
     ensures reads { Reads (H.state host.old) (H.state host.new) }
     ensures silent { Silent (H.state host.old) (H.state host.new) }
     ensures counts { Counts (H.state host.old) (H.state host.new) result }
@@ -47,8 +54,15 @@ pub(crate) fn check_each<H: Host>(
     works: &[Work],
 ) -> Result<Option<StepFault>, HostFault>
     requires seen { Needs (H.state host.old) (λ w. Each (IsSeen w) works.now) }
-    ensures found { Tells result (λ found w. MatchOption found (AreSound owning.now (contains_text index.now.made) (contains_text index.now.twice) w works.now) (IsFirstOf owning.now (contains_text index.now.made) (contains_text index.now.twice) w works.now)) (H.state host.old) (H.state host.new) }
-    ensures apart { IfOk result (λ found. IfNone found (AllOutside (contains_text index.now.twice) works.now)) }
+    ensures found { Tells result
+        (λ found w. MatchOption found
+        (AreSound owning.now (contains_text index.now.made) (contains_text index.now.twice) w
+        works.now)
+        (IsFirstOf owning.now (contains_text index.now.made) (contains_text index.now.twice) w
+        works.now))
+        (H.state host.old) (H.state host.new) }
+    ensures apart { IfOk result
+        (λ found. IfNone found (AllOutside (contains_text index.now.twice) works.now)) }
     ensures reads { Reads (H.state host.old) (H.state host.new) }
     ensures silent { Silent (H.state host.old) (H.state host.new) }
     ensures counts { Counts (H.state host.old) (H.state host.new) result }

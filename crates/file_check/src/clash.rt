@@ -69,7 +69,8 @@ pub(crate) fn clash_of(
     shipped: &Work,
     place: Option<Kind>,
 ) -> Result<Option<Text>, AllocError>
-    ensures { IfOk result (λ found. found ≡ clash_by owning.now (contains_text twice.now) shipped.now place) }
+    ensures { IfOk result
+        (λ found. found ≡ clash_by owning.now (contains_text twice.now) shipped.now place) }
 {
     let claiming = claims(&shipped.node, place);
     let other = rival_if(alloc, owning, claiming, &shipped.place)?;

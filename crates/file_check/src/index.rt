@@ -29,7 +29,9 @@ fn makes_directory(node: &Node, had: Option<Kind>) -> bool
 }
 
 fn add(alloc: Global, set: &mut BTreeSet<String>, path: &RootPath) -> Result<(), AllocError>
-    ensures { OnOk result ((q : List ℕ) → contains_text set.new q ≡ (contains_text set.old q || bytes_eq q path.now)) }
+    ensures { OnOk result
+        ((q : List ℕ)
+        → contains_text set.new q ≡ (contains_text set.old q || bytes_eq q path.now)) }
 {
     set.insert(String::from_str(alloc, path.as_str())?)?;
     Ok(())
@@ -41,8 +43,13 @@ fn add_place(
     twice: &mut BTreeSet<String>,
     place: &RootPath,
 ) -> Result<(), AllocError>
-    ensures once { OnOk result ((q : List ℕ) → contains_text once.new q ≡ (contains_text once.old q || bytes_eq q place.now)) }
-    ensures twice { OnOk result ((q : List ℕ) → contains_text twice.new q ≡ (contains_text twice.old q || (contains_text once.old q && bytes_eq q place.now))) }
+    ensures once { OnOk result
+        ((q : List ℕ)
+        → contains_text once.new q ≡ (contains_text once.old q || bytes_eq q place.now)) }
+    ensures twice { OnOk result
+        ((q : List ℕ)
+        → contains_text twice.new q
+        ≡ (contains_text twice.old q || (contains_text once.old q && bytes_eq q place.now))) }
 {
     if once.contains(place.as_str()) {
         return add(alloc, twice, place);
@@ -51,7 +58,11 @@ fn add_place(
 }
 
 fn add_maker(alloc: Global, made: &mut BTreeSet<String>, work: &Work) -> Result<(), AllocError>
-    ensures { OnOk result ((q : List ℕ) → contains_text made.new q ≡ (contains_text made.old q || (bytes_eq q work.now.target && makes_directory work.now.node work.now.had))) }
+    ensures { OnOk result
+        ((q : List ℕ)
+        → contains_text made.new q
+        ≡ (contains_text made.old q
+        || (bytes_eq q work.now.target && makes_directory work.now.node work.now.had))) }
 {
     if !makes_directory(&work.node, work.had) {
         return Ok(());

@@ -43,7 +43,10 @@ pub(crate) fn judge(
     above: Above,
     sight: Sight,
 ) -> Result<Option<StepFault>, AllocError>
-    ensures { IfOk result (λ found. found ≡ fault_by shipped.now.path above (in_way_by shipped.now shipped.now.had sight) (clash_by owning.now (contains_text twice.now) shipped.now sight.place)) }
+    ensures { IfOk result
+        (λ found. found
+        ≡ fault_by shipped.now.path above (in_way_by shipped.now shipped.now.had sight)
+        (clash_by owning.now (contains_text twice.now) shipped.now sight.place)) }
 {
     let clash = clash_of(alloc, owning, twice, shipped, sight.place)?;
     first_fault(&shipped.path, above, is_in_way(shipped, sight), clash)

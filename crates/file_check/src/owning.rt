@@ -25,7 +25,8 @@ impl<'a> Model for Owning<'a> {
 
     ghost Value = { Owning };
 
-    ghost view = { λ o. owning o.diversions.now.entries o.lists.now.lists o.yields.now o.incoming.now };
+    ghost view = { λ o.
+        owning o.diversions.now.entries o.lists.now.lists o.yields.now o.incoming.now };
 }
 
 fn is_one_of(names: &[Text], name: &Text) -> bool

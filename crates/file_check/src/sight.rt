@@ -54,7 +54,8 @@ pub(crate) fn is_in_way(shipped: &Work, sight: Sight) -> bool
 // What stands at the place, which for all but a conffile is the target.
 fn kind_at_place<H: Host>(host: &mut H, shipped: &Work) -> Result<Option<Kind>, HostFault>
     requires seen { Needs (H.state host.old) (λ w. IsSeen w shipped.now) }
-    ensures found { Tells result (λ kind w. kind ≡ kind_of (w shipped.now.place)) (H.state host.old) (H.state host.new) }
+    ensures found { Tells result (λ kind w. kind ≡ kind_of (w shipped.now.place)) (H.state host.old)
+        (H.state host.new) }
     ensures reads { Reads (H.state host.old) (H.state host.new) }
     ensures silent { Silent (H.state host.old) (H.state host.new) }
     ensures counts { Counts (H.state host.old) (H.state host.new) result }
@@ -69,7 +70,8 @@ fn kind_at_place<H: Host>(host: &mut H, shipped: &Work) -> Result<Option<Kind>, 
 #[tactic(auto, using(host_core::specs::Moments::reads_then))]
 pub(crate) fn look_around<H: Host>(host: &mut H, shipped: &Work) -> Result<Sight, HostFault>
     requires seen { Needs (H.state host.old) (λ w. IsSeen w shipped.now) }
-    ensures found { Tells result (λ sight w. sight ≡ sight_of w shipped.now) (H.state host.old) (H.state host.new) }
+    ensures found { Tells result (λ sight w. sight ≡ sight_of w shipped.now) (H.state host.old)
+        (H.state host.new) }
     ensures reads { Reads (H.state host.old) (H.state host.new) }
     ensures silent { Silent (H.state host.old) (H.state host.new) }
     ensures counts { Counts (H.state host.old) (H.state host.new) result }

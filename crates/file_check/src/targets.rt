@@ -10,7 +10,8 @@ use host_core::{Host, HostFault};
 
 fn look_at_target<H: Host>(host: &mut H, work: &mut Work) -> Result<(), HostFault>
     ensures same { unseen work.new ≡ unseen work.old }
-    ensures seen { Leaves result (λ old new. IsSeen old work.new) (H.state host.old) (H.state host.new) }
+    ensures seen { Leaves result (λ old new. IsSeen old work.new) (H.state host.old)
+        (H.state host.new) }
     ensures reads { Reads (H.state host.old) (H.state host.new) }
     ensures silent { Silent (H.state host.old) (H.state host.new) }
     ensures counts { Counts (H.state host.old) (H.state host.new) result }
@@ -22,7 +23,8 @@ fn look_at_target<H: Host>(host: &mut H, work: &mut Work) -> Result<(), HostFaul
 /// Sets what stands at each target.
 pub(crate) fn look_at_targets<H: Host>(host: &mut H, works: &mut [Work]) -> Result<(), HostFault>
     ensures same { IsSameBut works.old works.new }
-    ensures seen { Leaves result (λ old new. Each (IsSeen old) works.new) (H.state host.old) (H.state host.new) }
+    ensures seen { Leaves result (λ old new. Each (IsSeen old) works.new) (H.state host.old)
+        (H.state host.new) }
     ensures reads { Reads (H.state host.old) (H.state host.new) }
     ensures silent { Silent (H.state host.old) (H.state host.new) }
     ensures counts { Counts (H.state host.old) (H.state host.new) result }

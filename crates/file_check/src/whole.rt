@@ -29,7 +29,10 @@ fn check_seen<H: Host>(
     works: &[Work],
 ) -> Result<Option<StepFault>, HostFault>
     requires seen { Needs (H.state host.old) (λ w. Each (IsSeen w) works.now) }
-    ensures found { Tells result (λ found w. MatchOption found (AllSound owning.now works.now w) (IsFirstFault owning.now works.now w)) (H.state host.old) (H.state host.new) }
+    ensures found { Tells result
+        (λ found w.
+        MatchOption found (AllSound owning.now works.now w) (IsFirstFault owning.now works.now w))
+        (H.state host.old) (H.state host.new) }
     ensures distinct { IfOk result (λ found. IfNone found (IsDistinct is_one_place works.now)) }
     ensures reads { Reads (H.state host.old) (H.state host.new) }
     ensures silent { Silent (H.state host.old) (H.state host.new) }
@@ -52,12 +55,23 @@ pub fn check<H: Host>(
     requires named { Each IsNamed works.old }
     requires fitting { Each IsFitting works.old }
     ensures same_works { IsSameBut works.old works.new }
-    ensures seen { Tells result (λ found w. IfNone found (Each (IsSeen w) works.new)) (H.state host.old) (H.state host.new) }
-    ensures free { Tells result (λ found w. IfNone found (Each (IsFreeIn w) works.new)) (H.state host.old) (H.state host.new) }
-    ensures homed { Tells result (λ found w. IfNone found (Each (IsHomed works.new w) works.new)) (H.state host.old) (H.state host.new) }
-    ensures sound { Tells result (λ found w. IfNone found (AllSound (owning diversions.now.entries lists.now.lists yields.now incoming.now) works.new w)) (H.state host.old) (H.state host.new) }
+    ensures seen { Tells result (λ found w. IfNone found (Each (IsSeen w) works.new))
+        (H.state host.old) (H.state host.new) }
+    ensures free { Tells result (λ found w. IfNone found (Each (IsFreeIn w) works.new))
+        (H.state host.old) (H.state host.new) }
+    ensures homed { Tells result (λ found w. IfNone found (Each (IsHomed works.new w) works.new))
+        (H.state host.old) (H.state host.new) }
+    ensures sound { Tells result
+        (λ found w. IfNone found
+        (AllSound (owning diversions.now.entries lists.now.lists yields.now incoming.now) works.new
+        w))
+        (H.state host.old) (H.state host.new) }
     ensures distinct { IfOk result (λ found. IfNone found (IsDistinct is_one_place works.new)) }
-    ensures fault { Tells result (λ found w. IfSome found (IsFirstFault (owning diversions.now.entries lists.now.lists yields.now incoming.now) works.old w)) (H.state host.old) (H.state host.new) }
+    ensures fault { Tells result
+        (λ found w. IfSome found
+        (IsFirstFault (owning diversions.now.entries lists.now.lists yields.now incoming.now)
+        works.old w))
+        (H.state host.old) (H.state host.new) }
     ensures reads { Reads (H.state host.old) (H.state host.new) }
     ensures silent { Silent (H.state host.old) (H.state host.new) }
     ensures counts { Counts (H.state host.old) (H.state host.new) result }

@@ -43,7 +43,9 @@ pub fn shipped_work(
     node: Node,
     is_conffile: bool,
 ) -> Result<Work, AllocError>
-    ensures work { IfOk result (λ work. work ≡ work_of path.now (place diversions.now.entries name.now path.now) node is_conffile) }
+    ensures work { IfOk result
+        (λ work.
+        work ≡ work_of path.now (place diversions.now.entries name.now path.now) node is_conffile) }
     ensures named { IfOk result IsNamed }
 {
     let place = diversions.ship_place(name, path);
@@ -59,7 +61,9 @@ fn shipped_works(
     conffiles: &[ShipPath],
 ) -> Result<Vec<Work>, AllocError>
     requires order { AreIncreasing conffiles.now }
-    ensures works { IfOk result (λ works. works.items ≡ shipped_works diversions.now.entries name.now conffiles.now files.items) }
+    ensures works { IfOk result
+        (λ works.
+        works.items ≡ shipped_works diversions.now.entries name.now conffiles.now files.items) }
     ensures named { IfOk result (λ works. Each IsNamed works.items) }
 {
     let mut works = Vec::with_capacity(alloc, files.len())?;
@@ -80,7 +84,9 @@ pub fn works_of(
 ) -> Result<Vec<Work>, AllocError>
     requires order { AreIncreasing conffiles.now }
     requires conffiles { FitsConffiles conffiles.now files.items }
-    ensures works { IfOk result (λ works. works.items ≡ shipped_works diversions.now.entries name.now conffiles.now files.items) }
+    ensures works { IfOk result
+        (λ works.
+        works.items ≡ shipped_works diversions.now.entries name.now conffiles.now files.items) }
     ensures named { IfOk result (λ works. Each IsNamed works.items) }
     ensures fitting { IfOk result (λ works. Each IsFitting works.items) }
 {

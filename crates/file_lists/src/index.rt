@@ -103,7 +103,8 @@ impl Index {
     /// Enters a list under each of its paths.
     pub(crate) fn enter_all(&mut self, paths: &[RootPath], slot: usize) -> Result<(), AllocError>
         ensures kept { KeepsRows self.old self.new }
-        ensures there { OnOk result ((path : Path) → Contains paths.now path → Contains (row_of self.new path) slot) }
+        ensures there { OnOk result
+            ((path : Path) → Contains paths.now path → Contains (row_of self.new path) slot) }
     {
         for path in paths {
             self.enter(path, slot)?;

@@ -72,7 +72,9 @@ fn list_at(table: &Table, entry: &[u8]) -> Option<usize>
 // Whether what stands at the place of an entry that is no list is faulty, which its kind tells.
 fn is_faulty(table: &Table, entry: &[u8], kind: Option<Kind>) -> bool
     requires { IsListOf (names_of table.now) entry.now → ⊥ }
-    ensures { (node : Option ANode) → kind ≡ kind_of node → MatchBool result (IsFaultyWhole (names_of table.now) entry.now node) (IsSound (names_of table.now) entry.now node) }
+    ensures { (node : Option ANode) → kind ≡ kind_of node
+        → MatchBool result (IsFaultyWhole (names_of table.now) entry.now node)
+        (IsSound (names_of table.now) entry.now node) }
 {
     let Some(kind) = kind else {
         return false;
@@ -112,9 +114,12 @@ fn read_node(alloc: Global, entry: &[u8], node: &Option<Node>) -> Result<Paths, 
 
 // The names in the directory, all of which are text.
 fn entries_in<H: Host>(alloc: Global, host: &mut H) -> Result<BTreeSet<String>, AdministrationFault>
-    ensures entries { Tells result (λ set w. AreEntries w (contains_text set)) (H.state host.old) (H.state host.new) }
-    ensures text { Tells result (λ set w. HasBadName w info_path → ⊥) (H.state host.old) (H.state host.new) }
-    ensures fault { IsTrue (H.state host.new).honest → IfErr result (IsNameFault (H.state host.old).world) }
+    ensures entries { Tells result (λ set w. AreEntries w (contains_text set)) (H.state host.old)
+        (H.state host.new) }
+    ensures text { Tells result (λ set w. HasBadName w info_path → ⊥) (H.state host.old)
+        (H.state host.new) }
+    ensures fault { IsTrue (H.state host.new).honest
+        → IfErr result (IsNameFault (H.state host.old).world) }
     ensures reads { Reads (H.state host.old) (H.state host.new) }
     ensures silent { Silent (H.state host.old) (H.state host.new) }
     ensures counts { CountsAdministration (H.state host.old) (H.state host.new) result }
@@ -132,7 +137,9 @@ fn entries_in<H: Host>(alloc: Global, host: &mut H) -> Result<BTreeSet<String>, 
 
 // The path of an entry, if it makes one.
 fn path_of(alloc: Global, entry: &str) -> Result<Option<RootPath>, AllocError>
-    ensures { IfOk result (λ o. MatchOption o (is_path (entry_path entry.now) ≡ false) (λ p. p ≡ entry_path entry.now)) }
+    ensures { IfOk result
+        (λ o.
+        MatchOption o (is_path (entry_path entry.now) ≡ false) (λ p. p ≡ entry_path entry.now)) }
 {
     RootPath::from_str(alloc, INFO)?.child(&Text::from_str(alloc, entry)?)
 }
@@ -145,11 +152,17 @@ fn read_at<H: Host>(
     file: RootPath,
 ) -> Result<Paths, AdministrationFault>
     requires { file ≡ entry_path entry.now }
-    ensures readable { Tells result (λ paths w. IsReadable (w (entry_path entry.now))) (H.state host.old) (H.state host.new) }
-    ensures apart { Tells result (λ paths w. IsSome (w (entry_path entry.now)) → is_foreign entry.now ≡ false) (H.state host.old) (H.state host.new) }
+    ensures readable { Tells result (λ paths w. IsReadable (w (entry_path entry.now)))
+        (H.state host.old) (H.state host.new) }
+    ensures apart { Tells result
+        (λ paths w. IsSome (w (entry_path entry.now)) → is_foreign entry.now ≡ false)
+        (H.state host.old) (H.state host.new) }
     ensures paths { IfOk result AreListPaths }
-    ensures lists { Tells result (λ paths w. (q : List ℕ) → Contains paths q ↔ Lists (w (entry_path entry.now)) q) (H.state host.old) (H.state host.new) }
-    ensures fault { IsTrue (H.state host.new).honest → IfErr result (IsListFaultAt (H.state host.old).world entry.now) }
+    ensures lists { Tells result
+        (λ paths w. (q : List ℕ) → Contains paths q ↔ Lists (w (entry_path entry.now)) q)
+        (H.state host.old) (H.state host.new) }
+    ensures fault { IsTrue (H.state host.new).honest
+        → IfErr result (IsListFaultAt (H.state host.old).world entry.now) }
     ensures reads { Reads (H.state host.old) (H.state host.new) }
     ensures silent { Silent (H.state host.old) (H.state host.new) }
     ensures counts { CountsAdministration (H.state host.old) (H.state host.new) result }
@@ -177,8 +190,11 @@ fn judge<H: Host>(
 ) -> Result<(), AdministrationFault>
     requires file { file ≡ entry_path entry.now }
     requires other { IsListOf (names_of table.now) entry.now → ⊥ }
-    ensures sound { IsTrue (H.state host.new).honest → OnOk result (IsSound (names_of table.now) entry.now ((H.state host.old).world (entry_path entry.now))) }
-    ensures fault { IsTrue (H.state host.new).honest → IfErr result (IsFaultAt (H.state host.old).world (names_of table.now) entry.now) }
+    ensures sound { IsTrue (H.state host.new).honest
+        → OnOk result
+        (IsSound (names_of table.now) entry.now ((H.state host.old).world (entry_path entry.now))) }
+    ensures fault { IsTrue (H.state host.new).honest
+        → IfErr result (IsFaultAt (H.state host.old).world (names_of table.now) entry.now) }
     ensures reads { Reads (H.state host.old) (H.state host.new) }
     ensures silent { Silent (H.state host.old) (H.state host.new) }
     ensures counts { CountsAdministration (H.state host.old) (H.state host.new) result }
@@ -198,9 +214,14 @@ fn look_at<H: Host>(
     entry: &str,
 ) -> Result<(), AdministrationFault>
     requires { Needs (H.state host.old) (λ w. is_path (entry_path entry.now) ≡ true) }
-    ensures sound { IsTrue (H.state host.new).honest → OnOk result (IsSound (names_of table.old) entry.now ((H.state host.old).world (entry_path entry.now))) }
-    ensures taken { IsTrue (H.state host.new).honest → OnOk result (HasTaken entry.now ((H.state host.old).world (entry_path entry.now)) table.old table.new) }
-    ensures fault { IsTrue (H.state host.new).honest → IfErr result (IsFaultAt (H.state host.old).world (names_of table.old) entry.now) }
+    ensures sound { IsTrue (H.state host.new).honest
+        → OnOk result
+        (IsSound (names_of table.old) entry.now ((H.state host.old).world (entry_path entry.now))) }
+    ensures taken { IsTrue (H.state host.new).honest
+        → OnOk result
+        (HasTaken entry.now ((H.state host.old).world (entry_path entry.now)) table.old table.new) }
+    ensures fault { IsTrue (H.state host.new).honest
+        → IfErr result (IsFaultAt (H.state host.old).world (names_of table.old) entry.now) }
     ensures reads { Reads (H.state host.old) (H.state host.new) }
     ensures silent { Silent (H.state host.old) (H.state host.new) }
     ensures counts { CountsAdministration (H.state host.old) (H.state host.new) result }
@@ -228,9 +249,15 @@ fn look_at_all<H: Host>(
     entries: &mut BTreeSet<String>,
 ) -> Result<(), AdministrationFault>
     requires { Needs (H.state host.old) (λ w. MakeEntryPaths (contains_text entries.old)) }
-    ensures sound { IsTrue (H.state host.new).honest → OnOk result (AreSoundAmong (H.state host.old).world (names_of table.old) (contains_text entries.old)) }
-    ensures taken { IsTrue (H.state host.new).honest → OnOk result (HaveTaken (H.state host.old).world (contains_text entries.old) table.old table.new) }
-    ensures fault { IsTrue (H.state host.new).honest → IfErr result (IsFaultAmong (H.state host.old).world (names_of table.old) (contains_text entries.old)) }
+    ensures sound { IsTrue (H.state host.new).honest
+        → OnOk result
+        (AreSoundAmong (H.state host.old).world (names_of table.old) (contains_text entries.old)) }
+    ensures taken { IsTrue (H.state host.new).honest
+        → OnOk result
+        (HaveTaken (H.state host.old).world (contains_text entries.old) table.old table.new) }
+    ensures fault { IsTrue (H.state host.new).honest
+        → IfErr result
+        (IsFaultAmong (H.state host.old).world (names_of table.old) (contains_text entries.old)) }
     ensures reads { Reads (H.state host.old) (H.state host.new) }
     ensures silent { Silent (H.state host.old) (H.state host.new) }
     ensures counts { CountsAdministration (H.state host.old) (H.state host.new) result }
@@ -247,10 +274,14 @@ pub(crate) fn read_info<H: Host>(
     host: &mut H,
     names: &[Text],
 ) -> Result<Table, AdministrationFault>
-    ensures lists { Tells result (λ table w. HasLists w names.now table) (H.state host.old) (H.state host.new) }
-    ensures text { Tells result (λ table w. HasBadName w info_path → ⊥) (H.state host.old) (H.state host.new) }
-    ensures sound { Tells result (λ table w. AreSound w names.now) (H.state host.old) (H.state host.new) }
-    ensures damage { IsTrue (H.state host.new).honest → IfErr result (IsInfoDamage (H.state host.old).world names.now) }
+    ensures lists { Tells result (λ table w. HasLists w names.now table) (H.state host.old)
+        (H.state host.new) }
+    ensures text { Tells result (λ table w. HasBadName w info_path → ⊥) (H.state host.old)
+        (H.state host.new) }
+    ensures sound { Tells result (λ table w. AreSound w names.now) (H.state host.old)
+        (H.state host.new) }
+    ensures damage { IsTrue (H.state host.new).honest
+        → IfErr result (IsInfoDamage (H.state host.old).world names.now) }
     ensures reads { Reads (H.state host.old) (H.state host.new) }
     ensures silent { Silent (H.state host.old) (H.state host.new) }
     ensures counts { CountsAdministration (H.state host.old) (H.state host.new) result }

@@ -57,11 +57,15 @@ impl FileLists {
         host: &mut H,
         names: &[Text],
     ) -> Result<FileLists, AdministrationFault>
-        ensures lists { Tells result (λ f w. HasLists w names.now f.lists) (H.state host.old) (H.state host.new) }
+        ensures lists { Tells result (λ f w. HasLists w names.now f.lists) (H.state host.old)
+            (H.state host.new) }
         ensures opened { IfOk result (λ f. f.closed ≡ false) }
-        ensures text { Tells result (λ f w. HasBadName w info_path → ⊥) (H.state host.old) (H.state host.new) }
-        ensures sound { Tells result (λ f w. AreSound w names.now) (H.state host.old) (H.state host.new) }
-        ensures damage { IsTrue (H.state host.new).honest → IfErr result (IsInfoDamage (H.state host.old).world names.now) }
+        ensures text { Tells result (λ f w. HasBadName w info_path → ⊥) (H.state host.old)
+            (H.state host.new) }
+        ensures sound { Tells result (λ f w. AreSound w names.now) (H.state host.old)
+            (H.state host.new) }
+        ensures damage { IsTrue (H.state host.new).honest
+            → IfErr result (IsInfoDamage (H.state host.old).world names.now) }
         ensures reads { Reads (H.state host.old) (H.state host.new) }
         ensures silent { Silent (H.state host.old) (H.state host.new) }
         ensures counts { CountsAdministration (H.state host.old) (H.state host.new) result }
@@ -132,12 +136,15 @@ impl FileLists {
         requires named { is_package_name name.now ≡ true }
         requires paths { AreListPaths paths }
         requires ready { Needs (H.state host.old) (IsListReady name.now) }
-        ensures lists { OnOk result (self.new ≡ record self.old { lists = with_list name.now paths self.old.lists }) }
+        ensures lists { OnOk result
+            (self.new ≡ record self.old { lists = with_list name.now paths self.old.lists }) }
         ensures err { OnErr result (self.new ≡ record self.old { closed = true }) }
         ensures closed { IsErrOf result Closed ↔ (self.old.closed ≡ true) }
         ensures shut { self.old.closed ≡ true → H.state host.new ≡ H.state host.old }
-        ensures replaced { Leaves result (IsReplaced (list_path name.now) (list_file paths)) (H.state host.old) (H.state host.new) }
-        ensures any_moment { AtEachMoment (IsReplacing (list_path name.now) (list_file paths)) (H.state host.old) (H.state host.new) }
+        ensures replaced { Leaves result (IsReplaced (list_path name.now) (list_file paths))
+            (H.state host.old) (H.state host.new) }
+        ensures any_moment { AtEachMoment (IsReplacing (list_path name.now) (list_file paths))
+            (H.state host.old) (H.state host.new) }
         ensures silent { Silent (H.state host.old) (H.state host.new) }
         ensures counts { CountsList (H.state host.old) (H.state host.new) result }
     {
@@ -165,12 +172,25 @@ impl FileLists {
     ) -> Result<(), ListFault>
         requires named { is_package_name name.now ≡ true }
         requires ready { Needs (H.state host.old) (IsListReady name.now) }
-        ensures lists { OnOk result (self.new ≡ record self.old { lists = without_places diversions.now.entries places.now name.now self.old.lists }) }
+        ensures lists { OnOk result
+            (self.new
+            ≡ record self.old
+            { lists = without_places diversions.now.entries places.now name.now self.old.lists }) }
         ensures err { OnErr result (self.new ≡ record self.old { closed = true }) }
         ensures closed { IsErrOf result Closed ↔ (self.old.closed ≡ true) }
         ensures shut { self.old.closed ≡ true → H.state host.new ≡ H.state host.old }
-        ensures replaced { Leaves result (IsReplaced (list_path name.now) (list_file (left_paths diversions.now.entries places.now name.now (paths_of self.old.lists name.now)))) (H.state host.old) (H.state host.new) }
-        ensures any_moment { AtEachMoment (IsReplacing (list_path name.now) (list_file (left_paths diversions.now.entries places.now name.now (paths_of self.old.lists name.now)))) (H.state host.old) (H.state host.new) }
+        ensures replaced { Leaves result
+            (IsReplaced (list_path name.now)
+            (list_file
+            (left_paths diversions.now.entries places.now name.now
+            (paths_of self.old.lists name.now))))
+            (H.state host.old) (H.state host.new) }
+        ensures any_moment { AtEachMoment
+            (IsReplacing (list_path name.now)
+            (list_file
+            (left_paths diversions.now.entries places.now name.now
+            (paths_of self.old.lists name.now))))
+            (H.state host.old) (H.state host.new) }
         ensures silent { Silent (H.state host.old) (H.state host.new) }
         ensures counts { CountsList (H.state host.old) (H.state host.new) result }
     {
@@ -204,13 +224,21 @@ impl FileLists {
         from: &[Text],
     ) -> Result<(), ListFault>
         requires named { (name : List ℕ) → Contains from.now name → is_package_name name ≡ true }
-        requires ready { Needs (H.state host.old) (λ w. (name : List ℕ) → Contains from.now name → IsListReady name w) }
-        ensures lists { OnOk result (self.new ≡ record self.old { lists = without_all diversions.now.entries places.now from.now self.old.lists }) }
+        requires ready { Needs (H.state host.old)
+            (λ w. (name : List ℕ) → Contains from.now name → IsListReady name w) }
+        ensures lists { OnOk result
+            (self.new
+            ≡ record self.old
+            { lists = without_all diversions.now.entries places.now from.now self.old.lists }) }
         ensures err { OnErr result (self.new.closed ≡ true) }
         ensures closed { IsErrOf result Closed ↔ (self.old.closed ≡ true) }
         ensures shut { self.old.closed ≡ true → H.state host.new ≡ H.state host.old }
-        ensures taken { Leaves result (HasTakenAll diversions.now.entries places.now from.now self.old.lists) (H.state host.old) (H.state host.new) }
-        ensures any_moment { AtEachMoment (IsTaking diversions.now.entries places.now from.now self.old.lists) (H.state host.old) (H.state host.new) }
+        ensures taken { Leaves result
+            (HasTakenAll diversions.now.entries places.now from.now self.old.lists)
+            (H.state host.old) (H.state host.new) }
+        ensures any_moment { AtEachMoment
+            (IsTaking diversions.now.entries places.now from.now self.old.lists) (H.state host.old)
+            (H.state host.new) }
         ensures silent { Silent (H.state host.old) (H.state host.new) }
         ensures counts { CountsList (H.state host.old) (H.state host.new) result }
     {

@@ -17,7 +17,8 @@ use texts::Text;
 
 /// These names in the order of their bytes.
 pub(crate) fn sorted(alloc: Global, names: &[Text]) -> Result<BTreeSet<String>, AllocError>
-    ensures { IfOk result (λ set. (q : List ℕ) → contains_text set q ≡ list_any (bytes_eq q) names.now) }
+    ensures { IfOk result
+        (λ set. (q : List ℕ) → contains_text set q ≡ list_any (bytes_eq q) names.now) }
 {
     let mut set = BTreeSet::new(alloc);
     for name in names {
@@ -45,7 +46,8 @@ fn are_increasing(paths: &[RootPath]) -> bool
 
 // The texts of these paths in the order of their bytes.
 fn sorted_paths(alloc: Global, paths: Paths) -> Result<BTreeSet<String>, AllocError>
-    ensures { IfOk result (λ set. (q : List ℕ) → contains_text set q ≡ list_any (bytes_eq q) paths) }
+    ensures { IfOk result
+        (λ set. (q : List ℕ) → contains_text set q ≡ list_any (bytes_eq q) paths) }
 {
     let mut set = BTreeSet::new(alloc);
     for path in &paths.items {

@@ -31,7 +31,8 @@ impl Model for Owners {
 
 // Adds the path of a diversion to a place.
 fn take_source(at: &RootPath, entry: &Diversion, sources: &mut Paths) -> Result<(), AllocError>
-    ensures kept { OnOk result ((path : Path) → Contains sources.old path → Contains sources.new path) }
+    ensures kept { OnOk result
+        ((path : Path) → Contains sources.old path → Contains sources.new path) }
     ensures there { OnOk result (entry.now.target ≡ at.now → Contains sources.new entry.now.path) }
 {
     if entry.target.as_str() == at.as_str() {
@@ -73,7 +74,11 @@ fn take_owner(
     owners: &mut Owners,
 ) -> Result<(), AllocError>
     requires { AreSources diversions.now.entries at.now sources.now }
-    ensures { OnOk result (owners.new ≡ owners.old ++ cond (bytes_eq (place diversions.now.entries name.now path.now) at.now) (listed name.now path.now ∷ []) []) }
+    ensures { OnOk result
+        (owners.new
+        ≡ owners.old
+        ++ cond (bytes_eq (place diversions.now.entries name.now path.now) at.now)
+        (listed name.now path.now ∷ []) []) }
 {
     if !is_among(sources, path) {
         return Ok(());
@@ -97,7 +102,8 @@ fn take_owners(
     owners: &mut Owners,
 ) -> Result<(), AllocError>
     requires { AreSources diversions.now.entries at.now sources.now }
-    ensures { OnOk result (owners.new ≡ owners.old ++ owners_in diversions.now.entries at.now list.now) }
+    ensures { OnOk result
+        (owners.new ≡ owners.old ++ owners_in diversions.now.entries at.now list.now) }
 {
     for path in list.paths.as_slice() {
         take_owner(diversions, at, sources, &list.name, path, owners)?;
@@ -140,7 +146,10 @@ fn slots_in(
     index: &Index,
     sources: &[RootPath],
 ) -> Result<BTreeSet<usize>, AllocError>
-    ensures { IfOk result (λ slots. (path : Path) (s : ℕ) → Contains sources.now path → Contains (row_of index.now path) s → Contains slots.keys s) }
+    ensures { IfOk result
+        (λ slots.
+        (path : Path) (s : ℕ) → Contains sources.now path → Contains (row_of index.now path) s
+        → Contains slots.keys s) }
 {
     let mut slots = BTreeSet::new(alloc);
     for source in sources {
@@ -181,7 +190,8 @@ fn take_owners_of(
     owners: &mut Owners,
 ) -> Result<(), AllocError>
     requires { AreSources diversions.now.entries at.now sources.now }
-    ensures { OnOk result (owners.new ≡ owners.old ++ owners_of_slot diversions.now.entries at.now lists.now slot) }
+    ensures { OnOk result
+        (owners.new ≡ owners.old ++ owners_of_slot diversions.now.entries at.now lists.now slot) }
 {
     if slot < lists.len() {
         return take_owners(diversions, at, sources, &lists[slot], owners);

@@ -75,7 +75,8 @@ fn take_places(
     list: &PackageList,
     places: &mut Places,
 ) -> Result<(), AllocError>
-    ensures { OnOk result (places.new ≡ places.old ++ places_of_list diversions.now.entries list.now) }
+    ensures { OnOk result
+        (places.new ≡ places.old ++ places_of_list diversions.now.entries list.now) }
 {
     for path in &list.paths.items {
         places.items.push(diversions.place(&list.name, path)?)?;
@@ -86,7 +87,8 @@ fn take_places(
 impl Table {
     /// One list without paths for each of these names.
     pub(crate) fn of_names(alloc: Global, names: &[Text]) -> Result<Table, AllocError>
-        ensures names { IfOk result (λ t. (n : List ℕ) → Contains (names_of t) n ↔ Contains names.now n) }
+        ensures names { IfOk result
+            (λ t. (n : List ℕ) → Contains (names_of t) n ↔ Contains names.now n) }
         ensures empty { IfOk result (λ t. (n : List ℕ) → paths_of t n ≡ []) }
     {
         let mut set = sorted(alloc, names)?;

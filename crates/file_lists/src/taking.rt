@@ -30,7 +30,12 @@ fn keep_path(
     path: &RootPath,
     left: &mut Paths,
 ) -> Result<(), AllocError>
-    ensures { OnOk result (left.new ≡ left.old ++ cond (not (list_any (bytes_eq (place diversions.now.entries name.now path.now)) places.now)) (path.now ∷ []) []) }
+    ensures { OnOk result
+        (left.new
+        ≡ left.old
+        ++ cond
+        (not (list_any (bytes_eq (place diversions.now.entries name.now path.now)) places.now))
+        (path.now ∷ []) []) }
 {
     let there = diversions.place(name, path)?;
     if is_among(places, &there) {
@@ -47,7 +52,8 @@ fn left_paths(
     name: &Text,
     paths: &[RootPath],
 ) -> Result<Paths, AllocError>
-    ensures { IfOk result (λ left. left ≡ left_paths diversions.now.entries places.now name.now paths.now) }
+    ensures { IfOk result
+        (λ left. left ≡ left_paths diversions.now.entries places.now name.now paths.now) }
 {
     let mut left = Paths {
         items: Vec::new(alloc),
@@ -72,10 +78,19 @@ pub(crate) fn take_paths<H: Host>(
     requires ready { Needs (H.state host.old) (IsListReady name.now) }
     requires indexed { IsIndexed index.old table.old }
     ensures indexed { IsIndexed index.new table.new }
-    ensures table { OnOk result (table.new ≡ without_places diversions.now.entries places.now name.now table.old) }
+    ensures table { OnOk result
+        (table.new ≡ without_places diversions.now.entries places.now name.now table.old) }
     ensures err { OnErr result (table.new ≡ table.old) }
-    ensures replaced { Leaves result (IsReplaced (list_path name.now) (list_file (left_paths diversions.now.entries places.now name.now (paths_of table.old name.now)))) (H.state host.old) (H.state host.new) }
-    ensures any_moment { AtEachMoment (IsReplacing (list_path name.now) (list_file (left_paths diversions.now.entries places.now name.now (paths_of table.old name.now)))) (H.state host.old) (H.state host.new) }
+    ensures replaced { Leaves result
+        (IsReplaced (list_path name.now)
+        (list_file
+        (left_paths diversions.now.entries places.now name.now (paths_of table.old name.now))))
+        (H.state host.old) (H.state host.new) }
+    ensures any_moment { AtEachMoment
+        (IsReplacing (list_path name.now)
+        (list_file
+        (left_paths diversions.now.entries places.now name.now (paths_of table.old name.now))))
+        (H.state host.old) (H.state host.new) }
     ensures silent { Silent (H.state host.old) (H.state host.new) }
     ensures counts { Counts (H.state host.old) (H.state host.new) result }
 {
@@ -96,12 +111,17 @@ pub(crate) fn take_all<H: Host>(
     from: &[Text],
 ) -> Result<(), HostFault>
     requires named { (name : List ℕ) → Contains from.now name → is_package_name name ≡ true }
-    requires ready { Needs (H.state host.old) (λ w. (name : List ℕ) → Contains from.now name → IsListReady name w) }
+    requires ready { Needs (H.state host.old)
+        (λ w. (name : List ℕ) → Contains from.now name → IsListReady name w) }
     requires indexed { IsIndexed index.old table.old }
     ensures indexed { IsIndexed index.new table.new }
-    ensures table { OnOk result (table.new ≡ without_all diversions.now.entries places.now from.now table.old) }
-    ensures taken { Leaves result (HasTakenAll diversions.now.entries places.now from.now table.old) (H.state host.old) (H.state host.new) }
-    ensures any_moment { AtEachMoment (IsTaking diversions.now.entries places.now from.now table.old) (H.state host.old) (H.state host.new) }
+    ensures table { OnOk result
+        (table.new ≡ without_all diversions.now.entries places.now from.now table.old) }
+    ensures taken { Leaves result (HasTakenAll diversions.now.entries places.now from.now table.old)
+        (H.state host.old) (H.state host.new) }
+    ensures any_moment { AtEachMoment
+        (IsTaking diversions.now.entries places.now from.now table.old) (H.state host.old)
+        (H.state host.new) }
     ensures silent { Silent (H.state host.old) (H.state host.new) }
     ensures counts { Counts (H.state host.old) (H.state host.new) result }
 {

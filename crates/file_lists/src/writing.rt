@@ -63,8 +63,10 @@ fn write_list<H: Host>(
 ) -> Result<(), HostFault>
     requires named { is_package_name name.now ≡ true }
     requires ready { Needs (H.state host.old) (IsListReady name.now) }
-    ensures replaced { Leaves result (IsReplaced (list_path name.now) (list_file paths.now)) (H.state host.old) (H.state host.new) }
-    ensures any_moment { AtEachMoment (IsReplacing (list_path name.now) (list_file paths.now)) (H.state host.old) (H.state host.new) }
+    ensures replaced { Leaves result (IsReplaced (list_path name.now) (list_file paths.now))
+        (H.state host.old) (H.state host.new) }
+    ensures any_moment { AtEachMoment (IsReplacing (list_path name.now) (list_file paths.now))
+        (H.state host.old) (H.state host.new) }
     ensures silent { Silent (H.state host.old) (H.state host.new) }
     ensures counts { Counts (H.state host.old) (H.state host.new) result }
 {
@@ -145,8 +147,10 @@ pub(crate) fn replace_list<H: Host>(
     ensures indexed { IsIndexed index.new table.new }
     ensures table { OnOk result (table.new ≡ with_list name.now paths table.old) }
     ensures err { OnErr result (table.new ≡ table.old) }
-    ensures replaced { Leaves result (IsReplaced (list_path name.now) (list_file paths)) (H.state host.old) (H.state host.new) }
-    ensures any_moment { AtEachMoment (IsReplacing (list_path name.now) (list_file paths)) (H.state host.old) (H.state host.new) }
+    ensures replaced { Leaves result (IsReplaced (list_path name.now) (list_file paths))
+        (H.state host.old) (H.state host.new) }
+    ensures any_moment { AtEachMoment (IsReplacing (list_path name.now) (list_file paths))
+        (H.state host.old) (H.state host.new) }
     ensures silent { Silent (H.state host.old) (H.state host.new) }
     ensures counts { Counts (H.state host.old) (H.state host.new) result }
 {

@@ -25,11 +25,14 @@ fn write_works<H: Host>(host: &mut H, works: &mut Vec<Work>) -> Result<(), HostF
     requires named { Each IsNamed works.old.items }
     requires distinct { IsDistinct is_one_place works.old.items }
     requires free { Needs (H.state host.old) (λ w. Each (IsFreeIn w) works.old.items) }
-    requires homed { Needs (H.state host.old) (λ w. Each (IsHomed works.old.items w) works.old.items) }
+    requires homed { Needs (H.state host.old)
+        (λ w. Each (IsHomed works.old.items w) works.old.items) }
     ensures works { IsPermutation works.old.items works.new.items }
     ensures order { AllInOrder works.new.items }
-    ensures written { Leaves result (Written works.new.items) (H.state host.old) (H.state host.new) }
-    ensures any_moment { AtEachMoment (λ old now. IsAmid works.new.items old old now) (H.state host.old) (H.state host.new) }
+    ensures written { Leaves result (Written works.new.items) (H.state host.old)
+        (H.state host.new) }
+    ensures any_moment { AtEachMoment (λ old now. IsAmid works.new.items old old now)
+        (H.state host.old) (H.state host.new) }
     ensures silent { Silent (H.state host.old) (H.state host.new) }
     ensures counts { Counts (H.state host.old) (H.state host.new) result }
 {
@@ -52,10 +55,18 @@ pub fn unpack_files<H: Host>(
     requires fitting { Each IsFitting works.old.items }
     ensures works { IsRearranged works.old.items works.new.items }
     ensures order { IfOk result (λ found. IfNone found (AllInOrder works.new.items)) }
-    ensures written { Gives result (λ found old new. IfNone found (Written works.new.items old new)) (H.state host.old) (H.state host.new) }
-    ensures ready { Gives result (λ found old new. IfNone found (IsWrittenFrom works.new.items old new)) (H.state host.old) (H.state host.new) }
-    ensures fault { Gives result (λ found old new. IfSome found (IsStopped (owning diversions.now.entries lists.now.lists yields.now incoming.now) works.old.items old new)) (H.state host.old) (H.state host.new) }
-    ensures any_moment { AtEachMoment (λ old now. IsAmid works.new.items old old now) (H.state host.old) (H.state host.new) }
+    ensures written { Gives result (λ found old new. IfNone found (Written works.new.items old new))
+        (H.state host.old) (H.state host.new) }
+    ensures ready { Gives result
+        (λ found old new. IfNone found (IsWrittenFrom works.new.items old new)) (H.state host.old)
+        (H.state host.new) }
+    ensures fault { Gives result
+        (λ found old new. IfSome found
+        (IsStopped (owning diversions.now.entries lists.now.lists yields.now incoming.now)
+        works.old.items old new))
+        (H.state host.old) (H.state host.new) }
+    ensures any_moment { AtEachMoment (λ old now. IsAmid works.new.items old old now)
+        (H.state host.old) (H.state host.new) }
     ensures silent { Silent (H.state host.old) (H.state host.new) }
     ensures counts { Counts (H.state host.old) (H.state host.new) result }
 {

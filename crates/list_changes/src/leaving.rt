@@ -22,7 +22,9 @@ fn places_of(
     name: &Text,
     paths: &[RootPath],
 ) -> Result<BTreeSet<String>, AllocError>
-    ensures { IfOk result (λ places. (at : Path) → contains_text places at ≡ is_place_of diversions.now.entries name.now paths.now at) }
+    ensures { IfOk result
+        (λ places. (at : Path)
+        → contains_text places at ≡ is_place_of diversions.now.entries name.now paths.now at) }
 {
     let mut places = BTreeSet::new(alloc);
     for path in paths {
@@ -45,7 +47,8 @@ fn has_other_owner(
     name: &Text,
     at: &RootPath,
 ) -> Result<bool, AllocError>
-    ensures { IfOk result (λ has. has ≡ has_other_owner diversions.now.entries lists.now.lists name.now at.now) }
+    ensures { IfOk result
+        (λ has. has ≡ has_other_owner diversions.now.entries lists.now.lists name.now at.now) }
 {
     let owners = lists.owners(alloc, diversions, at)?;
     Ok(owners.items.iter().any(|owner| is_of_other(owner, name)))
@@ -59,7 +62,8 @@ fn is_within_home(at: &str) -> bool
 
 // The texts of conffiles' paths.
 fn texts_of(alloc: Global, conffiles: &[ShipPath]) -> Result<BTreeSet<String>, AllocError>
-    ensures { IfOk result (λ set. (q : Path) → contains_text set q ≡ list_any (bytes_eq q) conffiles.now) }
+    ensures { IfOk result
+        (λ set. (q : Path) → contains_text set q ≡ list_any (bytes_eq q) conffiles.now) }
 {
     let mut set = BTreeSet::new(alloc);
     for path in conffiles {
@@ -77,7 +81,11 @@ fn stays(
     to_come: &BTreeSet<String>,
     at: &RootPath,
 ) -> Result<bool, AllocError>
-    ensures { IfOk result (λ stay. (paths : List Path) → ((q : Path) → contains_text to_come.now q ≡ is_place_of diversions.now.entries name.now paths q) → stay ≡ stays diversions.now.entries lists.now.lists name.now paths at.now) }
+    ensures { IfOk result
+        (λ stay. (paths : List Path)
+        → ((q : Path)
+        → contains_text to_come.now q ≡ is_place_of diversions.now.entries name.now paths q)
+        → stay ≡ stays diversions.now.entries lists.now.lists name.now paths at.now) }
 {
     let text = at.as_str();
     if text.is_empty() || is_within_home(text) || to_come.contains(text) {
@@ -96,7 +104,12 @@ fn leaving_at(
     conffiles: &BTreeSet<String>,
     path: &RootPath,
 ) -> Result<Leaving, AllocError>
-    ensures { IfOk result (λ leaving. (paths of : List Path) → ((q : Path) → contains_text to_come.now q ≡ is_place_of diversions.now.entries name.now paths q) → ((q : Path) → contains_text conffiles.now q ≡ list_any (bytes_eq q) of) → leaving ≡ leaving_at diversions.now.entries lists.now.lists name.now paths of path.now) }
+    ensures { IfOk result
+        (λ leaving. (paths of : List Path)
+        → ((q : Path)
+        → contains_text to_come.now q ≡ is_place_of diversions.now.entries name.now paths q)
+        → ((q : Path) → contains_text conffiles.now q ≡ list_any (bytes_eq q) of)
+        → leaving ≡ leaving_at diversions.now.entries lists.now.lists name.now paths of path.now) }
 {
     let place = diversions.place(name, path)?;
     let stay = stays(alloc, lists, diversions, name, to_come, &place)?;
@@ -116,7 +129,10 @@ pub fn leaving_of(
     conffiles: &[ShipPath],
     listed: &[RootPath],
 ) -> Result<Vec<Leaving>, AllocError>
-    ensures { IfOk result (λ leaving. leaving.items ≡ leaving_of diversions.now.entries lists.now.lists name.now to_come.now conffiles.now listed.now) }
+    ensures { IfOk result
+        (λ leaving. leaving.items
+        ≡ leaving_of diversions.now.entries lists.now.lists name.now to_come.now conffiles.now
+        listed.now) }
 {
     let places = places_of(alloc, diversions, name, to_come)?;
     let texts = texts_of(alloc, conffiles)?;

@@ -33,7 +33,8 @@ fn are_increasing(paths: &[RootPath]) -> bool
 
 // The texts of these paths in the order of their bytes.
 fn sorted_paths(alloc: Global, paths: Paths) -> Result<BTreeSet<String>, AllocError>
-    ensures { IfOk result (λ set. (q : List ℕ) → contains_text set q ≡ list_any (bytes_eq q) paths) }
+    ensures { IfOk result
+        (λ set. (q : List ℕ) → contains_text set q ≡ list_any (bytes_eq q) paths) }
 {
     let mut set = BTreeSet::new(alloc);
     for path in &paths.items {

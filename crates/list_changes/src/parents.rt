@@ -12,14 +12,17 @@ use host_core::RootPath;
 use std::alloc::{AllocError, Global};
 
 fn cut_last(path: &str) -> Option<(&str, &str)>
-    ensures { MatchOption result ((i : ℕ) → i < length path.now → get_or path.now i 0 ≢ 47) (λ x. (path.now ≡ x.0.now ++ 47 ∷ x.1.now) × ((i : ℕ) → i < length x.1.now → get_or x.1.now i 0 ≢ 47)) }
+    ensures { MatchOption result ((i : ℕ) → i < length path.now → get_or path.now i 0 ≢ 47)
+        (λ x. (path.now ≡ x.0.now ++ 47 ∷ x.1.now)
+        × ((i : ℕ) → i < length x.1.now → get_or x.1.now i 0 ≢ 47)) }
 {
     path.rsplit_once('/')
 }
 
 // Adds the directories above a path, without the root.
 fn add_parents(alloc: Global, paths: &mut Paths, path: &RootPath) -> Result<(), AllocError>
-    ensures { OnOk result ((q : Path) → Contains paths.new q ↔ (Contains paths.old q ⊎ IsAbove q path.now)) }
+    ensures { OnOk result
+        ((q : Path) → Contains paths.new q ↔ (Contains paths.old q ⊎ IsAbove q path.now)) }
 {
     path.law();
     let mut rest = path.as_str();
@@ -35,7 +38,8 @@ fn add_parents(alloc: Global, paths: &mut Paths, path: &RootPath) -> Result<(), 
 
 // The same of each of some paths.
 fn add_all_parents(alloc: Global, paths: &mut Paths, of: &[RootPath]) -> Result<(), AllocError>
-    ensures { OnOk result ((q : Path) → Contains paths.new q ↔ (Contains paths.old q ⊎ IsAboveOne q of.now)) }
+    ensures { OnOk result
+        ((q : Path) → Contains paths.new q ↔ (Contains paths.old q ⊎ IsAboveOne q of.now)) }
 {
     for path in of {
         add_parents(alloc, paths, path)?;

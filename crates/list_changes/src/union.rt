@@ -29,7 +29,9 @@ pub fn union_of(
     requires listed { AllByRecursion IsListable listed.now }
     requires shipped { AllByRecursion IsListable shipped.now }
     ensures paths { IfOk result AreListPaths }
-    ensures union { IfOk result (λ paths. (q : Path) → Contains paths q ↔ (Contains listed.now q ⊎ Contains shipped.now q)) }
+    ensures union { IfOk result
+        (λ paths.
+        (q : Path) → Contains paths q ↔ (Contains listed.now q ⊎ Contains shipped.now q)) }
 {
     let mut paths = Paths {
         items: Vec::new(alloc),

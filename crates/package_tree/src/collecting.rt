@@ -34,7 +34,9 @@ fn push(
     node: Option<Node>,
     files: &mut Vec<Shipped>,
 ) -> Result<(), AllocError>
-    ensures { OnOk result ((found : ANode) × (node ≡ Some found) × (files.new.items ≡ files.old.items ++ record { path = path.now; node = found } ∷ [])) }
+    ensures { OnOk result
+        ((found : ANode) × (node ≡ Some found)
+        × (files.new.items ≡ files.old.items ++ record { path = path.now; node = found } ∷ [])) }
 {
     let Some(node) = node else {
         return Err(AllocError);
@@ -53,8 +55,16 @@ fn add<H: Host>(
     path: &RootPath,
     files: &mut Vec<Shipped>,
 ) -> Result<bool, HostFault>
-    ensures found { Tells result (λ large w. MatchBool large (IsLarge (w path.now)) ((IsLarge (w path.now) → ⊥) × ((node : ANode) × (w path.now ≡ Some node) × (files.new.items ≡ files.old.items ++ record { path = path.now; node = node } ∷ [])))) (H.state host.old) (H.state host.new) }
-    ensures added { IfOk result (λ large. MatchBool large (files.new.items ≡ files.old.items) ((node : ANode) × (files.new.items ≡ files.old.items ++ record { path = path.now; node = node } ∷ []))) }
+    ensures found { Tells result
+        (λ large w. MatchBool large (IsLarge (w path.now))
+        ((IsLarge (w path.now) → ⊥)
+        × ((node : ANode) × (w path.now ≡ Some node)
+        × (files.new.items ≡ files.old.items ++ record { path = path.now; node = node } ∷ []))))
+        (H.state host.old) (H.state host.new) }
+    ensures added { IfOk result
+        (λ large. MatchBool large (files.new.items ≡ files.old.items)
+        ((node : ANode)
+        × (files.new.items ≡ files.old.items ++ record { path = path.now; node = node } ∷ []))) }
     ensures reads { Reads (H.state host.old) (H.state host.new) }
     ensures silent { Silent (H.state host.old) (H.state host.new) }
     ensures counts { Counts (H.state host.old) (H.state host.new) result }
@@ -78,8 +88,13 @@ pub(crate) fn collect<H: Host>(
 ) -> Result<Option<RootPath>, HostFault>
     requires empty { files.old.items ≡ [] }
     requires shipped { Needs (H.state host.old) (λ w. AreShipped w paths.now) }
-    ensures found { Tells result (λ large w. MatchOption large (AreFiles w files.new.items × HasNoPath (IsTooLarge w)) (IsFirstPath (IsTooLarge w))) (H.state host.old) (H.state host.new) }
-    ensures whole { IfOk result (λ large. IfNone large ((paths_of files.new.items ≡ paths.now) × (length files.new.items ≤ 65536))) }
+    ensures found { Tells result
+        (λ large w. MatchOption large (AreFiles w files.new.items × HasNoPath (IsTooLarge w))
+        (IsFirstPath (IsTooLarge w)))
+        (H.state host.old) (H.state host.new) }
+    ensures whole { IfOk result
+        (λ large.
+        IfNone large ((paths_of files.new.items ≡ paths.now) × (length files.new.items ≤ 65536))) }
     ensures reads { Reads (H.state host.old) (H.state host.new) }
     ensures silent { Silent (H.state host.old) (H.state host.new) }
     ensures counts { Counts (H.state host.old) (H.state host.new) result }

@@ -67,7 +67,8 @@ fn entry_of(alloc: Global, line: &[u8]) -> Result<Entry, AllocError>
 
 // What stands before and after the first newline.
 fn cut(bytes: &[u8]) -> Option<(&[u8], &[u8])>
-    ensures some { IfSome result (λ parts. (bytes.now ≡ parts.0.now ++ 10 ∷ parts.1.now) × Lacks parts.0.now 10) }
+    ensures some { IfSome result
+        (λ parts. (bytes.now ≡ parts.0.now ++ 10 ∷ parts.1.now) × Lacks parts.0.now 10) }
     ensures none { IfNone result (Lacks bytes.now 10) }
 {
     for (i, b) in bytes.iter().enumerate() {

@@ -42,7 +42,8 @@ fn read_paragraph(alloc: Global, text: &[u8]) -> Result<Paragraph, TreeFault>
 
 // The name that a field gives, if its value is a package name.
 fn name_of(field: &Field) -> Option<&str>
-    ensures { MatchOption result (IsGoodField FieldName.Package field.now → ⊥) (λ name. (field.now.first ≡ name.now) × IsGoodField FieldName.Package field.now) }
+    ensures { MatchOption result (IsGoodField FieldName.Package field.now → ⊥)
+        (λ name. (field.now.first ≡ name.now) × IsGoodField FieldName.Package field.now) }
 {
     if !field.more.as_slice().is_empty() {
         return None;
@@ -52,7 +53,9 @@ fn name_of(field: &Field) -> Option<&str>
 
 // The version that a field gives, if its value is a version.
 fn version_of(alloc: Global, field: &Field) -> Result<Option<Version>, AllocError>
-    ensures { IfOk result (λ found. MatchOption found (IsGoodField FieldName.Version field.now → ⊥) (λ version. (field.now.first ≡ version) × IsGoodField FieldName.Version field.now)) }
+    ensures { IfOk result
+        (λ found. MatchOption found (IsGoodField FieldName.Version field.now → ⊥)
+        (λ version. (field.now.first ≡ version) × IsGoodField FieldName.Version field.now)) }
 {
     if !field.more.as_slice().is_empty() {
         return Ok(None);
@@ -66,7 +69,8 @@ fn version_of(alloc: Global, field: &Field) -> Result<Option<Version>, AllocErro
 
 // Whether nothing is wrong with the field Essential, which need not stand.
 fn has_no_bad_essential(paragraph: &Paragraph) -> bool
-    ensures { MatchBool result (HasNoBad FieldName.Essential paragraph.now) (HasBadValue FieldName.Essential paragraph.now) }
+    ensures { MatchBool result (HasNoBad FieldName.Essential paragraph.now)
+        (HasBadValue FieldName.Essential paragraph.now) }
 {
     match paragraph.get(b"essential") {
         Some(field) => {
@@ -86,7 +90,8 @@ fn is_good_relation(
     relation: RelationField,
     field: &Field,
 ) -> Result<bool, AllocError>
-    ensures { IfOk result (λ good. IsTrue good ↔ IsGoodField (FieldName.Relation relation) field.now) }
+    ensures { IfOk result
+        (λ good. IsTrue good ↔ IsGoodField (FieldName.Relation relation) field.now) }
 {
     let value = field.value(alloc)?;
     relation.is_value(alloc, value.as_slice())
@@ -98,7 +103,9 @@ fn has_no_bad(
     paragraph: &Paragraph,
     relation: RelationField,
 ) -> Result<bool, AllocError>
-    ensures { IfOk result (λ good. MatchBool good (HasNoBad (FieldName.Relation relation) paragraph.now) (HasBadValue (FieldName.Relation relation) paragraph.now)) }
+    ensures { IfOk result
+        (λ good. MatchBool good (HasNoBad (FieldName.Relation relation) paragraph.now)
+        (HasBadValue (FieldName.Relation relation) paragraph.now)) }
 {
     match paragraph.get(relation.key().as_bytes()) {
         Some(field) => {
@@ -116,7 +123,9 @@ fn first_bad(
     paragraph: &Paragraph,
     relations: &[RelationField],
 ) -> Result<Option<RelationField>, AllocError>
-    ensures { IfOk result (λ found. MatchOption found (HasNoBadRelation relations.now paragraph.now) (IsFirstBadRelation relations.now paragraph.now)) }
+    ensures { IfOk result
+        (λ found. MatchOption found (HasNoBadRelation relations.now paragraph.now)
+        (IsFirstBadRelation relations.now paragraph.now)) }
 {
     for relation in relations {
         if !has_no_bad(alloc, paragraph, *relation)? {
@@ -131,7 +140,9 @@ fn first_bad_relation(
     alloc: Global,
     paragraph: &Paragraph,
 ) -> Result<Option<RelationField>, AllocError>
-    ensures { IfOk result (λ found. MatchOption found (HasNoBadRelation relation_order paragraph.now) (IsFirstBadRelation relation_order paragraph.now)) }
+    ensures { IfOk result
+        (λ found. MatchOption found (HasNoBadRelation relation_order paragraph.now)
+        (IsFirstBadRelation relation_order paragraph.now)) }
 {
     first_bad(
         alloc,
@@ -174,7 +185,8 @@ fn read_fields(alloc: Global, paragraph: &Paragraph) -> Result<(Text, Version), 
 
 /// Reads the text of a control file.
 pub(crate) fn read_control(alloc: Global, text: &[u8]) -> Result<ControlFile, TreeFault>
-    ensures control { IfOk result (λ file. IsControlText text.now file.paragraph file.name file.version) }
+    ensures control { IfOk result
+        (λ file. IsControlText text.now file.paragraph file.name file.version) }
     ensures fault { IfErr result (IsTextFault text.now) }
 {
     let paragraph = read_paragraph(alloc, text)?;

@@ -9,16 +9,25 @@ ghost use Rattle.package_tree.specs.declared.fault.TreeFault.{TreeFault as AFaul
 
 /// A tree is that of one package, and then it has no fault.
 pub fn trees_are_of_one_package()
-    ensures control { (w : World) (p q : APackage) → IsTreeOf w p → IsTreeOf w q → p.control ≡ q.control }
+    ensures control { (w : World) (p q : APackage) → IsTreeOf w p → IsTreeOf w q
+        → p.control ≡ q.control }
     ensures name { (w : World) (p q : APackage) → IsTreeOf w p → IsTreeOf w q → p.name ≡ q.name }
-    ensures version { (w : World) (p q : APackage) → IsTreeOf w p → IsTreeOf w q → p.version ≡ q.version }
-    ensures relations { (w : World) (p q : APackage) → IsTreeOf w p → IsTreeOf w q → p.relations ≡ q.relations }
-    ensures scripts { (w : World) (p q : APackage) → IsTreeOf w p → IsTreeOf w q → (script : Script) → file_of (script_of p.scripts script) ≡ file_of (script_of q.scripts script) }
+    ensures version { (w : World) (p q : APackage) → IsTreeOf w p → IsTreeOf w q
+        → p.version ≡ q.version }
+    ensures relations { (w : World) (p q : APackage) → IsTreeOf w p → IsTreeOf w q
+        → p.relations ≡ q.relations }
+    ensures scripts { (w : World) (p q : APackage) → IsTreeOf w p → IsTreeOf w q → (script : Script)
+        → file_of (script_of p.scripts script) ≡ file_of (script_of q.scripts script) }
     ensures ships { (w : World) (p q : APackage) → IsTreeOf w p → IsTreeOf w q → p.ships ≡ q.ships }
-    ensures has_conffiles { (w : World) (p q : APackage) → IsTreeOf w p → IsTreeOf w q → p.has_conffiles ≡ q.has_conffiles }
+    ensures has_conffiles { (w : World) (p q : APackage) → IsTreeOf w p → IsTreeOf w q
+        → p.has_conffiles ≡ q.has_conffiles }
     ensures files { (w : World) (p q : APackage) → IsTreeOf w p → IsTreeOf w q → p.files ≡ q.files }
-    ensures conffiles { (w : World) (p q : APackage) → IsTreeOf w p → IsTreeOf w q → p.conffiles ≡ q.conffiles }
-    ensures flagged { (w : World) (p q : APackage) → IsTreeOf w p → IsTreeOf w q → p.flagged ≡ q.flagged }
-    ensures others { (w : World) (p q : APackage) → IsTreeOf w p → IsTreeOf w q → p.others ≡ q.others }
-    ensures no_fault { (w : World) (p : APackage) (fault : AFault) → IsTreeOf w p → IsTreeFault w fault → ⊥ }
+    ensures conffiles { (w : World) (p q : APackage) → IsTreeOf w p → IsTreeOf w q
+        → p.conffiles ≡ q.conffiles }
+    ensures flagged { (w : World) (p q : APackage) → IsTreeOf w p → IsTreeOf w q
+        → p.flagged ≡ q.flagged }
+    ensures others { (w : World) (p q : APackage) → IsTreeOf w p → IsTreeOf w q
+        → p.others ≡ q.others }
+    ensures no_fault { (w : World) (p : APackage) (fault : AFault) → IsTreeOf w p
+        → IsTreeFault w fault → ⊥ }
 {}

@@ -17,7 +17,8 @@ use std::cmp::Ordering;
 // The path among paths in their order, found by halves.
 fn find<'a>(paths: &'a [RootPath], path: &[u8]) -> Option<&'a RootPath>
     requires { AreInOrder paths.now }
-    ensures { MatchOption result (Contains paths.now path.now → ⊥) (λ found. (found.now ≡ path.now) × Contains paths.now path.now) }
+    ensures { MatchOption result (Contains paths.now path.now → ⊥)
+        (λ found. (found.now ≡ path.now) × Contains paths.now path.now) }
 {
     let mut rest = paths;
     while !rest.is_empty() {
@@ -54,7 +55,9 @@ fn is_file(kind: Option<Kind>) -> bool
 fn ships_file<H: Host>(host: &mut H, paths: &[RootPath], path: &[u8]) -> Result<bool, HostFault>
     requires order { AreInOrder paths.now }
     requires shipped { Needs (H.state host.old) (λ w. AreShipped w paths.now) }
-    ensures found { Tells result (λ is w. MatchBool is (ShipsFile w path.now) (ShipsFile w path.now → ⊥)) (H.state host.old) (H.state host.new) }
+    ensures found { Tells result
+        (λ is w. MatchBool is (ShipsFile w path.now) (ShipsFile w path.now → ⊥)) (H.state host.old)
+        (H.state host.new) }
     ensures reads { Reads (H.state host.old) (H.state host.new) }
     ensures silent { Silent (H.state host.old) (H.state host.new) }
     ensures counts { Counts (H.state host.old) (H.state host.new) result }
@@ -84,7 +87,9 @@ fn is_astray<H: Host>(
 ) -> Result<bool, HostFault>
     requires order { AreInOrder paths.now }
     requires shipped { Needs (H.state host.old) (λ w. AreShipped w paths.now) }
-    ensures found { Tells result (λ astray w. MatchBool astray (IsAstray w entry.now) (IsAstray w entry.now → ⊥)) (H.state host.old) (H.state host.new) }
+    ensures found { Tells result
+        (λ astray w. MatchBool astray (IsAstray w entry.now) (IsAstray w entry.now → ⊥))
+        (H.state host.old) (H.state host.new) }
     ensures reads { Reads (H.state host.old) (H.state host.new) }
     ensures silent { Silent (H.state host.old) (H.state host.new) }
     ensures counts { Counts (H.state host.old) (H.state host.new) result }
@@ -129,7 +134,10 @@ pub(crate) fn first_astray<H: Host>(
 ) -> Result<Option<LineName>, HostFault>
     requires order { AreInOrder paths.now }
     requires shipped { Needs (H.state host.old) (λ w. AreShipped w paths.now) }
-    ensures found { Tells result (λ found w. MatchOption found (HasNoEntry (IsAstray w) entries.now) (IsFirstAstray w entries.now)) (H.state host.old) (H.state host.new) }
+    ensures found { Tells result
+        (λ found w.
+        MatchOption found (HasNoEntry (IsAstray w) entries.now) (IsFirstAstray w entries.now))
+        (H.state host.old) (H.state host.new) }
     ensures reads { Reads (H.state host.old) (H.state host.new) }
     ensures silent { Silent (H.state host.old) (H.state host.new) }
     ensures counts { Counts (H.state host.old) (H.state host.new) result }
@@ -149,7 +157,9 @@ pub(crate) fn first_flagged(
 ) -> Result<Option<RootPath>, AllocError>
     requires paths { AreInOrder paths.now }
     requires flagged { AreInOrder flagged.now }
-    ensures { IfOk result (λ found. MatchOption found (HasNoPath (IsOfBoth flagged.now paths.now)) (IsFirstPath (IsOfBoth flagged.now paths.now))) }
+    ensures { IfOk result
+        (λ found. MatchOption found (HasNoPath (IsOfBoth flagged.now paths.now))
+        (IsFirstPath (IsOfBoth flagged.now paths.now))) }
 {
     for path in flagged {
         if let Some(found) = find(paths, path.as_str().as_bytes()) {

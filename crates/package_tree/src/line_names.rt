@@ -24,7 +24,9 @@ pub(crate) enum LineKind {
 
 // Adds bytes that are text.
 fn add_text(alloc: Global, bytes: &[u8], names: &mut BTreeSet<String>) -> Result<(), AllocError>
-    ensures { OnOk result ((q : List ℕ) → IsUtf8 q → contains_text names.new q ≡ (bytes_eq bytes.now q || contains_text names.old q)) }
+    ensures { OnOk result
+        ((q : List ℕ) → IsUtf8 q
+        → contains_text names.new q ≡ (bytes_eq bytes.now q || contains_text names.old q)) }
 {
     if let Ok(text) = str::from_utf8(bytes) {
         names.insert(String::from_str(alloc, text)?)?;
@@ -39,7 +41,9 @@ fn add_name(
     kind: LineKind,
     names: &mut BTreeSet<String>,
 ) -> Result<(), AllocError>
-    ensures { OnOk result ((q : List ℕ) → IsUtf8 q → contains_text names.new q ≡ (is_named kind q entry.now || contains_text names.old q)) }
+    ensures { OnOk result
+        ((q : List ℕ) → IsUtf8 q
+        → contains_text names.new q ≡ (is_named kind q entry.now || contains_text names.old q)) }
 {
     match (kind, entry) {
         (LineKind::Plain, Entry::Plain(path)) => add_text(alloc, path.as_slice(), names),
@@ -54,7 +58,9 @@ pub(crate) fn names_of(
     entries: &[Entry],
     kind: LineKind,
 ) -> Result<BTreeSet<String>, AllocError>
-    ensures { IfOk result (λ names. (q : List ℕ) → IsUtf8 q → contains_text names q ≡ list_any (is_named kind q) entries.now) }
+    ensures { IfOk result
+        (λ names.
+        (q : List ℕ) → IsUtf8 q → contains_text names q ≡ list_any (is_named kind q) entries.now) }
 {
     let mut names = BTreeSet::new(alloc);
     for entry in entries {
@@ -85,7 +91,10 @@ fn add_file_in(
     names: &BTreeSet<String>,
     paths: &mut Vec<ShipPath>,
 ) -> Result<(), AllocError>
-    ensures { OnOk result (paths.new.items ≡ paths.old.items ++ paths_of (filter (is_file_in (contains_text names.now)) (file.now ∷ []))) }
+    ensures { OnOk result
+        (paths.new.items
+        ≡ paths.old.items
+        ++ paths_of (filter (is_file_in (contains_text names.now)) (file.now ∷ []))) }
 {
     if is_file_in(file, names) {
         paths.push(file.path.copy()?)?;
@@ -100,7 +109,9 @@ pub(crate) fn files_in(
     files: &[Shipped],
     names: &BTreeSet<String>,
 ) -> Result<Vec<ShipPath>, AllocError>
-    ensures { IfOk result (λ paths. paths.items ≡ paths_of (filter (is_file_in (contains_text names.now)) files.now)) }
+    ensures { IfOk result
+        (λ paths.
+        paths.items ≡ paths_of (filter (is_file_in (contains_text names.now)) files.now)) }
 {
     let mut paths = Vec::new(alloc);
     for file in files {
@@ -125,8 +136,11 @@ fn add_path(alloc: Global, text: &str, paths: &mut Vec<ShipPath>) -> Result<(), 
 /// The texts of a set that are paths which a package may ship, in their order.
 pub(crate) fn in_order(alloc: Global, names: BTreeSet<String>) -> Result<Vec<ShipPath>, AllocError>
     ensures order { IfOk result (λ paths. AreInOrder paths.items) }
-    ensures only { IfOk result (λ paths. (q : List ℕ) → Contains paths.items q → contains_text names q ≡ true) }
-    ensures whole { IfOk result (λ paths. (q : List ℕ) → contains_text names q ≡ true → is_ship_text q ≡ true → Contains paths.items q) }
+    ensures only { IfOk result
+        (λ paths. (q : List ℕ) → Contains paths.items q → contains_text names q ≡ true) }
+    ensures whole { IfOk result
+        (λ paths. (q : List ℕ) → contains_text names q ≡ true → is_ship_text q ≡ true
+        → Contains paths.items q) }
 {
     let mut left = names;
     let mut paths = Vec::new(alloc);

@@ -17,7 +17,10 @@ use texts::Text;
 
 // Adds a name, if it is that of such a file.
 fn add_name(alloc: Global, name: &Text, set: &mut BTreeSet<String>) -> Result<(), AllocError>
-    ensures { OnOk result ((q : List ℕ) → contains_text set.new q ≡ ((is_other_name q && bytes_eq q name.now) || contains_text set.old q)) }
+    ensures { OnOk result
+        ((q : List ℕ)
+        → contains_text set.new q
+        ≡ ((is_other_name q && bytes_eq q name.now) || contains_text set.old q)) }
 {
     if is_other_name(name.as_str()) {
         set.insert(String::from_str(alloc, name.as_str())?)?;
@@ -28,7 +31,9 @@ fn add_name(alloc: Global, name: &Text, set: &mut BTreeSet<String>) -> Result<()
 
 // The names of such files among others, in their order.
 fn other_names(alloc: Global, names: &[Text]) -> Result<BTreeSet<String>, AllocError>
-    ensures { IfOk result (λ set. (q : List ℕ) → contains_text set q ≡ list_any (λ name. is_other_name q && bytes_eq q name) names.now) }
+    ensures { IfOk result
+        (λ set. (q : List ℕ)
+        → contains_text set q ≡ list_any (λ name. is_other_name q && bytes_eq q name) names.now) }
 {
     let mut set = BTreeSet::new(alloc);
     for name in names {
@@ -64,8 +69,11 @@ fn add<H: Host>(
 ) -> Result<(), HostFault>
     requires named { is_other_name name ≡ true }
     requires directory { directory.now ≡ codes "/DEBIAN" }
-    ensures taken { Leaves result (λ w now. HasTakenOther name (w (control_member name)) others.old.items others.new.items) (H.state host.old) (H.state host.new) }
-    ensures some { OnOk result ((node : Option ANode) × HasTakenOther name node others.old.items others.new.items) }
+    ensures taken { Leaves result
+        (λ w now. HasTakenOther name (w (control_member name)) others.old.items others.new.items)
+        (H.state host.old) (H.state host.new) }
+    ensures some { OnOk result
+        ((node : Option ANode) × HasTakenOther name node others.old.items others.new.items) }
     ensures reads { Reads (H.state host.old) (H.state host.new) }
     ensures silent { Silent (H.state host.old) (H.state host.new) }
     ensures counts { Counts (H.state host.old) (H.state host.new) result }
@@ -89,7 +97,8 @@ fn add_all<H: Host>(
     requires empty { others.old.items ≡ [] }
     requires named { (q : List ℕ) → contains_text names q ≡ true → is_other_name q ≡ true }
     requires directory { directory.now ≡ codes "/DEBIAN" }
-    ensures found { Leaves result (λ w now. AreOthersOf w (contains_text names) others.new.items) (H.state host.old) (H.state host.new) }
+    ensures found { Leaves result (λ w now. AreOthersOf w (contains_text names) others.new.items)
+        (H.state host.old) (H.state host.new) }
     ensures order { OnOk result (AreInOrder (names_of others.new.items)) }
     ensures reads { Reads (H.state host.old) (H.state host.new) }
     ensures silent { Silent (H.state host.old) (H.state host.new) }
@@ -110,7 +119,8 @@ pub(crate) fn read_others<H: Host>(
     others: &mut Vec<OtherFile>,
 ) -> Result<(), HostFault>
     requires { others.old.items ≡ [] }
-    ensures found { Leaves result (λ w now. AreOthers w others.new.items) (H.state host.old) (H.state host.new) }
+    ensures found { Leaves result (λ w now. AreOthers w others.new.items) (H.state host.old)
+        (H.state host.new) }
     ensures order { OnOk result (AreInOrder (names_of others.new.items)) }
     ensures reads { Reads (H.state host.old) (H.state host.new) }
     ensures silent { Silent (H.state host.old) (H.state host.new) }
@@ -128,8 +138,12 @@ fn listed<H: Host>(
     directory: &RootPath,
 ) -> Result<BTreeSet<String>, HostFault>
     requires { directory.now ≡ codes "/DEBIAN" }
-    ensures named { IfOk result (λ names. (q : List ℕ) → contains_text names q ≡ true → is_other_name q ≡ true) }
-    ensures found { Tells result (λ names w. (q : List ℕ) → is_other_name q ≡ true → IsSome (w (directory.now ++ 47 ∷ q)) → contains_text names q ≡ true) (H.state host.old) (H.state host.new) }
+    ensures named { IfOk result
+        (λ names. (q : List ℕ) → contains_text names q ≡ true → is_other_name q ≡ true) }
+    ensures found { Tells result
+        (λ names w. (q : List ℕ) → is_other_name q ≡ true → IsSome (w (directory.now ++ 47 ∷ q))
+        → contains_text names q ≡ true)
+        (H.state host.old) (H.state host.new) }
     ensures reads { Reads (H.state host.old) (H.state host.new) }
     ensures silent { Silent (H.state host.old) (H.state host.new) }
     ensures counts { Counts (H.state host.old) (H.state host.new) result }

@@ -26,7 +26,8 @@ fn is_reserved(path: &str) -> bool
 
 /// The first of some paths that is reserved.
 pub(crate) fn first_reserved(paths: &[RootPath]) -> Result<Option<RootPath>, AllocError>
-    ensures { IfOk result (λ found. MatchOption found (HasNoneReserved paths.now) (IsFirstReserved paths.now)) }
+    ensures { IfOk result
+        (λ found. MatchOption found (HasNoneReserved paths.now) (IsFirstReserved paths.now)) }
 {
     for path in paths {
         if is_reserved(path.as_str()) {

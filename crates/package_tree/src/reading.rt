@@ -56,7 +56,16 @@ impl Contents {
     ghost use Rattle.std.specs.Prelude.{None};
 
     fn none() -> Self
-        ensures { result ≡ record { conffiles = None; postinst = None; postrm = None; preinst = None; prerm = None; ships = false } }
+        ensures { result
+            ≡ record {
+              conffiles = None;
+              postinst = None;
+              postrm = None;
+              preinst = None;
+              prerm = None;
+              ships =
+                  false;
+            } }
     {
         Contents {
             conffiles: None,
@@ -90,7 +99,8 @@ fn lists_shipped(listing: &Listing) -> bool
 
 // Whether something beside `DEBIAN` stands at the root.
 fn ships<H: Host>(alloc: Global, host: &mut H) -> Result<bool, HostFault>
-    ensures found { Tells result (λ ships w. IsTrue ships ↔ Ships w) (H.state host.old) (H.state host.new) }
+    ensures found { Tells result (λ ships w. IsTrue ships ↔ Ships w) (H.state host.old)
+        (H.state host.new) }
     ensures reads { Reads (H.state host.old) (H.state host.new) }
     ensures silent { Silent (H.state host.old) (H.state host.new) }
     ensures counts { Counts (H.state host.old) (H.state host.new) result }
@@ -103,7 +113,8 @@ fn ships<H: Host>(alloc: Global, host: &mut H) -> Result<bool, HostFault>
 // What stands at a path of the tree.
 fn node_at<H: Host>(alloc: Global, host: &mut H, path: &str) -> Result<Option<Node>, HostFault>
     requires { is_path path.now ≡ true }
-    ensures found { Tells result (λ node w. node ≡ w path.now) (H.state host.old) (H.state host.new) }
+    ensures found { Tells result (λ node w. node ≡ w path.now) (H.state host.old)
+        (H.state host.new) }
     ensures reads { Reads (H.state host.old) (H.state host.new) }
     ensures silent { Silent (H.state host.old) (H.state host.new) }
     ensures counts { Counts (H.state host.old) (H.state host.new) result }
@@ -155,7 +166,9 @@ fn lists_conffiles(node: &Option<Node>) -> bool
 
 // The first path in path order where something stands that isn't a file.
 fn first_wrong(contents: &Contents) -> Option<&'static str>
-    ensures found { (w : World) → AreContents w contents.now → MatchOption result (HasNoneWrong w member_paths) (λ path. IsFirstWrong w member_paths path.now) }
+    ensures found { (w : World) → AreContents w contents.now
+        → MatchOption result (HasNoneWrong w member_paths)
+        (λ path. IsFirstWrong w member_paths path.now) }
     ensures path { IfSome result (λ path. is_path path.now ≡ true) }
 {
     if is_wrong(&contents.conffiles) {
@@ -191,7 +204,9 @@ fn script_at(node: Option<Node>) -> Option<ScriptFile>
 
 // The scripts, where files stand at their paths.
 fn scripts_of(contents: Contents) -> Scripts
-    ensures { (w : World) → AreContents w contents → HasNoneWrong w member_paths → (script : AScript) → file_of (script_of result script) ≡ root_at (w (script_path script)) }
+    ensures { (w : World) → AreContents w contents → HasNoneWrong w member_paths
+        → (script : AScript)
+        → file_of (script_of result script) ≡ root_at (w (script_path script)) }
 {
     Scripts {
         preinst: script_at(contents.preinst),
@@ -209,7 +224,8 @@ fn look_at<H: Host>(
     node: &mut Option<Node>,
 ) -> Result<(), HostFault>
     requires { is_path path.now ≡ true }
-    ensures found { Leaves result (λ w now. node.new ≡ w path.now) (H.state host.old) (H.state host.new) }
+    ensures found { Leaves result (λ w now. node.new ≡ w path.now) (H.state host.old)
+        (H.state host.new) }
     ensures reads { Reads (H.state host.old) (H.state host.new) }
     ensures silent { Silent (H.state host.old) (H.state host.new) }
     ensures counts { Counts (H.state host.old) (H.state host.new) result }
@@ -221,7 +237,8 @@ fn look_at<H: Host>(
 // Looks at all of them.
 #[tactic(auto, using(host_core::specs::Moments::reads_then))]
 fn look<H: Host>(alloc: Global, host: &mut H, contents: &mut Contents) -> Result<(), HostFault>
-    ensures found { Leaves result (λ w now. AreContents w contents.new) (H.state host.old) (H.state host.new) }
+    ensures found { Leaves result (λ w now. AreContents w contents.new) (H.state host.old)
+        (H.state host.new) }
     ensures reads { Reads (H.state host.old) (H.state host.new) }
     ensures silent { Silent (H.state host.old) (H.state host.new) }
     ensures counts { Counts (H.state host.old) (H.state host.new) result }
@@ -237,7 +254,9 @@ fn look<H: Host>(alloc: Global, host: &mut H, contents: &mut Contents) -> Result
 
 // The same as a path of its own.
 fn wrong_path(alloc: Global, contents: &Contents) -> Result<Option<RootPath>, AllocError>
-    ensures { IfOk result (λ found. (w : World) → AreContents w contents.now → MatchOption found (HasNoneWrong w member_paths) (IsFirstWrong w member_paths)) }
+    ensures { IfOk result
+        (λ found. (w : World) → AreContents w contents.now
+        → MatchOption found (HasNoneWrong w member_paths) (IsFirstWrong w member_paths)) }
 {
     match first_wrong(contents) {
         Some(path) => Ok(Some(RootPath::from_str(alloc, path)?)),
@@ -246,7 +265,9 @@ fn wrong_path(alloc: Global, contents: &Contents) -> Result<Option<RootPath>, Al
 }
 
 fn bytes_of(node: Option<Node>) -> Option<Bytes>
-    ensures { MatchOption result ((bytes : List ℕ) (access : Access) → node ≡ Some (Node.File bytes access) → ⊥) (λ bytes. (access : Access) × (node ≡ Some (Node.File bytes access))) }
+    ensures { MatchOption result
+        ((bytes : List ℕ) (access : Access) → node ≡ Some (Node.File bytes access) → ⊥)
+        (λ bytes. (access : Access) × (node ≡ Some (Node.File bytes access))) }
 {
     match node {
         Some(Node::File { bytes, .. }) => Some(bytes),
@@ -257,8 +278,10 @@ fn bytes_of(node: Option<Node>) -> Option<Bytes>
 }
 
 fn control_text<H: Host>(alloc: Global, host: &mut H) -> Result<Bytes, TreeFault>
-    ensures found { Tells result (λ text w. HasControl w text) (H.state host.old) (H.state host.new) }
-    ensures fault { IsTrue (H.state host.new).honest → IfErr result (IsReadingFault (H.state host.old).world) }
+    ensures found { Tells result (λ text w. HasControl w text) (H.state host.old)
+        (H.state host.new) }
+    ensures fault { IsTrue (H.state host.new).honest
+        → IfErr result (IsReadingFault (H.state host.old).world) }
     ensures reads { Reads (H.state host.old) (H.state host.new) }
     ensures silent { Silent (H.state host.old) (H.state host.new) }
     ensures counts { CountsTree (H.state host.old) (H.state host.new) result }
@@ -271,8 +294,12 @@ fn control_text<H: Host>(alloc: Global, host: &mut H) -> Result<Bytes, TreeFault
 }
 
 fn read_control_file<H: Host>(alloc: Global, host: &mut H) -> Result<ControlFile, TreeFault>
-    ensures read { Tells result (λ file w. (text : List ℕ) × HasControl w text × IsControlText text file.paragraph file.name file.version) (H.state host.old) (H.state host.new) }
-    ensures fault { IsTrue (H.state host.new).honest → IfErr result (IsReadingFault (H.state host.old).world) }
+    ensures read { Tells result
+        (λ file w. (text : List ℕ) × HasControl w text
+        × IsControlText text file.paragraph file.name file.version)
+        (H.state host.old) (H.state host.new) }
+    ensures fault { IsTrue (H.state host.new).honest
+        → IfErr result (IsReadingFault (H.state host.old).world) }
     ensures reads { Reads (H.state host.old) (H.state host.new) }
     ensures silent { Silent (H.state host.old) (H.state host.new) }
     ensures counts { CountsTree (H.state host.old) (H.state host.new) result }
@@ -291,7 +318,13 @@ fn first_bad<H: Host>(
 ) -> Result<Option<RootPath>, HostFault>
     requires empty { paths.old.items ≡ [] }
     requires contents { Needs (H.state host.old) (λ w. AreContents w contents.now) }
-    ensures found { IsTrue (H.state host.new).honest → IfOk result (λ bad. MatchOption bad (HasNoneWrong (H.state host.old).world member_paths × (HasNoPath (IsBadBeside (H.state host.old).world) × AreShipped (H.state host.old).world paths.new.items)) (IsFirstPath (IsBadPath (H.state host.old).world))) }
+    ensures found { IsTrue (H.state host.new).honest
+        → IfOk result
+        (λ bad. MatchOption bad
+        (HasNoneWrong (H.state host.old).world member_paths
+        × (HasNoPath (IsBadBeside (H.state host.old).world)
+        × AreShipped (H.state host.old).world paths.new.items))
+        (IsFirstPath (IsBadPath (H.state host.old).world))) }
     ensures texts { OnOk result (ArePathTexts paths.new.items) }
     ensures order { OnOk result (AreInOrder paths.new.items) }
     ensures reads { Reads (H.state host.old) (H.state host.new) }
@@ -316,10 +349,12 @@ fn read_paths<H: Host>(
     requires control { Needs (H.state host.old) HasGoodControl }
     requires empty { paths.old.items ≡ [] }
     requires contents { Needs (H.state host.old) (λ w. AreContents w contents.now) }
-    ensures paths { Leaves result (λ w now. HasGoodPaths w × AreShipped w paths.new.items) (H.state host.old) (H.state host.new) }
+    ensures paths { Leaves result (λ w now. HasGoodPaths w × AreShipped w paths.new.items)
+        (H.state host.old) (H.state host.new) }
     ensures texts { OnOk result (ArePathTexts paths.new.items) }
     ensures order { OnOk result (AreInOrder paths.new.items) }
-    ensures fault { IsTrue (H.state host.new).honest → IfErr result (IsReadingFault (H.state host.old).world) }
+    ensures fault { IsTrue (H.state host.new).honest
+        → IfErr result (IsReadingFault (H.state host.old).world) }
     ensures reads { Reads (H.state host.old) (H.state host.new) }
     ensures silent { Silent (H.state host.old) (H.state host.new) }
     ensures counts { CountsTree (H.state host.old) (H.state host.new) result }
@@ -343,11 +378,14 @@ fn read_contents<H: Host>(
 ) -> Result<(), TreeFault>
     requires control { Needs (H.state host.old) HasGoodControl }
     requires empty { paths.old.items ≡ [] }
-    ensures found { Leaves result (λ w now. AreContents w contents.new) (H.state host.old) (H.state host.new) }
-    ensures paths { Leaves result (λ w now. HasGoodPaths w × AreShipped w paths.new.items) (H.state host.old) (H.state host.new) }
+    ensures found { Leaves result (λ w now. AreContents w contents.new) (H.state host.old)
+        (H.state host.new) }
+    ensures paths { Leaves result (λ w now. HasGoodPaths w × AreShipped w paths.new.items)
+        (H.state host.old) (H.state host.new) }
     ensures texts { OnOk result (ArePathTexts paths.new.items) }
     ensures order { OnOk result (AreInOrder paths.new.items) }
-    ensures fault { IsTrue (H.state host.new).honest → IfErr result (IsReadingFault (H.state host.old).world) }
+    ensures fault { IsTrue (H.state host.new).honest
+        → IfErr result (IsReadingFault (H.state host.old).world) }
     ensures reads { Reads (H.state host.old) (H.state host.new) }
     ensures silent { Silent (H.state host.old) (H.state host.new) }
     ensures counts { CountsTree (H.state host.old) (H.state host.new) result }
@@ -394,10 +432,12 @@ fn check_lines<H: Host>(
     requires flagged { AreInOrder lines.now.flagged.items }
     requires control { Needs (H.state host.old) HasGoodControl }
     requires good { Needs (H.state host.old) (λ w. AreGoodPaths w paths.now) }
-    requires lines { Needs (H.state host.old) (λ w. AreLinesOf (entries_at (w conffiles_path)) lines.now) }
+    requires lines { Needs (H.state host.old)
+        (λ w. AreLinesOf (entries_at (w conffiles_path)) lines.now) }
     ensures good { Leaves result (λ w now. HasGoodLines w) (H.state host.old) (H.state host.new) }
     ensures apart { OnOk result (HasNoPath (IsOfBoth lines.now.flagged.items paths.now)) }
-    ensures fault { IsTrue (H.state host.new).honest → IfErr result (IsReadingFault (H.state host.old).world) }
+    ensures fault { IsTrue (H.state host.new).honest
+        → IfErr result (IsReadingFault (H.state host.old).world) }
     ensures reads { Reads (H.state host.old) (H.state host.new) }
     ensures silent { Silent (H.state host.old) (H.state host.new) }
     ensures counts { CountsTree (H.state host.old) (H.state host.new) result }
@@ -425,9 +465,12 @@ fn collect_files<H: Host>(
     requires control { Needs (H.state host.old) HasGoodControl }
     requires shipped { Needs (H.state host.old) (λ w. AreGoodPaths w paths.now) }
     requires lines { Needs (H.state host.old) HasGoodLines }
-    ensures found { Leaves result (λ w now. AreFiles w files.new.items × HasNoPath (IsTooLarge w)) (H.state host.old) (H.state host.new) }
-    ensures whole { OnOk result ((paths_of files.new.items ≡ paths.now) × (length files.new.items ≤ 65536)) }
-    ensures fault { IsTrue (H.state host.new).honest → IfErr result (IsReadingFault (H.state host.old).world) }
+    ensures found { Leaves result (λ w now. AreFiles w files.new.items × HasNoPath (IsTooLarge w))
+        (H.state host.old) (H.state host.new) }
+    ensures whole { OnOk result
+        ((paths_of files.new.items ≡ paths.now) × (length files.new.items ≤ 65536)) }
+    ensures fault { IsTrue (H.state host.new).honest
+        → IfErr result (IsReadingFault (H.state host.old).world) }
     ensures reads { Reads (H.state host.old) (H.state host.new) }
     ensures silent { Silent (H.state host.old) (H.state host.new) }
     ensures counts { CountsTree (H.state host.old) (H.state host.new) result }
@@ -475,10 +518,13 @@ fn read_found<H: Host>(
     requires flagged { AreInOrder lines.now.flagged.items }
     requires control { Needs (H.state host.old) HasGoodControl }
     requires good { Needs (H.state host.old) (λ w. AreGoodPaths w paths.now) }
-    requires lines { Needs (H.state host.old) (λ w. AreLinesOf (entries_at (w conffiles_path)) lines.now) }
-    ensures found { Leaves result (λ w now. IsFound w found.new) (H.state host.old) (H.state host.new) }
+    requires lines { Needs (H.state host.old)
+        (λ w. AreLinesOf (entries_at (w conffiles_path)) lines.now) }
+    ensures found { Leaves result (λ w now. IsFound w found.new) (H.state host.old)
+        (H.state host.new) }
     ensures whole { OnOk result (IsWhole lines.now found.new) }
-    ensures fault { IsTrue (H.state host.new).honest → IfErr result (IsReadingFault (H.state host.old).world) }
+    ensures fault { IsTrue (H.state host.new).honest
+        → IfErr result (IsReadingFault (H.state host.old).world) }
     ensures reads { Reads (H.state host.old) (H.state host.new) }
     ensures silent { Silent (H.state host.old) (H.state host.new) }
     ensures counts { CountsTree (H.state host.old) (H.state host.new) result }
@@ -499,7 +545,10 @@ fn assemble(
 ) -> Package
     requires whole { IsWhole lines found }
     requires trimmed { AreTrimmedLines lines }
-    ensures { (w : World) (text : List ℕ) → HasControl w text → IsControlText text control.paragraph control.name control.version → AreContents w contents → HasGoodPaths w → AreLinesOf (entries_at (w conffiles_path)) lines → IsFound w found → IsTreeOf w result }
+    ensures { (w : World) (text : List ℕ) → HasControl w text
+        → IsControlText text control.paragraph control.name control.version → AreContents w contents
+        → HasGoodPaths w → AreLinesOf (entries_at (w conffiles_path)) lines → IsFound w found
+        → IsTreeOf w result }
 {
     let has_conffiles = lists_conffiles(&contents.conffiles);
     let ships = contents.ships;
@@ -521,8 +570,10 @@ fn assemble(
 /// Reads the tree that the host was opened on.
 #[tactic(auto, using(host_core::specs::Moments::reads_then))]
 pub fn read_tree<H: Host>(alloc: Global, host: &mut H) -> Result<Package, TreeFault>
-    ensures read { Tells result (λ found w. IsTreeOf w found) (H.state host.old) (H.state host.new) }
-    ensures fault { IsTrue (H.state host.new).honest → IfErr result (IsReadingFault (H.state host.old).world) }
+    ensures read { Tells result (λ found w. IsTreeOf w found) (H.state host.old)
+        (H.state host.new) }
+    ensures fault { IsTrue (H.state host.new).honest
+        → IfErr result (IsReadingFault (H.state host.old).world) }
     ensures reads { Reads (H.state host.old) (H.state host.new) }
     ensures silent { Silent (H.state host.old) (H.state host.new) }
     ensures counts { CountsTree (H.state host.old) (H.state host.new) result }

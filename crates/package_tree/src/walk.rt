@@ -42,7 +42,9 @@ fn add_child(
     name: &Text,
     todo: &mut BTreeSet<String>,
 ) -> Result<(), AllocError>
-    ensures { OnOk result ((q : List ℕ) → contains_text todo.new q ≡ (is_child_of dir.now q name.now || contains_text todo.old q)) }
+    ensures { OnOk result
+        ((q : List ℕ)
+        → contains_text todo.new q ≡ (is_child_of dir.now q name.now || contains_text todo.old q)) }
 {
     let Some(path) = dir.child(name)? else {
         return Ok(());
@@ -61,7 +63,9 @@ fn add_children(
     names: &[Text],
     todo: &mut BTreeSet<String>,
 ) -> Result<(), AllocError>
-    ensures { OnOk result ((q : List ℕ) → contains_text todo.new q ≡ (is_child dir.now names.now q || contains_text todo.old q)) }
+    ensures { OnOk result
+        ((q : List ℕ)
+        → contains_text todo.new q ≡ (is_child dir.now names.now q || contains_text todo.old q)) }
 {
     for name in names {
         add_child(alloc, dir, name, todo)?;
@@ -76,8 +80,14 @@ fn look_into<H: Host>(
     dir: &RootPath,
     todo: &mut BTreeSet<String>,
 ) -> Result<bool, HostFault>
-    ensures found { IsTrue (H.state host.new).honest → IfOk result (λ bad. MatchBool bad (HasBadName (H.state host.old).world dir.now) ((HasBadName (H.state host.old).world dir.now → ⊥) × SeesTo (H.state host.old).world dir.now (contains_text todo.old) (contains_text todo.new))) }
-    ensures children { OnOk result (AreChildren dir.now (contains_text todo.old) (contains_text todo.new)) }
+    ensures found { IsTrue (H.state host.new).honest
+        → IfOk result
+        (λ bad. MatchBool bad (HasBadName (H.state host.old).world dir.now)
+        ((HasBadName (H.state host.old).world dir.now → ⊥)
+        × SeesTo (H.state host.old).world dir.now (contains_text todo.old)
+        (contains_text todo.new))) }
+    ensures children { OnOk result
+        (AreChildren dir.now (contains_text todo.old) (contains_text todo.new)) }
     ensures reads { Reads (H.state host.old) (H.state host.new) }
     ensures silent { Silent (H.state host.old) (H.state host.new) }
     ensures counts { Counts (H.state host.old) (H.state host.new) result }
@@ -110,8 +120,11 @@ fn look<H: Host>(
     todo: &mut BTreeSet<String>,
 ) -> Result<Sight, HostFault>
     requires there { Needs (H.state host.old) (λ w. IsSome (w path.now)) }
-    ensures found { Tells result (λ sight w. HasLooked w path.now (contains_text todo.old) (contains_text todo.new) sight) (H.state host.old) (H.state host.new) }
-    ensures children { OnOk result (AreChildren path.now (contains_text todo.old) (contains_text todo.new)) }
+    ensures found { Tells result
+        (λ sight w. HasLooked w path.now (contains_text todo.old) (contains_text todo.new) sight)
+        (H.state host.old) (H.state host.new) }
+    ensures children { OnOk result
+        (AreChildren path.now (contains_text todo.old) (contains_text todo.new)) }
     ensures reads { Reads (H.state host.old) (H.state host.new) }
     ensures silent { Silent (H.state host.old) (H.state host.new) }
     ensures counts { Counts (H.state host.old) (H.state host.new) result }
@@ -163,7 +176,12 @@ pub(crate) fn walk<H: Host>(
     found: &mut Vec<RootPath>,
 ) -> Result<Option<RootPath>, HostFault>
     requires { found.old.items ≡ [] }
-    ensures found { IsTrue (H.state host.new).honest → IfOk result (λ bad. MatchOption bad (HasNoPath (IsBadBeside (H.state host.old).world) × AreShipped (H.state host.old).world found.new.items) (IsFirstPath (IsBadBeside (H.state host.old).world))) }
+    ensures found { IsTrue (H.state host.new).honest
+        → IfOk result
+        (λ bad. MatchOption bad
+        (HasNoPath (IsBadBeside (H.state host.old).world)
+        × AreShipped (H.state host.old).world found.new.items)
+        (IsFirstPath (IsBadBeside (H.state host.old).world))) }
     ensures order { OnOk result (AreInOrder found.new.items) }
     ensures texts { OnOk result (ArePathTexts found.new.items) }
     ensures reads { Reads (H.state host.old) (H.state host.new) }

@@ -39,10 +39,16 @@ fn step_rows<H: Host, A: Around<H>>(
     requires place { A.at around.old (H.state host.old) (Forward 0) }
     requires rows { Fit (A.fits (A.task around.old)) rows.items }
     requires empty { stack.old ≡ [] }
-    ensures calls { IfOk result (λ stopped. HasStopped (A.file_step_fault (A.task around.old)) stopped rows.items stack.new (H.state host.old) (H.state host.new) told.old.items told.new.items) }
-    ensures told { Begun (MayRun rows.items) (H.state host.old) (H.state host.new) told.old.items told.new.items }
-    ensures place { IfOk result (λ stopped. A.at around.new (H.state host.new) (stop_place (length rows.items) (length stack.new) stopped)) }
-    ensures any_moment { AtEachStop (A.stops (A.task around.old)) (H.state host.old) (H.state host.new) }
+    ensures calls { IfOk result
+        (λ stopped. HasStopped (A.file_step_fault (A.task around.old)) stopped rows.items stack.new
+        (H.state host.old) (H.state host.new) told.old.items told.new.items) }
+    ensures told { Begun (MayRun rows.items) (H.state host.old) (H.state host.new) told.old.items
+        told.new.items }
+    ensures place { IfOk result
+        (λ stopped. A.at around.new (H.state host.new)
+        (stop_place (length rows.items) (length stack.new) stopped)) }
+    ensures any_moment { AtEachStop (A.stops (A.task around.old)) (H.state host.old)
+        (H.state host.new) }
     ensures task { A.task around.new ≡ A.task around.old }
     ensures reference { A.reference around.new ≡ A.reference around.old }
     ensures counts { Counts (H.state host.old) (H.state host.new) result }
@@ -62,7 +68,8 @@ fn unwinding_of(stopped: Stopped, failed: Vec<Failed>) -> Result<Unwinding, Allo
     requires called { stopped.fall.fault ≡ None → IsSome stopped.forward }
     ensures fall { IfOk result (λ u. u.fall ≡ stopped.fall) }
     ensures failed { IfOk result (λ u. u.failed.items ≡ failed.items) }
-    ensures cause { IfOk result (λ u. cause_of stopped.fall.fault stopped.forward ≡ Some u.failure) }
+    ensures cause { IfOk result
+        (λ u. cause_of stopped.fall.fault stopped.forward ≡ Some u.failure) }
 {
     let Stopped { fall, forward } = stopped;
     let failure = failure_of(&fall, forward)?;
@@ -85,12 +92,19 @@ fn unwind_rows<H: Host, A: Around<H>>(
     requires place { A.at around.old (H.state host.old) (Back (length stack.old) stopped.fall []) }
     requires rows { Fit (A.fits (A.task around.old)) stack.old }
     requires called { stopped.fall.fault ≡ None → IsSome stopped.forward }
-    ensures calls { IfOk result (λ u. HasUnwound stack.old u.failed.items (H.state host.old) (H.state host.new) told.old.items told.new.items) }
+    ensures calls { IfOk result
+        (λ u.
+        HasUnwound stack.old u.failed.items (H.state host.old) (H.state host.new) told.old.items
+        told.new.items) }
     ensures fall { IfOk result (λ u. u.fall ≡ stopped.fall) }
-    ensures cause { IfOk result (λ u. cause_of stopped.fall.fault stopped.forward ≡ Some u.failure) }
-    ensures told { Begun (MayUnwind stack.old) (H.state host.old) (H.state host.new) told.old.items told.new.items }
-    ensures place { IfOk result (λ u. A.at around.new (H.state host.new) (Back 0 stopped.fall u.failed.items)) }
-    ensures any_moment { AtEachStop (A.stops (A.task around.old)) (H.state host.old) (H.state host.new) }
+    ensures cause { IfOk result
+        (λ u. cause_of stopped.fall.fault stopped.forward ≡ Some u.failure) }
+    ensures told { Begun (MayUnwind stack.old) (H.state host.old) (H.state host.new) told.old.items
+        told.new.items }
+    ensures place { IfOk result
+        (λ u. A.at around.new (H.state host.new) (Back 0 stopped.fall u.failed.items)) }
+    ensures any_moment { AtEachStop (A.stops (A.task around.old)) (H.state host.old)
+        (H.state host.new) }
     ensures task { A.task around.new ≡ A.task around.old }
     ensures reference { A.reference around.new ≡ A.reference around.old }
     ensures counts { Counts (H.state host.old) (H.state host.new) result }
@@ -113,11 +127,17 @@ fn run_on<H: Host, A: Around<H>>(
     requires place { A.at around.old (H.state host.old) (Forward 0) }
     requires rows { Fit (A.fits (A.task around.old)) rows.items }
     requires empty { stack.old ≡ [] }
-    ensures calls { IfOk result (λ u. HasRun (A.file_step_fault (A.task around.old)) (ended_as u) rows.items (H.state host.old) (H.state host.new) told.old.items told.new.items) }
+    ensures calls { IfOk result
+        (λ u.
+        HasRun (A.file_step_fault (A.task around.old)) (ended_as u) rows.items (H.state host.old)
+        (H.state host.new) told.old.items told.new.items) }
     ensures cause { IfOk result (IsCauseOf rows.items) }
-    ensures told { Begun (MayRun rows.items) (H.state host.old) (H.state host.new) told.old.items told.new.items }
-    ensures place { IfOk result (λ u. A.at around.new (H.state host.new) (end_place (length rows.items) u)) }
-    ensures any_moment { AtEachStop (A.stops (A.task around.old)) (H.state host.old) (H.state host.new) }
+    ensures told { Begun (MayRun rows.items) (H.state host.old) (H.state host.new) told.old.items
+        told.new.items }
+    ensures place { IfOk result
+        (λ u. A.at around.new (H.state host.new) (end_place (length rows.items) u)) }
+    ensures any_moment { AtEachStop (A.stops (A.task around.old)) (H.state host.old)
+        (H.state host.new) }
     ensures task { A.task around.new ≡ A.task around.old }
     ensures reference { A.reference around.new ≡ A.reference around.old }
     ensures counts { Counts (H.state host.old) (H.state host.new) result }
@@ -140,11 +160,17 @@ pub fn run_rows<H: Host, A: Around<H>>(
 ) -> Result<Option<Unwinding>, HostFault>
     requires place { A.at around.old (H.state host.old) (Forward 0) }
     requires rows { Fit (A.fits (A.task around.old)) rows.items }
-    ensures calls { IfOk result (λ u. HasRun (A.file_step_fault (A.task around.old)) (ended_as u) rows.items (H.state host.old) (H.state host.new) told.old.items told.new.items) }
+    ensures calls { IfOk result
+        (λ u.
+        HasRun (A.file_step_fault (A.task around.old)) (ended_as u) rows.items (H.state host.old)
+        (H.state host.new) told.old.items told.new.items) }
     ensures cause { IfOk result (IsCauseOf rows.items) }
-    ensures told { Begun (MayRun rows.items) (H.state host.old) (H.state host.new) told.old.items told.new.items }
-    ensures place { IfOk result (λ u. A.at around.new (H.state host.new) (end_place (length rows.items) u)) }
-    ensures any_moment { AtEachStop (A.stops (A.task around.old)) (H.state host.old) (H.state host.new) }
+    ensures told { Begun (MayRun rows.items) (H.state host.old) (H.state host.new) told.old.items
+        told.new.items }
+    ensures place { IfOk result
+        (λ u. A.at around.new (H.state host.new) (end_place (length rows.items) u)) }
+    ensures any_moment { AtEachStop (A.stops (A.task around.old)) (H.state host.old)
+        (H.state host.new) }
     ensures task { A.task around.new ≡ A.task around.old }
     ensures reference { A.reference around.new ≡ A.reference around.old }
     ensures counts { Counts (H.state host.old) (H.state host.new) result }
