@@ -16,6 +16,7 @@ use Rattle.host_core.specs.declared.node.Node.{Node}
 use Rattle.host_core.specs.declared.node.Node.TheVariants.{File, Dir, Link}
 use Rattle.host_core.proofs.ShipNames.{ships}
 use Rattle.diversions.specs.Sights.{is_directory_kind}
+use Rattle.diversions.specs.declared.entry.Diversion.{Diversion}
 use Rattle.host_core.specs.declared.node.Kind.{Kind}
 use Rattle.unwind_stack.specs.declared.fall.StepFault.{StepFault}
 use Rattle.unwind_stack.specs.declared.fall.StepFault.TheVariants.{LinkParent, NoParent, DirInWay, Clash}
@@ -192,16 +193,16 @@ once_by o twice s place none = no_twice (some_if (claims s.node place) (rival o 
 some_fault : (fault : StepFault) → Some fault ≡ None → ⊥
 some_fault fault e = true≢false (ap is_some e)
 
-none_by : (p : Path) (above : Above) (way : Bool) (clash : Option (List ℕ)) → fault_by p above way clash ≡ None → clash ≡ None
-none_by p kind_above.Link way clash e = absurd (some_fault (LinkParent p) e)
-none_by p kind_above.Lacking way clash e = absurd (some_fault (NoParent p) e)
-none_by p kind_above.Directories true clash e = absurd (some_fault (DirInWay p) e)
-none_by p kind_above.Directories false None e = refl
-none_by p kind_above.Directories false (Some owner) e = absurd (some_fault (Clash p owner) e)
+none_by : (p : Path) (above : Above) (way : Bool) (clash : Option (List ℕ)) (diversion : Option Diversion) → fault_by p above way clash diversion ≡ None → clash ≡ None
+none_by p kind_above.Link way clash diversion e = absurd (some_fault (LinkParent p) e)
+none_by p kind_above.Lacking way clash diversion e = absurd (some_fault (NoParent p) e)
+none_by p kind_above.Directories true clash diversion e = absurd (some_fault (DirInWay p) e)
+none_by p kind_above.Directories false (Some owner) diversion e = absurd (some_fault (Clash p owner) e)
+none_by p kind_above.Directories false None diversion e = refl
 
-pub once_told : (o : Owning) (twice : Path → Bool) (s : Work) (place : Option Kind) (above : Above) (way : Bool) (found : Option StepFault) → found ≡ fault_by s.path above way (clash_by o twice s place) → IfNone found (twice s.place ≡ false)
-once_told o twice s place above way None told = once_by o twice s place (none_by s.path above way (clash_by o twice s place) (sym told))
-once_told o twice s place above way (Some fault) told = tt
+pub once_told : (o : Owning) (twice : Path → Bool) (s : Work) (place : Option Kind) (above : Above) (way : Bool) (diversion : Option Diversion) (found : Option StepFault) → found ≡ fault_by s.path above way (clash_by o twice s place) diversion → IfNone found (twice s.place ≡ false)
+once_told o twice s place above way diversion None told = once_by o twice s place (none_by s.path above way (clash_by o twice s place) diversion (sym told))
+once_told o twice s place above way diversion (Some fault) told = tt
 
 -- of an answer
 

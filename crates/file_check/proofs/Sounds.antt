@@ -9,25 +9,28 @@ use Rattle.file_check.specs.declared.above.Above.{Above}
 use Rattle.file_check.specs.declared.above.Above.TheVariants as above
 use Rattle.file_check.specs.Above.{IsAbove}
 use Rattle.file_check.specs.Ways.{in_way_at}
+use Rattle.diversions.specs.declared.entry.Diversion.{Diversion}
 use Rattle.file_check.specs.Clashes.{Owning, clash_at}
+use Rattle.file_check.specs.Targets.{diversion_to}
 use Rattle.file_check.specs.Index.{AllOutside}
 use Rattle.file_check.specs.Sound.{IsSound, IsFaultOf, AreSound, IsFirstOf, fault_by}
 use Rattle.file_check.proofs.WorkLists.{whole_is, front_is}
 
 module _ (o : Owning) (made twice : Path → Bool) (w : World) where
   -- what is seen gives the first fault
-  judged : (s : Work) (above : Above) (way : Bool) (clash : Option (List ℕ)) → IsAbove made w s.place above → way ≡ in_way_at w s → clash ≡ clash_at o twice w s
-      → MatchOption (fault_by s.path above way clash) (IsSound o made twice w s) (IsFaultOf o made twice w s)
-  judged s above.Link way clash is way_is clash_is = (refl, is)
-  judged s above.Lacking way clash is way_is clash_is = (refl, is.0, is.1)
-  judged s above.Directories true clash is way_is clash_is = (refl, is, sym way_is)
-  judged s above.Directories false None is way_is clash_is = record { above = is; way = sym way_is; clash = sym clash_is }
-  judged s above.Directories false (Some owner) is way_is clash_is = (refl, is, sym way_is, sym clash_is)
+  judged : (s : Work) (above : Above) (way : Bool) (clash : Option (List ℕ)) (diversion : Option Diversion) → IsAbove made w s.place above → way ≡ in_way_at w s → clash ≡ clash_at o twice w s → diversion ≡ diversion_to o s
+      → MatchOption (fault_by s.path above way clash diversion) (IsSound o made twice w s) (IsFaultOf o made twice w s)
+  judged s above.Link way clash diversion is way_is clash_is to = (refl, is)
+  judged s above.Lacking way clash diversion is way_is clash_is to = (refl, is.0, is.1)
+  judged s above.Directories true clash diversion is way_is clash_is to = (refl, is, sym way_is)
+  judged s above.Directories false (Some owner) diversion is way_is clash_is to = (refl, is, sym way_is, sym clash_is)
+  judged s above.Directories false None (Some d) is way_is clash_is to = (refl, is, sym way_is, sym clash_is, (d, sym to, refl))
+  judged s above.Directories false None None is way_is clash_is to = record { above = is; way = sym way_is; clash = sym clash_is; target = sym to }
 
-  pub judged_by : (s : Work) (above : Above) (way : Bool) (clash : Option (List ℕ)) (found : Option StepFault) → found ≡ fault_by s.path above way clash → IsAbove made w s.place above → way ≡ in_way_at w s → clash ≡ clash_at o twice w s
+  pub judged_by : (s : Work) (above : Above) (way : Bool) (clash : Option (List ℕ)) (found : Option StepFault) → found ≡ fault_by s.path above way clash (diversion_to o s) → IsAbove made w s.place above → way ≡ in_way_at w s → clash ≡ clash_at o twice w s
       → MatchOption found (IsSound o made twice w s) (IsFaultOf o made twice w s)
   judged_by s above way clash found told is way_is clash_is =
-      subst (λ (f : Option StepFault). MatchOption f (IsSound o made twice w s) (IsFaultOf o made twice w s)) (sym told) (judged s above way clash is way_is clash_is)
+      subst (λ (f : Option StepFault). MatchOption f (IsSound o made twice w s) (IsFaultOf o made twice w s)) (sym told) (judged s above way clash (diversion_to o s) is way_is clash_is refl)
 
   sound_more : (a : List Work) (s : Work) → AreSound o made twice w a → IsSound o made twice w s → AreSound o made twice w (a ++ s ∷ [])
   sound_more [] s all is = (is, tt)

@@ -6,7 +6,7 @@ use Rattle.host_core.specs.Paths.{Path}
 use Rattle.host_core.specs.World.{World, kind_of}
 use Rattle.host_core.specs.declared.fault.HostFault.{HostFault}
 use Rattle.unwind_stack.specs.declared.fall.StepFault.{StepFault}
-use Rattle.unwind_stack.specs.declared.fall.StepFault.TheVariants.{LinkParent, NoParent, DirInWay, Clash}
+use Rattle.unwind_stack.specs.declared.fall.StepFault.TheVariants.{LinkParent, NoParent, DirInWay, Clash, DiversionTarget}
 use Rattle.file_works.specs.declared.work.Work.{Work}
 use Rattle.file_check.specs.Clashes.{Owning}
 use Rattle.file_check.specs.Index.{makes_directory, is_made, is_place, is_twice}
@@ -42,22 +42,24 @@ twice_unseen (x ∷ xs) (y ∷ ys) q same =
 
 module _ (o : Owning) (made twice : Path → Bool) (w : World) where
   sound_to : (s : Work) → IsSound o made twice w s → IsSound o made twice w (unseen s)
-  sound_to s is = record { above = is.above; way = is.way; clash = is.clash }
+  sound_to s is = record { above = is.above; way = is.way; clash = is.clash; target = is.target }
 
   sound_from : (s : Work) → IsSound o made twice w (unseen s) → IsSound o made twice w s
-  sound_from s is = record { above = is.above; way = is.way; clash = is.clash }
+  sound_from s is = record { above = is.above; way = is.way; clash = is.clash; target = is.target }
 
   fault_to : (s : Work) (fault : StepFault) → IsFaultOf o made twice w s fault → IsFaultOf o made twice w (unseen s) fault
   fault_to s (LinkParent p) is = is
   fault_to s (NoParent p) is = is
   fault_to s (DirInWay p) is = is
   fault_to s (Clash p owner) is = is
+  fault_to s (DiversionTarget p diverter) is = is
 
   fault_from : (s : Work) (fault : StepFault) → IsFaultOf o made twice w (unseen s) fault → IsFaultOf o made twice w s fault
   fault_from s (LinkParent p) is = is
   fault_from s (NoParent p) is = is
   fault_from s (DirInWay p) is = is
   fault_from s (Clash p owner) is = is
+  fault_from s (DiversionTarget p diverter) is = is
 
   first_same : (xs ys : List Work) (fault : StepFault) → map unseen ys ≡ map unseen xs → IsFirstOf o made twice w ys fault → IsFirstOf o made twice w xs fault
   first_same [] [] fault same is = is

@@ -1,14 +1,16 @@
 // The first fault of a path, by what was seen.
-ghost use Rattle.std.specs.Prelude.{◌≡◌, IfOk};
+ghost use Rattle.std.specs.Prelude.{◌≡◌, IfOk, option_copied};
 ghost use Rattle.std.specs.BTreeSet.{contains_text};
 ghost use Rattle.file_check.specs.Clashes.{clash_by};
 ghost use Rattle.file_check.specs.Sound.{fault_by};
+ghost use Rattle.file_check.specs.Targets.{diversion_to};
 ghost use Rattle.file_check.specs.Ways.{in_way_by};
 
 use crate::above::Above;
 use crate::clash::clash_of;
 use crate::owning::Owning;
 use crate::sight::{Sight, is_in_way};
+use diversions::Diversion;
 use file_works::Work;
 use host_core::RootPath;
 use std::alloc::{AllocError, Global};
@@ -22,15 +24,23 @@ fn first_fault(
     above: Above,
     way: bool,
     clash: Option<Text>,
+    diversion: Option<&Diversion>,
 ) -> Result<Option<StepFault>, AllocError>
-    ensures { IfOk result (λ found. found ≡ fault_by path.now above way clash) }
+    ensures { IfOk result
+        (λ found. found ≡ fault_by path.now above way clash (option_copied diversion.entry)) }
 {
-    match (above, way, clash) {
-        (Above::Link, _, _) => Ok(Some(StepFault::LinkParent(path.copy()?))),
-        (Above::Lacking, _, _) => Ok(Some(StepFault::NoParent(path.copy()?))),
-        (Above::Directories, true, _) => Ok(Some(StepFault::DirInWay(path.copy()?))),
-        (Above::Directories, false, Some(owner)) => Ok(Some(StepFault::Clash(path.copy()?, owner))),
-        (Above::Directories, false, None) => Ok(None),
+    match (above, way, clash, diversion) {
+        (Above::Link, _, _, _) => Ok(Some(StepFault::LinkParent(path.copy()?))),
+        (Above::Lacking, _, _, _) => Ok(Some(StepFault::NoParent(path.copy()?))),
+        (Above::Directories, true, _, _) => Ok(Some(StepFault::DirInWay(path.copy()?))),
+        (Above::Directories, false, Some(owner), _) => {
+            Ok(Some(StepFault::Clash(path.copy()?, owner)))
+        }
+        (Above::Directories, false, None, Some(entry)) => {
+            let diverter = entry.owner.name()?;
+            Ok(Some(StepFault::DiversionTarget(path.copy()?, diverter)))
+        }
+        (Above::Directories, false, None, None) => Ok(None),
     }
 }
 
@@ -46,8 +56,11 @@ pub(crate) fn judge(
     ensures { IfOk result
         (λ found. found
         ≡ fault_by shipped.now.path above (in_way_by shipped.now shipped.now.had sight)
-        (clash_by owning.now (contains_text twice.now) shipped.now sight.place)) }
+        (clash_by owning.now (contains_text twice.now) shipped.now sight.place)
+        (diversion_to owning.now shipped.now)) }
 {
     let clash = clash_of(alloc, owning, twice, shipped, sight.place)?;
-    first_fault(&shipped.path, above, is_in_way(shipped, sight), clash)
+    let way = is_in_way(shipped, sight);
+    let diversion = owning.diversion_to(shipped);
+    first_fault(&shipped.path, above, way, clash, diversion)
 }

@@ -1,11 +1,13 @@
 // Who has which places.
-ghost use Rattle.std.specs.Prelude.{◌≡◌, IfOk};
+ghost use Rattle.std.specs.Prelude.{◌≡◌, IfOk, option_copied};
 ghost use Rattle.std.specs.List.{list_any};
 ghost use Rattle.std.specs.Str.{bytes_eq};
 ghost use Rattle.file_check.specs.Clashes.{first_rival, is_rival, rival};
+ghost use Rattle.file_check.specs.Targets.{diversion_to};
 
-use diversions::Diversions;
+use diversions::{Diversion, Diversions};
 use file_lists::{FileLists, Listed};
+use file_works::Work;
 use host_core::RootPath;
 use std::alloc::{AllocError, Global};
 use std::marker::Model;
@@ -68,5 +70,12 @@ impl<'a> Owning<'a> {
     {
         let owners = self.lists.owners(alloc, self.diversions, place)?;
         self.first_rival(owners.items.as_slice())
+    }
+
+    /// The diversion of another path to a shipped one.
+    pub(crate) fn diversion_to(&self, shipped: &Work) -> Option<&Diversion>
+        ensures { option_copied result ≡ diversion_to self.now shipped.now }
+    {
+        self.diversions.entry_to(&shipped.path)
     }
 }

@@ -1,5 +1,5 @@
 -- Faults and refusals in the program's own words: by name, then their fields.
-use Rattle.std.specs.Prelude.{ℕ, List, ◌++◌, codes, if◌then◌else◌}
+use Rattle.std.specs.Prelude.{ℕ, List, ◌++◌, Option, Some, None, codes, if◌then◌else◌}
 use Rattle.std.specs.Fmt.{decimal}
 use Rattle.std.specs.Str.{bytes_eq}
 use Rattle.control_fields.specs.declared.fault.ControlFault.{ControlFault}
@@ -94,9 +94,15 @@ rule_text (BrokenBy other) = codes "BrokenBy " ++ other
 rule_text (ConffileKind path) = codes "ConffileKind " ++ path_text path
 rule_text (DependedOn other) = codes "DependedOn " ++ other
 
+-- the target of a diversion, and the package that diverts to it, where one is named
+abbrev pub target_text : List ℕ → Option (List ℕ) → List ℕ
+target_text path None = codes "DiversionTarget " ++ path_text path
+target_text path (Some diverter) = codes "DiversionTarget " ++ (path_text path ++ (codes " " ++ diverter))
+
 -- the step fault of the files with its path, and the package with which the path clashes
 abbrev pub step_text : StepFault → List ℕ
 step_text (step.LinkParent path) = codes "LinkParent " ++ path_text path
 step_text (step.NoParent path) = codes "NoParent " ++ path_text path
 step_text (step.DirInWay path) = codes "DirInWay " ++ path_text path
 step_text (step.Clash path owner) = codes "Clash " ++ (path_text path ++ (codes " " ++ owner))
+step_text (step.DiversionTarget path diverter) = target_text path diverter

@@ -1,7 +1,7 @@
 // Faults and refusals in the program's own words.
 ghost use Rattle.std.specs.Prelude.{◌≡◌, ◌++◌, IfOk, codes, string_bytes};
 ghost use Rattle.relation_fields.specs.Printing.{print_clause};
-ghost use Rattle.report_lines.specs.Faults.{control_text, divert_word, field_word, line_text, path_text, rule_text, step_text, tree_text};
+ghost use Rattle.report_lines.specs.Faults.{control_text, divert_word, field_word, line_text, path_text, rule_text, step_text, target_text, tree_text};
 ghost use Rattle.report_lines.specs.Openings.{damaged_line, expectation, line_expectation, opening_line, whole_expectation};
 
 use administration::AdministrationFault;
@@ -55,6 +55,21 @@ fn at_path(alloc: Global, name: &str, path: &RootPath) -> Result<String, AllocEr
 {
     let path = path_text(path);
     format!(in alloc; "{name} {path}")
+}
+
+// A fault of one path that another package has to do with.
+fn at_path_of(
+    alloc: Global,
+    name: &str,
+    path: &RootPath,
+    other: &Text,
+) -> Result<String, AllocError>
+    ensures { IfOk result (λ text.
+        string_bytes text ≡ name.now ++ (codes " " ++ (path_text path.now ++ (codes " " ++ other.now)))) }
+{
+    let path = path_text(path);
+    let other = other.as_str();
+    format!(in alloc; "{name} {path} {other}")
 }
 
 fn line_text(alloc: Global, name: &LineName) -> Result<String, AllocError>
@@ -164,6 +179,19 @@ pub(crate) fn rule_text(alloc: Global, rule: &Rule) -> Result<String, AllocError
     }
 }
 
+fn target_text(
+    alloc: Global,
+    path: &RootPath,
+    diverter: &Option<Text>,
+) -> Result<String, AllocError>
+    ensures { IfOk result (λ text. string_bytes text ≡ target_text path.now diverter.now) }
+{
+    match diverter {
+        None => at_path(alloc, "DiversionTarget", path),
+        Some(diverter) => at_path_of(alloc, "DiversionTarget", path, diverter),
+    }
+}
+
 /// The step fault of a package's files.
 pub(crate) fn step_text(alloc: Global, fault: &StepFault) -> Result<String, AllocError>
     ensures { IfOk result (λ text. string_bytes text ≡ step_text fault.now) }
@@ -172,11 +200,8 @@ pub(crate) fn step_text(alloc: Global, fault: &StepFault) -> Result<String, Allo
         StepFault::LinkParent(path) => at_path(alloc, "LinkParent", path),
         StepFault::NoParent(path) => at_path(alloc, "NoParent", path),
         StepFault::DirInWay(path) => at_path(alloc, "DirInWay", path),
-        StepFault::Clash(path, owner) => {
-            let path = path_text(path);
-            let owner = owner.as_str();
-            format!(in alloc; "Clash {path} {owner}")
-        }
+        StepFault::Clash(path, owner) => at_path_of(alloc, "Clash", path, owner),
+        StepFault::DiversionTarget(path, diverter) => target_text(alloc, path, diverter),
     }
 }
 

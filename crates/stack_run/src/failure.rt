@@ -4,6 +4,7 @@ ghost use Rattle.stack_run.specs.Ended.{cause_of};
 
 use host_core::Call;
 use std::alloc::AllocError;
+use texts::Text;
 use unwind_stack::{Fall, StepFault};
 
 /// For what a run failed: a row's forward call, or the step fault of the files.
@@ -11,6 +12,15 @@ use unwind_stack::{Fall, StepFault};
 pub enum Failure {
     OfCall(Call),
     OfFiles(StepFault),
+}
+
+fn name_copy(name: &Option<Text>) -> Result<Option<Text>, AllocError>
+    ensures { IfOk result (λ copy. copy ≡ name.now) }
+{
+    match name {
+        None => Ok(None),
+        Some(name) => Ok(Some(name.copy()?)),
+    }
 }
 
 fn fault_copy(fault: &StepFault) -> Result<StepFault, AllocError>
@@ -21,6 +31,9 @@ fn fault_copy(fault: &StepFault) -> Result<StepFault, AllocError>
         StepFault::NoParent(path) => Ok(StepFault::NoParent(path.copy()?)),
         StepFault::DirInWay(path) => Ok(StepFault::DirInWay(path.copy()?)),
         StepFault::Clash(path, name) => Ok(StepFault::Clash(path.copy()?, name.copy()?)),
+        StepFault::DiversionTarget(path, diverter) => {
+            Ok(StepFault::DiversionTarget(path.copy()?, name_copy(diverter)?))
+        }
     }
 }
 

@@ -96,6 +96,41 @@ const ONE_PLACE: Package = Package {
     yields: &[],
 };
 
+const ON_TARGET: Package = Package {
+    name: "alpha",
+    ships: &[("/z", Ships::Directory), ("/z/t", Ships::File("new"))],
+    listing: &[],
+    yields: &[],
+};
+
+const DIRECTORY_ON_TARGET: Package = Package {
+    name: "alpha",
+    ships: &[("/z", Ships::Directory), ("/z/t", Ships::Directory)],
+    listing: &[],
+    yields: &[],
+};
+
+const LINK_ON_TARGET: Package = Package {
+    name: "alpha",
+    ships: &[("/z", Ships::Directory), ("/z/t", Ships::Link("elsewhere"))],
+    listing: &[],
+    yields: &[],
+};
+
+const TARGET_OF_GAMMA: Package = Package {
+    name: "alpha",
+    ships: &[("/z", Ships::Directory), ("/z/t", Ships::File("new"))],
+    listing: &["gamma"],
+    yields: &[],
+};
+
+const TARGET_OVER_GAMMA: Package = Package {
+    name: "alpha",
+    ships: &[("/z", Ships::Directory), ("/z/t", Ships::File("new"))],
+    listing: &["gamma"],
+    yields: &["gamma"],
+};
+
 const STAYING: Package = Package {
     name: "alpha",
     ships: &[
@@ -121,6 +156,12 @@ const TWO_FAULTS: Package = Package {
 const DIVERSIONS: &str = "/var/lib/dpkg/diversions";
 
 const A_TO_Z: &str = "/a\n/z/t\n:\n";
+
+const A_TO_Z_BY_GAMMA: &str = "/a\n/z/t\ngamma\n";
+
+const A_TO_Z_BY_ALPHA: &str = "/a\n/z/t\nalpha\n";
+
+const Z_LIST: &str = "/.\n/z\n/z/t\n";
 
 const V_TO_REAL: &str = "/usr/bin/v\n/usr/bin/v.real\n:\n";
 
@@ -209,6 +250,60 @@ const ROWS: &[Row] = &[
             ("/usr/bin/v.real", "new"),
             ("/usr/bin/v.real.dpkg-tmp", "old"),
         ],
+    },
+    Row {
+        there: &[(DIVERSIONS, A_TO_Z)],
+        package: &ON_TARGET,
+        fault: "DiversionTarget /z/t",
+        left: &[("/z", "")],
+    },
+    Row {
+        there: &[(DIVERSIONS, A_TO_Z_BY_GAMMA)],
+        package: &ON_TARGET,
+        fault: "DiversionTarget /z/t gamma",
+        left: &[("/z", "")],
+    },
+    Row {
+        there: &[(DIVERSIONS, A_TO_Z_BY_ALPHA)],
+        package: &ON_TARGET,
+        fault: "DiversionTarget /z/t alpha",
+        left: &[("/z", "")],
+    },
+    Row {
+        there: &[(DIVERSIONS, A_TO_Z_BY_GAMMA), ("/z/t", "/")],
+        package: &DIRECTORY_ON_TARGET,
+        fault: "DiversionTarget /z/t gamma",
+        left: &[("/z/t", "/")],
+    },
+    Row {
+        there: &[(DIVERSIONS, A_TO_Z_BY_GAMMA), ("/z/t", "/")],
+        package: &LINK_ON_TARGET,
+        fault: "DiversionTarget /z/t gamma",
+        left: &[("/z/t", "/")],
+    },
+    Row {
+        there: &[(DIVERSIONS, A_TO_Z_BY_GAMMA), ("/z/t", "/")],
+        package: &ON_TARGET,
+        fault: "DirInWay /z/t",
+        left: &[("/z/t", "/")],
+    },
+    Row {
+        there: &[
+            (DIVERSIONS, A_TO_Z),
+            ("/var/lib/dpkg/info/gamma.list", Z_LIST),
+        ],
+        package: &TARGET_OF_GAMMA,
+        fault: "Clash /z/t gamma",
+        left: &[("/z", "")],
+    },
+    Row {
+        there: &[
+            (DIVERSIONS, A_TO_Z),
+            ("/var/lib/dpkg/info/gamma.list", Z_LIST),
+        ],
+        package: &TARGET_OVER_GAMMA,
+        fault: "DiversionTarget /z/t",
+        left: &[("/z", "")],
     },
     Row {
         there: &[("/lib", "@usr/lib"), ("/share", "/")],

@@ -305,5 +305,11 @@ pub(crate) fn fault_text(alloc: Global, fault: Option<&StepFault>) -> Result<Str
         Some(StepFault::Clash(path, owner)) => {
             format!(in alloc; "Clash {} {}", path.as_str(), owner.as_str())
         }
+        Some(StepFault::DiversionTarget(path, None)) => {
+            format!(in alloc; "DiversionTarget {}", path.as_str())
+        }
+        Some(StepFault::DiversionTarget(path, Some(diverter))) => {
+            format!(in alloc; "DiversionTarget {} {}", path.as_str(), diverter.as_str())
+        }
     }
 }

@@ -15,3 +15,5 @@ pub mod OwnMembers
 pub mod Behind
 pub mod Clear
 pub mod NamesBack
+pub mod CalledRows
+pub mod CalledFiles

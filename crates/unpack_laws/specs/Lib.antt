@@ -4,3 +4,4 @@ pub mod Whole
 pub mod Marked
 pub mod Info
 pub mod Done
+pub mod Called

@@ -2,6 +2,7 @@
 //! engine promises. Nothing here runs.
 #![tactic(auto)]
 
+mod called;
 mod done;
 mod files;
 mod info;
@@ -10,6 +11,7 @@ mod packages;
 mod paths;
 mod records;
 
+pub use called::what_a_called_script_holds;
 pub use done::what_an_unpack_that_is_done_leaves;
 pub use files::what_stands_of_the_package;
 pub use info::what_stands_in_info;

@@ -34,7 +34,7 @@ returns-clause-found g c = λ h.
 
 pub returns-clause-apart : goal.returns-clause-apart
 returns-clause-apart g c =
-    once_told c.args.owning.now (contains_text c.args.index.now.twice) c.args.shipped.now c.in_ok-sight.sight.place c.in_ok-above.above _ c.in_ok-judge.field-0 c.in_ok-judge.ensures
+    once_told c.args.owning.now (contains_text c.args.index.now.twice) c.args.shipped.now c.in_ok-sight.sight.place c.in_ok-above.above _ _ c.in_ok-judge.field-0 c.in_ok-judge.ensures
 
 pub returns-clause-reads : goal.returns-clause-reads
 returns-clause-reads g c = reads_then _ _ _ c.look_above.ensures.reads c.look_around.ensures.reads

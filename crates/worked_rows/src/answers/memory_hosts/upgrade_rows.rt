@@ -37,6 +37,12 @@ const TREES: &[TreeFile] = &[
     ("twice", CONTROL, "Package: alpha\nVersion: 2.0\n"),
     ("twice", "/usr/bin/x", "new"),
     ("twice", "/usr/bin/y", "new"),
+    ("target", CONTROL, "Package: alpha\nVersion: 2.0\n"),
+    ("target", "/DEBIAN/preinst", SCRIPT),
+    ("target", "/DEBIAN/postrm", SCRIPT),
+    ("target", "/usr/bin/x.real", "new"),
+    ("under", CONTROL, "Package: alpha\nVersion: 2.0\n"),
+    ("under", "/usr/bin/x.real/f", "new"),
     ("victor", CONTROL, "Package: victor\nVersion: 2\n"),
     ("victor", "/usr/bin/v", "two"),
     ("zulu", CONTROL, "Package: zulu\nVersion: 2\n"),
@@ -293,6 +299,60 @@ two
 ",
 );
 
+// What is shipped as the target of a diversion is refused, whoever's it is; what one moves there isn't.
+const TARGETS: FileRow = (
+    &[],
+    &[],
+    &[
+        "dpkg_cli divert --package victor --divert /usr/bin/x.real /usr/bin/x",
+        "dpkg_cli unpack target",
+        "dpkg_cli unpack under",
+        "read /",
+        "dpkg_cli undivert --package victor /usr/bin/x",
+        "dpkg_cli divert --package alpha --divert /usr/bin/x.real /usr/bin/x",
+        "dpkg_cli unpack target",
+        "dpkg_cli undivert --package alpha /usr/bin/x",
+        "dpkg_cli divert --local --divert /usr/bin/x.real /usr/bin/x",
+        "dpkg_cli unpack target",
+        "dpkg_cli unpack twice",
+        "read /usr/bin",
+    ],
+    "done
+||0
+call new alpha preinst install: exit 0
+call new alpha postrm abort-install: exit 0
+state alpha none
+failed alpha DiversionTarget /usr/bin/x.real victor
+||1
+state alpha none
+failed alpha DiversionTarget /usr/bin/x.real victor
+||1
+directory: var
+done
+||0
+done
+||0
+call new alpha preinst install: exit 0
+call new alpha postrm abort-install: exit 0
+state alpha none
+failed alpha DiversionTarget /usr/bin/x.real alpha
+||1
+done
+||0
+done
+||0
+call new alpha preinst install: exit 0
+call new alpha postrm abort-install: exit 0
+state alpha none
+failed alpha DiversionTarget /usr/bin/x.real
+||1
+state alpha 2.0 install ok unpacked
+done
+||0
+directory: x.real y
+",
+);
+
 const DIVERTED_CONFFILE: FileRow = (
     &[],
     &[],
@@ -387,6 +447,7 @@ const ROWS: &[FileRow] = &[
     IN_WAY,
     DIRECTORY_FOR_FILE,
     DIVERTED,
+    TARGETS,
     DIVERTED_CONFFILE,
     DIVERTED_HOME,
     CONFFILES,

@@ -304,3 +304,87 @@ red
 fn a_link_is_no_conffile(rt: HostRuntime) -> Result<(), Fail> {
     check(&rt, NO_FILE)
 }
+
+// The target of another's diversion, of its own and of a local one; and a path that is diverted there.
+const TARGETS: &[Deed] = &[
+    Deed {
+        before: "mkdir -p root/var/lib/dpkg
+>started
+tree one zulu 1
+for name in preinst postrm; do script one $name 755 'exit 0'; done
+mkdir -p one/opt
+echo one >one/opt/x.real
+tree two zulu 1
+mkdir -p two/opt
+echo two >two/opt/x
+printf '/opt/x\\n/opt/x.real\\nvictor\\n' >root/var/lib/dpkg/diversions",
+        words: "unpack",
+        tree: "one",
+        calls: "call new zulu preinst install: exit 0
+call new zulu postrm abort-install: exit 0
+",
+        rest: "state zulu none
+failed zulu DiversionTarget /opt/x.real victor
+||1
+",
+        look: LOOK,
+        left: "preinst install
+postrm abort-install
+",
+    },
+    Deed {
+        before: "printf '/opt/x\\n/opt/x.real\\nzulu\\n' >root/var/lib/dpkg/diversions",
+        words: "unpack",
+        tree: "one",
+        calls: "call new zulu preinst install: exit 0
+call new zulu postrm abort-install: exit 0
+",
+        rest: "state zulu none
+failed zulu DiversionTarget /opt/x.real zulu
+||1
+",
+        look: LOOK,
+        left: "preinst install
+postrm abort-install
+",
+    },
+    Deed {
+        before: "printf '/opt/x\\n/opt/x.real\\n:\\n' >root/var/lib/dpkg/diversions",
+        words: "unpack",
+        tree: "one",
+        calls: "call new zulu preinst install: exit 0
+call new zulu postrm abort-install: exit 0
+",
+        rest: "state zulu none
+failed zulu DiversionTarget /opt/x.real
+||1
+",
+        look: LOOK,
+        left: "preinst install
+postrm abort-install
+",
+    },
+    Deed {
+        before: "",
+        words: "unpack",
+        tree: "two",
+        calls: "",
+        rest: "state zulu 1 install ok unpacked
+done
+||0
+",
+        look: LOOK,
+        left: "755 ./opt
+644 ./opt/x.real
+two
+/.
+/opt
+/opt/x
+",
+    },
+];
+
+#[test]
+fn a_target_of_a_diversion_is_not_shipped(rt: HostRuntime) -> Result<(), Fail> {
+    check(&rt, TARGETS)
+}
