@@ -1,5 +1,5 @@
 // The host over a real directory.
-ghost use Rattle.std.specs.Prelude.{◌≡◌, IsTrue, string_bytes};
+ghost use Rattle.std.specs.Prelude.{◌≡◌, ◌<◌, IsTrue, is_some, string_bytes, true};
 ghost use Rattle.std.specs.Option.{ForSome};
 ghost use Rattle.host_core.specs.Unsynced.{IsSettled};
 ghost use Rattle.host_files.specs.Remembered.{IsKnown, IsNew};
@@ -8,6 +8,7 @@ ghost use Rattle.host_files.specs.Replay.{replay};
 use crate::changed::Changed;
 use crate::disk::fault_of;
 use crate::disk_model::Disk;
+use crate::failure::Failure;
 use crate::looking::{kind_at, listing_at, node_at};
 use crate::record::{Asks, Note};
 use crate::root::Root;
@@ -16,7 +17,7 @@ use crate::steps::{
     flush, flush_all, hard_link, make_directory, move_over, symlink, unlink, unlink_directory,
     write_file,
 };
-use crate::system::System;
+use crate::system::{ScriptStreams, System};
 use crate::told::{Made, Told};
 use host_core::{
     Access, Call, Host, HostFault, Keep, Kind, Listing, Node, Outcome, Places, RootPath,
@@ -33,7 +34,9 @@ pub struct FilesHost<D: Disk> {
     root: Root,
     changed: Changed,
     told: Told,
+    failure: Option<Failure>,
     disk: PhantomData<D>,
+    ghost explained: { 0 < told.faults → is_some failure ≡ true },
     ghost settled: { IsTrue (replay D.Disk.model told.log.notes).honest → IsSettled (replay D.Disk.model told.log.notes).events },
     ghost known: { ForSome root.remembered.directory (λ s. ∥ IsKnown (string_bytes s) told.log.notes ∥₁) },
     ghost last: { ForSome root.remembered.file (λ f. ∥ IsNew f told.log.notes ∥₁) },
@@ -42,9 +45,30 @@ pub struct FilesHost<D: Disk> {
 // the longest directory that leaves room for every path below it
 const MAX_DIRECTORY: usize = 3000;
 
-// Whether owners can be set, and are told.
-fn is_superuser() -> bool {
+/// Whether owners can be set, and are told.
+pub fn is_superuser() -> bool {
     libc::geteuid() == 0
+}
+
+// The path of a step, which a person is told where it fails; a barrier's own is kept by the system's call.
+fn path_of<'a>(asked: Asks<'a>) -> &'a str {
+    match asked {
+        Asks::Write(path, _)
+        | Asks::Move(path, _)
+        | Asks::Take(path)
+        | Asks::MakeDir(path, _)
+        | Asks::RemoveDir(path)
+        | Asks::HardLink(path, _)
+        | Asks::MakeLink(path, _)
+        | Asks::Sync(path) => path.as_str(),
+        Asks::Barrier => "",
+    }
+}
+
+// What a person is told of a fault of the call that was begun, which is at a path.
+fn failure_of(system: &mut System, root: &Root, path: &str) -> Failure {
+    let (place, error) = system.take_error();
+    Failure::new(&system.rt, root, path, place, error)
 }
 
 // The kept places, lent.
@@ -55,7 +79,7 @@ fn places_of<'a>(keep: &'a Keep<'_>) -> &'a Places
 }
 
 impl<D: Disk> FilesHost<D> {
-    ghost use Rattle.std.specs.Prelude.{◌≡◌, ◌∷◌, [], ◌<◌, ◌^◌, ◌-◌, map, vec_len, vec_capacity, Err, OnOk, IfOk, length, string_bytes};
+    ghost use Rattle.std.specs.Prelude.{◌≡◌, ◌∷◌, [], ◌<◌, ◌^◌, ◌-◌, true, is_some, map, vec_len, vec_capacity, Err, OnOk, IfOk, length, string_bytes};
     ghost use Rattle.host_core.specs.declared.fault.HostFault.TheVariants.{Device, NoMemory};
     ghost use Rattle.host_files.specs.FilesState.{directory_of};
     ghost use Rattle.host_files.specs.Notes.{noted, asked_by, told_of, calls_in, faults_in, IsPlain, IsNotedFault};
@@ -83,11 +107,40 @@ impl<D: Disk> FilesHost<D> {
                 root,
                 changed: Changed::new(alloc),
                 told: Told::new(alloc),
+                failure: None,
                 disk: PhantomData,
             }),
             Ok(_) => Err(HostFault::Device),
             Err(error) => Err(fault_of(&error)),
         }
+    }
+
+    /// Where scripts write, their programs' own streams unless this is called.
+    pub fn set_script_streams(&mut self, streams: ScriptStreams)
+        ensures { self.new.told ≡ self.old.told }
+    {
+        self.system.streams = streams;
+    }
+
+    /// The architecture that scripts are told from now on, if it is known.
+    pub fn set_architecture(&mut self, architecture: Option<String>)
+        ensures { self.new.told ≡ self.old.told }
+    {
+        self.system.architecture = architecture;
+    }
+
+    /// Of its last fault, if the device has failed.
+    pub fn failure(&self) -> Option<&Failure>
+        ensures { 0 < faults_in self.now.told.log.notes → is_some result ≡ true }
+    {
+        self.failure.as_ref()
+    }
+
+    /// The same, of a host that is given back.
+    pub fn into_failure(self) -> Option<Failure>
+        ensures { 0 < faults_in self.told.log.notes → is_some result ≡ true }
+    {
+        self.failure
     }
 
     /// All calls so far.
@@ -115,8 +168,8 @@ impl<D: Disk> FilesHost<D> {
         self.told.note(note);
     }
 
-    // Notes a call that failed with Device; want of memory is no event.
-    fn fail(&mut self, fault: HostFault, note: &Note<'_>) -> HostFault
+    // Notes a call at a path that failed with Device; want of memory is no event.
+    fn fail(&mut self, fault: HostFault, path: &str, note: &Note<'_>) -> HostFault
         requires fault { IsNotedFault (noted note.now) }
         requires shown { fault ≡ Device → IsShownBy (string_bytes self.old.root.directory) (string_bytes self.old.root.front) self.old.root.owners (noted note.now) self.old.system.trace.calls }
         requires unchanged { fault ≡ NoMemory → changes_in self.old.system.trace.calls ≡ [] }
@@ -127,6 +180,7 @@ impl<D: Disk> FilesHost<D> {
     {
         match fault {
             HostFault::Device => {
+                self.failure = Some(failure_of(&mut self.system, &self.root, path));
                 self.root.remembered.take_note(note);
                 self.told.fail(note);
                 HostFault::Device
@@ -152,7 +206,7 @@ impl<D: Disk> FilesHost<D> {
                 self.note(&Note::Done(asked));
                 Ok(())
             }
-            Err(fault) => Err(self.fail(fault, &Note::Undone(asked))),
+            Err(fault) => Err(self.fail(fault, path_of(asked), &Note::Undone(asked))),
         }
     }
 
@@ -184,7 +238,7 @@ impl<D: Disk> Host for FilesHost<D> {
                 self.note(&Note::Looked(path, &node));
                 Ok(node)
             }
-            Err(fault) => Err(self.fail(fault, &Note::Missed)),
+            Err(fault) => Err(self.fail(fault, path.as_str(), &Note::Missed)),
         }
     }
 
@@ -196,7 +250,7 @@ impl<D: Disk> Host for FilesHost<D> {
                 self.note(&Note::Seen(path, kind));
                 Ok(kind)
             }
-            Err(fault) => Err(self.fail(fault, &Note::Missed)),
+            Err(fault) => Err(self.fail(fault, path.as_str(), &Note::Missed)),
         }
     }
 
@@ -208,7 +262,10 @@ impl<D: Disk> Host for FilesHost<D> {
                 self.note(&Note::Listed(path, &listing));
                 Ok(listing)
             }
-            Err(error) => Err(self.fail(fault_of(&error), &Note::Missed)),
+            Err(error) => {
+                let fault = self.system.fault(error);
+                Err(self.fail(fault, path.as_str(), &Note::Missed))
+            }
         }
     }
 
@@ -296,7 +353,7 @@ impl<D: Disk> Host for FilesHost<D> {
                 self.end(called, call, kept, outcome);
                 Ok(outcome)
             }
-            Err(fault) => Err(self.fail(fault, &Note::Broke(call, kept))),
+            Err(fault) => Err(self.fail(fault, call.at.as_str(), &Note::Broke(call, kept))),
         }
     }
 }

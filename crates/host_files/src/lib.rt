@@ -5,6 +5,7 @@ mod changed;
 mod command;
 mod disk;
 mod disk_model;
+mod failure;
 mod files_host;
 mod looking;
 mod record;
@@ -17,7 +18,9 @@ mod told;
 mod trace;
 
 pub use disk_model::{Disk, Unknown};
-pub use files_host::FilesHost;
+pub use failure::Failure;
+pub use files_host::{FilesHost, is_superuser};
 pub use record::{Asked, Noted};
 pub use remembered::what_is_remembered_stands;
+pub use system::ScriptStreams;
 pub use told::Made;

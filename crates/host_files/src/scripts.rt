@@ -5,11 +5,12 @@ ghost use Rattle.host_files.specs.Commands.{outcome_of};
 ghost use Rattle.host_files.specs.Shown.{IsRunBy, Starts};
 
 use crate::command::command_of;
-use crate::disk::{fault_of, stat};
+use crate::disk::stat;
 use crate::root::Root;
-use crate::system::System;
+use crate::system::{ScriptStreams, System};
 use host_core::{Call, HostFault, Outcome, RootPath};
 use std::io::{Error, ErrorKind};
+use std::os::fd::AsFd;
 use std::process::{Command, ExitStatus, Stdio};
 use std::{fs, io};
 
@@ -46,29 +47,53 @@ fn can_start(rt: &HostRuntime, root: &Root, at: &RootPath) -> io::Result<bool> {
     is_file(rt, root.place(at.as_str())?.as_str())
 }
 
-// The script reads nothing, and writes where the program does. The empty input is opened here: that it is missing
-// would read as a missing script.
-fn set_streams(rt: &HostRuntime, command: &mut Command) -> io::Result<()>
+// An input that has nothing: where there is no `/dev/null`, a pipe that nobody writes to.
+fn empty_input(rt: &HostRuntime) -> io::Result<Stdio> {
+    if let Ok(null) = fs::open(rt, "/dev/null") {
+        return Ok(Stdio::from(null));
+    }
+    let (reader, writer) = io::pipe(rt)?;
+    drop(writer);
+    Ok(Stdio::from(reader))
+}
+
+// A copy of one of the program's streams, so that the script has it open also where the program itself had to open it,
+// which a start would close.
+fn copy_of<S: AsFd>(stream: &S) -> io::Result<Stdio> {
+    Ok(Stdio::from(stream.as_fd().try_clone_to_owned()?))
+}
+
+// Where the script's standard output goes.
+fn output_of(rt: &HostRuntime, streams: ScriptStreams) -> io::Result<Stdio> {
+    match streams {
+        ScriptStreams::Own => copy_of(&rt.stdout()),
+        ScriptStreams::Error => copy_of(&rt.stderr()),
+    }
+}
+
+// The script reads nothing, and writes where the program does. All are opened here: that one is missing would read as a
+// missing script.
+fn set_streams(rt: &HostRuntime, streams: ScriptStreams, command: &mut Command) -> io::Result<()>
     ensures call { SameProgramAndArgs command.old command.new }
     ensures env { SameEnv command.old command.new }
     ensures dir { SameDir command.old command.new }
 {
-    command.stdin(Stdio::from(fs::open(rt, "/dev/null")?));
-    command.stdout(Stdio::inherit());
-    command.stderr(Stdio::inherit());
+    command.stdin(empty_input(rt)?);
+    command.stdout(output_of(rt, streams)?);
+    command.stderr(copy_of(&rt.stderr())?);
     Ok(())
 }
 
 // Whether the command is to be started. All memory that its start takes is taken before.
-fn prepare(rt: &HostRuntime, root: &Root, at: &RootPath, command: &mut Command) -> io::Result<bool>
+fn prepare(system: &System, root: &Root, at: &RootPath, command: &mut Command) -> io::Result<bool>
     ensures call { SameProgramAndArgs command.old command.new }
     ensures env { SameEnv command.old command.new }
     ensures dir { SameDir command.old command.new }
 {
-    if !can_start(rt, root, at)? {
+    if !can_start(&system.rt, root, at)? {
         return Ok(false);
     }
-    set_streams(rt, command)?;
+    set_streams(&system.rt, system.streams, command)?;
     Ok(true)
 }
 
@@ -101,10 +126,10 @@ pub(crate) fn run_script(
     requires begun { system.old.trace.calls ≡ [] }
     ensures { IsRunBy (string_bytes root.now.directory) (string_bytes root.now.front) call.now system.new.trace.calls result }
 {
-    let mut command = command_of(system.rt.alloc(), root, call)?;
-    match prepare(&system.rt, root, &call.at, &mut command) {
+    let mut command = command_of(system.rt.alloc(), root, &system.architecture, call)?;
+    match prepare(system, root, &call.at, &mut command) {
         Ok(true) => spawn(system, &mut command),
         Ok(false) => Ok(Outcome::NotStarted),
-        Err(error) => Err(fault_of(&error)),
+        Err(error) => Err(system.fault(error)),
     }
 }

@@ -18,6 +18,9 @@ use std::fs::Metadata;
 use std::os::unix::fs::MetadataExt;
 use texts::Text;
 
+// what a person is told where a step needs a file or a link
+const NO_FILE: &str = "no file or link stands there";
+
 // The place of a step.
 fn place_of_step(system: &System, root: &Root, path: &RootPath) -> Result<String, HostFault>
     ensures { IfOk result (λ place. string_bytes place ≡ place_of (string_bytes root.now.front) path.now) }
@@ -52,7 +55,8 @@ fn check_access(
 {
     match system.look(place) {
         Ok(Some(found)) if access_of(owners, &found) == access => Ok(()),
-        _ => Err(HostFault::Device),
+        Ok(_) => Err(system.refuse("the system leaves out a part of its owner or mode")),
+        Err(_) => Err(HostFault::Device),
     }
 }
 
@@ -156,7 +160,7 @@ fn look_at_loose(system: &mut System, place: &str) -> Result<Metadata, HostFault
 {
     match system.look(place)? {
         Some(found) if !found.is_dir() => Ok(found),
-        _ => Err(HostFault::Device),
+        _ => Err(system.refuse(NO_FILE)),
     }
 }
 
@@ -243,7 +247,7 @@ fn flush_at(system: &mut System, place: &str) -> Result<(), HostFault>
     match system.look(place)? {
         Some(found) if found.is_symlink() => Ok(()),
         Some(found) if found.is_file() => system.sync_file(place),
-        _ => Err(HostFault::Device),
+        _ => Err(system.refuse(NO_FILE)),
     }
 }
 

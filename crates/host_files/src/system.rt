@@ -5,6 +5,7 @@ ghost use Rattle.std.specs.IoError.{raw_os_error};
 ghost use Rattle.std.specs.Process.{exit_code};
 ghost use Rattle.host_core.specs.declared.fault.HostFault.TheVariants.{Device, NoMemory};
 ghost use Rattle.host_files.specs.Commands.{is_start_error};
+ghost use Rattle.host_files.specs.Faults.{IsFaultOf};
 ghost use Rattle.host_files.specs.declared.trace.SystemCall.TheVariants.{Create, Append, SetOwner, SetMode, MakeDirectory, Rename, Link, MakeLink, Unlink, RemoveDirectory, SyncFile, SyncMade, SyncDirectory, End};
 ghost use Rattle.host_files.specs.Shown.{IsNotBegun};
 ghost use Rattle.host_files.specs.SystemCalls.{changes_in, Looks, start_call};
@@ -20,12 +21,26 @@ use std::os::unix::fs::{DirBuilderExt, OpenOptionsExt, PermissionsExt, lchown, s
 use std::process::{Child, Command, ExitStatus};
 use std::{fs, io};
 
+/// Where scripts write: each stream where the program's own goes, or both where its standard error goes.
+#[derive(Clone, Copy)]
+pub enum ScriptStreams {
+    Own,
+    Error,
+}
+
 #[derive(Drop)]
 pub(crate) struct System {
     pub(crate) rt: HostRuntime,
     pub(crate) trace: Trace,
+    pub(crate) streams: ScriptStreams,
+    /// of the package of the next script, where it is known
+    pub(crate) architecture: Option<String>,
     // the file that was made last, while it is open
     made: Option<File>,
+    // what a person is told of the failure of the call that was begun
+    error: Option<Error>,
+    // the place of that failure, where it isn't the one that was asked for
+    error_place: Option<String>,
 }
 
 // the system's numbers for a file that can't be started
@@ -51,16 +66,6 @@ fn is_start_error(error: &Error) -> bool
     )
 }
 
-// How a call ended that was made.
-fn ended(answer: io::Result<()>) -> Result<(), HostFault>
-    ensures { IfErr result (λ fault. fault ≡ Device) }
-{
-    match answer {
-        Ok(()) => Ok(()),
-        Err(_) => Err(HostFault::Device),
-    }
-}
-
 // Makes a file where nothing stands.
 fn create_new(rt: &HostRuntime, place: &str) -> io::Result<File> {
     OpenOptions::new()
@@ -82,7 +87,11 @@ impl System {
         System {
             rt,
             trace: Trace::new(),
+            streams: ScriptStreams::Own,
+            architecture: None,
             made: None,
+            error: None,
+            error_place: None,
         }
     }
 
@@ -91,6 +100,59 @@ impl System {
         ensures { self.new.trace.calls ≡ [] }
     {
         self.trace = Trace::new();
+        self.error = None;
+        self.error_place = None;
+    }
+
+    /// The fault that an error is; a person is told the error.
+    pub(crate) fn fault(&mut self, error: Error) -> HostFault
+        ensures fault { IsFaultOf error result }
+        ensures trace { self.new.trace ≡ self.old.trace }
+        ensures made { self.new.made ≡ self.old.made }
+    {
+        let fault = fault_of(&error);
+        self.error = Some(error);
+        fault
+    }
+
+    // The same at a place that isn't the one that was asked for.
+    fn fault_at(&mut self, place: String, error: Error) -> HostFault
+        ensures fault { IsFaultOf error result }
+        ensures trace { self.new.trace ≡ self.old.trace }
+    {
+        self.error_place = Some(place);
+        self.fault(error)
+    }
+
+    /// A fault of the device of which the system tells nothing: a person is told these words.
+    pub(crate) fn refuse(&mut self, words: &str) -> HostFault
+        ensures fault { result ≡ Device }
+        ensures trace { self.new.trace ≡ self.old.trace }
+    {
+        self.error = Some(Error::other(words));
+        HostFault::Device
+    }
+
+    /// The error of the call that was begun, with its place where that isn't the one that was asked for.
+    pub(crate) fn take_error(&mut self) -> (Option<String>, Option<Error>)
+        ensures { self.new.trace ≡ self.old.trace }
+    {
+        (self.error_place.take(), self.error.take())
+    }
+
+    // How a call ended that was made.
+    fn ended(&mut self, answer: io::Result<()>) -> Result<(), HostFault>
+        ensures err { IfErr result (λ fault. fault ≡ Device) }
+        ensures trace { self.new.trace ≡ self.old.trace }
+        ensures made { self.new.made ≡ self.old.made }
+    {
+        match answer {
+            Ok(()) => Ok(()),
+            Err(error) => {
+                self.error = Some(error);
+                Err(HostFault::Device)
+            }
+        }
     }
 
     /// What stands at the place. No link at its end is followed.
@@ -103,7 +165,7 @@ impl System {
                 self.trace = self.trace.with(&Request::Look(place, &found));
                 Ok(found)
             }
-            Err(error) => Err(fault_of(&error)),
+            Err(error) => Err(self.fault(error)),
         }
     }
 
@@ -113,11 +175,12 @@ impl System {
         ensures err { IfErr result (λ fault. fault ≡ Device) }
     {
         self.trace = self.trace.with(&Request::Create(place));
-        self.made = create_new(&self.rt, place).ok();
-        match &self.made {
-            Some(_) => Ok(()),
-            None => Err(HostFault::Device),
-        }
+        let (made, answer) = match create_new(&self.rt, place) {
+            Ok(file) => (Some(file), Ok(())),
+            Err(error) => (None, Err(error)),
+        };
+        self.made = made;
+        self.ended(answer)
     }
 
     pub(crate) fn append(&mut self, bytes: &[u8]) -> Result<(), HostFault>
@@ -125,10 +188,11 @@ impl System {
         ensures err { IfErr result (λ fault. fault ≡ Device) }
     {
         self.trace = self.trace.with(&Request::Append(bytes));
-        match &mut self.made {
-            Some(file) => ended(file.write_all(bytes)),
-            None => Err(HostFault::Device),
-        }
+        let answer = match &mut self.made {
+            Some(file) => file.write_all(bytes),
+            None => return Err(HostFault::Device),
+        };
+        self.ended(answer)
     }
 
     pub(crate) fn set_owner(&mut self, place: &str, user: u32, group: u32) -> Result<(), HostFault>
@@ -136,7 +200,8 @@ impl System {
         ensures err { IfErr result (λ fault. fault ≡ Device) }
     {
         self.trace = self.trace.with(&Request::SetOwner(place, user, group));
-        ended(lchown(&self.rt, place, Some(user), Some(group)))
+        let answer = lchown(&self.rt, place, Some(user), Some(group));
+        self.ended(answer)
     }
 
     /// Of what this program has just made there, so that no link stands there.
@@ -145,7 +210,8 @@ impl System {
         ensures err { IfErr result (λ fault. fault ≡ Device) }
     {
         self.trace = self.trace.with(&Request::SetMode(place, mode));
-        ended(fs::set_permissions(&self.rt, place, Permissions::from_mode(u32::from(mode))))
+        let answer = fs::set_permissions(&self.rt, place, Permissions::from_mode(u32::from(mode)));
+        self.ended(answer)
     }
 
     pub(crate) fn make_directory(&mut self, place: &str) -> Result<(), HostFault>
@@ -153,7 +219,8 @@ impl System {
         ensures err { IfErr result (λ fault. fault ≡ Device) }
     {
         self.trace = self.trace.with(&Request::MakeDirectory(place));
-        ended(DirBuilder::new().mode(0o700).create(&self.rt, place))
+        let answer = DirBuilder::new().mode(0o700).create(&self.rt, place);
+        self.ended(answer)
     }
 
     pub(crate) fn rename(&mut self, from: &str, to: &str) -> Result<(), HostFault>
@@ -161,7 +228,8 @@ impl System {
         ensures err { IfErr result (λ fault. fault ≡ Device) }
     {
         self.trace = self.trace.with(&Request::Rename(from, to));
-        ended(fs::rename(&self.rt, from, to))
+        let answer = fs::rename(&self.rt, from, to);
+        self.ended(answer)
     }
 
     /// The system follows no link here.
@@ -170,7 +238,8 @@ impl System {
         ensures err { IfErr result (λ fault. fault ≡ Device) }
     {
         self.trace = self.trace.with(&Request::Link(from, to));
-        ended(fs::hard_link(&self.rt, from, to))
+        let answer = fs::hard_link(&self.rt, from, to);
+        self.ended(answer)
     }
 
     pub(crate) fn make_link(&mut self, target: &str, place: &str) -> Result<(), HostFault>
@@ -178,7 +247,8 @@ impl System {
         ensures err { IfErr result (λ fault. fault ≡ Device) }
     {
         self.trace = self.trace.with(&Request::MakeLink(target, place));
-        ended(symlink(&self.rt, target, place))
+        let answer = symlink(&self.rt, target, place);
+        self.ended(answer)
     }
 
     pub(crate) fn unlink(&mut self, place: &str) -> Result<(), HostFault>
@@ -186,7 +256,8 @@ impl System {
         ensures err { IfErr result (λ fault. fault ≡ Device) }
     {
         self.trace = self.trace.with(&Request::Unlink(place));
-        ended(fs::remove_file(&self.rt, place))
+        let answer = fs::remove_file(&self.rt, place);
+        self.ended(answer)
     }
 
     pub(crate) fn remove_directory(&mut self, place: &str) -> Result<(), HostFault>
@@ -194,7 +265,8 @@ impl System {
         ensures err { IfErr result (λ fault. fault ≡ Device) }
     {
         self.trace = self.trace.with(&Request::RemoveDirectory(place));
-        ended(fs::remove_dir(&self.rt, place))
+        let answer = fs::remove_dir(&self.rt, place);
+        self.ended(answer)
     }
 
     pub(crate) fn sync_file(&mut self, place: &str) -> Result<(), HostFault>
@@ -202,7 +274,8 @@ impl System {
         ensures err { IfErr result (λ fault. fault ≡ Device) }
     {
         self.trace = self.trace.with(&Request::SyncFile(place));
-        ended(sync(&self.rt, place))
+        let answer = sync(&self.rt, place);
+        self.ended(answer)
     }
 
     /// Whether the file that was made last is open.
@@ -217,10 +290,11 @@ impl System {
         ensures err { IfErr result (λ fault. fault ≡ Device) }
     {
         self.trace = self.trace.with(&Request::SyncMade);
-        match &self.made {
-            Some(file) => ended(file.sync_all()),
-            None => Err(HostFault::Device),
-        }
+        let answer = match &self.made {
+            Some(file) => file.sync_all(),
+            None => return Err(HostFault::Device),
+        };
+        self.ended(answer)
     }
 
     /// The directory is told by its path under the root. Where it is gone, or a link leads to it,
@@ -231,10 +305,14 @@ impl System {
     {
         let place = root.place(directory)?;
         self.trace = self.trace.with(&Request::SyncDirectory(place.as_str()));
-        match root.stands(&self.rt, directory) {
-            Ok(true) => ended(sync(&self.rt, place.as_str())),
+        let answer = match root.stands(&self.rt, directory) {
+            Ok(true) => sync(&self.rt, place.as_str()),
             Ok(false) => Ok(()),
-            Err(error) => Err(fault_of(&error)),
+            Err(error) => Err(error),
+        };
+        match answer {
+            Ok(()) => Ok(()),
+            Err(error) => Err(self.fault_at(place, error)),
         }
     }
 
@@ -257,7 +335,7 @@ impl System {
                 Ok(None)
             }
             Err(error) => {
-                let fault = fault_of(&error);
+                let fault = self.fault(error);
                 self.note_failed_start(started, fault);
                 Err(fault)
             }
@@ -285,7 +363,10 @@ impl System {
                 self.trace = self.trace.with(&Request::End(&status));
                 Ok(status)
             }
-            Err(_) => Err(HostFault::Device),
+            Err(error) => {
+                self.error = Some(error);
+                Err(HostFault::Device)
+            }
         }
     }
 }

@@ -26,7 +26,8 @@ pub(crate) struct Told {
 
 impl Told {
     pub(crate) fn new(alloc: Global) -> Told
-        ensures { result.log.notes ≡ [] }
+        ensures notes { result.log.notes ≡ [] }
+        ensures faults { result.faults ≡ 0 }
     {
         Told {
             log: Record::new(),
@@ -51,6 +52,7 @@ impl Told {
     pub(crate) fn note(&mut self, note: &Note<'_>)
         requires { IsPlain (noted note.now) }
         ensures notes { self.new.log.notes ≡ noted note.now ∷ self.old.log.notes }
+        ensures faults { self.new.faults ≡ self.old.faults }
     {
         self.log = self.log.with(note);
     }
@@ -79,6 +81,7 @@ impl Told {
         requires room { vec_len self.old.calls < vec_capacity self.old.calls }
         requires copied { called ≡ call.now }
         ensures notes { self.new.log.notes ≡ Ended call.now kept.now outcome ∷ self.old.log.notes }
+        ensures faults { self.new.faults ≡ self.old.faults }
     {
         self.log = self.log.with(&Note::Ended(call, kept, outcome));
         self.calls.push_reserved(Made {

@@ -1,4 +1,4 @@
-use Rattle.std.proofs.Common.{string_bytes}
+use Rattle.std.proofs.Common.{◌<◌, string_bytes, subst}
 use Rattle.host_files.specs.declared.record.Noted.TheVariants.{Ended}
 use Rattle.host_files.proofs.RememberedLaws.{still_known, still_new}
 use Rattle.host_files.proofs.Replayed.{settled_note}
@@ -6,6 +6,7 @@ use Rattle.host_files.proofs.files_host.FilesHost.end.Goals as goal
 
 pub invariant_of-self : goal.invariant_of-self
 invariant_of-self g c = record {
+  explained = λ some. c.args.self.now.explained (subst (λ n. 0 < n) c.end.ensures.faults some);
   settled = settled_note g.D.Disk.model g.D.Disk.sound (Ended c.args.call.now c.args.kept.now c.args.outcome) c.args.self.now.told.log.notes c.end.new.self.log.notes c.end.ensures.notes (λ h. tt) c.args.self.now.settled;
   known = λ s is. still_known (string_bytes s) (Ended c.args.call.now c.args.kept.now c.args.outcome) _ c.args.self.now.told.log.notes c.end.new.self.log.notes c.end.ensures.notes (c.args.self.now.known s) (c.take_note.ensures.directory s is);
   last = λ f is. still_new f (Ended c.args.call.now c.args.kept.now c.args.outcome) _ c.args.self.now.told.log.notes c.end.new.self.log.notes c.end.ensures.notes (c.args.self.now.last f) (c.take_note.ensures.file f is);
