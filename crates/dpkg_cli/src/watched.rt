@@ -37,15 +37,14 @@ fn package_in(record: &[u8]) -> Option<&str> {
     from_utf8(line.strip_prefix(b"Package: ")?).ok()
 }
 
-impl<'a, D: Disk> Watched<'a, D> {
-    fn learn(&mut self, path: &RootPath, node: &Node)
-        ensures { self.new.host ≡ self.old.host }
-    {
-        if let Some(records) = records_in(path, node) {
-            self.architectures.learn(records);
-        }
+// Takes from what is read or noted which architectures records have.
+fn learn(architectures: &mut Architectures, path: &RootPath, node: &Node) {
+    if let Some(records) = records_in(path, node) {
+        architectures.learn(records);
     }
+}
 
+impl<'a, D: Disk> Watched<'a, D> {
     fn show(&self, path: &RootPath, node: &Node) {
         if !is_note(path) {
             return;
@@ -53,12 +52,6 @@ impl<'a, D: Disk> Watched<'a, D> {
         if let Some(package) = records_in(path, node).and_then(package_in) {
             self.line.show_package(package);
         }
-    }
-
-    fn tell_architecture(&mut self, package: &str)
-        ensures { self.new.host.told ≡ self.old.host.told }
-    {
-        self.host.set_architecture(self.architectures.of(package));
     }
 }
 
@@ -74,7 +67,7 @@ impl<'a, D: Disk> Host for Watched<'a, D> {
     fn node(&mut self, path: &RootPath) -> Result<Option<Node>, HostFault> {
         let found = self.host.node(path);
         if let Ok(Some(node)) = &found {
-            self.learn(path, node);
+            learn(&mut self.architectures, path, node);
         }
         found
     }
@@ -89,7 +82,7 @@ impl<'a, D: Disk> Host for Watched<'a, D> {
 
     fn write_new(&mut self, path: &RootPath, node: &Node) -> Result<(), HostFault> {
         self.show(path, node);
-        self.learn(path, node);
+        learn(&mut self.architectures, path, node);
         self.host.write_new(path, node)
     }
 
@@ -127,7 +120,8 @@ impl<'a, D: Disk> Host for Watched<'a, D> {
 
     fn run(&mut self, call: &Call, keep: &Keep<'_>) -> Result<Outcome, HostFault> {
         self.line.clear();
-        self.tell_architecture(call.package.as_str());
+        let architecture = self.architectures.of(call.package.as_str());
+        self.host.set_architecture(architecture);
         self.host.run(call, keep)
     }
 }

@@ -15,16 +15,25 @@ ended_badly answer o p e f status bad (inr cut) = cut.0
 
 pub returns-clause-answered : goal.returns-clause-answered
 returns-clause-answered g c =
-    let told = c.run_words-status.ensures.answered in
-    (told.0, (c.new-hosts.result.faults, (c.run_words-status.new.hosts.faults, (
-      elim told.1.0 [
-        | inl answers ↦ inl answers
-        | inr wants ↦ inr wants.0
-      ],
-      elim told.1.1 [
-        | inl given ↦ ended told.0 _ _ _ _ c.run_words-status.result given
-        | inr worse ↦ inr (elim worse [
-          | inl given ↦ ended_badly memory_answer _ _ _ _ c.run_words-status.result refl given
-          | inr part ↦ ended_badly (wanting_answer part.1.0) _ _ _ _ c.run_words-status.result refl part.1.1.1.1
-        ])
-      ]))))
+    let told = c.run_words-status.ensures.answered in (
+      told.0,
+      (
+        c.new-hosts.result.faults,
+        (
+          c.run_words-status.new.hosts.faults,
+          (
+            elim told.1.0 [
+              | inl answers ↦ inl answers
+              | inr wants ↦ inr wants.0
+            ],
+            elim told.1.1 [
+              | inl given ↦ ended told.0 _ _ _ _ c.run_words-status.result given
+              | inr worse ↦ inr (elim worse [
+                | inl given ↦ ended_badly memory_answer _ _ _ _ c.run_words-status.result refl given
+                | inr part ↦ ended_badly (wanting_answer part.1.0) _ _ _ _ c.run_words-status.result refl part.1.1.1.1
+              ])
+            ],
+          ),
+        ),
+      ),
+    )
