@@ -19,21 +19,17 @@ returns-clause-answered g c =
       told.0,
       (
         c.new-hosts.result.faults,
-        (
-          c.run_words-status.new.hosts.faults,
-          (
-            elim told.1.0 [
-              | inl answers ↦ inl answers
-              | inr wants ↦ inr wants.0
-            ],
-            elim told.1.1 [
-              | inl given ↦ ended told.0 _ _ _ _ c.run_words-status.result given
-              | inr worse ↦ inr (elim worse [
-                | inl given ↦ ended_badly memory_answer _ _ _ _ c.run_words-status.result refl given
-                | inr part ↦ ended_badly (wanting_answer part.1.0) _ _ _ _ c.run_words-status.result refl part.1.1.1.1
-              ])
-            ],
-          ),
-        ),
+        c.run_words-status.new.hosts.faults,
+        elim told.1 [
+          | inl answers ↦ inl answers
+          | inr wants ↦ inr wants.0
+        ],
+        elim told.2 [
+          | inl given ↦ ended told.0 _ _ _ _ c.run_words-status.result given
+          | inr worse ↦ inr (elim worse [
+            | inl given ↦ ended_badly memory_answer _ _ _ _ c.run_words-status.result refl given
+            | inr part ↦ ended_badly (wanting_answer part.1.0) _ _ _ _ c.run_words-status.result refl part.1.3
+          ])
+        ],
       ),
     )
