@@ -3,25 +3,45 @@ ghost use Rattle.std.specs.Prelude.{◌≡◌, ◌≤◌, ◌<◌, [], ⊤, IfOk
 ghost use Rattle.host_core.specs.declared.fault.HostFault.TheVariants.{Device};
 ghost use Rattle.command_line.specs.declared.fault.RootFault.TheVariants.{Host as OfHost};
 
+use crate::architectures::Architectures;
 use crate::progress::Line;
+use crate::watched::Watched;
 use command_line::{Hosts, RootFault, ScriptStreams, TreeOwners};
 use host_core::HostFault;
-use host_files::{FilesHost, Unknown};
+use host_files::{Disk, Failure, FilesHost, is_superuser};
+use shown_lines::shown;
+use std::alloc::AllocError;
 use std::fs::{File, TryLockError};
 use std::io::ErrorKind;
+use std::marker::PhantomData;
+use std::os::unix::fs::MetadataExt;
 use std::{fs, io};
 
-/// Opens directories; a tree's path begins at the working directory.
+/// Opens directories; a tree's path begins at the working directory. What these hold, and what scripts and faults do, is
+/// supposed: all that is proved here holds of each account of it.
 #[derive(Drop)]
-pub(crate) struct Directories {
-    pub(crate) rt: HostRuntime,
+pub(crate) struct Directories<'a, D: Disk> {
+    rt: HostRuntime,
     /// How many openings failed for a fault of the device.
-    pub(crate) faults: u64,
+    faults: u64,
     /// The root's directory, locked: one program at a time. The system frees it when this program ends, however it ends.
-    pub(crate) lock: Option<File>,
-    pub(crate) line: Line,
+    lock: Option<File>,
+    line: Line<'a>,
     /// How many trees were opened.
-    pub(crate) trees: usize,
+    trees: usize,
+    /// Of the root that was given back, if the device failed there.
+    failure: Option<Failure>,
+    disk: PhantomData<D>,
+}
+
+// Tells a person a text in one line, which no name in it can end; nothing where memory is wanting for it.
+fn tell_line(rt: &HostRuntime, text: Result<String, AllocError>) {
+    let Ok(text) = text else {
+        return;
+    };
+    if let Ok(line) = shown(rt.alloc(), text.as_str()) {
+        let _ = eprintln!(rt; "{line}");
+    }
 }
 
 // The fault for the system's error, which a person is told beside the fixed lines, with the directory.
@@ -29,7 +49,7 @@ fn fault_of(rt: &HostRuntime, directory: &str, error: &io::Error) -> HostFault {
     if error.kind() == ErrorKind::OutOfMemory {
         return HostFault::NoMemory;
     }
-    let _ = eprintln!(rt; "{directory}: {error}");
+    tell_line(rt, format!(in rt.alloc(); "{directory}: {error}"));
     HostFault::Device
 }
 
@@ -46,11 +66,19 @@ fn lock_of(rt: &HostRuntime, directory: &str) -> Result<File, RootFault> {
     }
 }
 
+fn streams_of(streams: ScriptStreams) -> host_files::ScriptStreams {
+    match streams {
+        ScriptStreams::Own => host_files::ScriptStreams::Own,
+        ScriptStreams::Error => host_files::ScriptStreams::Error,
+    }
+}
+
 // Tells a person why a directory isn't opened.
-fn tell(rt: &HostRuntime, directory: &str) {
+fn tell_why(rt: &HostRuntime, directory: &str) {
     match fs::metadata(rt, directory) {
         Ok(_) => {
-            let _ = eprintln!(rt; "{directory}: no directory, or its path is too long");
+            let why = "no directory, or its path is too long";
+            tell_line(rt, format!(in rt.alloc(); "{directory}: {why}"));
         }
         Err(error) => {
             let _ = fault_of(rt, directory, &error);
@@ -58,12 +86,62 @@ fn tell(rt: &HostRuntime, directory: &str) {
     }
 }
 
-impl Directories {
-    ghost use Rattle.host_files.specs.Replay.{replay, unknown};
+// Tells a person of a tree that another user may change while root takes its files' owners as they are.
+fn tell_owner(rt: &HostRuntime, tree: &str) {
+    let Ok(found) = fs::metadata(rt, tree) else {
+        return;
+    };
+    let owner = found.uid();
+    if owner != 0 {
+        let keep = "its files keep their owners (--owner-root gives them to root)";
+        tell_line(
+            rt,
+            format!(in rt.alloc(); "{tree} belongs to user {owner}: {keep}"),
+        );
+    }
+}
+
+impl<'a, D: Disk> Directories<'a, D> {
+    pub(crate) fn new(rt: HostRuntime, line: Line<'a>) -> Directories<'a, D>
+        ensures { result.faults ≡ 0 }
+    {
+        Directories {
+            rt,
+            faults: 0,
+            lock: None,
+            line,
+            trees: 0,
+            failure: None,
+            disk: PhantomData,
+        }
+    }
+
+    // Tells a person of a fault of the device.
+    fn tell(&self, failure: &Failure) {
+        self.line.clear();
+        tell_line(&self.rt, format!(in self.rt.alloc(); "{failure}"));
+    }
+
+    /// Tells a person of a fault of the root, behind the program's own lines.
+    pub(crate) fn tell_failure(&self) {
+        if let Some(failure) = &self.failure {
+            self.tell(failure);
+        }
+    }
+
+    fn watched(&self, host: FilesHost<D>) -> Watched<'a, D>
+        ensures { result.host ≡ host }
+    {
+        Watched {
+            host,
+            line: self.line,
+            architectures: Architectures::new(self.rt.alloc()),
+        }
+    }
 
     // Opens a directory, and counts a fault of the device. With a full count nothing is opened any more.
-    fn open(&mut self, directory: &str) -> Result<FilesHost<Unknown>, HostFault>
-        ensures fresh { IfOk result (λ host. (replay unknown host.told.log.notes).events ≡ []) }
+    fn open(&mut self, directory: &str) -> Result<FilesHost<D>, HostFault>
+        ensures fresh { IfOk result (λ host. host.told.log.notes ≡ []) }
         ensures faults { self.old.faults ≤ self.new.faults }
         ensures cause { IsErrOf result Device → self.old.faults < self.new.faults }
     {
@@ -74,7 +152,7 @@ impl Directories {
             Ok(host) => Ok(host),
             Err(HostFault::Device) => {
                 self.line.clear();
-                tell(&self.rt, directory);
+                tell_why(&self.rt, directory);
                 self.faults += 1;
                 Err(HostFault::Device)
             }
@@ -108,9 +186,9 @@ impl Directories {
     }
 
     // Opens the root's directory, which is locked before.
-    fn open_locked(&mut self, directory: &str) -> Result<FilesHost<Unknown>, HostFault>
+    fn open_locked(&mut self, directory: &str) -> Result<FilesHost<D>, HostFault>
         requires { is_some self.old.lock ≡ true }
-        ensures fresh { IfOk result (λ host. (replay unknown host.told.log.notes).events ≡ []) }
+        ensures fresh { IfOk result (λ host. host.told.log.notes ≡ []) }
         ensures faults { self.old.faults ≤ self.new.faults }
         ensures cause { IsErrOf result Device → self.old.faults < self.new.faults }
     {
@@ -118,15 +196,16 @@ impl Directories {
     }
 }
 
-impl Hosts for Directories {
+impl<'a, D: Disk> Hosts for Directories<'a, D> {
     ghost use Rattle.std.specs.Prelude.{◌≡◌, [], ⊤};
+    ghost use Rattle.host_files.specs.Replay.{replay};
 
-    type Opened = FilesHost<Unknown>;
+    type Opened = Watched<'a, D>;
 
     ghost faults = { λ d. d.faults };
 
-    // of what stands on the disk nothing is claimed; a host that was just opened has done nothing
-    ghost root = { λ _ _ state. state.events ≡ [] };
+    // a root is as the account has it, and a host for a tree has done nothing; no more is claimed of what stands on the disk
+    ghost root = { λ _ _ state. state ≡ replay D.Disk.model [] };
 
     ghost tree = { λ _ _ state. state.events ≡ [] };
 
@@ -142,27 +221,32 @@ impl Hosts for Directories {
     fn open_root(
         &mut self,
         directory: &str,
-        _streams: ScriptStreams,
-    ) -> Result<FilesHost<Unknown>, RootFault> {
+        streams: ScriptStreams,
+    ) -> Result<Watched<'a, D>, RootFault> {
         self.lock(directory)?;
-        Ok(self.open_locked(directory)?)
+        let mut host = self.open_locked(directory)?;
+        host.set_script_streams(streams_of(streams));
+        Ok(self.watched(host))
     }
 
-    fn open_tree(
-        &mut self,
-        tree: &str,
-        _owners: TreeOwners,
-    ) -> Result<FilesHost<Unknown>, HostFault> {
+    fn open_tree(&mut self, tree: &str, owners: TreeOwners) -> Result<Watched<'a, D>, HostFault> {
+        if is_superuser() && matches!(owners, TreeOwners::Kept) {
+            self.line.clear();
+            tell_owner(&self.rt, tree);
+        }
         self.line.show_tree(tree, self.trees);
         self.trees = self.trees.saturating_add(1);
-        self.open(tree)
+        let host = self.open(tree)?;
+        Ok(self.watched(host))
     }
 
-    fn close_root(&mut self, host: FilesHost<Unknown>) {
-        let _ = host;
+    fn close_root(&mut self, host: Watched<'a, D>) {
+        self.failure = host.host.into_failure();
     }
 
-    fn close_tree(&mut self, host: FilesHost<Unknown>) {
-        let _ = host;
+    fn close_tree(&mut self, host: Watched<'a, D>) {
+        if let Some(failure) = host.host.failure() {
+            self.tell(failure);
+        }
     }
 }

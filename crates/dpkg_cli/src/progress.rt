@@ -2,7 +2,9 @@
 ghost use Rattle.std.specs.Prelude.{◌≡◌};
 
 use command_words::{Asked, command_of};
-use std::alloc::Global;
+use shown_lines::shown;
+use std::alloc::{AllocError, Global};
+use std::cell::Cell;
 use std::io::{self, Write};
 use texts::Texts;
 
@@ -20,18 +22,22 @@ pub(crate) struct Going {
 
 /// The line of progress; none where standard error is no terminal, or nothing goes on.
 #[derive(Clone, Copy)]
-pub(crate) struct Line {
+pub(crate) struct Line<'a> {
     pub(crate) rt: HostRuntime,
     pub(crate) going: Option<Going>,
+    /// How many columns the terminal has for it.
+    pub(crate) columns: usize,
+    /// How many units are told.
+    pub(crate) told: &'a Cell<usize>,
 }
 
 /// A stream beside which the line stands: what is written takes the line's place.
 #[derive(Drop)]
-pub(crate) struct Beside<W: Write> {
-    pub(crate) line: Line,
+pub(crate) struct Beside<'a, W: Write> {
+    pub(crate) line: Line<'a>,
     pub(crate) writer: W,
-    /// How many units are told, where each write tells one.
-    pub(crate) told: Option<usize>,
+    /// Whether each write tells a unit.
+    pub(crate) tells: bool,
 }
 
 fn trees(verb: &'static str, words: &Texts, then: Option<&'static str>) -> Option<Going> {
@@ -67,12 +73,55 @@ pub(crate) fn going_through(alloc: Global, words: &[String]) -> Option<Going> {
     }
 }
 
-impl Line {
+// The front of a text that so many columns have room for. What isn't ASCII may take two.
+fn fitted(alloc: Global, text: &str, columns: usize) -> Result<String, AllocError> {
+    let mut front = String::new(alloc);
+    let mut left = columns;
+    for character in text.chars() {
+        let width = if character.is_ascii() { 1 } else { 2 };
+        if left < width {
+            break;
+        }
+        left -= width;
+        front.push(character)?;
+    }
+    Ok(front)
+}
+
+// What is done with a tree or a package, and how far that is; where it isn't known how many there are, how many are done.
+fn step_text(
+    alloc: Global,
+    verb: &str,
+    name: &str,
+    done: usize,
+    all: usize,
+) -> Result<String, AllocError> {
+    if all == 0 {
+        return format!(in alloc; "{verb} {name} ({done} done)");
+    }
+    let at = done.saturating_add(1).min(all);
+    format!(in alloc; "{verb} {name} ({at} of {all})")
+}
+
+impl<'a> Line<'a> {
     /// Takes the line away.
     pub(crate) fn clear(self) {
         if self.going.is_some() {
             let _ = eprint!(self.rt; "\r\x1b[K");
         }
+    }
+
+    // In place of the line so far. Without memory for it there is none.
+    fn put(self, text: Result<String, AllocError>) {
+        self.clear();
+        if let Ok(front) = self.front_of(text) {
+            let _ = eprint!(self.rt; "{front}");
+        }
+    }
+
+    fn front_of(self, text: Result<String, AllocError>) -> Result<String, AllocError> {
+        let alloc = self.rt.alloc();
+        fitted(alloc, shown(alloc, text?.as_str())?.as_str(), self.columns)
     }
 
     /// Shows a tree as it is opened, of which so many were before.
@@ -81,49 +130,40 @@ impl Line {
             return;
         };
         if before < going.all {
-            let at = before + 1;
-            let _ = eprint!(self.rt; "\r\x1b[K{} {tree} ({at} of {})", going.verb, going.all);
+            self.put(step_text(self.rt.alloc(), going.verb, tree, before, going.all));
         }
     }
 
-    fn show_then(self, going: Going, told: usize) {
-        if told < going.all {
-            return;
-        }
-        if let Some(then) = going.then {
-            let _ = eprint!(self.rt; "\r\x1b[K{then}");
-        }
-    }
-
-    /// Shows what comes once so many units are told.
-    pub(crate) fn show_next(self, told: usize) {
+    /// Shows a package whose record is being changed, unless that is part of what is done with a tree.
+    pub(crate) fn show_package(self, name: &str) {
         let Some(going) = self.going else {
             return;
         };
-        if going.trees {
-            return self.show_then(going, told);
+        let told = self.told.get();
+        if !going.trees {
+            self.put(step_text(self.rt.alloc(), going.verb, name, told, going.all));
+        } else if told >= going.all {
+            if let Some(then) = going.then {
+                self.put(step_text(self.rt.alloc(), then, name, told - going.all, 0));
+            }
         }
-        if told < going.all {
-            let at = told + 1;
-            let _ = eprint!(self.rt; "\r\x1b[K{} ({at} of {})", going.verb, going.all);
-        } else if going.all == 0 {
-            let _ = eprint!(self.rt; "\r\x1b[K{} ({told} done)", going.verb);
-        }
+    }
+
+    // One more unit is told.
+    fn count(self) {
+        self.told.set(self.told.get().saturating_add(1));
     }
 }
 
-impl<W: Write> Write for Beside<W> {
+impl<'a, W: Write> Write for Beside<'a, W> {
     ghost contents = { λ b. W.contents b.writer };
 
     fn write(&mut self, buf: &[u8]) -> io::Result<usize> {
         self.line.clear();
-        let written = self.writer.write(buf);
-        if let Some(told) = self.told {
-            let told = told.saturating_add(1);
-            self.told = Some(told);
-            self.line.show_next(told);
+        if self.tells {
+            self.line.count();
         }
-        written
+        self.writer.write(buf)
     }
 
     fn flush(&mut self) -> io::Result<()> {

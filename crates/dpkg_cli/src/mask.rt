@@ -1,0 +1,111 @@
+// The mask under which scripts make files. The program has no call that sets it, so it starts itself once more below a shell
+// that does.
+use std::os::fd::AsFd;
+use std::process::{Child, Command, Stdio};
+use std::{env, fs, io};
+
+// what scripts are to have, as the system tells it
+const WANTED: &str = "0022";
+
+const SHELL: &str = "/bin/sh";
+
+// That the mask was set, so that the program starts itself no more than once.
+const MARK: &str = "COIZKERRA_UMASK_SET";
+
+/// How the words are carried out so that scripts have the mask.
+#[derive(Drop)]
+pub(crate) enum Masked {
+    /// by this program
+    Here,
+    /// by another one, which ended with this status; a signal gives none
+    There(Option<i32>),
+}
+
+// The value behind `Umask:`.
+fn mask_in(status: &str) -> Option<&str> {
+    for line in status.lines() {
+        if let Some(mask) = line.strip_prefix("Umask:") {
+            return Some(mask.trim());
+        }
+    }
+    None
+}
+
+// The mask, in octal digits, where the system tells it.
+fn mask_of(rt: &HostRuntime) -> Option<String> {
+    let status = fs::read_to_string(rt, "/proc/self/status").ok()?;
+    String::from_str(rt.alloc(), mask_in(status.as_str())?).ok()
+}
+
+fn is_marked(rt: &HostRuntime) -> bool {
+    env::var(rt, MARK).is_ok()
+}
+
+fn copy_of<S: AsFd>(stream: &S) -> io::Result<Stdio> {
+    Ok(Stdio::from(stream.as_fd().try_clone_to_owned()?))
+}
+
+// The shell that sets the mask and becomes this program, which is given the same words but for its name.
+fn masking(rt: &HostRuntime, words: &[String]) -> io::Result<Command> {
+    let program = env::current_exe(rt)?;
+    let mut command = Command::new(rt.alloc(), SHELL)?;
+    command.arg("-c")?;
+    command.arg("umask 022; exec \"$@\"")?;
+    command.arg("coizkerra")?;
+    command.arg(program.as_str())?;
+    for word in words.iter().skip(1) {
+        command.arg(word.as_str())?;
+    }
+    command.env(MARK, "1")?;
+    Ok(command)
+}
+
+// The other program has this one's streams, copied, so that it has also those that were missing.
+fn start(rt: &HostRuntime, words: &[String]) -> io::Result<Child> {
+    let mut command = masking(rt, words)?;
+    command.stdin(copy_of(&rt.stdin())?);
+    command.stdout(copy_of(&rt.stdout())?);
+    command.stderr(copy_of(&rt.stderr())?);
+    command.spawn(rt)
+}
+
+// With which status it ended, if it has one.
+fn status_of(mut child: Child) -> Option<i32> {
+    match child.wait() {
+        Ok(status) => status.code(),
+        Err(_) => None,
+    }
+}
+
+// Tells a person which mask scripts will have.
+fn tell(rt: &HostRuntime, mask: &Option<String>) {
+    let mask = match mask {
+        Some(mask) => mask.as_str(),
+        None => "that isn't known",
+    };
+    let _ = eprintln!(rt; "scripts will have a umask of {mask}, not {WANTED}");
+}
+
+fn is_wanted(mask: &Option<String>) -> bool {
+    match mask {
+        Some(mask) => mask.as_str() == WANTED,
+        None => false,
+    }
+}
+
+/// Carries out words under the mask: here if this program has it already, or can't get it, which a person is told.
+pub(crate) fn under_mask(rt: &HostRuntime, words: &[String]) -> Masked {
+    let mask = mask_of(rt);
+    if is_wanted(&mask) {
+        return Masked::Here;
+    }
+    if !is_marked(rt) && fs::metadata(rt, SHELL).is_ok() {
+        if let Ok(child) = start(rt, words) {
+            return Masked::There(status_of(child));
+        }
+    }
+    if mask.is_some() || !is_marked(rt) {
+        tell(rt, &mask);
+    }
+    Masked::Here
+}

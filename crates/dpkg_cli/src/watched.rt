@@ -1,0 +1,127 @@
+// A host beside which the line of progress stands.
+ghost use Rattle.std.specs.Prelude.{◌≡◌};
+
+use crate::architectures::Architectures;
+use crate::progress::Line;
+use host_core::{Access, Call, Host, HostFault, Keep, Kind, Listing, Node, Outcome, RootPath};
+use host_files::{Disk, FilesHost};
+use std::str::from_utf8;
+use texts::Text;
+
+/// All is done by the host. The line is gone before a script is started, and names each package as its record changes; a
+/// script is told the architecture that its package's record has.
+#[derive(Drop)]
+pub(crate) struct Watched<'a, D: Disk> {
+    pub(crate) host: FilesHost<D>,
+    pub(crate) line: Line<'a>,
+    pub(crate) architectures: Architectures,
+}
+
+fn is_note(path: &RootPath) -> bool {
+    path.as_str().starts_with("/var/lib/dpkg/updates/")
+}
+
+// The records that a node is, if it is such a file.
+fn records_in<'a>(path: &RootPath, node: &'a Node) -> Option<&'a [u8]> {
+    match node {
+        Node::File { bytes, .. } if is_note(path) || path.as_str() == "/var/lib/dpkg/status" => {
+            Some(bytes.as_slice())
+        }
+        _ => None,
+    }
+}
+
+// The package of a record, which is its first field.
+fn package_in(record: &[u8]) -> Option<&str> {
+    let line = record.split(|b| *b == b'\n').next()?;
+    from_utf8(line.strip_prefix(b"Package: ")?).ok()
+}
+
+// Takes from what is read or noted which architectures records have.
+fn learn(architectures: &mut Architectures, path: &RootPath, node: &Node) {
+    if let Some(records) = records_in(path, node) {
+        architectures.learn(records);
+    }
+}
+
+impl<'a, D: Disk> Watched<'a, D> {
+    fn show(&self, path: &RootPath, node: &Node) {
+        if !is_note(path) {
+            return;
+        }
+        if let Some(package) = records_in(path, node).and_then(package_in) {
+            self.line.show_package(package);
+        }
+    }
+}
+
+impl<'a, D: Disk> Host for Watched<'a, D> {
+    ghost use Rattle.host_files.specs.Replay.{replay};
+
+    ghost state = { λ h. replay D.Disk.model h.host.told.log.notes };
+
+    ghost tree = { λ h. D.Disk.sound.tree h.host.told.log.notes };
+
+    ghost settled = { λ h. h.host.settled };
+
+    fn node(&mut self, path: &RootPath) -> Result<Option<Node>, HostFault> {
+        let found = self.host.node(path);
+        if let Ok(Some(node)) = &found {
+            learn(&mut self.architectures, path, node);
+        }
+        found
+    }
+
+    fn kind(&mut self, path: &RootPath) -> Result<Option<Kind>, HostFault> {
+        self.host.kind(path)
+    }
+
+    fn list(&mut self, path: &RootPath) -> Result<Listing, HostFault> {
+        self.host.list(path)
+    }
+
+    fn write_new(&mut self, path: &RootPath, node: &Node) -> Result<(), HostFault> {
+        self.show(path, node);
+        learn(&mut self.architectures, path, node);
+        self.host.write_new(path, node)
+    }
+
+    fn make_dir(&mut self, path: &RootPath, access: Access) -> Result<(), HostFault> {
+        self.host.make_dir(path, access)
+    }
+
+    fn make_link(&mut self, path: &RootPath, target: &Text) -> Result<(), HostFault> {
+        self.host.make_link(path, target)
+    }
+
+    fn link(&mut self, from: &RootPath, to: &RootPath) -> Result<(), HostFault> {
+        self.host.link(from, to)
+    }
+
+    fn sync(&mut self, path: &RootPath) -> Result<(), HostFault> {
+        self.host.sync(path)
+    }
+
+    fn barrier(&mut self) -> Result<(), HostFault> {
+        self.host.barrier()
+    }
+
+    fn rename(&mut self, from: &RootPath, to: &RootPath) -> Result<(), HostFault> {
+        self.host.rename(from, to)
+    }
+
+    fn remove(&mut self, path: &RootPath) -> Result<(), HostFault> {
+        self.host.remove(path)
+    }
+
+    fn remove_dir(&mut self, path: &RootPath) -> Result<(), HostFault> {
+        self.host.remove_dir(path)
+    }
+
+    fn run(&mut self, call: &Call, keep: &Keep<'_>) -> Result<Outcome, HostFault> {
+        self.line.clear();
+        let architecture = self.architectures.of(call.package.as_str());
+        self.host.set_architecture(architecture);
+        self.host.run(call, keep)
+    }
+}
