@@ -8,7 +8,7 @@ use Rattle.host_core.specs.Loss.{IsAnswered}
 use Rattle.host_core.specs.World.{World}
 use Rattle.relation_index.specs.declared.package.Package.{Package}
 use Rattle.unit_reports.specs.Held.{Held}
-use Rattle.unit_reports.specs.Units.{HasNoCalls, IsBroken}
+use Rattle.unit_reports.specs.Units.{HasNoCalls, IsBroken, TellsNoPackage}
 use Rattle.unit_reports.specs.declared.report.Unit.{Unit as AUnit}
 use Rattle.configure_run.specs.LeftOver.{IsNumbered}
 use Rattle.configure_run.specs.Turns.{HasCalledFor, IsAmidUnit, IsStill, IsTurn, IsUnit, after_turn, is_done}
@@ -27,7 +27,7 @@ pub record TakesTurn (policy : ConfPolicy) (q : Waiting) (x : ℕ) (done : Bool)
 -- the unit of the package of this number was broken off
 pub record IsBrokenAt (policy : ConfPolicy) (q : Waiting) (x : ℕ) (before : Held) (s t : State) (u : AUnit) : Type 0 where
   pub broken : IsBroken u.reply
-  pub untouched : u.touched.items ≡ []
+  pub untouched : TellsNoPackage u
   pub called : HasNoCalls u s t ⊎ ((p : Package) × IsNumbered q.packages x p × HasCalledFor policy p.name before u s t)
 
 -- at each moment of its turn

@@ -17,7 +17,7 @@ use Rattle.status_db.specs.declared.record.Record.{Record}
 use Rattle.unit_parts.specs.Order.{IsInOrder}
 use Rattle.unit_stages.specs.Holding.{Holding}
 use Rattle.unit_reports.specs.Held.{Held}
-use Rattle.unit_reports.specs.Units.{HasNoCalls, IsBroken, IsRefused, touched_at}
+use Rattle.unit_reports.specs.Units.{HasNoCalls, IsBroken, IsRefused, TellsNoPackage, touched_at}
 use Rattle.unit_reports.specs.declared.refusal.Rule.TheVariants.{BrokenBy, ConffileKind}
 use Rattle.unit_reports.specs.declared.report.Reply.{Reply}
 use Rattle.unit_reports.specs.declared.report.Reply.TheVariants.{Done, Refused, Failed, Broken}
@@ -56,6 +56,7 @@ reply_to name (Some call) = Failed (record { «package» = name; cause = OfCall 
 pub record Answers (name : List ℕ) (records : List Record) (failed : Option Call) (u : AUnit) : Type 0 where
   pub replied : u.reply ≡ reply_to name failed
   pub touched : u.touched.items ≡ touched_at records name ∷ []
+  pub deconfigured : u.deconfigured ≡ []
 
 -- a unit that configures a package, and all of it brought to the disk
 pub record ConfiguresToDisk (g : Given) (failed : Option Call) (after : Holding) (s t : State) (told now : List Called) : Type 0 where
@@ -171,13 +172,13 @@ pub record EndTurns (policy : ConfPolicy) (silent : ℕ → Bool) (start : Waiti
 -- The unit that was broken off: it tells no package. It made no call, or the first of those of the package whose turn it was.
 pub record IsBrokenOff (policy : ConfPolicy) (silent : ℕ → Bool) (q : Waiting) (before : Held) (s t : State) (u : AUnit) : Type 0 where
   pub broken : IsBroken u.reply
-  pub untouched : u.touched.items ≡ []
+  pub untouched : TellsNoPackage u
   pub called : HasNoCalls u s t ⊎ ((x : ℕ) × (p : Package) × IsNext silent q x p × HasCalledFor policy p.name before u s t)
 
 -- the same of one that was broken off before it began
 pub record IsBrokenStill (s t : State) (u : AUnit) : Type 0 where
   pub broken : IsBroken u.reply
-  pub untouched : u.touched.items ≡ []
+  pub untouched : TellsNoPackage u
   pub none : HasNoCalls u s t
 
 -- How far turns came that may have been broken off: in a turn, behind others; or when those left over were being refused.

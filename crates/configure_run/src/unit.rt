@@ -7,7 +7,7 @@ ghost use Rattle.host_core.specs.Loss.{IsAnswered, IsOnDisk};
 ghost use Rattle.unit_parts.specs.Order.{IsInOrder};
 ghost use Rattle.unit_reports.specs.Held.{held};
 ghost use Rattle.unit_reports.specs.Units as reports;
-ghost use Rattle.unit_reports.specs.Units.{CountsReply, IsBroken, IsBrokenBy, IsRefusedUnit};
+ghost use Rattle.unit_reports.specs.Units.{CountsReply, IsBroken, IsBrokenBy, IsRefusedUnit, TellsNoPackage};
 ghost use Rattle.unit_reports.specs.declared.report.Breakage.TheVariants.{Closed, NoMemory};
 ghost use Rattle.unit_reports.specs.declared.refusal.Rule.TheVariants.{BrokenBy};
 ghost use Rattle.configure_run.specs.Starting.{name_at};
@@ -23,7 +23,7 @@ use relation_index::{Package, Packages};
 use stack_run::Failure as Cause;
 use status_db::NotedDatabase;
 use std::alloc::{AllocError, Global};
-use texts::Text;
+use texts::{Text, Texts};
 use unit_reports::{
     Breakage, Failure, Reply, Rule, Touched, Unit, breakage_of, broken, refused, touched_at,
 };
@@ -45,7 +45,7 @@ pub(crate) fn is_done(unit: &Unit) -> bool
 pub(crate) fn no_memory(alloc: Global) -> Unit
     ensures reply { IsBrokenBy NoMemory result.reply }
     ensures told { result.calls.items ≡ [] }
-    ensures touched { result.touched.items ≡ [] }
+    ensures touched { TellsNoPackage result }
 {
     broken(alloc, Vec::new(alloc), Breakage::NoMemory)
 }
@@ -121,12 +121,13 @@ fn answered(
 ) -> Unit
     ensures answer { IsBrokenBy NoMemory result.reply ⊎ Answers name.now database.now.records failed result }
     ensures told { result.calls.items ≡ calls.items }
-    ensures untouched { IsBroken result.reply → result.touched.items ≡ [] }
+    ensures untouched { IsBroken result.reply → TellsNoPackage result }
 {
     match told_of(alloc, database, name, failed) {
         Ok((touched, reply)) => Unit {
             calls,
             touched,
+            deconfigured: Texts::new(alloc),
             reply,
         },
         Err(_) => broken(alloc, calls, Breakage::NoMemory),
@@ -137,7 +138,7 @@ fn answered(
 fn refused_named(alloc: Global, rule: Rule, name: &Text) -> Unit
     ensures unit { IsBrokenBy NoMemory result.reply ⊎ IsRefusedUnit rule name.now result }
     ensures told { result.calls.items ≡ [] }
-    ensures touched { result.touched.items ≡ [] }
+    ensures touched { TellsNoPackage result }
 {
     match name.copy() {
         Ok(package) => refused(alloc, rule, package),
@@ -207,7 +208,7 @@ fn configured_unit<H: Host>(
     ensures listing { IsBroken result.reply ⊎ (lists.new.closed ≡ false) }
     ensures kept { IsBroken result.reply ⊎ (places.new ≡ places_in diversions.now.entries lists.new.lists) }
     ensures on_disk { IsBroken result.reply ⊎ IsOnDisk (H.state host.new).events }
-    ensures untouched { IsBroken result.reply → result.touched.items ≡ [] }
+    ensures untouched { IsBroken result.reply → TellsNoPackage result }
     ensures told { HasCalledToDisk (given_by policy name.now (held database.old lists.old diversions.now)) (H.state host.old) (H.state host.new) [] result.calls.items }
     ensures any_moment { AtEachMomentOf (λ old. IsBeside (IsAmidConfiguring (given_by policy name.now (held database.old lists.old diversions.now)) old)) (H.state host.old) (H.state host.new) }
     ensures counts { CountsReply (H.state host.old) (H.state host.new) result.reply }
@@ -244,7 +245,7 @@ fn unit_for<H: Host>(
     ensures listing { IsBroken result.reply ⊎ (lists.new.closed ≡ false) }
     ensures kept { IsBroken result.reply ⊎ (places.new ≡ places_in diversions.now.entries lists.new.lists) }
     ensures answered { IsBroken result.reply ⊎ IsAnswered (H.state host.old) (H.state host.new) }
-    ensures untouched { IsBroken result.reply → result.touched.items ≡ [] }
+    ensures untouched { IsBroken result.reply → TellsNoPackage result }
     ensures told { HasCalledFor policy name.now (held database.old lists.old diversions.now) result (H.state host.old) (H.state host.new) }
     ensures any_moment { AtEachMomentOf (IsAmidUnit policy name.now (held database.old lists.old diversions.now)) (H.state host.old) (H.state host.new) }
     ensures counts { CountsReply (H.state host.old) (H.state host.new) result.reply }
@@ -264,7 +265,7 @@ fn refused_for(alloc: Global, packages: &[Package], breaking: usize, name: &Text
     requires { breaking < length packages.now }
     ensures unit { IsBrokenBy NoMemory result.reply ⊎ IsRefusedUnit (BrokenBy (name_at packages.now breaking)) name.now result }
     ensures told { result.calls.items ≡ [] }
-    ensures touched { result.touched.items ≡ [] }
+    ensures touched { TellsNoPackage result }
 {
     match packages[breaking].name.copy() {
         Ok(other) => refused_named(alloc, Rule::BrokenBy(other), name),
@@ -295,7 +296,7 @@ pub(crate) fn unit_of<H: Host>(
     ensures listing { IsBroken result.reply ⊎ (lists.new.closed ≡ false) }
     ensures kept { IsBroken result.reply ⊎ (places.new ≡ places_in diversions.now.entries lists.new.lists) }
     ensures answered { IsBroken result.reply ⊎ IsAnswered (H.state host.old) (H.state host.new) }
-    ensures untouched { IsBroken result.reply → result.touched.items ≡ [] }
+    ensures untouched { IsBroken result.reply → TellsNoPackage result }
     ensures told { HasCalledFor policy of.now.name (held database.old lists.old diversions.now) result (H.state host.old) (H.state host.new) }
     ensures any_moment { AtEachMomentOf (IsAmidUnit policy of.now.name (held database.old lists.old diversions.now)) (H.state host.old) (H.state host.new) }
     ensures counts { CountsReply (H.state host.old) (H.state host.new) result.reply }

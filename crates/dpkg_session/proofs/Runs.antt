@@ -1,5 +1,5 @@
 -- How a run goes on with one unit more.
-use Rattle.std.specs.Prelude.{MatchBool, IfSome, length, take, drop}
+use Rattle.std.specs.Prelude.{MatchBool, IfSome, length, map, take, drop}
 use Rattle.std.proofs.Common.{◌≡◌, ◌⊎◌, inl, inr, ℕ, Bool, true, false, List, [], ◌∷◌, ◌++◌, Option, Some, None, Result, Ok, Err, IsTrue, refl, sym, ap, subst, ◌∙◌, ◌+◌}
 use Rattle.std.proofs.Math.Seq.{take-append_seam, drop-append_seam}
 use Rattle.std.proofs.lemmas.Bool.{true≢false}
@@ -26,9 +26,13 @@ use Rattle.unit_reports.specs.declared.report.Reply.TheVariants.{Done, Refused, 
 use Rattle.unit_reports.specs.declared.report.Unit.{Unit as AUnit}
 use Rattle.unit_reports.specs.Held.{Held}
 use Rattle.dpkg_session.specs.Run.{HasRun, IsAmidNext, IsBrokenNext, IsRun, RunsUnit}
-use Rattle.unit_reports.specs.Units.{CountsReply, IsRefused, IsRefusedUnit, IsBroken, IsBrokenBy, breakage_of}
+use Rattle.unit_reports.specs.Units.{CountsReply, IsRefused, IsRefusedUnit, IsBroken, IsBrokenBy, breakage_of, touched_at}
+use Rattle.unit_reports.specs.declared.report.Touched.{Touched}
 use Rattle.dpkg_session.specs.Refusals.{IsDecisionFor}
-use Rattle.dpkg_session.specs.Units.{AnswersBoth, AnswersUnpack, AreOfBoth, HasUnpackedWhole, IsPackageUnit, IsTouchedBeside, IsUnit, IsUnitBy, IsUnitOf, IsUnpacked, reply_to}
+use Rattle.dpkg_session.specs.Touched.{AreDeconfigured, AreOfBoth, AreUnchanged, IsTouchedBeside, deconfigured_among, told_among}
+use Rattle.dpkg_session.specs.Units.{AnswersBoth, HasUnpackedWhole, IsPackageUnit, IsUnit, IsUnitBy, IsUnitOf, IsUnpacked, KnowsRecords, reply_to, yielding}
+use Rattle.dpkg_session.specs.declared.displacing.Behind.{Behind}
+use Rattle.dpkg_session.proofs.Touching.{deconfigured_beside}
 
 pub run_more : (auto : Bool) (cs : List Candidate) (us : List AUnit) (c : Candidate) (u : AUnit) (before mid after : Held) (s m t : State) → IsRun auto cs us before mid s m → RunsUnit auto c mid after u m t → IsRun auto (cs ++ c ∷ []) (us ++ u ∷ []) before after s t
 run_more auto [] [] c u before mid after s m t so_far unit =
@@ -129,22 +133,32 @@ broken_or breakage reply so (inl broken) = inl (broken_by breakage reply broken)
 broken_or breakage reply so (inr holds) = inr (so holds)
 
 -- the unit of a package that was unpacked, as it tells it
-pub is_unpacked : (p : Package) (beside : Beside) (before after : Held) (u : AUnit) (unwinding : Option Unwinding) (touched displaced : List (List ℕ)) (failed : Option Call) (s t : State) (name : List ℕ) (told now : List Called) → name ≡ p.name → told ≡ [] → u.calls.items ≡ now
+pub is_unpacked : (p : Package) (beside : Beside) (before after : Held) (u : AUnit) (b : Behind) (unwinding : Option Unwinding) (touched displaced : List (List ℕ)) (failed : Option Call) (s t : State) (told now : List Called) → b.«package» ≡ p.name → KnowsRecords beside before.records.records b → told ≡ [] → u.calls.items ≡ now
     → HasUnpackedWhole p beside before unwinding displaced failed after s t told now → Ready after t → after.entries ≡ before.entries
-    → ((names : List (List ℕ)) → AreOfBoth touched displaced names → IsTouchedBeside p.name displaced before.records.records after.records.records names)
-    → IsBrokenBy NoMemory u.reply ⊎ AnswersBoth name after.records.records unwinding failed touched displaced u → IsBroken u.reply ⊎ IsUnpacked p beside before after u s t
-is_unpacked p beside before after u unwinding touched displaced failed s t name told now named none same unpacked order entries changed either =
-    broken_or NoMemory u.reply (λ answers. record {
+    → ((names unchanged : List (List ℕ)) → AreOfBoth touched displaced names → AreUnchanged before.records.records after.records.records (yielding beside) unchanged → IsTouchedBeside p.name before.records.records after.records.records (told_among p.name unchanged names))
+    → IsBrokenBy NoMemory u.reply ⊎ AnswersBoth b.«package» after.records.records b.copies.items b.half unwinding failed touched displaced u → IsBroken u.reply ⊎ IsUnpacked p beside before after u s t
+is_unpacked p beside before after u b unwinding touched displaced failed s t told now named knows none same unpacked order entries changed either =
+    broken_or NoMemory u.reply (λ answers.
+    let records = after.records.records in
+    let tells = answers.told in
+    let touches = changed tells.names tells.unchanged tells.both (tells.known before.records.records (yielding beside) knows.copies) in
+    let names = told_among p.name tells.unchanged tells.names in
+    record {
       unwinding = unwinding;
       displaced = displaced;
       failed = failed;
-      names = answers.names;
+      names = names;
       unpacked = subst (λ l. HasUnpackedWhole p beside before unwinding displaced failed after s t [] l) (sym same)
           (subst (λ l. HasUnpackedWhole p beside before unwinding displaced failed after s t l now) none unpacked);
       order = order;
       entries = entries;
-      changed = changed answers.names answers.both;
-      answers = subst (λ n. AnswersUnpack n after.records.records unwinding failed answers.names u) named answers.answers;
+      changed = touches;
+      answers = record {
+        replied = answers.replied ∙ ap (λ n. reply_to n unwinding failed) named;
+        touched = tells.touched_are ∙ ap (λ n. map (touched_at records) (told_among n tells.unchanged tells.names)) named;
+      };
+      deconfigured = subst (AreDeconfigured p.name before.records.records records) (sym (tells.deconfigured_are ∙ ap (λ n. deconfigured_among n records b.half (told_among n tells.unchanged tells.names)) named))
+          (deconfigured_beside p.name before.records.records records names b.half touches knows.order knows.half);
     }) either
 
 -- a unit that wasn't broken off isn't one that is closed
@@ -157,8 +171,8 @@ reply_not_closed name None None closed = cc
 reply_not_closed name None (Some call) closed = cc
 reply_not_closed name (Some u) failed closed = cc
 
-pub answer_not_closed : (name : List ℕ) (records : List Record) (unwinding : Option Unwinding) (failed : Option Call) (touched displaced : List (List ℕ)) (u : AUnit) → IsBrokenBy NoMemory u.reply ⊎ AnswersBoth name records unwinding failed touched displaced u → IsBrokenBy Closed u.reply → ⊥
-answer_not_closed name records unwinding failed touched displaced u either = by_no_memory u.reply (λ answers closed. reply_not_closed name unwinding failed (sym answers.answers.replied ∙ closed)) either
+pub answer_not_closed : (name : List ℕ) (records : List Record) (copies : List Touched) (half : List (List ℕ)) (unwinding : Option Unwinding) (failed : Option Call) (touched displaced : List (List ℕ)) (u : AUnit) → IsBrokenBy NoMemory u.reply ⊎ AnswersBoth name records copies half unwinding failed touched displaced u → IsBrokenBy Closed u.reply → ⊥
+answer_not_closed name records copies half unwinding failed touched displaced u either = by_no_memory u.reply (λ answers closed. reply_not_closed name unwinding failed (sym answers.replied ∙ closed)) either
 
 -- the faults of a unit
 
@@ -167,9 +181,9 @@ counts_reply name None None a b same = same
 counts_reply name None (Some call) a b same = same
 counts_reply name (Some u) failed a b same = same
 
-pub counts_answered : (name : List ℕ) (records : List Record) (unwinding : Option Unwinding) (failed : Option Call) (touched displaced : List (List ℕ)) (u : AUnit) (a b : State) → faults b ≡ faults a → IsBrokenBy NoMemory u.reply ⊎ AnswersBoth name records unwinding failed touched displaced u → CountsReply a b u.reply
-counts_answered name records unwinding failed touched displaced u a b same (inl broken) = subst (CountsReply a b) (sym broken) same
-counts_answered name records unwinding failed touched displaced u a b same (inr answers) = subst (CountsReply a b) (sym answers.answers.replied) (counts_reply name unwinding failed a b same)
+pub counts_answered : (name : List ℕ) (records : List Record) (copies : List Touched) (half : List (List ℕ)) (unwinding : Option Unwinding) (failed : Option Call) (touched displaced : List (List ℕ)) (u : AUnit) (a b : State) → faults b ≡ faults a → IsBrokenBy NoMemory u.reply ⊎ AnswersBoth name records copies half unwinding failed touched displaced u → CountsReply a b u.reply
+counts_answered name records copies half unwinding failed touched displaced u a b same (inl broken) = subst (CountsReply a b) (sym broken) same
+counts_answered name records copies half unwinding failed touched displaced u a b same (inr answers) = subst (CountsReply a b) (sym answers.replied) (counts_reply name unwinding failed a b same)
 
 counts_fault : (T : Type 0) (fault : HostFault) (a b : State) → Counts {T = T} a b (Err fault) → CountsReply a b (Broken (breakage_of fault))
 counts_fault T host.Device a b counts = counts

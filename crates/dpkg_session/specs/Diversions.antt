@@ -31,7 +31,7 @@ use Rattle.unit_reports.specs.declared.report.Reply.{Reply}
 use Rattle.unit_reports.specs.declared.report.Reply.TheVariants.{Done, Refused}
 use Rattle.unit_reports.specs.declared.report.Report.{Report}
 use Rattle.unit_reports.specs.declared.report.Unit.{Unit as AUnit}
-use Rattle.unit_reports.specs.Units.{IsBroken}
+use Rattle.unit_reports.specs.Units.{IsBroken, TellsNoPackage}
 
 -- the owner's list has the path; the administrator has no list
 abbrev pub is_listed : List PackageList → Owner → Path → Bool
@@ -53,7 +53,7 @@ reply_of path (answered.Refused refusal) = Refused (record { rule = Divert refus
 -- the unit of an answer: no call is told, and no package
 pub record AnswersDiversion (path : Path) (answer : Answer) (u : AUnit) : Type 0 where
   pub calls : u.calls.items ≡ []
-  pub touched : u.touched.items ≡ []
+  pub touched : TellsNoPackage u
   pub reply : u.reply ≡ reply_of path answer
 
 -- what an answer leaves of a value: another one where it is done, the same where it is refused
@@ -104,7 +104,7 @@ IsOneUnit P units = (u : AUnit) × (units ≡ u ∷ []) × P u
 pub record IsBrokenDiversion (u : AUnit) : Type 0 where
   pub broken : IsBroken u.reply
   pub calls : u.calls.items ≡ []
-  pub touched : u.touched.items ≡ []
+  pub touched : TellsNoPackage u
 
 -- it is all that is reported
 abbrev pub HasBroken : Report → Type 0

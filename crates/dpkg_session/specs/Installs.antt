@@ -1,5 +1,7 @@
 -- An install: an unpack, and then the packages that were unpacked are configured, and those that were deconfigured for them.
-use Rattle.std.specs.Prelude.{◌≡◌, ◌⊎◌, ℕ, Bool, IsTrue, false, List, [], ◌∷◌, ◌++◌, Option, Some, None, IsNone, Result, Ok, Err, cond, filter, length, map, nat_lt, slice_index_or}
+use Rattle.std.specs.Prelude.{◌≡◌, ◌⊎◌, ◌&&◌, ℕ, Bool, IsTrue, true, false, not, List, [], ◌∷◌, ◌++◌, Option, Some, None, IsNone, Result, Ok, Err, filter, map}
+use Rattle.std.specs.List.{list_any}
+use Rattle.std.specs.Str.{bytes_eq}
 use Rattle.conffiles.specs.declared.decisions.ConfPolicy.{ConfPolicy}
 use Rattle.configure_run.specs.Run.{IsConfigureRun, HasRun as HasConfigured, IsAmidRun as IsAmidConfigure}
 use Rattle.host_core.specs.Events.{Event}
@@ -8,7 +10,8 @@ use Rattle.host_core.specs.World.{World}
 use Rattle.package_tree.specs.declared.fault.TreeFault.{TreeFault}
 use Rattle.package_tree.specs.declared.package.Package.{Package}
 use Rattle.status_db.specs.declared.record.Record.{Record}
-use Rattle.unpack_engine.specs.Touched.{is_half_configured}
+use Rattle.status_db.specs.declared.words.State.{State as PackageState}
+use Rattle.status_db.specs.declared.words.State.TheVariants.{NotInstalled, ConfigFiles, HalfInstalled, Unpacked, HalfConfigured, Installed}
 use Rattle.unit_reports.specs.Held.{Held}
 use Rattle.unit_reports.specs.Units.{calls_told}
 use Rattle.unit_reports.specs.declared.report.Reply.{Reply}
@@ -21,6 +24,15 @@ use Rattle.dpkg_session.specs.PowerLoss.{LosesLikeAStop}
 use Rattle.dpkg_session.specs.Run.{AreReadInTurn, HasRun, IsAmidRun, IsRun}
 use Rattle.dpkg_session.specs.declared.report.Candidate.{Candidate}
 
+-- a package in this state hasn't all its files
+abbrev pub is_without_files : PackageState → Bool
+is_without_files NotInstalled = true
+is_without_files ConfigFiles = true
+is_without_files HalfInstalled = true
+is_without_files Unpacked = false
+is_without_files HalfConfigured = false
+is_without_files Installed = false
+
 -- the package of a tree, or the word that named one that can't be read
 abbrev pub tree_label : List ℕ → Result Package TreeFault → List ℕ
 tree_label label (Ok p) = p.name
@@ -29,13 +41,24 @@ tree_label label (Err fault) = label
 abbrev pub label_of : Candidate → List ℕ
 label_of c = tree_label c.label c.tree
 
-abbrev pub is_half : Option Record → Bool
-is_half None = false
-is_half (Some r) = is_half_configured r.state
+-- the package has no record, or not all its files
+abbrev pub has_lost_files : Option Record → Bool
+has_lost_files None = true
+has_lost_files (Some r) = is_without_files r.state
 
--- of the packages that a unit tells those that are half-configured
-abbrev pub half_configured : List Touched → List (List ℕ)
-half_configured touched = map (λ t. t.«package») (filter (λ t. is_half t.entry) touched)
+-- it is told so of the package of this name
+abbrev pub is_told_lost : List ℕ → Touched → Bool
+is_told_lost q t = bytes_eq q t.«package» && has_lost_files t.entry
+
+-- the unit of the package of this name tells so of another one: it disappeared, or was removed in favour of it (Policy 6.6, 7.4)
+abbrev pub takes_away : List ℕ → AUnit → List ℕ → Bool
+takes_away name u q = not (bytes_eq q name) && list_any (is_told_lost q) u.touched.items
+
+-- none of these units of packages of these names takes it away
+abbrev pub stays : List (List ℕ) → List AUnit → List ℕ → Bool
+stays [] us q = true
+stays (name ∷ names) [] q = true
+stays (name ∷ names) (u ∷ us) q = not (takes_away name u q) && stays names us q
 
 abbrev pub if_done : Reply → List (List ℕ) → List (List ℕ)
 if_done Done names = names
@@ -45,19 +68,16 @@ if_done (Broken breakage) names = []
 
 -- a unit's package, where it answered Done, and behind it those that were deconfigured for it (Policy 7.3)
 abbrev pub done_with : List ℕ → AUnit → List (List ℕ)
-done_with name u = if_done u.reply (name ∷ half_configured u.touched.items)
+done_with name u = if_done u.reply (name ∷ u.deconfigured)
 
--- the same for the name of this number
-abbrev pub done_at : List (List ℕ) → ℕ → AUnit → List (List ℕ)
-done_at names at u = cond (nat_lt at (length names)) (done_with (slice_index_or names at []) u) []
-
--- of the units of packages of these names
+-- of the units of packages of these names, without those that a later one takes away
 abbrev pub names_done : List (List ℕ) → List AUnit → List (List ℕ)
 names_done [] us = []
 names_done (name ∷ names) [] = []
-names_done (name ∷ names) (u ∷ us) = done_with name u ++ names_done names us
+names_done (name ∷ names) (u ∷ us) = filter (stays names us) (done_with name u) ++ names_done names us
 
--- the packages of candidates that answered Done, in order, each with those that were deconfigured for it
+-- the packages of candidates that answered Done, in order, each with those that were deconfigured for it, without those that a later
+-- candidate took away
 abbrev pub packages_done : List Candidate → List AUnit → List (List ℕ)
 packages_done cs us = names_done (map label_of cs) us
 

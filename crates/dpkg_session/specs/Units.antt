@@ -3,7 +3,6 @@ use Rattle.std.specs.Prelude.{◌≡◌, ◌⊎◌, ◌↔◌, ℕ, Bool, IsTrue
 use Rattle.displaced_packages.specs.Displacing.{HasCalled as HasCalledDisplacing, HaveBeenDisplaced}
 use Rattle.displaced_packages.specs.Losing.{losing_beside}
 use Rattle.disappearance.specs.declared.losing.Losing.{Losing}
-use Rattle.file_lists.specs.Increasing.{AreIncreasing}
 use Rattle.host_core.specs.Host.{State, Needs, Silent}
 use Rattle.host_core.specs.Paths.{Path}
 use Rattle.host_core.specs.World.{World}
@@ -18,7 +17,7 @@ use Rattle.stack_run.specs.Ended.{ended_as}
 use Rattle.stack_run.specs.declared.failure.Failure.TheVariants.{OfCall}
 use Rattle.stack_run.specs.declared.unwinding.Unwinding.{Unwinding}
 use Rattle.status_db.specs.Recorded.{Recorded}
-use Rattle.status_db.specs.Records.{record_in}
+use Rattle.status_db.specs.Order.{AreInOrder}
 use Rattle.status_db.specs.declared.record.Record.{Record}
 use Rattle.unpack_engine.specs.Order.{IsInOrder}
 use Rattle.unpack_engine.specs.Others.{AreOthers}
@@ -29,13 +28,14 @@ use Rattle.unpack_relations.specs.declared.checking.Checked.TheVariants as check
 use Rattle.unpack_rows.specs.declared.rows.OtherPackage.{OtherPackage}
 use Rattle.unwind_stack.specs.declared.rows.Called.{Called}
 use Rattle.unit_reports.specs.Held.{Held, places_of}
-use Rattle.unit_reports.specs.Units.{HasNoCalls, IsBroken, IsRefused, touched_at}
+use Rattle.unit_reports.specs.Units.{HasNoCalls, IsBroken, IsRefused, TellsNoPackage, touched_at}
 use Rattle.unit_reports.specs.declared.refusal.Rule.TheVariants.{Tree}
 use Rattle.unit_reports.specs.declared.report.Reply.{Reply}
 use Rattle.unit_reports.specs.declared.report.Reply.TheVariants.{Done, Failed}
 use Rattle.unit_reports.specs.declared.report.Touched.{Touched}
 use Rattle.unit_reports.specs.declared.report.Unit.{Unit as AUnit}
 use Rattle.dpkg_session.specs.Refusals.{IsDecisionFor}
+use Rattle.dpkg_session.specs.Touched.{AreDeconfigured, AreTold, IsTouchedBeside, half_configured}
 use Rattle.dpkg_session.specs.declared.displacing.Behind.{Behind}
 use Rattle.dpkg_session.specs.declared.report.Candidate.{Candidate}
 
@@ -65,27 +65,10 @@ pub record AnswersUnpack (name : List ℕ) (records : List Record) (unwinding : 
   pub replied : u.reply ≡ reply_to name unwinding failed
   pub touched : u.touched.items ≡ map (touched_at records) names
 
--- the names of both lists, in order, each once
-pub record AreOfBoth (first second names : List (List ℕ)) : Type 0 where
-  pub order : AreIncreasing names
-  pub exact : (q : List ℕ) → Contains names q ↔ (Contains first q ⊎ Contains second q)
-
--- these are told of both lists
-pub record AreTouched (records : List Record) (first second : List (List ℕ)) (touched : List Touched) : Type 0 where
-  pub names : List (List ℕ)
-  pub both : AreOfBoth first second names
-  pub are : touched ≡ map (touched_at records) names
-
--- it tells the packages of both lists
-pub record AnswersBoth (name : List ℕ) (records : List Record) (unwinding : Option Unwinding) (failed : Option Call) (first second : List (List ℕ)) (u : AUnit) : Type 0 where
-  pub names : List (List ℕ)
-  pub both : AreOfBoth first second names
-  pub answers : AnswersUnpack name records unwinding failed names u
-
--- the packages of a unit, in the order of names: the one that was named, those that it displaced, and each whose record differs since
-pub record IsTouchedBeside (name : List ℕ) (displaced : List (List ℕ)) (before after : List Record) (touched : List (List ℕ)) : Type 0 where
-  pub order : AreIncreasing touched
-  pub exact : (q : List ℕ) → Contains touched q ↔ ((q ≡ name) ⊎ Contains displaced q ⊎ (record_in after q ≡ record_in before q → ⊥))
+-- it tells those of both lists
+pub record AnswersBoth (name : List ℕ) (records : List Record) (copies : List Touched) (half : List (List ℕ)) (unwinding : Option Unwinding) (failed : Option Call) (first second : List (List ℕ)) (u : AUnit) : Type 0 where
+  pub replied : u.reply ≡ reply_to name unwinding failed
+  pub told : AreTold name records copies half first second u.touched.items u.deconfigured
 
 -- The package was unpacked with the rows of other packages, or all rows were unwound.
 pub record HasUnpackedBeside (p : Package) (beside : Beside) (h : Held) (places : List Path) (unwinding : Option Unwinding) (after : Recorded) (lists : List PackageList) (s t : State) (told now : List Called) : Type 0 where
@@ -115,6 +98,12 @@ pub record IsBehind (p : Package) (beside : Beside) (lists : List PackageList) (
   pub version : b.version ≡ p.version
   pub losing : b.losing.items ≡ losing_beside lists beside
 
+-- what is known of the records before: copies of those of the packages that yield, and which are half-configured
+pub record KnowsRecords (beside : Beside) (records : List Record) (b : Behind) : Type 0 where
+  pub order : AreInOrder records
+  pub copies : b.copies.items ≡ map (touched_at records) (yielding beside)
+  pub half : b.half ≡ half_configured records
+
 -- with the records and lists that the unpack left
 abbrev pub held_with : Held → Recorded → List PackageList → Held
 held_with h records lists = record { records = records; lists = lists; entries = h.entries }
@@ -129,8 +118,8 @@ pub record HasUnpackedWhole (p : Package) (beside : Beside) (before : Held) (unw
   pub ready : Needs m (IsInOrder records lists)
   pub behind : HasDisplaced unwinding p.name p.version (losing_beside before.lists beside) beside.conflicting displaced failed (held_with before records lists) after m t between now
 
--- The unit was carried out, and the administration is in order: told are its packages, and for what the rows were unwound, or
--- which call behind the commit failed.
+-- The unit was carried out, and the administration is in order: told are its packages, which of them it deconfigured, and for what
+-- the rows were unwound, or which call behind the commit failed.
 pub record IsUnpacked (p : Package) (beside : Beside) (before after : Held) (u : AUnit) (s t : State) : Type 0 where
   pub unwinding : Option Unwinding
   pub displaced : List (List ℕ)
@@ -139,8 +128,9 @@ pub record IsUnpacked (p : Package) (beside : Beside) (before after : Held) (u :
   pub unpacked : HasUnpackedWhole p beside before unwinding displaced failed after s t [] u.calls.items
   pub order : Needs t (IsInOrder after.records after.lists)
   pub entries : after.entries ≡ before.entries
-  pub changed : IsTouchedBeside p.name displaced before.records.records after.records.records names
+  pub changed : IsTouchedBeside p.name before.records.records after.records.records names
   pub answers : AnswersUnpack p.name after.records.records unwinding failed names u
+  pub deconfigured : AreDeconfigured p.name before.records.records after.records.records u.deconfigured
 
 -- a package is refused, or unpacked
 abbrev pub IsUnitBy : Package → Checked → Held → Held → AUnit → State → State → Type 0
@@ -197,5 +187,5 @@ HasCalledOf auto_deconfigure (Ok p) before u s t = HasCalledPackage auto_deconfi
 -- the unit of a candidate that was broken off: it tells no package, and made the first of its calls alone
 pub record IsBrokenOff (auto_deconfigure : Bool) (c : Candidate) (before : Held) (u : AUnit) (s t : State) : Type 0 where
   pub broken : IsBroken u.reply
-  pub untouched : u.touched.items ≡ []
+  pub untouched : TellsNoPackage u
   pub called : HasCalledOf auto_deconfigure c.tree before u s t

@@ -1,5 +1,5 @@
 // What an unpack displaces behind its commit.
-ghost use Rattle.std.specs.Prelude.{◌≡◌, false, ℕ, List, [], None, IfOk, OnOk};
+ghost use Rattle.std.specs.Prelude.{◌≡◌, false, ℕ, List, [], None, IfOk, OnOk, map};
 ghost use Rattle.host_core.specs.Host.{AtEachMomentOf, Counts, Needs};
 ghost use Rattle.host_core.specs.Loss.{IsOnDisk};
 ghost use Rattle.file_lists.specs.Owners.{places_in};
@@ -11,47 +11,72 @@ ghost use Rattle.unpack_engine.specs.Order.{IsInOrder};
 ghost use Rattle.unpack_engine.specs.Units.{IsTouched};
 ghost use Rattle.unpack_relations.specs.Checks.{AreApart};
 ghost use Rattle.unit_reports.specs.Held.{held};
+ghost use Rattle.unit_reports.specs.Units.{touched_at};
 ghost use Rattle.dpkg_session.specs.Run.{IsAmidBeside, IsAmidUnpack};
-ghost use Rattle.dpkg_session.specs.Units.{AreOfBoth, HasCalledBeside, HasCalledWhole, HasUnpackedBeside, HasUnpackedWhole, IsBehind, IsTouchedBeside};
+ghost use Rattle.dpkg_session.specs.Touched.{AreOfBoth, AreUnchanged, IsTouchedBeside, told_among};
+ghost use Rattle.dpkg_session.specs.Units.{HasCalledBeside, HasCalledWhole, HasUnpackedBeside, HasUnpackedWhole, IsBehind, KnowsRecords, yielding};
 
+use crate::tellings::half_configured;
 use crate::unpacking::unpack_beside;
 use disappearance::Losing;
 use displaced_packages::{Displaced, displace, losing_beside};
 use diversions::Diversions;
 use file_lists::FileLists;
 use host_core::{Host, HostFault, Places};
+use other_rows::yields_beside;
 use package_tree::Package;
 use recorded_packages::renew;
 use relation_index::Packages;
 use status_db::NotedDatabase;
 use std::alloc::{AllocError, Global};
 use texts::{Text, Texts};
-use unit_reports::refresh;
+use unit_reports::{Touched, refresh, touched_of};
 use unpack_engine::Unpacked;
 use unpack_relations::Beside;
 use unwind_stack::Called;
 use version_order::Version;
 
-/// What is known before an unpack of that which it may displace.
+/// What is known before an unpack: which packages may disappear, copies of the records of those that yield, and the names of
+/// all that are half-configured.
 #[derive(Drop)]
 pub(crate) struct Behind {
     pub package: Text,
     pub version: Version,
     pub losing: Vec<Losing>,
+    pub copies: Vec<Touched>,
+    pub half: Texts,
+}
+
+// The packages that let the incoming one take paths of theirs, with their records.
+fn yielding_of(
+    alloc: Global,
+    database: &NotedDatabase,
+    beside: &Beside,
+) -> Result<Vec<Touched>, AllocError>
+    ensures { IfOk result (λ copies. copies.items ≡ map (touched_at database.now.records) (yielding beside.now)) }
+{
+    let names = yields_beside(alloc, beside)?;
+    let copies = touched_of(alloc, database, names.as_slice())?;
+    Ok(copies)
 }
 
 pub(crate) fn behind_of(
     alloc: Global,
+    database: &NotedDatabase,
     lists: &FileLists,
     incoming: &Package,
     beside: &Beside,
 ) -> Result<Behind, AllocError>
-    ensures { IfOk result (IsBehind incoming.now beside.now lists.now.lists) }
+    ensures behind { IfOk result (IsBehind incoming.now beside.now lists.now.lists) }
+    ensures known { IfOk result (KnowsRecords beside.now database.now.records) }
 {
+    database.law();
     Ok(Behind {
         package: incoming.name.copy()?,
         version: incoming.version.copy()?,
         losing: losing_beside(alloc, lists, beside)?,
+        copies: yielding_of(alloc, database, beside)?,
+        half: half_configured(alloc, database.records())?,
     })
 }
 
@@ -168,7 +193,7 @@ pub(crate) fn unpack_whole<H: Host>(
     requires indexed { ArePackagesOf database.old.records packages.old }
     requires untold { told.old.items ≡ [] }
     ensures unit { IfOk result (λ e. HasUnpackedWhole incoming beside.now (held database.old lists.old diversions.now) e.unpacked.unwinding e.displaced.names e.displaced.failed (held database.new lists.new diversions.now) (H.state host.old) (H.state host.new) told.old.items told.new.items) }
-    ensures touched { IfOk result (λ e. (names : List (List ℕ)) → AreOfBoth e.unpacked.touched e.displaced.names names → IsTouchedBeside incoming.name e.displaced.names database.old.records database.new.records names) }
+    ensures touched { IfOk result (λ e. (names unchanged : List (List ℕ)) → AreOfBoth e.unpacked.touched e.displaced.names names → AreUnchanged database.old.records database.new.records (yielding beside.now) unchanged → IsTouchedBeside incoming.name database.old.records database.new.records (told_among incoming.name unchanged names)) }
     ensures order { OnOk result (Needs (H.state host.new) (IsInOrder database.new lists.new.lists)) }
     ensures noting { OnOk result (database.new.closed ≡ false) }
     ensures listing { OnOk result (lists.new.closed ≡ false) }

@@ -11,7 +11,7 @@ ghost use Rattle.diversions.specs.declared.fault.DiversionFault.TheVariants as f
 ghost use Rattle.file_lists.specs.Owners.{places_in};
 ghost use Rattle.dpkg_session.specs.Diversions.{HasBroken, IsDiverted, IsFlushed, IsOneUnit, LeavesAnswer, asked_entry, by_answer, is_listed, seen_of};
 ghost use Rattle.dpkg_session.specs.PowerLoss.{LosesLikeAStop, StandsOnceAnswered};
-ghost use Rattle.unit_reports.specs.Units.{CountsLast, CountsReply, IsBroken, IsBrokenBy, IsClosedReport, TellsCalls, calls_told};
+ghost use Rattle.unit_reports.specs.Units.{CountsLast, CountsReply, IsBroken, IsBrokenBy, IsClosedReport, TellsCalls, TellsNoPackage, calls_told};
 ghost use Rattle.unit_reports.specs.declared.report.Breakage.TheVariants.{Closed};
 
 use crate::asked::Diverting;
@@ -99,7 +99,7 @@ fn add_unit<H: Host>(
     ensures writable { IsBroken result.reply ⊎ (diversions.new.closed ≡ false) }
     ensures kept { IsBroken result.reply ⊎ (places.new ≡ places_in diversions.new.entries lists.now.lists) }
     ensures calls { result.calls.items ≡ [] }
-    ensures touched { result.touched.items ≡ [] }
+    ensures touched { TellsNoPackage result }
     ensures any_moment { AtEachMoment (IsAdding diversions.old.entries (asked_entry asked.now) asked.now.rename seen) (H.state host.old) (H.state host.new) }
     ensures silent { Silent (H.state host.old) (H.state host.new) }
     ensures counts { CountsReply (H.state host.old) (H.state host.new) result.reply }

@@ -1,9 +1,10 @@
 // Which packages of an unpack are configured then.
-ghost use Rattle.std.specs.Prelude.{◌≡◌, ◌++◌, IfOk, OnOk};
-ghost use Rattle.dpkg_session.specs.Installs.{done_at, half_configured, is_half, label_of, names_done};
+ghost use Rattle.std.specs.Prelude.{◌≡◌, ◌⊎◌, ◌≤◌, ◌++◌, filter, length, IfOk, OnOk};
+ghost use Rattle.std.specs.List.{list_any};
+ghost use Rattle.dpkg_session.specs.Installs.{done_with, has_lost_files, is_told_lost, is_without_files, label_of, names_done, stays, takes_away};
 
 use crate::report::Candidate;
-use status_db::State;
+use status_db::{Record, State};
 use std::alloc::{AllocError, Global};
 use texts::Text;
 use unit_reports::{Reply, Touched, Unit};
@@ -18,56 +19,120 @@ pub(crate) fn label_of(candidate: &Candidate) -> &Text
     }
 }
 
-// Whether a package that a unit tells is half-configured.
-fn is_half(touched: &Touched) -> bool
-    ensures { result ≡ is_half touched.now.entry }
+fn is_without_files(state: State) -> bool
+    ensures { result ≡ is_without_files state }
 {
-    match &touched.entry {
-        None => false,
-        Some(entry) => match entry.state {
-            State::NotInstalled => false,
-            State::ConfigFiles => false,
-            State::HalfInstalled => false,
-            State::Unpacked => false,
-            State::HalfConfigured => true,
-            State::Installed => false,
-        },
+    match state {
+        State::NotInstalled | State::ConfigFiles | State::HalfInstalled => true,
+        State::Unpacked | State::HalfConfigured | State::Installed => false,
     }
 }
 
-fn push_half_configured(names: &mut Vec<Text>, touched: &[Touched]) -> Result<(), AllocError>
-    ensures { OnOk result (names.new.items ≡ names.old.items ++ half_configured touched.now) }
+fn has_lost_files(entry: &Option<Record>) -> bool
+    ensures { result ≡ has_lost_files entry.now }
 {
-    for told in touched {
-        if is_half(told) {
-            names.push(told.package.copy()?)?;
+    match entry {
+        None => true,
+        Some(entry) => is_without_files(entry.state),
+    }
+}
+
+// Whether this tells of the package of this name that it has no files any more.
+fn is_told_lost(name: &Text, told: &Touched) -> bool
+    ensures { result ≡ is_told_lost name.now told.now }
+{
+    name.as_str() == told.package.as_str() && has_lost_files(&told.entry)
+}
+
+fn is_lost_among(touched: &[Touched], name: &Text) -> bool
+    ensures { result ≡ list_any (is_told_lost name.now) touched.now }
+{
+    touched.iter().any(|told| is_told_lost(name, told))
+}
+
+// Whether the unit of a package tells so of another one.
+fn takes_away(label: &Text, unit: &Unit, name: &Text) -> bool
+    ensures { result ≡ takes_away label.now unit.now name.now }
+{
+    name.as_str() != label.as_str() && is_lost_among(unit.touched.as_slice(), name)
+}
+
+// How many units have a label.
+fn labelled(labels: &[Text], units: &[Unit]) -> usize
+    ensures labels { result ≤ length labels.now }
+    ensures units { result ≤ length units.now }
+    ensures whole { (length labels.now ≤ result) ⊎ (length units.now ≤ result) }
+{
+    if labels.len() < units.len() {
+        labels.len()
+    } else {
+        units.len()
+    }
+}
+
+// Whether none of these units takes a package away.
+fn stays(labels: &[Text], units: &[Unit], name: &Text) -> bool
+    ensures { result ≡ stays labels.now units.now name.now }
+{
+    for at in 0..labelled(labels, units) {
+        if takes_away(&labels[at], &units[at], name) {
+            return false;
+        }
+    }
+    true
+}
+
+// Adds those of these names that no unit takes away.
+fn push_staying(
+    names: &mut Vec<Text>,
+    labels: &[Text],
+    units: &[Unit],
+    more: &[Text],
+) -> Result<(), AllocError>
+    ensures { OnOk result (names.new.items ≡ names.old.items ++ filter (stays labels.now units.now) more.now) }
+{
+    for name in more {
+        if stays(labels, units, name) {
+            names.push(name.copy()?)?;
         }
     }
     Ok(())
 }
 
-// The label of this number, where the unit answered Done, and the packages that were deconfigured for it.
-fn push_done(
-    names: &mut Vec<Text>,
-    labels: &[Text],
-    at: usize,
-    unit: &Unit,
-) -> Result<(), AllocError>
-    ensures { OnOk result (names.new.items ≡ names.old.items ++ done_at labels.now at unit.now) }
+// A package whose unit answered Done, and those that were deconfigured for it.
+fn done_with(alloc: Global, label: &Text, unit: &Unit) -> Result<Vec<Text>, AllocError>
+    ensures { IfOk result (λ done. done.items ≡ done_with label.now unit.now) }
 {
-    let Some(label) = labels.get(at) else {
-        return Ok(());
-    };
+    let mut done = Vec::new(alloc);
     match &unit.reply {
         Reply::Done => {
-            names.push(label.copy()?)?;
-            push_half_configured(names, unit.touched.as_slice())
+            done.push(label.copy()?)?;
+            for name in unit.deconfigured.as_slice() {
+                done.push(name.copy()?)?;
+            }
         }
-        Reply::Refused(_) | Reply::Failed(_) | Reply::Broken(_) => Ok(()),
+        Reply::Refused(_) | Reply::Failed(_) | Reply::Broken(_) => {}
     }
+    Ok(done)
 }
 
-/// Of the units of packages of these names, those that answered Done, each with those that were deconfigured for it.
+// Adds what a unit has done, but for what one of the later units takes away.
+fn push_done(
+    alloc: Global,
+    names: &mut Vec<Text>,
+    label: &Text,
+    unit: &Unit,
+    labels: &[Text],
+    units: &[Unit],
+) -> Result<(), AllocError>
+    ensures { OnOk result (names.new.items ≡ names.old.items ++ filter (stays labels.now units.now) (done_with label.now unit.now)) }
+{
+    let done = done_with(alloc, label, unit)?;
+    push_staying(names, labels, units, done.as_slice())
+}
+
+/// Of the units of packages of these names, those that answered Done, each with those that were deconfigured for it, without those
+/// that a later unit takes away.
 pub(crate) fn names_done(
     alloc: Global,
     labels: &[Text],
@@ -76,8 +141,15 @@ pub(crate) fn names_done(
     ensures { IfOk result (λ names. names.items ≡ names_done labels.now units.now) }
 {
     let mut names = Vec::new(alloc);
-    for (at, unit) in units.iter().enumerate() {
-        push_done(&mut names, labels, at, unit)?;
+    for at in 0..labelled(labels, units) {
+        push_done(
+            alloc,
+            &mut names,
+            &labels[at],
+            &units[at],
+            &labels[at + 1..],
+            &units[at + 1..],
+        )?;
     }
     Ok(names)
 }

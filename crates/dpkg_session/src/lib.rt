@@ -17,6 +17,7 @@ mod session;
 mod table_units;
 mod tellings;
 mod trees;
+mod unchanged;
 mod undiverting;
 mod units;
 mod unpacking;

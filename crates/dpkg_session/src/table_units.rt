@@ -5,14 +5,14 @@ ghost use Rattle.host_core.specs.Loss.{IsOnDisk};
 ghost use Rattle.diversions.specs.declared.refusal.Answer.TheVariants as answered;
 ghost use Rattle.file_lists.specs.Owners.{places_in};
 ghost use Rattle.dpkg_session.specs.Diversions.{AnswersDiversion, HasBroken, IsReportOf, by_answer, table_breakage};
-ghost use Rattle.unit_reports.specs.Units.{IsBrokenBy, calls_told};
+ghost use Rattle.unit_reports.specs.Units.{IsBrokenBy, TellsNoPackage, calls_told};
 ghost use Rattle.unit_reports.specs.declared.report.Breakage.TheVariants.{NoMemory};
 
 use diversions::{Answer, DiversionFault, Diversions};
 use file_lists::FileLists;
 use host_core::{Host, HostFault, Places, ShipPath};
 use std::alloc::Global;
-use texts::Text;
+use texts::{Text, Texts};
 use unit_reports::{Breakage, Refusal, Reply, Report, Rule, Unit, broken, is_broken, refresh};
 
 pub(crate) fn breakage_of(fault: DiversionFault) -> Breakage
@@ -29,12 +29,13 @@ pub(crate) fn breakage_of(fault: DiversionFault) -> Breakage
 fn refused(alloc: Global, path: &ShipPath, refusal: diversions::Refusal) -> Unit
     ensures unit { IsBrokenBy NoMemory result.reply ⊎ AnswersDiversion path.now (answered.Refused refusal) result }
     ensures calls { result.calls.items ≡ [] }
-    ensures touched { result.touched.items ≡ [] }
+    ensures touched { TellsNoPackage result }
 {
     match Text::from_str(alloc, path.as_str()) {
         Ok(package) => Unit {
             calls: Vec::new(alloc),
             touched: Vec::new(alloc),
+            deconfigured: Texts::new(alloc),
             reply: Reply::Refused(Refusal {
                 rule: Rule::Divert(refusal),
                 package,
@@ -55,12 +56,13 @@ fn done(
     ensures unit { IsBrokenBy NoMemory result.reply ⊎ AnswersDiversion path.now answered.Done result }
     ensures places { IsBrokenBy NoMemory result.reply ⊎ (places.new ≡ places_in diversions.now.entries lists.now.lists) }
     ensures calls { result.calls.items ≡ [] }
-    ensures touched { result.touched.items ≡ [] }
+    ensures touched { TellsNoPackage result }
 {
     match refresh(alloc, lists, diversions, places) {
         Ok(()) => Unit {
             calls: Vec::new(alloc),
             touched: Vec::new(alloc),
+            deconfigured: Texts::new(alloc),
             reply: Reply::Done,
         },
         Err(_) => broken(alloc, Vec::new(alloc), Breakage::NoMemory),
@@ -79,7 +81,7 @@ pub(crate) fn unit_of(
     ensures unit { IsBrokenBy NoMemory result.reply ⊎ AnswersDiversion path.now answer result }
     ensures places { IsBrokenBy NoMemory result.reply ⊎ (places.new ≡ by_answer answer places.old (places_in diversions.now.entries lists.now.lists)) }
     ensures calls { result.calls.items ≡ [] }
-    ensures touched { result.touched.items ≡ [] }
+    ensures touched { TellsNoPackage result }
 {
     match answer {
         Answer::Done => done(alloc, lists, diversions, places, path),

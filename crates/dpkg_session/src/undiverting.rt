@@ -10,7 +10,7 @@ ghost use Rattle.diversions.specs.declared.fault.DiversionFault.TheVariants as f
 ghost use Rattle.file_lists.specs.Owners.{places_in};
 ghost use Rattle.dpkg_session.specs.Diversions.{HasBroken, IsFlushed, IsOneUnit, IsUndiverted, LeavesAnswer, by_answer};
 ghost use Rattle.dpkg_session.specs.PowerLoss.{LosesLikeAStop, StandsOnceAnswered};
-ghost use Rattle.unit_reports.specs.Units.{CountsLast, CountsReply, IsBroken, IsBrokenBy, IsClosedReport, TellsCalls, calls_told};
+ghost use Rattle.unit_reports.specs.Units.{CountsLast, CountsReply, IsBroken, IsBrokenBy, IsClosedReport, TellsCalls, TellsNoPackage, calls_told};
 ghost use Rattle.unit_reports.specs.declared.report.Breakage.TheVariants.{Closed};
 
 use crate::asked::Undiverting;
@@ -61,7 +61,7 @@ fn remove_unit<H: Host>(
     ensures writable { IsBroken result.reply ⊎ (diversions.new.closed ≡ false) }
     ensures kept { IsBroken result.reply ⊎ (places.new ≡ places_in diversions.new.entries lists.now.lists) }
     ensures calls { result.calls.items ≡ [] }
-    ensures touched { result.touched.items ≡ [] }
+    ensures touched { TellsNoPackage result }
     ensures any_moment { AtEachMoment (IsRemoving diversions.old.entries asked.now.path asked.now.rename) (H.state host.old) (H.state host.new) }
     ensures silent { Silent (H.state host.old) (H.state host.new) }
     ensures counts { CountsReply (H.state host.old) (H.state host.new) result.reply }

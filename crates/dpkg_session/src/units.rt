@@ -15,15 +15,15 @@ ghost use Rattle.unit_reports.specs.Watching.{AddsTold, IsTold};
 ghost use Rattle.dpkg_session.specs.Installs.{label_of};
 ghost use Rattle.dpkg_session.specs.Run.{AddsUnit, HasRunThrough, IsAmidPackage, IsAmidUnitOf, IsAmidUnpack};
 ghost use Rattle.dpkg_session.specs.Trees.{AreRead};
-ghost use Rattle.unit_reports.specs.Units.{CountsLast, CountsReply, IsBroken, IsBrokenBy, breakage_of, TellsCalls, calls_of};
-ghost use Rattle.dpkg_session.specs.Units.{AnswersBoth, HasCalledOf, HasCalledPackage, HasCalledWhole, IsBehind, IsBrokenOff, IsPackageUnit, IsUnit, IsUnpacked, reply_to};
+ghost use Rattle.unit_reports.specs.Units.{CountsLast, CountsReply, IsBroken, IsBrokenBy, TellsCalls, TellsNoPackage, breakage_of, calls_of};
+ghost use Rattle.dpkg_session.specs.Units.{AnswersBoth, HasCalledOf, HasCalledPackage, HasCalledWhole, IsBehind, IsBrokenOff, KnowsRecords, IsPackageUnit, IsUnit, IsUnpacked, reply_to};
 
 use crate::displacing::{Behind, UnpackEnd, behind_of, unpack_whole};
 use crate::done::label_of;
 use crate::recorded::take_packages;
 use crate::refusal::decision_of;
 use crate::report::Candidate;
-use crate::tellings::touched_of_both;
+use crate::tellings::told_of;
 use crate::trees::Trees;
 use displaced_packages::Displaced;
 use diversions::Diversions;
@@ -68,22 +68,38 @@ fn reply_to(package: Text, unwinding: Option<Unwinding>, failed: Option<Call>) -
 fn answered(
     alloc: Global,
     database: &NotedDatabase,
-    package: Text,
+    behind: Behind,
     end: UnpackEnd,
     calls: Vec<Called>,
 ) -> Unit
-    ensures answer { IsBrokenBy NoMemory result.reply ⊎ AnswersBoth «package» database.now.records end.unpacked.unwinding end.displaced.failed end.unpacked.touched end.displaced.names result }
+    ensures answer { IsBrokenBy NoMemory result.reply ⊎ AnswersBoth behind.«package» database.now.records behind.copies.items behind.half end.unpacked.unwinding end.displaced.failed end.unpacked.touched end.displaced.names result }
     ensures told { result.calls.items ≡ calls.items }
-    ensures untouched { IsBroken result.reply → result.touched.items ≡ [] }
+    ensures untouched { IsBroken result.reply → TellsNoPackage result }
 {
     let UnpackEnd {
         unpacked: Unpacked { unwinding, touched },
         displaced: Displaced { names, failed },
     } = end;
-    match touched_of_both(alloc, database, touched.as_slice(), names.as_slice()) {
-        Ok(touched) => Unit {
+    let Behind {
+        package,
+        copies,
+        half,
+        version: _,
+        losing: _,
+    } = behind;
+    match told_of(
+        alloc,
+        database,
+        &package,
+        copies.as_slice(),
+        half.as_slice(),
+        touched.as_slice(),
+        names.as_slice(),
+    ) {
+        Ok(told) => Unit {
             calls,
-            touched,
+            touched: told.touched,
+            deconfigured: told.deconfigured,
             reply: reply_to(package, unwinding, failed),
         },
         Err(_) => broken(alloc, calls, Breakage::NoMemory),
@@ -104,6 +120,7 @@ fn unpack_named<H: Host>(
     beside: &Beside,
 ) -> Unit
     requires behind { IsBehind incoming beside.now lists.old.lists behind }
+    requires known { KnowsRecords beside.now database.old.records behind }
     requires apart { AreApart incoming.name database.old.records beside.now }
     requires order { Needs (H.state host.old) (IsInOrder database.old lists.old.lists) }
     requires noting { database.old.closed ≡ false }
@@ -116,7 +133,7 @@ fn unpack_named<H: Host>(
     ensures kept { IsBroken result.reply ⊎ (places.new ≡ places_in diversions.now.entries lists.new.lists) }
     ensures indexed { IsBroken result.reply ⊎ ArePackagesOf database.new.records packages.new }
     ensures on_disk { IsBroken result.reply ⊎ IsOnDisk (H.state host.new).events }
-    ensures untouched { IsBroken result.reply → result.touched.items ≡ [] }
+    ensures untouched { IsBroken result.reply → TellsNoPackage result }
     ensures told { HasCalledWhole incoming beside.now (held database.old lists.old diversions.now) (H.state host.old) (H.state host.new) [] result.calls.items }
     ensures any_moment { AtEachMomentOf (IsAmidUnpack incoming beside.now (held database.old lists.old diversions.now)) (H.state host.old) (H.state host.new) }
     ensures counts { CountsReply (H.state host.old) (H.state host.new) result.reply }
@@ -127,7 +144,7 @@ fn unpack_named<H: Host>(
         alloc, host, database, packages, lists, places, diversions, incoming, beside, &behind,
         &mut calls,
     ) {
-        Ok(end) => answered(alloc, database, behind.package, end, calls),
+        Ok(end) => answered(alloc, database, behind, end, calls),
         Err(fault) => broken(alloc, calls, breakage_of(fault)),
     }
 }
@@ -156,13 +173,13 @@ fn unpack_unit<H: Host>(
     ensures kept { IsBroken result.reply ⊎ (places.new ≡ places_in diversions.now.entries lists.new.lists) }
     ensures indexed { IsBroken result.reply ⊎ ArePackagesOf database.new.records packages.new }
     ensures on_disk { IsBroken result.reply ⊎ IsOnDisk (H.state host.new).events }
-    ensures untouched { IsBroken result.reply → result.touched.items ≡ [] }
+    ensures untouched { IsBroken result.reply → TellsNoPackage result }
     ensures told { HasCalledWhole incoming beside.now (held database.old lists.old diversions.now) (H.state host.old) (H.state host.new) [] result.calls.items }
     ensures any_moment { AtEachMomentOf (IsAmidUnpack incoming beside.now (held database.old lists.old diversions.now)) (H.state host.old) (H.state host.new) }
     ensures counts { CountsReply (H.state host.old) (H.state host.new) result.reply }
     ensures not_closed { IsBrokenBy Closed result.reply → ⊥ }
 {
-    match behind_of(alloc, lists, &incoming, beside) {
+    match behind_of(alloc, database, lists, &incoming, beside) {
         Ok(behind) => {
             return unpack_named(
                 alloc, host, database, packages, lists, places, diversions, behind, incoming,
@@ -198,7 +215,7 @@ fn decide_and_unpack<H: Host>(
     ensures kept { IsBroken result.reply ⊎ (places.new ≡ places_in diversions.now.entries lists.new.lists) }
     ensures indexed { IsBroken result.reply ⊎ ArePackagesOf database.new.records packages.new }
     ensures answered { IsBroken result.reply ⊎ IsAnswered (H.state host.old) (H.state host.new) }
-    ensures untouched { IsBroken result.reply → result.touched.items ≡ [] }
+    ensures untouched { IsBroken result.reply → TellsNoPackage result }
     ensures told { HasCalledPackage auto_deconfigure incoming (held database.old lists.old diversions.now) result (H.state host.old) (H.state host.new) }
     ensures any_moment { AtEachMomentOf (IsAmidPackage auto_deconfigure incoming (held database.old lists.old diversions.now)) (H.state host.old) (H.state host.new) }
     ensures counts { CountsReply (H.state host.old) (H.state host.new) result.reply }
@@ -242,7 +259,7 @@ fn unit_of_package<H: Host>(
     ensures kept { IsBroken result.reply ⊎ (places.new ≡ places_in diversions.now.entries lists.new.lists) }
     ensures indexed { IsBroken result.reply ⊎ IfSome packages.new (ArePackagesOf database.new.records) }
     ensures answered { IsBroken result.reply ⊎ IsAnswered (H.state host.old) (H.state host.new) }
-    ensures untouched { IsBroken result.reply → result.touched.items ≡ [] }
+    ensures untouched { IsBroken result.reply → TellsNoPackage result }
     ensures told { HasCalledPackage auto_deconfigure incoming (held database.old lists.old diversions.now) result (H.state host.old) (H.state host.new) }
     ensures any_moment { AtEachMomentOf (IsAmidPackage auto_deconfigure incoming (held database.old lists.old diversions.now)) (H.state host.old) (H.state host.new) }
     ensures counts { CountsReply (H.state host.old) (H.state host.new) result.reply }
@@ -291,7 +308,7 @@ fn unit_of<H: Host>(
     ensures kept { IsBroken result.reply ⊎ (places.new ≡ places_in diversions.now.entries lists.new.lists) }
     ensures indexed { IsBroken result.reply ⊎ IfSome packages.new (ArePackagesOf database.new.records) }
     ensures answered { IsBroken result.reply ⊎ IsAnswered (H.state host.old) (H.state host.new) }
-    ensures untouched { IsBroken result.reply → result.touched.items ≡ [] }
+    ensures untouched { IsBroken result.reply → TellsNoPackage result }
     ensures told { HasCalledOf auto_deconfigure candidate.tree (held database.old lists.old diversions.now) result (H.state host.old) (H.state host.new) }
     ensures any_moment { AtEachMomentOf (IsAmidUnitOf auto_deconfigure candidate.tree (held database.old lists.old diversions.now)) (H.state host.old) (H.state host.new) }
     ensures counts { CountsReply (H.state host.old) (H.state host.new) result.reply }

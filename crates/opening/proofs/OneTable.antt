@@ -109,7 +109,7 @@ not_broken text rs paragraphs begun None line is read (inr end) = elim end.1 [
 whole_text : (text : List ℕ) (rs : List Record) (line : ℕ) → IsStatus text rs → IsFirstFault text line → ⊥
 whole_text text rs line is fault = not_broken text rs fault.paragraphs fault.begun fault.fault line is fault.read fault.told
 
-one_text : (text : List ℕ) (a b : List Record) → IsStatus text a → IsStatus text b → standing a ≡ standing b
+pub one_text : (text : List ℕ) (a b : List Record) → IsStatus text a → IsStatus text b → standing a ≡ standing b
 one_text text a b first second =
     enters_once second.paragraphs [] [] first.names second.names [] [] (standing a) (standing b) refl
     (subst (λ (ps : List (List Field)). Enters [] [] ps first.names (standing a)) (reads_once (lines_of text) first.paragraphs second.paragraphs first.reads second.reads) first.enters) second.enters

@@ -5,7 +5,7 @@ use Rattle.host_core.specs.Host.{State, Since}
 use Rattle.host_core.specs.Moments.{since_start, since_then, since_weaker, since_weaker_if}
 use Rattle.status_db.specs.declared.record.Record.{Record}
 use Rattle.unit_reports.specs.Held.{Held}
-use Rattle.unit_reports.specs.Units.{IsBroken}
+use Rattle.unit_reports.specs.Units.{IsBroken, TellsNoPackage}
 use Rattle.unit_reports.specs.declared.report.Unit.{Unit as AUnit}
 use Rattle.removal_run.specs.Names.{without}
 use Rattle.removal_run.specs.Turns.{HasStopped, HasTurned, IsAmidNext, IsAmidTurns, RemovesTo}
@@ -100,7 +100,7 @@ module _ (purge : Bool) (waiting left : List (List ℕ)) (before mid : Held) (s 
   }
 
   -- memory was wanting to find it
-  pub stopped_here : (u : AUnit) → IsBroken u.reply → u.touched.items ≡ [] → u.calls.items ≡ [] → HasStopped purge waiting before s m old us u
+  pub stopped_here : (u : AUnit) → IsBroken u.reply → TellsNoPackage u → u.calls.items ≡ [] → HasStopped purge waiting before s m old us u
   stopped_here u broken untouched none = record {
     left = left;
     after = mid;

@@ -10,7 +10,7 @@ use Rattle.relation_index.specs.declared.package.Package.{Package}
 use Rattle.status_db.specs.Order.{AreInOrder}
 use Rattle.status_db.specs.declared.record.Record.{Record}
 use Rattle.unit_reports.specs.Held.{Held}
-use Rattle.unit_reports.specs.Units.{IsBrokenBy}
+use Rattle.unit_reports.specs.Units.{IsBrokenBy, TellsNoPackage}
 use Rattle.unit_reports.specs.declared.report.Breakage.TheVariants.{NoMemory}
 use Rattle.unit_reports.specs.declared.report.Report.{Report}
 use Rattle.unit_reports.specs.declared.report.Unit.{Unit as AUnit}
@@ -46,7 +46,7 @@ pub record IsRemovalRun (names : List (List ℕ)) (purge : Bool) (us : List AUni
 pub record IsIdle (u : AUnit) : Type 0 where
   pub broken : IsBrokenBy NoMemory u.reply
   pub calls : u.calls.items ≡ []
-  pub touched : u.touched.items ≡ []
+  pub touched : TellsNoPackage u
 
 -- nothing was done at all
 pub record HasNotBegun (us : List AUnit) (last : Option AUnit) (s t : State) : Type 0 where

@@ -5,7 +5,7 @@ use Rattle.host_core.specs.Host.{State, AtEachMomentOf}
 use Rattle.host_core.specs.World.{World}
 use Rattle.status_db.specs.declared.record.Record.{Record}
 use Rattle.unit_reports.specs.Held.{Held}
-use Rattle.unit_reports.specs.Units.{HasNoCalls, IsBroken}
+use Rattle.unit_reports.specs.Units.{HasNoCalls, IsBroken, TellsNoPackage}
 use Rattle.unit_reports.specs.declared.report.Unit.{Unit as AUnit}
 use Rattle.removal_run.specs.Names.{is_among, without}
 use Rattle.removal_run.specs.Refusals.{rule_for}
@@ -47,7 +47,7 @@ HasCalledNext purge start waiting before u s t =
 -- a unit that was broken off: it tells no package
 pub record IsBrokenNext (purge : Bool) (start : List Record) (waiting : List (List ℕ)) (before : Held) (s t : State) (u : AUnit) : Type 0 where
   pub broken : IsBroken u.reply
-  pub untouched : u.touched.items ≡ []
+  pub untouched : TellsNoPackage u
   pub called : HasCalledNext purge start waiting before u s t
 
 -- removals were carried out, and their units are told behind others

@@ -13,7 +13,7 @@ use Rattle.status_db.specs.Records.{record_in}
 use Rattle.status_db.specs.declared.record.Record.{Record}
 use Rattle.unit_parts.specs.Order.{IsInOrder}
 use Rattle.unit_reports.specs.Held.{Held}
-use Rattle.unit_reports.specs.Units.{IsBroken, touched_at}
+use Rattle.unit_reports.specs.Units.{IsBroken, TellsNoPackage, touched_at}
 use Rattle.unit_reports.specs.declared.report.Reply.{Reply}
 use Rattle.unit_reports.specs.declared.report.Reply.TheVariants.{Done, Failed}
 use Rattle.unit_reports.specs.declared.report.Unit.{Unit as AUnit}
@@ -42,6 +42,7 @@ reply_to name (Some call) = Failed (record { «package» = name; cause = OfCall 
 pub record Answers (name : List ℕ) (records : List Record) (failed : Option Call) (u : AUnit) : Type 0 where
   pub replied : u.reply ≡ reply_to name failed
   pub touched : u.touched.items ≡ touched_at records name ∷ []
+  pub deconfigured : u.deconfigured ≡ []
 
 -- the package was removed or purged, or that failed; then all was brought to the disk
 pub record IsBroughtToDisk (purge : Bool) (name : List ℕ) (before : Held) (failed : Option Call) (after : Held) (s t : State) (told now : List Called) : Type 0 where
@@ -91,5 +92,5 @@ pub record AddsRemoval (purge : Bool) (name : List ℕ) (before after : Held) (s
 -- its unit where it was broken off: it tells no package
 pub record IsBrokenOff (purge : Bool) (name : List ℕ) (before : Held) (u : AUnit) (s t : State) : Type 0 where
   pub broken : IsBroken u.reply
-  pub untouched : u.touched.items ≡ []
+  pub untouched : TellsNoPackage u
   pub called : HasCalledRemoving purge name before s t [] u.calls.items

@@ -9,7 +9,7 @@ ghost use Rattle.removal_run.specs.Next.{IsNothing};
 ghost use Rattle.removal_run.specs.Turns.{AreAccepted, HasStopped, HasTurned, IsAmidTurns};
 ghost use Rattle.unit_parts.specs.Order.{IsInOrder};
 ghost use Rattle.unit_reports.specs.Held.{held};
-ghost use Rattle.unit_reports.specs.Units.{CountsReply, IsBrokenBy, calls_of};
+ghost use Rattle.unit_reports.specs.Units.{CountsReply, IsBrokenBy, TellsNoPackage, calls_of};
 ghost use Rattle.unit_reports.specs.declared.report.Breakage.TheVariants.{Closed, NoMemory};
 ghost use Rattle.unit_reports.specs.Watching.{AddsTold};
 ghost use Rattle.unwind_stack.specs.Transcript.{TellsAll};
@@ -31,7 +31,7 @@ use unit_reports::{Breakage, Unit, Watcher, broken, what_is_told_in_turn};
 fn no_memory(alloc: Global) -> Unit
     ensures reply { IsBrokenBy NoMemory result.reply }
     ensures told { result.calls.items ≡ [] }
-    ensures touched { result.touched.items ≡ [] }
+    ensures touched { TellsNoPackage result }
 {
     broken(alloc, Vec::new(alloc), Breakage::NoMemory)
 }

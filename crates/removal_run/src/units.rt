@@ -5,7 +5,7 @@ ghost use Rattle.host_core.specs.Loss.{IsAnswered, IsOnDisk};
 ghost use Rattle.file_lists.specs.Owners.{places_in};
 ghost use Rattle.unit_parts.specs.Order.{IsInOrder};
 ghost use Rattle.unit_reports.specs.Held.{held};
-ghost use Rattle.unit_reports.specs.Units.{CountsReply, IsBroken, IsBrokenBy, calls_of, touched_at};
+ghost use Rattle.unit_reports.specs.Units.{CountsReply, IsBroken, IsBrokenBy, TellsNoPackage, calls_of, touched_at};
 ghost use Rattle.unit_reports.specs.declared.report.Breakage.TheVariants.{NoMemory, Closed};
 ghost use Rattle.unit_reports.specs.Watching.{AddsTold};
 ghost use Rattle.removal_run.specs.Refusals.{rule_for};
@@ -19,7 +19,7 @@ use removal_engine::{Extent, remove};
 use stack_run::Failure as Cause;
 use status_db::NotedDatabase;
 use std::alloc::{AllocError, Global};
-use texts::Text;
+use texts::{Text, Texts};
 use unit_reports::{
     Breakage, Failure, Reply, Touched, Unit, Watcher, breakage_of, broken, is_broken, touched_at,
 };
@@ -106,12 +106,13 @@ fn answered(
 ) -> Unit
     ensures answer { IsBrokenBy NoMemory result.reply ⊎ Answers «package» database.now.records failed result }
     ensures told { result.calls.items ≡ calls.items }
-    ensures untouched { IsBroken result.reply → result.touched.items ≡ [] }
+    ensures untouched { IsBroken result.reply → TellsNoPackage result }
 {
     match touched_alone(alloc, database, &package) {
         Ok(touched) => Unit {
             calls,
             touched,
+            deconfigured: Texts::new(alloc),
             reply: reply_to(package, failed),
         },
         Err(_) => broken(alloc, calls, Breakage::NoMemory),
@@ -140,7 +141,7 @@ fn remove_named<H: Host>(
     ensures kept { IsBroken result.reply ⊎ (places.new ≡ places_in diversions.now.entries lists.new.lists) }
     ensures others { IsBroken result.reply ⊎ AreOthersKept «package» database.old.records database.new.records }
     ensures answered { IsBroken result.reply ⊎ IsAnswered (H.state host.old) (H.state host.new) }
-    ensures untouched { IsBroken result.reply → result.touched.items ≡ [] }
+    ensures untouched { IsBroken result.reply → TellsNoPackage result }
     ensures told { HasCalledRemoving purge «package» (held database.old lists.old diversions.now) (H.state host.old) (H.state host.new) [] result.calls.items }
     ensures any_moment { AtEachMomentOf (IsAmidRemoval purge «package» (held database.old lists.old diversions.now)) (H.state host.old) (H.state host.new) }
     ensures counts { CountsReply (H.state host.old) (H.state host.new) result.reply }

@@ -21,10 +21,15 @@ use Rattle.unit_reports.specs.declared.report.Unit.{Unit as AUnit}
 abbrev pub touched_at : List Record → List ℕ → Touched
 touched_at records name = record { «package» = name; entry = record_in records name }
 
+-- it tells no package
+pub record TellsNoPackage (u : AUnit) : Type 0 where
+  pub touched : u.touched.items ≡ []
+  pub deconfigured : u.deconfigured ≡ []
+
 -- a refused unit: no call is told, and no package
 pub record IsRefusedUnit (rule : Rule) (name : List ℕ) (u : AUnit) : Type 0 where
   pub calls : u.calls.items ≡ []
-  pub touched : u.touched.items ≡ []
+  pub untouched : TellsNoPackage u
   pub reply : u.reply ≡ Refused (record { rule = rule; «package» = name })
 
 -- no script was called, and nothing has changed
@@ -70,7 +75,7 @@ pub record HasNoCalls (u : AUnit) (s t : State) : Type 0 where
 -- the answer of a session that is closed: one unit that was broken off, and nothing else
 pub record IsClosedReport (report : Report) : Type 0 where
   pub units : report.units.items ≡ []
-  pub last : IsSomeAnd report.last (λ u. (u.calls.items ≡ []) × (u.touched.items ≡ []) × (u.reply ≡ Broken Closed))
+  pub last : IsSomeAnd report.last (λ u. (u.calls.items ≡ []) × TellsNoPackage u × (u.reply ≡ Broken Closed))
 
 -- the calls that units tell, in order
 abbrev pub calls_of : List AUnit → List Called

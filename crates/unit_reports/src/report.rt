@@ -2,7 +2,7 @@
 use crate::refusal::Refusal;
 use stack_run::Failure as Cause;
 use status_db::Record;
-use texts::Text;
+use texts::{Text, Texts};
 use unwind_stack::Called;
 
 /// A package of a unit, and its record at the unit's end.
@@ -38,12 +38,13 @@ pub enum Reply {
 }
 
 /// The work on one package: the script calls with their outcomes, the package that was named and
-/// those whose records differ since, and the reply. Where the unit was broken off or refused no
-/// package is told.
+/// those whose records differ since, which of the others an unpack deconfigured, and the reply.
+/// Where the unit was broken off or refused no package is told.
 #[derive(Drop)]
 pub struct Unit {
     pub calls: Vec<Called>,
     pub touched: Vec<Touched>,
+    pub deconfigured: Texts,
     pub reply: Reply,
 }
 

@@ -1,8 +1,8 @@
 // Units, and what they tell of packages.
-ghost use Rattle.std.specs.Prelude.{◌≡◌, IfOk, OnOk, [], MatchBool, map};
+ghost use Rattle.std.specs.Prelude.{◌≡◌, IfOk, OnOk, MatchBool, map};
 ghost use Rattle.file_lists.specs.Owners.{places_in};
 ghost use Rattle.status_db.specs.Records.{record_in};
-ghost use Rattle.unit_reports.specs.Units.{IsBroken, IsBrokenBy, IsRefusedUnit, breakage_of, touched_at};
+ghost use Rattle.unit_reports.specs.Units.{IsBroken, IsBrokenBy, IsRefusedUnit, TellsNoPackage, breakage_of, touched_at};
 
 use crate::refusal::{Refusal, Rule};
 use crate::report::{Breakage, Reply, Touched, Unit};
@@ -53,11 +53,12 @@ pub fn touched_of(
 pub fn broken(alloc: Global, calls: Vec<Called>, breakage: Breakage) -> Unit
     ensures reply { IsBrokenBy breakage result.reply }
     ensures told { result.calls.items ≡ calls.items }
-    ensures touched { result.touched.items ≡ [] }
+    ensures touched { TellsNoPackage result }
 {
     Unit {
         calls,
         touched: Vec::new(alloc),
+        deconfigured: Texts::new(alloc),
         reply: Reply::Broken(breakage),
     }
 }
@@ -69,6 +70,7 @@ pub fn refused(alloc: Global, rule: Rule, package: Text) -> Unit
     Unit {
         calls: Vec::new(alloc),
         touched: Vec::new(alloc),
+        deconfigured: Texts::new(alloc),
         reply: Reply::Refused(Refusal { rule, package }),
     }
 }

@@ -6,6 +6,7 @@ mod configure_rows;
 mod deconfiguring_rows;
 mod displacing_rows;
 mod diversion_rows;
+mod install_rows;
 mod memory_rows;
 mod query_rows;
 mod removal_rows;

@@ -3,6 +3,7 @@
 ghost use Rattle.std.specs.Prelude.{⊤};
 
 mod device_rows;
+mod install_rows;
 mod link_rows;
 mod package_rows;
 

@@ -6,6 +6,8 @@ use Rattle.dpkg_session.proofs.Amid.{since_under_way}
 use Rattle.dpkg_session.proofs.Carries.{as_engine, as_parts}
 use Rattle.dpkg_session.proofs.Outlasting.{answered_disk}
 use Rattle.dpkg_session.proofs.Touching.{touched_beside}
+use Rattle.dpkg_session.proofs.Yielding.{displaced_yield, none_among}
+use Rattle.dpkg_session.specs.Units.{yielding}
 use Rattle.dpkg_session.specs.declared.displacing.UnpackEnd.{UnpackEnd}
 use Rattle.displaced_packages.specs.declared.displacing.Displaced.{Displaced}
 use Rattle.dpkg_session.proofs.Whole.{called_whole, counts_behind, displaced_whole, since_whole, unwound_end}
@@ -24,12 +26,12 @@ returns-then-is_some-clause-unit g c =
     (ap (λ (u : Unpacked). u.unwinding) c.undisplaced.ensures.unpacked) c.undisplaced.ensures.none c.undisplaced.ensures.no_failure
 
 pub returns-then-is_some-clause-touched : goal.returns-then-is_some-clause-touched
-returns-then-is_some-clause-touched g c = λ names both.
+returns-then-is_some-clause-touched g c = λ names unchanged both known.
     let before = c.args.database.now.records in
     let after = c.unpack_refreshed.new.database.records in
     let e = c.undisplaced.result in
-    touched_beside c.args.incoming.name e.displaced.names e.unpacked.touched names before after after
-    (subst (λ (u : Unpacked). IsTouched c.args.incoming.name before after u.touched) (sym c.undisplaced.ensures.unpacked) c.in-Ok.ensures.touched) both (λ q away. refl)
+    touched_beside c.args.incoming.name (yielding c.args.beside.now) e.displaced.names e.unpacked.touched names unchanged before after after
+    (subst (λ (u : Unpacked). IsTouched c.args.incoming.name before after u.touched) (sym c.undisplaced.ensures.unpacked) c.in-Ok.ensures.touched) both known (λ q away. refl) (λ q has. absurd (none_among e.displaced.names q c.undisplaced.ensures.none has))
 
 pub returns-then-is_some-clause-told : goal.returns-then-is_some-clause-told
 returns-then-is_some-clause-told g c = inl c.unpack_refreshed.ensures.told
@@ -48,9 +50,10 @@ returns-in-Ok-displace-clause-unit g c =
     c.in-Ok-displace.displaced.names c.in-Ok-displace.displaced.failed (held c.displace.new.database c.displace.new.lists c.args.diversions.now) c.displace.new.told.items c.in-Ok.ensures.order c.in-Ok-displace.ensures.displaced
 
 pub returns-in-Ok-displace-clause-touched : goal.returns-in-Ok-displace-clause-touched
-returns-in-Ok-displace-clause-touched g c = λ names both.
-    touched_beside c.args.incoming.name c.in-Ok-displace.displaced.names c.in-Ok.unpacked.touched names c.args.database.now.records c.unpack_refreshed.new.database.records c.displace.new.database.records
-    c.in-Ok.ensures.touched both c.in-Ok-displace.ensures.others
+returns-in-Ok-displace-clause-touched g c = λ names unchanged both known.
+    touched_beside c.args.incoming.name (yielding c.args.beside.now) c.in-Ok-displace.displaced.names c.in-Ok.unpacked.touched names unchanged c.args.database.now.records c.unpack_refreshed.new.database.records c.displace.new.database.records
+    c.in-Ok.ensures.touched both known c.in-Ok-displace.ensures.others
+    (displaced_yield _ _ _ c.args.lists.now.lists c.args.beside.now _ _ _ _ _ _ _ _ _ _ (c.as_slice.ensures.value ∙ c.requires.behind.losing) c.as_slice-in-Ok.ensures c.in-Ok-displace.ensures.displaced)
 
 pub returns-in-Ok-displace-clause-order : goal.returns-in-Ok-displace-clause-order
 returns-in-Ok-displace-clause-order g c = λ h. as_engine (held c.displace.new.database c.displace.new.lists c.args.diversions.now) _ (c.in-Ok-displace.ensures.order h)

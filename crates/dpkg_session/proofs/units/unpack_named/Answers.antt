@@ -8,7 +8,7 @@ use Rattle.dpkg_session.proofs.units.unpack_named.Goals as goal
 
 pub returns-in-Ok-clause-unit : goal.returns-in-Ok-clause-unit
 returns-in-Ok-clause-unit g c =
-    is_unpacked _ _ _ _ c.answered.result _ _ _ _ _ _ _ _ _ c.requires.behind.name c.new-calls.ensures.items c.answered.ensures.told c.in-Ok.ensures.unit c.in-Ok.ensures.order refl c.in-Ok.ensures.touched c.answered.ensures.answer
+    is_unpacked _ _ _ _ c.answered.result c.args.behind _ _ _ _ _ _ _ _ c.requires.behind.name c.requires.known c.new-calls.ensures.items c.answered.ensures.told c.in-Ok.ensures.unit c.in-Ok.ensures.order refl c.in-Ok.ensures.touched c.answered.ensures.answer
 
 pub returns-in-Ok-clause-told : goal.returns-in-Ok-clause-told
 returns-in-Ok-clause-told g c = called_as _ _ (held c.args.database.now c.args.lists.now c.args.diversions.now) _ _ _ _ _ c.new-calls.ensures.items c.answered.ensures.told c.unpack_whole.ensures.told
@@ -17,10 +17,10 @@ pub returns-in-Err-clause-told : goal.returns-in-Err-clause-told
 returns-in-Err-clause-told g c = called_as _ _ (held c.args.database.now c.args.lists.now c.args.diversions.now) _ _ _ _ _ c.new-calls.ensures.items c.broken.ensures.told c.unpack_whole.ensures.told
 
 pub returns-in-Ok-clause-counts : goal.returns-in-Ok-clause-counts
-returns-in-Ok-clause-counts g c = counts_answered _ _ _ _ _ _ c.answered.result (g.H.Host.state c.args.host.now) (g.H.Host.state c.unpack_whole.new.host) c.in-Ok.ensures.counts c.answered.ensures.answer
+returns-in-Ok-clause-counts g c = counts_answered _ _ _ _ _ _ _ _ c.answered.result (g.H.Host.state c.args.host.now) (g.H.Host.state c.unpack_whole.new.host) c.in-Ok.ensures.counts c.answered.ensures.answer
 
 pub returns-in-Err-clause-counts : goal.returns-in-Err-clause-counts
 returns-in-Err-clause-counts g c = counts_broken UnpackEnd c.in-Err.fault c.broken.result.reply (g.H.Host.state c.args.host.now) (g.H.Host.state c.unpack_whole.new.host) (c.broken.ensures.reply ∙ ap Broken c.breakage_of.ensures) c.in-Err.ensures.counts
 
 pub returns-in-Ok-clause-not_closed : goal.returns-in-Ok-clause-not_closed
-returns-in-Ok-clause-not_closed g c = answer_not_closed _ _ _ _ _ _ c.answered.result c.answered.ensures.answer
+returns-in-Ok-clause-not_closed g c = answer_not_closed _ _ _ _ _ _ _ _ c.answered.result c.answered.ensures.answer

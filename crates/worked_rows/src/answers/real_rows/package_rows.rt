@@ -8,28 +8,29 @@ use std::io::{Error, ErrorKind};
 use std::test::Fail;
 use std::{fs, io};
 
-// A command: lines of shell that come before it, its words but for the root, and the tree that is its last word, if one
-// is; the lines of its answer up to its last call, and what follows them; lines of shell that look at what is left, and
-// what they print.
-struct Deed {
-    before: &'static str,
-    words: &'static str,
-    tree: &'static str,
-    calls: &'static str,
-    rest: &'static str,
-    look: &'static str,
-    left: &'static str,
+// A command: lines of shell that come before it, its words but for the root, and the trees that are its last words, parted
+// by spaces, if any are; the lines of its answer up to its last call, and what follows them; lines of shell that look at
+// what is left, and what they print.
+pub(super) struct Deed {
+    pub before: &'static str,
+    pub words: &'static str,
+    pub tree: &'static str,
+    pub calls: &'static str,
+    pub rest: &'static str,
+    pub look: &'static str,
+    pub left: &'static str,
 }
 
 // The answer to the words under the root.
 fn told(hosts: &mut RealHosts, directory: &str, deed: &Deed) -> Result<String, AllocError> {
     let alloc = hosts.rt.alloc();
     let words = deed.words;
-    let tree = deed.tree;
-    let line = match tree {
-        "" => format!(in alloc; "dpkg_cli {words} --root {directory}/root")?,
-        tree => format!(in alloc; "dpkg_cli {words} --root {directory}/root {directory}/{tree}")?,
-    };
+    let mut line = format!(in alloc; "dpkg_cli {words} --root {directory}/root")?;
+    for tree in deed.tree.split(' ') {
+        if !tree.is_empty() {
+            line.push_str(format!(in alloc; " {directory}/{tree}")?.as_str())?;
+        }
+    }
     answer(alloc, hosts, line.as_str())
 }
 
@@ -60,7 +61,7 @@ fn try_deeds(rt: &HostRuntime, deeds: &[Deed], text: &mut String) -> io::Result<
 }
 
 // What isn't the row is how the test fails.
-fn check(rt: &HostRuntime, deeds: &[Deed]) -> Result<(), Fail> {
+pub(super) fn check(rt: &HostRuntime, deeds: &[Deed]) -> Result<(), Fail> {
     let mut text = String::new(rt.alloc());
     match try_deeds(rt, deeds, &mut text) {
         Ok(()) => Ok(()),
