@@ -88,11 +88,11 @@ twice_unseen (x ∷ xs) q = λ i. (bytes_eq q x.place && place_unseen xs q i) ||
 module _ (o : Owning) (made twice : Path → Bool) (w : World) where
   are_to : (xs : List Work) → AreSound o made twice w xs → AreSound o made twice w (map unseen xs)
   are_to [] are = tt
-  are_to (x ∷ xs) are = (record { above = are.0.above; way = are.0.way; clash = are.0.clash }, are_to xs are.1)
+  are_to (x ∷ xs) are = (record { above = are.0.above; way = are.0.way; clash = are.0.clash; target = are.0.target }, are_to xs are.1)
 
   are_from : (xs : List Work) → AreSound o made twice w (map unseen xs) → AreSound o made twice w xs
   are_from [] are = tt
-  are_from (x ∷ xs) are = (record { above = are.0.above; way = are.0.way; clash = are.0.clash }, are_from xs are.1)
+  are_from (x ∷ xs) are = (record { above = are.0.above; way = are.0.way; clash = are.0.clash; target = are.0.target }, are_from xs are.1)
 
 module _ (o : Owning) (w : World) where
   sound_to : (xs : List Work) → AllSound o xs w → AllSound o (map unseen xs) w
