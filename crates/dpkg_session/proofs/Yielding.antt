@@ -35,14 +35,15 @@ module _ (incoming version : List ℕ) (entries : List Diversion) where
 
 losing_among : (lists : List PackageList) (test : List ℕ → Bool) (names : List (List ℕ)) (q : List ℕ) → Contains (map (λ (l : Losing). l.name) (map (losing_of lists) (filter test names))) q → Contains names q
 losing_among lists test [] q has = has
-losing_among lists test (x ∷ names) q has = by (test x) has
+losing_among lists test (x ∷ names) q has = by (test x) (losing_among lists test names q) has
   where
-    by : (b : Bool) → Contains (map (λ (l : Losing). l.name) (map (losing_of lists) (cond b (x ∷ filter test names) (filter test names)))) q → Contains (x ∷ names) q
-    by true there = elim (Contains-append_cases (x ∷ []) (map (λ (l : Losing). l.name) (map (losing_of lists) (filter test names))) q there) [
+    by : (b : Bool) → (Contains (map (λ (l : Losing). l.name) (map (losing_of lists) (filter test names))) q → Contains names q)
+        → Contains (map (λ (l : Losing). l.name) (map (losing_of lists) (cond b (x ∷ filter test names) (filter test names)))) q → Contains (x ∷ names) q
+    by true further there = elim (Contains-append_cases (x ∷ []) (map (λ (l : Losing). l.name) (map (losing_of lists) (filter test names))) q there) [
       | inl here ↦ Contains-append_left (x ∷ []) names q here
-      | inr more ↦ Contains-append_right (x ∷ []) names q (losing_among lists test names q more)
+      | inr more ↦ Contains-append_right (x ∷ []) names q (further more)
     ]
-    by false there = Contains-append_right (x ∷ []) names q (losing_among lists test names q there)
+    by false further there = Contains-append_right (x ∷ []) names q (further there)
 
 pub displaced_yield : (incoming version : List ℕ) (entries : List Diversion) (lists : List PackageList) (beside : Beside) (losing : List Losing) (conflicting names : List (List ℕ)) (failed : Option Call) (before after : Holding) (s t : State) (told now : List Called)
     → losing ≡ losing_beside lists beside → conflicting ≡ beside.conflicting → HaveBeenDisplaced incoming version entries losing conflicting names failed before after s t told now → (q : List ℕ) → Contains names q → Contains (yielding beside) q

@@ -1,5 +1,5 @@
 mod Openings
-mod OneTable
+pub mod OneTable
 mod Faultless
 mod OneDiversions
 mod Merging

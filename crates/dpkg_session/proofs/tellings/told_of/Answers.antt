@@ -8,7 +8,7 @@ returns c =
     let name = c.args.«package».now in
     let records = c.args.database.now.records in
     let told : c.in_ok-told.told ≡ told_among name c.in_ok-unchanged.unchanged c.in_ok-names.names =
-        c.in_ok-told.ensures ∙ ap (λ (l : List (List ℕ)). told_among name l c.as_slice-2.result.now) c.as_slice.ensures ∙ ap (told_among name c.in_ok-unchanged.unchanged) c.as_slice-2.ensures in
+    c.in_ok-told.ensures ∙ ap (λ (l : List (List ℕ)). told_among name l c.as_slice-2.result.now) c.as_slice.ensures ∙ ap (told_among name c.in_ok-unchanged.unchanged) c.as_slice-2.ensures in
     record {
       names = c.in_ok-names.names;
       both = c.in_ok-names.ensures;
