@@ -2,6 +2,7 @@
 ghost use Rattle.std.specs.Prelude.{◌≡◌, ⊤, IsTrue, Some, option_map};
 ghost use Rattle.host_memory.specs.Memory.{memory_state};
 
+mod access_rows;
 mod configure_rows;
 mod deconfiguring_rows;
 mod displacing_rows;
@@ -39,10 +40,13 @@ struct MemoryHosts {
     faults: u64,
 }
 
-fn file(alloc: Global, text: &str) -> Result<Node, AllocError> {
+fn file_with(alloc: Global, text: &str, access: Access) -> Result<Node, AllocError> {
     let bytes = Bytes::from_slice(alloc, text.as_bytes())?;
-    let access = Access::own(0o755);
     Ok(Node::File { bytes, access })
+}
+
+fn file(alloc: Global, text: &str) -> Result<Node, AllocError> {
+    file_with(alloc, text, Access::own(0o755))
 }
 
 // Sets what a file holds.
@@ -51,12 +55,25 @@ fn put(alloc: Global, host: &mut MemoryHost, path: &str, text: &str) -> Result<(
     Ok(())
 }
 
+// The files of the tree `user` belong to a user, those of any other to root.
+fn access_in(tree: &str) -> Access {
+    match tree {
+        "user" => Access {
+            mode: 0o755,
+            user: 1000,
+            group: 1001,
+        },
+        _ => Access::own(0o755),
+    }
+}
+
 // The host of the tree that a word names.
 fn tree_of(alloc: Global, files: &[TreeFile], tree: &str) -> Result<MemoryHost, AllocError> {
     let mut host = MemoryHost::new(alloc)?;
     for (name, path, text) in files {
         if *name == tree {
-            put(alloc, &mut host, path, text)?;
+            let file = file_with(alloc, text, access_in(tree))?;
+            host.place(&path_of(alloc, path)?, file)?;
         }
     }
     Ok(host)
