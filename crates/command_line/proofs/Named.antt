@@ -1,26 +1,29 @@
 -- Who owns the diversions that words ask for: the administrator, or a package by its name.
 use Rattle.std.proofs.Common.{◌≡◌, Bool, true, false, List, [], ◌∷◌, Option, Some, None, length, nat_le, if◌then◌else◌, codes, refl, subst}
 use Rattle.std.specs.Prelude.{option_map}
+use Rattle.std.specs.Option.{option_or}
 use Rattle.std.specs.Str.{bytes_eq}
 use Rattle.texts.specs.PackageNames.{is_package_name}
 use Rattle.clap.specs.Words.{Kinds, Row, Text, fault_of, first_of}
 use Rattle.diversions.specs.Entries.{is_owner}
 use Rattle.command_words.specs.CommandLine.{whole_app}
-use Rattle.command_words.specs.Commands.{asked_by, asked_in, asked_of, comparison_of, entered, unless_faulty}
+use Rattle.command_words.specs.Commands.{asked_by, asked_in, asked_of, comparison_of, entered, flagged, flagged_by, parsed_of, unless_faulty}
 use Rattle.command_words.specs.Packages.{configuring_of, removing_of}
 use Rattle.command_words.specs.Unpacks.{unpacking_of}
 use Rattle.command_words.specs.Diversions.{owner_from, owner_of, undiverting_from, undiverting_of, with_target}
 use Rattle.command_words.specs.Given.{is_absolute, is_set}
 use Rattle.command_words.specs.Queries.{query_of}
-use Rattle.command_words.specs.Topics.{topic_in}
+use Rattle.command_words.specs.Topics.{has_help_flag, is_help_flag, topic_in, topic_of}
 use Rattle.command_words.specs.declared.diverting.Diverting.{Diverting}
 use Rattle.command_words.specs.declared.diverting.Undiverting.{Undiverting}
+use Rattle.command_words.specs.declared.help.Topic.TheVariants.{Program}
 use Rattle.command_words.specs.declared.words.Asked.{Asked}
-use Rattle.command_words.specs.declared.words.Asked.TheVariants.{CompareVersions, Configure, Divert, Help, Install, Names, Purge, Query, Remove, Undivert, Unpack}
+use Rattle.command_words.specs.declared.words.Asked.TheVariants.{CompareVersions, Configure, Divert, Help, Install, Names, Purge, Query, Remove, Undivert, Unpack, Version}
 use Rattle.command_line.specs.Changes.{owner_in}
 
 abbrev IsNamed : Asked → Type 0
 IsNamed Names = Unit {0}
+IsNamed Version = Unit {0}
 IsNamed (Help topic) = Unit {0}
 IsNamed (CompareVersions c) = Unit {0}
 IsNamed (Divert d) = is_owner (owner_in d.owner) ≡ true
@@ -106,9 +109,28 @@ faulty_named : (kinds : Kinds) (asked : Option Asked) → Named asked → Named 
 faulty_named [] asked named = named
 faulty_named (kind ∷ kinds) asked named = tt
 
+parsed_named : (words : List Text) → Named (parsed_of words)
+unfolding parsed_of
+parsed_named words = faulty_named (fault_of whole_app words) (asked_in (entered words)) (in_named (entered words))
+
+flag_named : (word : Text) (rest : List Text) → Named (flagged_by word rest)
+flag_named word rest =
+    if_named (bytes_eq word (codes "--version")) (Some Version) _ tt
+    (if_named (is_help_flag word) (Some (Help Program)) _ tt
+    (if_named (has_help_flag rest) _ None (map_named Help (topic_of word) (λ t. tt)) tt))
+
+flagged_named : (words : List Text) → Named (flagged words)
+flagged_named [] = tt
+flagged_named (program ∷ []) = tt
+flagged_named (program ∷ word ∷ rest) = flag_named word rest
+
+or_named : (first second : Option Asked) → Named first → Named second → Named (option_or first second)
+or_named None second a b = b
+or_named (Some asked) second a b = a
+
 words_named : (words : List Text) → Named (asked_of words)
 unfolding asked_of
-words_named words = if_named (nat_le (length words) 1) (Some Names) _ tt (faulty_named (fault_of whole_app words) (asked_in (entered words)) (in_named (entered words)))
+words_named words = if_named (nat_le (length words) 1) (Some Names) _ tt (or_named (flagged words) (parsed_of words) (flagged_named words) (parsed_named words))
 
 pub divert_owner : (words : List Text) (d : Diverting) → asked_of words ≡ Some (Divert d) → is_owner (owner_in d.owner) ≡ true
 divert_owner words d is = subst Named is (words_named words)

@@ -1,5 +1,5 @@
 -- Paths as they are told.
-use Rattle.std.specs.Prelude.{ℕ, List, ◌++◌, codes, if◌then◌else◌}
+use Rattle.std.specs.Prelude.{ℕ, List, codes, if◌then◌else◌}
 use Rattle.std.specs.Str.{bytes_eq}
 use Rattle.shown_lines.specs.Lines.{line}
 use Rattle.host_core.specs.Paths.{Path}
