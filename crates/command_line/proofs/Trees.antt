@@ -1,5 +1,5 @@
 -- What was read for words, and the run of it, between a moment before and one after.
-use Rattle.std.proofs.Common.{◌≡◌, ◌<◌, ◌-◌, ◌++◌, ◌∷◌, ◌∙◌, [], ℕ, Bool, true, false, length, map, append_assoc, List, Option, Some, Result, ap, arith, inl, inr, subst, sym}
+use Rattle.std.proofs.Common.{◌≡◌, ◌<◌, ◌-◌, ◌++◌, ◌∷◌, ◌∙◌, [], ℕ, Bool, true, false, length, map, append_assoc, List, Option, Some, Result, Err, ap, arith, inl, inr, subst, sym}
 use Rattle.std.specs.Prelude.{MatchBool}
 use Rattle.std.proofs.lemmas.List.{length-append}
 use Rattle.std.proofs.Math.Seq.{take-append_seam}
@@ -9,6 +9,7 @@ use Rattle.file_lists.specs.Filed.{Filed}
 use Rattle.conffiles.specs.declared.decisions.ConfPolicy.{ConfPolicy}
 use Rattle.status_db.specs.Recorded.{Recorded}
 use Rattle.package_tree.specs.declared.fault.TreeFault.{TreeFault}
+use Rattle.package_tree.specs.declared.fault.TreeFault.TheVariants.{Twice}
 use Rattle.package_tree.specs.declared.package.Package.{Package}
 use Rattle.unit_reports.specs.Held.{Held, held}
 use Rattle.dpkg_session.specs.Trees.{AreRead}
@@ -42,12 +43,12 @@ read_within outer inner within owners word read (inl r) = inl (record {
 read_within outer inner within owners word read (inr (inl failed)) = inr (inl (failed.0, within.failed failed.1))
 read_within outer inner within owners word read (inr (inr memory)) = inr (inr memory)
 
-case_within : (b : Bool) {P Q R : Type 0} → (Q → R) → MatchBool b P Q → MatchBool b P R
-case_within true so h = h
-case_within false so h = so h
+case_within : (b : Bool) (P : Type 0) {Q R : Type 0} → (Q → R) → MatchBool b P Q → MatchBool b P R
+case_within true P so h = h
+case_within false P so h = so h
 
 once_within : (outer inner : Around) → Within outer inner → (owners : TreeOwners) (earlier : List (List ℕ)) (word : List ℕ) (read : Result Package TreeFault) → IsReadOnce inner owners earlier word read → IsReadOnce outer owners earlier word read
-once_within outer inner within owners earlier word read = case_within (is_among earlier word) (read_within outer inner within owners word read)
+once_within outer inner within owners earlier word read = case_within (is_among earlier word) (read ≡ Err Twice) (read_within outer inner within owners word read)
 
 pub all_within : (outer inner : Around) → Within outer inner → (owners : TreeOwners) (earlier : List (List ℕ)) (cs : List Candidate) → AreReadOnce inner owners earlier cs → AreReadOnce outer owners earlier cs
 all_within outer inner within owners earlier [] h = h
@@ -107,8 +108,10 @@ module _ {T : Type 0} (reads : T → Candidate → T → Type 0) (root tree : T 
         let first = subst (λ (l : List (List ℕ)). IsReadOnce (between old mid) u.owners l c.label c.tree) before
         (subst (λ (x : Unpacking). IsReadOnce (between old mid) x.owners (words_before (asked old).trees (length (words old))) c.label c.tree) same step.1) in (
           step.3 ∙ ap (λ (l : List (List ℕ)). c.label ∷ l) rest.0,
-          once_within (between old new) (between old mid) (record { tree = λ word s h. h; seen = gone.seen; failed = λ h. omega (arith, h, gone.faults) }) u.owners earlier c.label c.tree first,
-          all_within (between old new) (between mid new) (record { tree = step.2.trees; seen = λ s h. h; failed = λ h. omega (arith, h, step.2.faults) }) u.owners (earlier ++ c.label ∷ []) cs rest.1,
+          (
+            once_within (between old new) (between old mid) (record { tree = λ word s h. h; seen = gone.seen; failed = λ h. omega (arith, h, gone.faults) }) u.owners earlier c.label c.tree first,
+            all_within (between old new) (between mid new) (record { tree = step.2.trees; seen = λ s h. h; failed = λ h. omega (arith, h, step.2.faults) }) u.owners (earlier ++ c.label ∷ []) cs rest.1,
+          ),
         )
 
     pub read_for : (u : Unpacking) (cs : List Candidate) (old new : T) → asked old ≡ u → words old ≡ u.trees → AreRead reads old cs new → AreReadFor (between old new) u.owners u.trees cs (words new)

@@ -139,7 +139,7 @@ fn read_as<H: Host>(alloc: Global, host: &mut H, owners: TreeOwners) -> Result<P
 }
 
 fn owned_as(mut found: Package, owners: TreeOwners) -> Package
-    ensures { result ≡ owned_as owners found.entry }
+    ensures { result ≡ owned_as owners found }
 {
     if let TreeOwners::Root = owners {
         found.give_to_root();

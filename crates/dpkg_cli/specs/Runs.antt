@@ -1,11 +1,10 @@
 -- What the program answers over real directories.
-use Rattle.std.specs.Prelude.{◌≡◌, ◌<◌, ◌⊎◌, ⊤, ℕ, List, []}
+use Rattle.std.specs.Prelude.{◌≡◌, ◌<◌, ⊤, ℕ, List, []}
 use Rattle.host_files.specs.Replay.{Model, replay}
 use Rattle.command_words.specs.Commands.{asked_of}
 use Rattle.command_words.specs.Topics.{named_in}
-use Rattle.command_line.specs.Reports.{IsAnswerOf, memory_answer}
+use Rattle.command_line.specs.Reports.{IsEndOf}
 use Rattle.command_line.specs.Roots.{Around, around}
-use Rattle.command_line.specs.declared.answer.Answer.{Answer}
 
 -- Of real directories: a root is as an account has it when it is opened, and a host for a tree has done nothing by then. Of what
 -- they hold when they are given back, of openings and of other programs nothing is claimed.
@@ -16,6 +15,5 @@ around_real model failed =
 -- The status that a program ends with is that of the answer to its words, or of want of memory; it is 2 where not all of that
 -- could be written. So often had the device failed on opening before and after it.
 abbrev pub IsAnswered : Model → List (List ℕ) → ℕ → Type 0
-IsAnswered model words status = (answer : Answer) × ((before after : ℕ)
-    × (IsAnswerOf (around_real model (before < after)) (named_in words) (asked_of words) answer ⊎ (answer ≡ memory_answer))
-    × ((status ≡ answer.status) ⊎ (status ≡ 2)))
+IsAnswered model words status = (before after : ℕ)
+    × IsEndOf (around_real model (before < after)) (named_in words) (asked_of words) status
