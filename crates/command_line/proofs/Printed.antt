@@ -124,7 +124,7 @@ or_else (inl p) so = inl p
 or_else (inr q) so = inr (so q)
 
 pub quiet_comparison : (c : Comparison) → (comparison_answer c).output ≡ []
-quiet_comparison c = by (bad_version c.first c.second) _
+quiet_comparison c = by (bad_version c.operator c.first c.second) _
   where
     by : (bad : Option (List ℕ × VersionFault)) (status : ℕ) → (option_map_or bad_answer bad (record { output = []; error = []; status = status })).output ≡ []
     by None status = refl

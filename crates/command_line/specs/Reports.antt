@@ -44,7 +44,7 @@ bad_answer bad = record { output = []; error = bad_version_line bad; status = 2 
 -- 0 where the comparison holds, 1 where it doesn't, and 2 with a line for the first text that is no version
 abbrev pub comparison_answer : Comparison → Answer
 comparison_answer c = option_map_or bad_answer
-    (bad_version c.first c.second)
+    (bad_version c.operator c.first c.second)
     (record { output = []; error = []; status = if holds_of c.first c.operator c.second then 0 else 1 })
 
 -- the lines of a report, and its status

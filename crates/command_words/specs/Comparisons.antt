@@ -1,7 +1,7 @@
 -- What `compare-versions A OP B` asks, and its answer (Policy 5.6.12 orders versions).
-use Rattle.std.specs.Prelude.{◌≡◌, ⊤, Bool, true, false, List, ℕ, ◌++◌, Option, Some, None, option_map, codes, if◌then◌else◌}
+use Rattle.std.specs.Prelude.{◌≡◌, ◌&&◌, ⊤, Bool, true, false, List, ℕ, ◌++◌, Option, Some, None, option_map, codes, if◌then◌else◌}
 use Rattle.std.specs.Fmt.{decimal}
-use Rattle.std.specs.Ordering.{is_eq, is_ge, is_gt, is_le, is_lt, is_ne, ordering_reverse}
+use Rattle.std.specs.Ordering.{is_eq, is_ge, is_gt, is_le, is_lt, is_ne}
 use Rattle.std.specs.Option.{option_map_or, option_or}
 use Rattle.std.specs.Str.{bytes_eq}
 use Rattle.std.specs.declared.cmp.Ordering.{Ordering}
@@ -16,7 +16,7 @@ use Rattle.command_words.specs.declared.comparison.Verdict.{Verdict}
 use Rattle.command_words.specs.declared.comparison.Verdict.TheVariants.{Holds, Fails, Bad, OutOfMemory}
 use Rattle.command_words.specs.declared.comparison.Operator.TheVariants.{Lt, Le, Eq, Ne, Ge, Gt, LtNl, LeNl, GeNl, GtNl}
 
--- the operators for which an empty text stands before all versions
+-- the operators by names, for which an empty text is no version
 abbrev pub named_operator : List ℕ → Option Operator
 named_operator word =
     if bytes_eq word (codes "lt") then Some Lt
@@ -65,41 +65,46 @@ holds LeNl order = is_le order
 holds GeNl order = is_ge order
 holds GtNl order = is_gt order
 
--- how an empty text stands beside a version
-abbrev pub beside_empty : Operator → Ordering
-beside_empty Lt = Less
-beside_empty Le = Less
-beside_empty Eq = Less
-beside_empty Ne = Less
-beside_empty Ge = Less
-beside_empty Gt = Less
-beside_empty LtNl = Greater
-beside_empty LeNl = Greater
-beside_empty GeNl = Greater
-beside_empty GtNl = Greater
+-- the operators for which an empty text stands behind all versions; for the others it is none
+abbrev pub is_late : Operator → Bool
+is_late Lt = false
+is_late Le = false
+is_late Eq = false
+is_late Ne = false
+is_late Ge = false
+is_late Gt = false
+is_late LtNl = true
+is_late LeNl = true
+is_late GeNl = true
+is_late GtNl = true
 
--- an empty text is no version
-abbrev pub version_text : List ℕ → Option (List ℕ)
-version_text text = if bytes_eq text (codes "") then None else Some text
+-- a text that stands behind all versions
+abbrev pub is_behind : Operator → List ℕ → Bool
+is_behind operator text = is_late operator && bytes_eq text (codes "")
+
+-- a text as a version, or none that stands behind all
+abbrev pub version_text : Operator → List ℕ → Option (List ℕ)
+version_text operator text = if is_behind operator text then None else Some text
 
 -- the order of two versions, or of empty texts in their places
-abbrev pub order_of : Operator → Option (List ℕ) → Option (List ℕ) → Ordering
-order_of operator None None = Equal
-order_of operator None (Some b) = beside_empty operator
-order_of operator (Some a) None = ordering_reverse (beside_empty operator)
-order_of operator (Some a) (Some b) = version_order a b
+abbrev pub order_of : Option (List ℕ) → Option (List ℕ) → Ordering
+order_of None None = Equal
+order_of None (Some b) = Greater
+order_of (Some a) None = Less
+order_of (Some a) (Some b) = version_order a b
 
--- what is wrong with a text that isn't empty
-abbrev pub text_fault : List ℕ → Option VersionFault
-text_fault text = if bytes_eq text (codes "") then None else fault_of text
+-- what is wrong with a text
+abbrev pub text_fault : Operator → List ℕ → Option VersionFault
+text_fault operator text = if is_behind operator text then None else fault_of text
 
--- the first of the two texts that is neither empty nor a version, and what is wrong with it
-abbrev pub bad_version : List ℕ → List ℕ → Option (List ℕ × VersionFault)
-bad_version a b = option_map_or (λ fault. Some (a, fault)) (text_fault a) (option_map (λ fault. (b, fault)) (text_fault b))
+-- the first of the two texts that is no version, and what is wrong with it
+abbrev pub bad_version : Operator → List ℕ → List ℕ → Option (List ℕ × VersionFault)
+bad_version operator a b =
+    option_map_or (λ fault. Some (a, fault)) (text_fault operator a) (option_map (λ fault. (b, fault)) (text_fault operator b))
 
 -- whether the operator holds of the texts
 abbrev pub holds_of : List ℕ → Operator → List ℕ → Bool
-holds_of a operator b = holds operator (order_of operator (version_text a) (version_text b))
+holds_of a operator b = holds operator (order_of (version_text operator a) (version_text operator b))
 
 -- a fault by its name and its field
 abbrev pub fault_text : VersionFault → List ℕ
@@ -115,14 +120,14 @@ bad_version_line bad = line (codes "bad version " ++ (bad.0 ++ (codes ": " ++ fa
 
 -- the answer to a comparison of texts: whether it holds of them, or the first that is bad
 abbrev pub IsVerdict : List ℕ → Operator → List ℕ → Verdict → Type 0
-IsVerdict a operator b Holds = (bad_version a b ≡ None) × (holds_of a operator b ≡ true)
-IsVerdict a operator b Fails = (bad_version a b ≡ None) × (holds_of a operator b ≡ false)
-IsVerdict a operator b (Bad text fault) = bad_version a b ≡ Some (text.now, fault)
+IsVerdict a operator b Holds = (bad_version operator a b ≡ None) × (holds_of a operator b ≡ true)
+IsVerdict a operator b Fails = (bad_version operator a b ≡ None) × (holds_of a operator b ≡ false)
+IsVerdict a operator b (Bad text fault) = bad_version operator a b ≡ Some (text.now, fault)
 IsVerdict a operator b OutOfMemory = ⊤
 
 -- a text that isn't a version, with its fault, or want of memory
-abbrev pub IsBadText : List ℕ → Verdict → Type 0
-IsBadText a (Bad text fault) = (text.now ≡ a) × (text_fault a ≡ Some fault)
-IsBadText a OutOfMemory = ⊤
-IsBadText a Holds = ⊥
-IsBadText a Fails = ⊥
+abbrev pub IsBadText : Operator → List ℕ → Verdict → Type 0
+IsBadText operator a (Bad text fault) = (text.now ≡ a) × (text_fault operator a ≡ Some fault)
+IsBadText operator a OutOfMemory = ⊤
+IsBadText operator a Holds = ⊥
+IsBadText operator a Fails = ⊥

@@ -1,6 +1,6 @@
 // The comparison of two versions by an operator, and its answer.
 ghost use Rattle.std.specs.Prelude.{◌≡◌, ◌⊎◌, IfOk, IfErr, OnOk, Some, None, option_map, string_bytes};
-ghost use Rattle.command_words.specs.Comparisons.{IsBadText, IsVerdict, bad_version_line, beside_empty, fault_text, holds, late_operator, named_operator, operator_of, order_of, sign_operator, text_fault, version_text};
+ghost use Rattle.command_words.specs.Comparisons.{IsBadText, IsVerdict, bad_version_line, fault_text, holds, is_behind, is_late, late_operator, named_operator, operator_of, order_of, sign_operator, text_fault, version_text};
 
 use shown_lines::line;
 use std::alloc::{AllocError, Global};
@@ -8,7 +8,8 @@ use std::cmp::Ordering;
 use texts::Text;
 use version_order::{Version, VersionFault};
 
-/// An operator of `compare-versions`. For those whose names end in `Nl` an empty text stands behind all versions.
+/// An operator of `compare-versions`. For those whose names end in `Nl` an empty text stands behind all versions; for the others it
+/// is no version.
 #[derive(Clone, Copy)]
 pub enum Operator {
     Lt,
@@ -89,30 +90,41 @@ impl Operator {
         }
     }
 
-    // How an empty text stands beside a version.
-    fn beside_empty(self) -> Ordering
-        ensures { result ≡ beside_empty self }
+    fn is_late(self) -> bool
+        ensures { result ≡ is_late self }
     {
         match self {
-            Operator::LtNl | Operator::LeNl | Operator::GeNl | Operator::GtNl => Ordering::Greater,
-            _ => Ordering::Less,
+            Operator::LtNl | Operator::LeNl | Operator::GeNl | Operator::GtNl => true,
+            Operator::Lt
+            | Operator::Le
+            | Operator::Eq
+            | Operator::Ne
+            | Operator::Ge
+            | Operator::Gt => false,
         }
     }
 
-    // The order of two versions, or of empty texts in their places.
-    fn order_of(self, first: &Option<Version>, second: &Option<Version>) -> Ordering
-        ensures { result ≡ order_of self first.now second.now }
+    // Whether a text stands behind all versions.
+    fn is_behind(self, text: &str) -> bool
+        ensures { result ≡ is_behind self text.now }
     {
-        match first {
-            Some(first) => match second {
-                Some(second) => first.compare(second),
-                None => self.beside_empty().reverse(),
-            },
-            None => match second {
-                Some(_) => self.beside_empty(),
-                None => Ordering::Equal,
-            },
-        }
+        self.is_late() && text == ""
+    }
+}
+
+// The order of two versions, or of empty texts in their places.
+fn order_of(first: &Option<Version>, second: &Option<Version>) -> Ordering
+    ensures { result ≡ order_of first.now second.now }
+{
+    match first {
+        Some(first) => match second {
+            Some(second) => first.compare(second),
+            None => Ordering::Less,
+        },
+        None => match second {
+            Some(_) => Ordering::Greater,
+            None => Ordering::Equal,
+        },
     }
 }
 
@@ -134,23 +146,29 @@ pub enum Verdict<'a> {
     OutOfMemory,
 }
 
-// The version of a text; an empty one has none.
-fn version_of(alloc: Global, text: &str) -> Result<Option<Version>, VersionFault>
-    ensures version { IfOk result (λ version. version ≡ version_text text.now) }
-    ensures good { OnOk result (text_fault text.now ≡ None) }
-    ensures bad { IfErr result (λ fault. (fault ≡ VersionFault.NoMemory) ⊎ (text_fault text.now ≡ Some fault)) }
+// The version of a text, or none of one that stands behind all.
+fn version_of(
+    alloc: Global,
+    operator: Operator,
+    text: &str,
+) -> Result<Option<Version>, VersionFault>
+    ensures version { IfOk result (λ version. version ≡ version_text operator text.now) }
+    ensures good { OnOk result (text_fault operator text.now ≡ None) }
+    ensures bad { IfErr result
+        (λ fault. (fault ≡ VersionFault.NoMemory) ⊎ (text_fault operator text.now ≡ Some fault)) }
 {
-    match text {
-        "" => Ok(None),
-        text => Ok(Some(Version::parse(alloc, text.as_bytes())?)),
+    if operator.is_behind(text) {
+        return Ok(None);
     }
+    Ok(Some(Version::parse(alloc, text.as_bytes())?))
 }
 
 // What is said against a text.
-fn fault_verdict(text: &str, fault: VersionFault) -> Verdict<'_>
-    requires { (fault ≡ VersionFault.NoMemory) ⊎ (text_fault text.now ≡ Some fault) }
-    ensures { IsBadText text.now result }
+fn fault_verdict(operator: Operator, text: &str, fault: VersionFault) -> Verdict<'_>
+    requires { (fault ≡ VersionFault.NoMemory) ⊎ (text_fault operator text.now ≡ Some fault) }
+    ensures { IsBadText operator text.now result }
 {
+    let _ = operator;
     match fault {
         VersionFault::NoMemory => Verdict::OutOfMemory,
         fault => Verdict::Bad(text, fault),
@@ -162,15 +180,16 @@ impl Comparison {
     pub fn verdict(&self, alloc: Global) -> Verdict<'_>
         ensures { IsVerdict self.now.first self.now.operator self.now.second result }
     {
-        let first = match version_of(alloc, self.first.as_str()) {
+        let operator = self.operator;
+        let first = match version_of(alloc, operator, self.first.as_str()) {
             Ok(version) => version,
-            Err(fault) => return fault_verdict(self.first.as_str(), fault),
+            Err(fault) => return fault_verdict(operator, self.first.as_str(), fault),
         };
-        let second = match version_of(alloc, self.second.as_str()) {
+        let second = match version_of(alloc, operator, self.second.as_str()) {
             Ok(version) => version,
-            Err(fault) => return fault_verdict(self.second.as_str(), fault),
+            Err(fault) => return fault_verdict(operator, self.second.as_str(), fault),
         };
-        if self.operator.holds(self.operator.order_of(&first, &second)) {
+        if operator.holds(order_of(&first, &second)) {
             Verdict::Holds
         } else {
             Verdict::Fails

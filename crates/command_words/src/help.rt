@@ -57,8 +57,8 @@ Example: coizkerra audit --root /srv/root
 
 const COMPARE_VERSIONS: &str = "Ends with status 0 where A OP B holds, and with 1 where it doesn't.
 
-  OP  one of lt le eq ne ge gt, for which an empty version is earlier than any; of lt-nl le-nl ge-nl
-      gt-nl, for which it is later; or, as in control files, of << <= = >= >>
+  OP  one of lt le eq ne ge gt; of lt-nl le-nl ge-nl gt-nl, for which an empty version is later than
+      any; or, as in control files, of << <= = >= >>
 
 Example: coizkerra compare-versions 1.0~rc1 lt 1.0
 ";

@@ -72,12 +72,24 @@ fn versions_are_compared(rt: HostRuntime) -> Result<(), Fail> {
     check(&rt, &[], &[], COMPARISONS, row)
 }
 
-// As dpkg compares them, an empty version with each kind of operator and the signs of control files.
+// An empty version is one for the operators with `-nl` alone, behind all others, as dpkg has it; and the signs of control files.
 const COMPARISONS_LIKE_DPKG: &[(&str, &str)] = &[
-    ("dpkg_cli compare-versions  lt 1", "||0\n"),
-    ("dpkg_cli compare-versions 1 lt ", "||1\n"),
-    ("dpkg_cli compare-versions  eq ", "||0\n"),
-    ("dpkg_cli compare-versions  ne 1", "||0\n"),
+    (
+        "dpkg_cli compare-versions  lt 1",
+        "|bad version : Empty\n|2\n",
+    ),
+    (
+        "dpkg_cli compare-versions 1 lt ",
+        "|bad version : Empty\n|2\n",
+    ),
+    (
+        "dpkg_cli compare-versions  eq ",
+        "|bad version : Empty\n|2\n",
+    ),
+    (
+        "dpkg_cli compare-versions  ne 1",
+        "|bad version : Empty\n|2\n",
+    ),
     ("dpkg_cli compare-versions  lt-nl 1", "||1\n"),
     ("dpkg_cli compare-versions 1 lt-nl ", "||0\n"),
     ("dpkg_cli compare-versions  le-nl 1", "||1\n"),
@@ -89,7 +101,10 @@ const COMPARISONS_LIKE_DPKG: &[(&str, &str)] = &[
     ("dpkg_cli compare-versions 1 << 1", "||1\n"),
     ("dpkg_cli compare-versions 1 <= 1", "||0\n"),
     ("dpkg_cli compare-versions 1 = 1", "||0\n"),
-    ("dpkg_cli compare-versions 1 >= ", "||0\n"),
+    (
+        "dpkg_cli compare-versions 1 >= ",
+        "|bad version : Empty\n|2\n",
+    ),
     ("dpkg_cli compare-versions 1 >> 1", "||1\n"),
     (
         "dpkg_cli compare-versions  lt 1-",
