@@ -107,7 +107,7 @@ const COMPARISONS_LIKE_DPKG: &[(&str, &str)] = &[
     ),
     ("dpkg_cli compare-versions 1 >> 1", "||1\n"),
     (
-        "dpkg_cli compare-versions  lt 1-",
+        "dpkg_cli compare-versions  lt-nl 1-",
         "|bad version 1-: EmptyPart\n|2\n",
     ),
 ];
