@@ -111,7 +111,8 @@ fn helped(alloc: Global, topic: Topic) -> Result<Answer, AllocError>
 }
 
 fn compared(alloc: Global, comparison: &Comparison) -> Result<Answer, AllocError>
-    ensures { IfOk result (λ answer. answer ≡ comparison_answer comparison.now) }
+    ensures answer { IfOk result (λ answer. answer ≡ comparison_answer comparison.now) }
+    ensures bound { IfOk result (λ answer. answer.status ≤ 2) }
 {
     match comparison.verdict(alloc) {
         Verdict::Holds => Ok(quiet(alloc, 0)),

@@ -32,7 +32,7 @@ returns-in-Ok-Help-clause-answered g c =
 pub returns-in-Ok-CompareVersions-clause-answered : goal.returns-in-Ok-CompareVersions-clause-answered
 returns-in-Ok-CompareVersions-clause-answered g c =
     let asked : asked_of (map string_bytes c.args.words.now) ≡ Some (CompareVersions c.in-Ok-CompareVersions.comparison) = search rules in
-    (comparison_answer c.in-Ok-CompareVersions.comparison, rw asked (inl refl), c.whole-in-Ok-CompareVersions.ensures.left (comparison_answer c.in-Ok-CompareVersions.comparison) (g.O.Write.contents c.args.out.now) c.compared.ensures)
+    (comparison_answer c.in-Ok-CompareVersions.comparison, rw asked (inl refl), c.whole-in-Ok-CompareVersions.ensures.left (comparison_answer c.in-Ok-CompareVersions.comparison) (g.O.Write.contents c.args.out.now) c.compared.ensures.answer)
 
 pub returns-in-Ok-Query-clause-answered : goal.returns-in-Ok-Query-clause-answered
 returns-in-Ok-Query-clause-answered g c =
@@ -104,7 +104,7 @@ returns-in-Err-NoMemory-clause-answered g c = (memory_answer, inr (refl, refl), 
 pub returns-in-Ok-CompareVersions-clause-quiet : goal.returns-in-Ok-CompareVersions-clause-quiet
 returns-in-Ok-CompareVersions-clause-quiet g c =
     let comparison = c.in-Ok-CompareVersions.comparison in
-    quiet_left c.compared.result c.whole-in-Ok-CompareVersions.result (λ a. a ≡ comparison_answer comparison) _ c.whole-in-Ok-CompareVersions.ensures.output c.compared.ensures
+    quiet_left c.compared.result c.whole-in-Ok-CompareVersions.result (λ a. a ≡ comparison_answer comparison) _ c.whole-in-Ok-CompareVersions.ensures.output c.compared.ensures.answer
     (λ a is. inl (ap (λ (x : Answer). x.output) is ∙ quiet_comparison comparison))
 
 pub returns-in-Ok-Query-clause-quiet : goal.returns-in-Ok-Query-clause-quiet
