@@ -39,7 +39,7 @@ returns-in-Ok-clause-left g c = λ h.
     let entries = c.args.diversions.now.entries in
     let lists = c.args.lists.now.lists in
     let before = c.args.database.now.records in
-    moved (λ n y u. HasLeft (changes_from n y entries lists c.args.works.now c.args.rest) (records_from n y entries lists c.args.works.now c.args.rest before) entries lists before (ended_as u)
+    moved (λ n y u. HasLeft (changes_from n y entries lists c.args.works.now c.args.rest) (records_from n y entries lists c.args.works.now c.args.rest before) entries lists before (length c.args.rows.now.others.items) (ended_as u)
     (g.H.Host.state c.args.host.now).world (g.H.Host.state c.finish_committed.new.host).world)
     c.name-name.result.now _ c.as_slice-yields.result.now _ c.args.unwinding c.name-name.ensures c.as_slice-yields.ensures c.in-None.is (c.in-Ok.ensures.left h)
 
@@ -48,7 +48,7 @@ returns-in-Ok-clause-any_moment g c =
     let entries = c.args.diversions.now.entries in
     let lists = c.args.lists.now.lists in
     let before = c.args.database.now.records in
-    moved (λ n y u. AtEachMoment (MayLeave (changes_from n y entries lists c.args.works.now c.args.rest) (records_from n y entries lists c.args.works.now c.args.rest before) entries lists before (ended_as u))
+    moved (λ n y u. AtEachMoment (MayLeave (changes_from n y entries lists c.args.works.now c.args.rest) (records_from n y entries lists c.args.works.now c.args.rest before) entries lists before (length c.args.rows.now.others.items) (ended_as u))
     (g.H.Host.state c.args.host.now) (g.H.Host.state c.finish_committed.new.host))
     c.name-name.result.now _ c.as_slice-yields.result.now _ c.args.unwinding c.name-name.ensures c.as_slice-yields.ensures c.in-None.is c.finish_committed.ensures.any_moment
 
@@ -57,7 +57,7 @@ returns-in-None-clause-any_moment g c =
     let entries = c.args.diversions.now.entries in
     let lists = c.args.lists.now.lists in
     let before = c.args.database.now.records in
-    moved (λ n y u. AtEachMoment (MayLeave (changes_from n y entries lists c.args.works.now c.args.rest) (records_from n y entries lists c.args.works.now c.args.rest before) entries lists before (ended_as u))
+    moved (λ n y u. AtEachMoment (MayLeave (changes_from n y entries lists c.args.works.now c.args.rest) (records_from n y entries lists c.args.works.now c.args.rest before) entries lists before (length c.args.rows.now.others.items) (ended_as u))
     (g.H.Host.state c.args.host.now) (g.H.Host.state c.finish_committed.new.host))
     c.name-name.result.now _ c.as_slice-yields.result.now _ c.args.unwinding c.name-name.ensures c.as_slice-yields.ensures c.in-None.is c.finish_committed.ensures.any_moment
 
@@ -71,16 +71,17 @@ returns-in-Ok-finish_unwound-clause-kept g c = λ h.
     let old = (g.H.Host.state c.args.host.now).world in
     let new = (g.H.Host.state c.finish_unwound.new.host).world in
     let name = c.name-name.result.now in
+    let reached = nat_le (length c.as_slice-others.result.now) c.in-Some.unwinding.fall.row in
     let left = c.in-Ok-finish_unwound.ensures.left h in
     laying_kept left.followed new left.removed.rest c.args.database.now
-    (dropped_kept (record_in c.args.database.now.records name) name old left.followed left.has_followed c.args.database.now (c.requires.kept (c.finish_unwound.ensures.silent.honest h)))
+    (dropped_kept reached (record_in c.args.database.now.records name) name old left.followed left.has_followed c.args.database.now (c.requires.kept (c.finish_unwound.ensures.silent.honest h)))
 
 pub returns-in-Ok-finish_unwound-clause-any_moment : goal.returns-in-Ok-finish_unwound-clause-any_moment
 returns-in-Ok-finish_unwound-clause-any_moment g c =
     let before = c.args.database.now.records in
     let old = g.H.Host.state c.args.host.now in
     let new = g.H.Host.state c.finish_unwound.new.host in
-    subst (λ u. AtEachMoment (MayLeave (changes_from (own_name c.args.rows.now.found c.args.rows.now.incoming) c.args.rows.now.yields c.args.diversions.now.entries c.args.lists.now.lists c.args.works.now c.args.rest) (records_from (own_name c.args.rows.now.found c.args.rows.now.incoming) c.args.rows.now.yields c.args.diversions.now.entries c.args.lists.now.lists c.args.works.now c.args.rest before) c.args.diversions.now.entries c.args.lists.now.lists before (ended_as u)) old new) (sym c.in-Some.is)
+    subst (λ u. AtEachMoment (MayLeave (changes_from (own_name c.args.rows.now.found c.args.rows.now.incoming) c.args.rows.now.yields c.args.diversions.now.entries c.args.lists.now.lists c.args.works.now c.args.rest) (records_from (own_name c.args.rows.now.found c.args.rows.now.incoming) c.args.rows.now.yields c.args.diversions.now.entries c.args.lists.now.lists c.args.works.now c.args.rest before) c.args.diversions.now.entries c.args.lists.now.lists before (length c.args.rows.now.others.items) (ended_as u)) old new) (sym c.in-Some.is)
     (subst (λ n. AtEachMoment (MayLeaveBy (HasDropped (record_in before n) n) (MayDrop (record_in before n) n)) old new) c.name-name.ensures c.finish_unwound.ensures.any_moment)
 
 pub returns-clause-any_moment : goal.returns-clause-any_moment
@@ -88,5 +89,5 @@ returns-clause-any_moment g c =
     let before = c.args.database.now.records in
     let old = g.H.Host.state c.args.host.now in
     let new = g.H.Host.state c.finish_unwound.new.host in
-    subst (λ u. AtEachMoment (MayLeave (changes_from (own_name c.args.rows.now.found c.args.rows.now.incoming) c.args.rows.now.yields c.args.diversions.now.entries c.args.lists.now.lists c.args.works.now c.args.rest) (records_from (own_name c.args.rows.now.found c.args.rows.now.incoming) c.args.rows.now.yields c.args.diversions.now.entries c.args.lists.now.lists c.args.works.now c.args.rest before) c.args.diversions.now.entries c.args.lists.now.lists before (ended_as u)) old new) (sym c.in-Some.is)
+    subst (λ u. AtEachMoment (MayLeave (changes_from (own_name c.args.rows.now.found c.args.rows.now.incoming) c.args.rows.now.yields c.args.diversions.now.entries c.args.lists.now.lists c.args.works.now c.args.rest) (records_from (own_name c.args.rows.now.found c.args.rows.now.incoming) c.args.rows.now.yields c.args.diversions.now.entries c.args.lists.now.lists c.args.works.now c.args.rest before) c.args.diversions.now.entries c.args.lists.now.lists before (length c.args.rows.now.others.items) (ended_as u)) old new) (sym c.in-Some.is)
     (subst (λ n. AtEachMoment (MayLeaveBy (HasDropped (record_in before n) n) (MayDrop (record_in before n) n)) old new) c.name-name.ensures c.finish_unwound.ensures.any_moment)
