@@ -87,7 +87,7 @@ members_same owner v w same ready = record {
 }
 
 -- one world, with what stands in `info` in another
-info_of : World → World → World
+abbrev pub info_of : World → World → World
 info_of now base q = cond (is_within info_path q) (now q) (base q)
 
 module _ (owner : Path) (base old now : World) (same : (q : Path) → is_within info_path q ≡ true → old q ≡ base q) where

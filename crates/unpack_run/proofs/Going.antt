@@ -34,7 +34,7 @@ files_at [] zero k within at is = absurd (true≢false (sym (ap is_preinst at) �
 files_at [] (suc zero) k within at is = refl
 files_at [] (suc (suc i)) k within at is = absurd (omega (arith, within))
 files_at (r ∷ rs) zero k within at is = absurd (true≢false (sym (ap is_files is) ∙ ap is_files at))
-files_at (r ∷ rs) (suc i) k within at is = ap suc (files_at rs i k (omega (arith, within)) at is)
+files_at (r ∷ rs) (suc i) k within at is = omega (arith, files_at rs i k (omega (arith, within)) at is)
 
 -- no file row comes before the preinst's
 no_files : (others : List Record) (i : ℕ) (k : RowKind) → i < length (bare_kinds others) → k ≡ get_or (bare_kinds others) i k → is_preinst k ≡ true → has_files (take i (bare_kinds others)) ≡ false

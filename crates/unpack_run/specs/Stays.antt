@@ -1,6 +1,6 @@
 -- What holds at a place while scripts run there.
-use Rattle.std.specs.Prelude.{◌≡◌, inl, Bool, true, false, List, ◌++◌, length}
-use Rattle.std.proofs.Common.{IsTrue, refl, sym, ◌∙◌, ap, subst, append_assoc}
+use Rattle.std.specs.Prelude.{◌≡◌, Bool, true, false, List, ◌++◌, length}
+use Rattle.std.proofs.Common.{inl, IsTrue, refl, sym, ◌∙◌, ap, subst, append_assoc}
 use Rattle.std.proofs.lemmas.List.{map-append}
 use Rattle.host_core.specs.World.{World, Avoids, Change, SameOn, changed, is_kept}
 use Rattle.host_core.specs.Events.{Event, Finished, Ran, changes_of, scripts_of}
