@@ -1,5 +1,5 @@
 -- A barrier behind what was done.
-use Rattle.std.proofs.Common.{◌≡◌, inl, inr, IsTrue, List, [], ◌∷◌, ◌++◌, Option, Some, None, Result, Ok, Err, refl, sym, ap, subst, ◌∙◌}
+use Rattle.std.proofs.Common.{◌≡◌, inl, inr, IsTrue, List, [], ◌∷◌, ◌++◌, Option, Some, None, Result, Ok, Err, length, refl, sym, ap, subst, ◌∙◌}
 use Rattle.std.proofs.lemmas.List.{append-nil}
 use Rattle.administration.specs.Fault.{fault_of}
 use Rattle.administration.specs.declared.fault.AdministrationFault.{AdministrationFault}
@@ -88,7 +88,7 @@ carried_behind g p ended after lists s m t told now is goes silent later =
       ran = is.ran;
       since = silent_then is.last m t is.since silent;
       later = since_then _ is.last m t is.later later;
-      leaves = λ h. subst (HasLeft (changes g p works listed) (commit_records g p works listed table) g.entries listed table ended is.last.world) (sym goes.world) (is.leaves (goes.honest h));
+      leaves = λ h. subst (HasLeft (changes g p works listed) (commit_records g p works listed table) g.entries listed table (length p.others) ended is.last.world) (sym goes.world) (is.leaves (goes.honest h));
       records = is.records;
       lists_are = is.lists_are;
     }

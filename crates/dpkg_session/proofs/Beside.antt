@@ -1,5 +1,5 @@
 -- What units leave as it is: the diversions, and the file that holds them.
-use Rattle.std.proofs.Common.{◌≡◌, ◌≢◌, ℕ, Bool, true, false, cond, List, [], ◌∷◌, ◌++◌, Option, Some, None, Result, Ok, Err, IsTrue, codes, get_or, arith, refl, ap, ◌∙◌}
+use Rattle.std.proofs.Common.{◌≡◌, ◌≢◌, ℕ, Bool, true, false, cond, List, [], ◌∷◌, ◌++◌, Option, Some, None, Result, Ok, Err, IsTrue, codes, get_or, length, nat_le, arith, refl, ap, ◌∙◌}
 use Rattle.administration.specs.Places.{diversions_path, info_path, list_name, list_path, tmp_path, temporary, is_within}
 use Rattle.cleanup_stack.specs.Transcripts.{Ended, Committed, Unwound}
 use Rattle.control_members.specs.Stored.{stored_member_path}
@@ -16,11 +16,14 @@ use Rattle.status_db.specs.Records.{record_in}
 use Rattle.status_db.specs.declared.record.Record.{Record}
 use Rattle.unpack_commit.specs.Commit.{Changes, HasCommitted}
 use Rattle.unpack_engine.proofs.Frames.{IsBeside, come_same}
-use Rattle.unpack_engine.specs.Units.{Given, HasBegun, HasCleared, HasDropped, HasFollowed, HasUnpacked, changes, commit_records, ground_of, last_place, package_name, task_from}
+use Rattle.unpack_engine.proofs.Begun.{dropped_same}
+use Rattle.unpack_engine.proofs.Cleared.{begun_at, begun_beside, works_on}
+use Rattle.unpack_engine.specs.Units.{Given, HasFollowed, HasUnpacked, changes, commit_records, ground_of, last_place, package_name, task_from}
 use Rattle.unpack_moves.specs.Closing.{SparesAdministration}
 use Rattle.unpack_moves.specs.Concluding.{AreElsewhere}
 use Rattle.unpack_moves.proofs.Closings.{below_within, removed_stays}
-use Rattle.unpack_run.specs.Task.{name}
+use Rattle.unpack_run.specs.Clearing.{IsBesideOwn}
+use Rattle.unpack_run.specs.Task.{name, state_on}
 use Rattle.unwind_stack.specs.declared.rows.Called.{Called}
 use Rattle.diversions.specs.declared.entry.Diversion.{Diversion}
 use Rattle.package_tree.specs.declared.package.Package.{Package}
@@ -83,12 +86,8 @@ module _ (q : Path) (far : IsFar q) where
   beside_list : (name : List ℕ) → IsBeside (list_path name) q
   beside_list name = record { own = far.own; below = far.below; unnoted = far.unnoted; unlisted = (no_list name).0; unspared = (no_list name).1 }
 
-  begun_stays : (found : Option Record) (name : List ℕ) (members : List Member) (old new : World) → HasBegun found name members old new → new q ≡ old q
-  begun_stays found name members old new begun = begun.lays q far.tmp ∙ by found begun.clears
-    where
-      by : (found : Option Record) → HasCleared found name old begun.cleared → begun.cleared q ≡ old q
-      by None is = is.rest q (record { list = (no_list name).0; members = λ member named. (no_member name member).0 })
-      by (Some r) is = ap (λ (w : World). w q) is
+  own_apart : (name : List ℕ) → IsBesideOwn name q
+  own_apart name = record { list = (no_list name).0; members = λ member named. (no_member name member).0 }
 
   committed_stays : (c : Changes) (entries : List Diversion) (lists : List PackageList) (after : List Record) (old new : World) → SparesAdministration c.leaving → AreElsewhere c.names → HasCommitted c entries lists after old new → new q ≡ old q
   committed_stays c entries lists after old new spares elsewhere is =
@@ -99,13 +98,9 @@ module _ (q : Path) (far : IsFar q) where
       ∙ is.renewal.replaced.rest q (no_list c.name).0 (no_list c.name).1
       ∙ removed_stays c.leaving old is.renewal.mid q spares is.renewal.removed far.below
 
-  followed_stays : (c : Changes) (records : List Record) (entries : List Diversion) (lists : List PackageList) (table : List Record) (ended : Ended) (old new : World) → SparesAdministration c.leaving → AreElsewhere c.names → HasFollowed c records entries lists table ended old new → new q ≡ old q
-  followed_stays c records entries lists table Committed old new spares elsewhere is = committed_stays c entries lists _ old new spares elsewhere is
-  followed_stays c records entries lists table (Unwound fall failed) old new spares elsewhere is = by (record_in table c.name) is
-    where
-      by : (found : Option Record) → HasDropped found c.name old new → new q ≡ old q
-      by None dropped = dropped.rest q (no_list c.name).0
-      by (Some r) same = ap (λ (w : World). w q) same
+  followed_stays : (c : Changes) (records : List Record) (entries : List Diversion) (lists : List PackageList) (table : List Record) (others : ℕ) (ended : Ended) (old new : World) → SparesAdministration c.leaving → AreElsewhere c.names → HasFollowed c records entries lists table others ended old new → new q ≡ old q
+  followed_stays c records entries lists table others Committed old new spares elsewhere is = committed_stays c entries lists _ old new spares elsewhere is
+  followed_stays c records entries lists table others (Unwound fall failed) old new spares elsewhere is = dropped_same (nat_le others fall.row) (record_in table c.name) c.name old new q is (no_list c.name).0
 
   unpacked_stays : (g : Given) (places : List Path) (ended : Ended) (after : Recorded) (lists : List PackageList) (s t : State) (told now : List Called) → HasUnpacked g places ended after lists s t told now → IsTrue t.honest → t.world q ≡ s.world q
   unpacked_stays g places ended after lists s t told now is h =
@@ -114,13 +109,14 @@ module _ (q : Path) (far : IsFar q) where
       let planned = is.plan_for.planned in
       let left = out.leaves h in
       let ground = ground_of g places in
-      let begun = out.ran.begun in
-      let task = task_from ground p begun in
+      let base = out.ran.rows_end.base in
+      let place = last_place ground p ended in
+      let task = task_from ground p (state_on out.ran.begun base) in
       let honest = out.since.honest h in
       left.removed.rest q far.tmp
-      ∙ followed_stays (changes ground p out.mid.works out.mid.lists) (commit_records ground p out.mid.works out.mid.lists out.mid.database.records) g.entries out.mid.lists out.mid.database.records ended out.last.world left.followed planned.lists_are.spares planned.names_are.elsewhere left.has_followed
-      ∙ come_same task q (beside_list (name task)) planned.works_are.named (last_place ground p ended) _ out.mid.works out.ran.rows_end.works _ out.last.world (out.ran.rows_end.world honest).came
-      ∙ begun_stays p.found (package_name ground p) p.members s.world begun.world (out.ran.begins_so honest)
+      ∙ followed_stays (changes ground p out.mid.works out.mid.lists) (commit_records ground p out.mid.works out.mid.lists out.mid.database.records) g.entries out.mid.lists out.mid.database.records (length p.others) ended out.last.world left.followed planned.lists_are.spares planned.names_are.elsewhere left.has_followed
+      ∙ come_same task q (beside_list (name task)) planned.works_are.named place _ out.mid.works (works_on ground p place out.ran.begun base out.mid.works out.ran.rows_end.works) _ out.last.world (out.ran.rows_end.world honest).came
+      ∙ begun_beside ground p place s.world base (begun_at ground p place s.world out.ran.begun out.mid out.last (out.ran.begins_so honest) out.ran.rows_end honest) q far.tmp (own_apart (package_name ground p))
 
 stays_by : (q : Path) → IsFar q → (p : Package) (decision : Checked) (before after : Held) (u : AUnit) (s t : State) → IsUnitBy p decision before after u s t → IsTrue t.honest → t.world q ≡ s.world q
 stays_by q far p (Refused rule) before after u s t is h = ap (λ w. w q) (is.world h)

@@ -27,6 +27,7 @@ use Rattle.status_db.specs.Records.{AreStanding, record_in}
 use Rattle.status_db.specs.Words.{is_not_installed}
 use Rattle.status_db.specs.declared.record.Record.{Record}
 use Rattle.unpack_commit.specs.Takeover.{taken_places}
+use Rattle.unpack_engine.proofs.EndLists.{gone_after}
 use Rattle.unpack_engine.proofs.EndRecords.{IsKnown, all_known, committed_known, found_known, has_name, known_name, known_standing, recorded_known, rows_known}
 use Rattle.unpack_engine.proofs.InfoSound.{sound_left, text_left}
 use Rattle.unpack_engine.proofs.Order.{directory_there}
@@ -114,7 +115,8 @@ unpacked_info p beside before unwinding records lists s t told now is h order in
       standing = known_standing (record_names g.records) (package_name g plan) records.records known;
       sound = sound_left g plan named planned.works_are.named planned.lists_are.spares planned.names_are.elsewhere ended out.mid s.world out.ran.begun out.last (out.ran.begins_so honest) at honest t.world (out.leaves h)
           (record_names g.records) (record_names records.records) (found_among _ g plan planned refl info.standing recorded)
-          (known_name (record_names g.records) (package_name g plan) records.records known) info.sound order.loose lists (lists_had t.world (record_names records.records) lists order.listed);
+          (known_name (record_names g.records) (package_name g plan) records.records known)
+          (gone_after (given_by p before is.others (yielding beside)) is.unpacked.plan_for.stored plan planned (places_of before) out.ran.begun out.last out.mid ended at records.records out.records) info.sound order.loose lists (lists_had t.world (record_names records.records) lists order.listed);
     }
 
 -- what packages leave that aren't unpacked

@@ -1,5 +1,5 @@
 -- The beginning of an unpack, and what follows its rows: no opening refuses what stands in `info`.
-use Rattle.std.proofs.Common.{◌≡◌, inl, inr, ℕ, zero, suc, true, false, List, ◌∷◌, Option, Some, None, Contains, refl, sym, subst, arith}
+use Rattle.std.proofs.Common.{◌≡◌, inl, inr, ℕ, zero, suc, Bool, true, false, nat_le, List, ◌∷◌, Option, Some, None, Contains, refl, sym, subst, arith}
 use Rattle.texts.specs.PackageNames.{is_package_name}
 use Rattle.host_core.proofs.Paths.{decide}
 use Rattle.host_core.specs.Outcome.{script_name}
@@ -23,7 +23,8 @@ use Rattle.unpack_commit.proofs.Left.{same_list}
 use Rattle.unpack_commit.specs.Commit.{Changes, HasCommitted, MayCommit, renewed_lists}
 use Rattle.unpack_commit.specs.Takeover.{put_records}
 use Rattle.unpack_engine.proofs.Cleared.{cleared_clearing}
-use Rattle.unpack_engine.specs.Units.{HasCleared, HasDropped, HasFollowed, HasLeft, IsClearing, MayBegin, MayClear, MayDrop, MayLeave, MayLeaveBy}
+use Rattle.unpack_run.specs.Clearing.{IsCleared, IsClearing, MayClear}
+use Rattle.unpack_engine.specs.Units.{HasDropped, HasFollowed, HasLeft, MayDrop, MayLeave, MayLeaveBy}
 use Rattle.unpack_moves.specs.Closing.{HasReleased, HasRenewed, MayRelease, MayRenew, SparesAdministration}
 use Rattle.unpack_moves.specs.Concluding.{AreElsewhere}
 use Rattle.reopening.proofs.Entries.{IsSafe, safe_fewer, safe_more, safe_quiet}
@@ -49,30 +50,23 @@ module _ (name : Path) (named : is_package_name name ≡ true) (old now : World)
     ];
   }
 
-  may_clear_quiet : (found : Option Record) → MayClear found name old now → IsQuiet old now
-  may_clear_quiet None may = clearing_quiet may
-  may_clear_quiet (Some r) same = quiet_still old now same
-
-  pub cleared_quiet : (found : Option Record) → HasCleared found name old now → IsQuiet old now
-  cleared_quiet None cleared = clearing_quiet (cleared_clearing name named old now cleared)
-  cleared_quiet (Some r) same = quiet_still old now same
-
-module _ (found : Option Record) (name : Path) (named : is_package_name name ≡ true) (old now : World) where
-  pub beginning_quiet : MayBegin found name old now → IsQuiet old now
-  beginning_quiet (MayBegin.clearing may) = may_clear_quiet name named old now found may
-  beginning_quiet (MayBegin.laying cleared clears laying) = quiet_then old cleared now (cleared_quiet name named old cleared found clears) (quiet_laid cleared now laying.rest)
+  pub going_quiet : (gone goes : Bool) → MayClear gone goes name old now → IsQuiet old now
+  going_quiet true goes cleared = clearing_quiet (cleared_clearing name named old now cleared)
+  going_quiet false true clearing = clearing_quiet clearing
+  going_quiet false false same = quiet_still old now same
 
 -- behind it the package is one of which nothing is refused
-pub cleared_safe : (names : List (List ℕ)) (entries : List Diversion) (found : Option Record) (name : Path) (old cleared : World) → is_package_name name ≡ true → HasCleared found name old cleared → ((r : Record) → found ≡ Some r → Contains names name)
-    → AreLoose cleared → IsSafe names entries old → IsSafe (name ∷ names) entries cleared
-cleared_safe names entries None name old cleared named clears known loose safe =
+pub cleared_safe : (names : List (List ℕ)) (entries : List Diversion) (name : Path) (old cleared : World) → is_package_name name ≡ true → IsCleared name old cleared → AreLoose cleared → IsSafe names entries old → IsSafe (name ∷ names) entries cleared
+cleared_safe names entries name old cleared named clears loose safe =
     safe_more names name entries cleared clears.list (λ script. clears.members (script_name script) (script_is_member script))
-    (safe_quiet names entries old cleared (cleared_quiet name named old cleared None clears) safe loose)
-cleared_safe names entries (Some r) name old cleared named same known loose safe =
-    safe_fewer names (name ∷ names) entries cleared fewer (subst (IsSafe names entries) (sym same) safe)
+    (safe_quiet names entries old cleared (going_quiet name named old cleared true true clears) safe loose)
+
+-- and so is one that is recorded
+pub recorded_safe : (names : List (List ℕ)) (entries : List Diversion) (name : Path) (w : World) → Contains names name → IsSafe names entries w → IsSafe (name ∷ names) entries w
+recorded_safe names entries name w known safe = safe_fewer names (name ∷ names) entries w fewer safe
   where
     fewer : (q : List ℕ) → Contains (name ∷ names) q → Contains names q
-    fewer q (zero, lt, e) = subst (Contains names) e (known r refl)
+    fewer q (zero, lt, e) = subst (Contains names) e known
     fewer q (suc k, lt, e) = (k, omega (arith, lt), e)
 
 -- the commit
@@ -124,25 +118,27 @@ module _ (c : Changes) (entries : List Diversion) (lists : List PackageList) (na
 
   -- or the end of the list of a package without a record
 
-  may_drop_quiet : (found : Option Record) (old now : World) → MayDrop found c.name old now → IsQuiet old now
-  may_drop_quiet None old now dropping = dropping_quiet c.name named old now dropping
-  may_drop_quiet (Some r) old now same = quiet_still old now same
+  may_drop_quiet : (reached : Bool) (found : Option Record) (old now : World) → MayDrop reached found c.name old now → IsQuiet old now
+  may_drop_quiet true None old now dropping = dropping_quiet c.name named old now dropping
+  may_drop_quiet true (Some r) old now same = quiet_still old now same
+  may_drop_quiet false found old now same = quiet_still old now same
 
-  has_dropped_quiet : (found : Option Record) (old now : World) → HasDropped found c.name old now → IsQuiet old now
-  has_dropped_quiet None old now dropped = dropped_quiet c.name named old now dropped
-  has_dropped_quiet (Some r) old now same = quiet_still old now same
+  has_dropped_quiet : (reached : Bool) (found : Option Record) (old now : World) → HasDropped reached found c.name old now → IsQuiet old now
+  has_dropped_quiet true None old now dropped = dropped_quiet c.name named old now dropped
+  has_dropped_quiet true (Some r) old now same = quiet_still old now same
+  has_dropped_quiet false found old now same = quiet_still old now same
 
   -- and then `tmp.ci` goes
-  module _ (records : List Record) (table : List Record) where
-    followed_quiet : (ended : Ended) (old now : World) → HasFollowed c records entries lists table ended old now → IsQuiet old now
+  module _ (records : List Record) (table : List Record) (others : ℕ) where
+    followed_quiet : (ended : Ended) (old now : World) → HasFollowed c records entries lists table others ended old now → IsQuiet old now
     followed_quiet Committed old now has = committed_quiet (put_records records table) old now has
-    followed_quiet (Unwound fall failed) old now has = has_dropped_quiet (record_in table c.name) old now has
+    followed_quiet (Unwound fall failed) old now has = has_dropped_quiet (nat_le others fall.row) (record_in table c.name) old now has
 
-    pub leaving_quiet : (ended : Ended) (old now : World) → MayLeave c records entries lists table ended old now → IsQuiet old now
+    pub leaving_quiet : (ended : Ended) (old now : World) → MayLeave c records entries lists table others ended old now → IsQuiet old now
     leaving_quiet Committed old now (MayLeaveBy.following may) = committing_quiet records table old now may
     leaving_quiet Committed old now (MayLeaveBy.clearing_away followed has opens laying) = quiet_then old followed now (followed_quiet Committed old followed has) (quiet_laid followed now laying.rest)
-    leaving_quiet (Unwound fall failed) old now (MayLeaveBy.following may) = may_drop_quiet (record_in table c.name) old now may
+    leaving_quiet (Unwound fall failed) old now (MayLeaveBy.following may) = may_drop_quiet (nat_le others fall.row) (record_in table c.name) old now may
     leaving_quiet (Unwound fall failed) old now (MayLeaveBy.clearing_away followed has opens laying) = quiet_then old followed now (followed_quiet (Unwound fall failed) old followed has) (quiet_laid followed now laying.rest)
 
-    pub left_quiet : (ended : Ended) (old now : World) → HasLeft c records entries lists table ended old now → IsQuiet old now
+    pub left_quiet : (ended : Ended) (old now : World) → HasLeft c records entries lists table others ended old now → IsQuiet old now
     left_quiet ended old now has = quiet_then old has.followed now (followed_quiet ended old has.followed has.has_followed) (quiet_laid has.followed now has.removed.rest)

@@ -5,6 +5,7 @@ pub mod Entries
 pub mod Texts
 pub mod Rows
 pub mod Beginning
+pub mod Unreached
 pub mod Parts
 pub mod Stages
 pub mod Unpacks

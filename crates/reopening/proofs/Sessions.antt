@@ -1,5 +1,5 @@
 -- Unpacks one after another, and an install: the next opening can read all at each moment.
-use Rattle.std.proofs.Common.{◌≡◌, inl, inr, ℕ, zero, suc, IsTrue, Bool, List, [], ◌∷◌, Option, Some, None, Result, Ok, Err, Contains, drop, length, take, refl, sym, ap, subst, arith}
+use Rattle.std.proofs.Common.{◌≡◌, inl, inr, ℕ, zero, suc, IsTrue, Bool, true, false, cond, List, [], ◌∷◌, Option, Some, None, Result, Ok, Err, Contains, drop, length, take, refl, sym, ap, subst, arith}
 use Rattle.std.specs.Str.{IsUtf8}
 use Rattle.conffiles.specs.declared.decisions.ConfPolicy.{ConfPolicy}
 use Rattle.displaced_packages.specs.Losing.{losing_beside}
@@ -19,14 +19,17 @@ use Rattle.removal_run.specs.Units.{holding_of}
 use Rattle.stack_run.specs.Ended.{ended_as}
 use Rattle.stack_run.specs.declared.unwinding.Unwinding.{Unwinding}
 use Rattle.status_db.specs.Held.{HasRecords}
+use Rattle.status_db.specs.Records.{AreStanding}
+use Rattle.status_db.specs.declared.record.Record.{Record}
 use Rattle.status_db.specs.Recorded.{Recorded}
 use Rattle.unit_reports.specs.Held.{Held, places_of}
 use Rattle.unit_reports.specs.declared.report.Report.{Report}
 use Rattle.unit_reports.specs.declared.report.Unit.{Unit as AUnit}
 use Rattle.unpack_engine.specs.Order.{record_names}
-use Rattle.unpack_engine.specs.Units.{Given, ground_of, job_of, package_name}
+use Rattle.unpack_engine.specs.Units.{Given, Ground, end_table, ground_of, job_of, package_name}
 use Rattle.unpack_relations.specs.declared.beside.Beside.{Beside}
 use Rattle.unpack_relations.specs.declared.checking.Checked.{Checked}
+use Rattle.unpack_plan.specs.Planned.{Job, Planned}
 use Rattle.unpack_relations.specs.declared.checking.Checked.TheVariants.{Planned as Unpacks, Refused}
 use Rattle.unwind_stack.specs.declared.rows.Called.{Called}
 use Rattle.dpkg_session.specs.Installs.{HasGoneOn}
@@ -38,7 +41,7 @@ use Rattle.reopening.proofs.Parts.{AreOf}
 use Rattle.reopening.proofs.Sounds.{Goes, IsSound, goes_refused, held_sound, sound_lists, sound_opens}
 use Rattle.reopening.proofs.Turns.{Ends, Runs, configure_ends, ends_then, runs_same, runs_then}
 use Rattle.reopening.proofs.Units.{IsHeld, held_same, of_from}
-use Rattle.reopening.proofs.Unpacks.{ShipsText, amid_names, amid_standing, carried_from, ended_table, found_among, left_records, under_way_opens}
+use Rattle.reopening.proofs.Unpacks.{From, IsUnitTable, ShipsText, amid_names, amid_standing, carried_from, ended_table, found_among, left_records, under_way_opens, went_on}
 use Rattle.reopening.specs.Opens.{CanBeOpened}
 use Rattle.reopening.specs.Trees.{AreTextFiles, AreTextTrees, IsTextTree}
 
@@ -58,33 +61,69 @@ module _ (p : Package) (texts : ShipsText p) (beside : Beside) (before : Held) (
   abbrev g : Given
   g = given_by p before is.others (yielding beside)
 
-  abbrev unpacked_names : List (List ℕ)
-  unpacked_names = package_name (ground_of g (places_of before)) is.unpacked.plan ∷ record_names before.records.records
+  abbrev plan : Planned
+  plan = is.unpacked.plan
 
-  pub unpacked_held : IsHeld unpacked_names before.entries records.records m.world
-  unpacked_held =
-      let ground = ground_of g (places_of before) in
-      let plan = is.unpacked.plan in
-      let planned = is.unpacked.plan_for.planned in
-      let recorded = is.have_rows.apart.recorded in
-      let out = is.unpacked.carried_out in
-      let ended = ended_as unwinding in
-      let honest = out.since.honest h in
-      let at = out.ran.rows_end in
-      let begins = out.ran.begins_so honest in
-      let table = ended_table (job_of g is.unpacked.plan_for.stored) ground plan planned refl refl sound.standing recorded texts s.world before.records refl sound.order (sound_lists before s.world sound) ended out.mid out.ran.begun out.last at in
-      let from = carried_from (job_of g is.unpacked.plan_for.stored) ground plan planned refl refl sound.standing recorded texts s.world before.records refl sound.order (sound_lists before s.world sound) ended out.mid out.ran.begun out.last m.world begins at honest (out.leaves h) in
-      let has = left_records (job_of g is.unpacked.plan_for.stored) ground plan planned refl refl sound.standing recorded texts s.world before.records refl sound.order (sound_lists before s.world sound) ended out.mid out.ran.begun out.last m.world at honest (out.leaves h) in
-      record {
-        all = subst (AreOf _) (sym out.records) (of_from _ _ (amid_standing (job_of g is.unpacked.plan_for.stored) ground plan planned refl sound.standing recorded _ table) (amid_names (job_of g is.unpacked.plan_for.stored) ground plan planned refl sound.standing recorded _ table));
-        base = from.cleared;
-        safe = from.clears.1 (record_names before.records.records) before.entries (found_among (job_of g is.unpacked.plan_for.stored) ground plan planned refl sound.standing recorded) sound.safe;
-        quiet = from.quiet;
-        empty = (out.leaves h).removed.inside;
-        has = subst (HasRecords m.world) (sym out.records) has;
-      }
+  abbrev ground : Ground
+  ground = ground_of g (places_of before)
+
+  abbrev job : Job
+  job = job_of g is.unpacked.plan_for.stored
+
+  abbrev end_records : List Record
+  end_records = end_table ground plan (ended_as unwinding) is.unpacked.carried_out.mid.works is.unpacked.carried_out.mid.lists is.unpacked.carried_out.mid.database.records
+
+  -- the names of before, and the package's own where it had a record or its rows went on to its new preinst
+  abbrev names_left : Bool → List (List ℕ)
+  names_left went = cond went (package_name ground plan ∷ record_names before.records.records) (record_names before.records.records)
+
+  table : IsUnitTable ground plan end_records
+  table = ended_table job ground plan is.unpacked.plan_for.planned refl refl sound.standing is.have_rows.apart.recorded is.have_rows.apart.unnamed texts s.world before.records refl sound.order (sound_lists before s.world sound)
+      (ended_as unwinding) is.unpacked.carried_out.mid is.unpacked.carried_out.ran.begun is.unpacked.carried_out.last is.unpacked.carried_out.ran.rows_end
+
+  at_last : IsTrue is.unpacked.carried_out.last.honest
+  at_last = is.unpacked.carried_out.since.honest h
+
+  has_end : HasRecords m.world end_records
+  has_end = left_records job ground plan is.unpacked.plan_for.planned refl refl sound.standing is.have_rows.apart.recorded is.have_rows.apart.unnamed texts s.world before.records refl sound.order (sound_lists before s.world sound)
+      (ended_as unwinding) is.unpacked.carried_out.mid is.unpacked.carried_out.ran.begun is.unpacked.carried_out.last m.world is.unpacked.carried_out.ran.rows_end at_last (is.unpacked.carried_out.leaves h)
+
+  standing_end : AreStanding end_records
+  standing_end = amid_standing job ground plan is.unpacked.plan_for.planned refl sound.standing is.have_rows.apart.recorded end_records table
+
+  held_from : (went : Bool)
+      → From job ground plan is.unpacked.plan_for.planned refl refl sound.standing is.have_rows.apart.recorded is.have_rows.apart.unnamed texts s.world before.records refl sound.order (sound_lists before s.world sound) went end_records m.world
+      → IsHeld (names_left went) before.entries records.records m.world
+  held_from true from = record {
+    all = subst (AreOf _) (sym is.unpacked.carried_out.records)
+        (of_from _ _ standing_end (amid_names job ground plan is.unpacked.plan_for.planned refl sound.standing is.have_rows.apart.recorded end_records table));
+    base = from.cleared;
+    safe = from.clears.1 (record_names before.records.records) before.entries (found_among job ground plan is.unpacked.plan_for.planned refl sound.standing is.have_rows.apart.recorded) sound.safe;
+    quiet = from.quiet;
+    empty = (is.unpacked.carried_out.leaves h).removed.inside;
+    has = subst (HasRecords m.world) (sym is.unpacked.carried_out.records) has_end;
+  }
+  held_from false quiet = record {
+    all = subst (AreOf _) (sym is.unpacked.carried_out.records) (of_from _ _ standing_end quiet.1);
+    base = s.world;
+    safe = sound.safe;
+    quiet = quiet.0;
+    empty = (is.unpacked.carried_out.leaves h).removed.inside;
+    has = subst (HasRecords m.world) (sym is.unpacked.carried_out.records) has_end;
+  }
+
+  pub unpacked_held : IsHeld (names_left (went_on plan (ended_as unwinding))) before.entries records.records m.world
+  unpacked_held = held_from (went_on plan (ended_as unwinding))
+      (carried_from job ground plan is.unpacked.plan_for.planned refl refl sound.standing is.have_rows.apart.recorded is.have_rows.apart.unnamed texts s.world before.records refl sound.order (sound_lists before s.world sound)
+      (ended_as unwinding) is.unpacked.carried_out.mid is.unpacked.carried_out.ran.begun is.unpacked.carried_out.last m.world (is.unpacked.carried_out.ran.begins_so at_last) is.unpacked.carried_out.ran.rows_end at_last (is.unpacked.carried_out.leaves h))
 
 -- and behind it
+
+abbrev held_names : (p : Package) (beside : Beside) (before : Held) (unwinding : Option Unwinding) (records : Recorded) (lists : List PackageList) (s m : State) (told now : List Called)
+    → HasUnpackedBeside p beside before (places_of before) unwinding records lists s m told now → List (List ℕ)
+held_names p beside before unwinding records lists s m told now is =
+    cond (went_on is.unpacked.plan (ended_as unwinding))
+    (package_name (ground_of (given_by p before is.others (yielding beside)) (places_of before)) is.unpacked.plan ∷ record_names before.records.records) (record_names before.records.records)
 
 displaced_held : (names : List (List ℕ)) (unwinding : Option Unwinding) (p : Package) (beside : Beside) (before : Held) (displaced : List (List ℕ)) (failed : Option Call) (mid after : Held) (m t : State) (told now : List Called) → mid.entries ≡ before.entries
     → (IsTrue m.honest → IsHeld names before.entries mid.records.records m.world) → HasDisplaced unwinding p.name p.version (losing_beside before.lists beside) beside.conflicting displaced failed mid after m t told now
@@ -98,7 +137,7 @@ displaced_held names None p beside before displaced failed mid after m t told no
 unpacked_goes : (p : Package) (beside : Beside) (before after : Held) (u : AUnit) (s t : State) → ShipsText p → (IsTrue t.honest → IsTrue s.honest) → IsUnpacked p beside before after u s t → Goes before after s t
 unpacked_goes p beside before after u s t texts falls is =
     let whole = is.unpacked in
-    let names = package_name (ground_of (given_by p before whole.unpacked.others (yielding beside)) (places_of before)) whole.unpacked.unpacked.plan ∷ record_names before.records.records in
+    let names = held_names p beside before is.unwinding whole.records whole.lists s whole.m [] whole.between whole.unpacked in
     record {
       falls = falls;
       sound = λ h sound.
@@ -128,7 +167,7 @@ module _ (p : Package) (texts : ShipsText p) (beside : Beside) (before : Held) (
   beside_opens so_far now (inr (others, rows, inl looks)) = still_opens before old now sound looks.0
   beside_opens so_far now (inr (others, rows, inr amid)) =
       let g = given_by p before others (yielding beside) in
-      under_way_opens (job_of g amid.plan_for.stored) (ground_of g (places_of before)) amid.plan amid.plan_for.planned refl refl sound.standing rows.apart.recorded texts old before.records refl sound.order (sound_lists before old sound)
+      under_way_opens (job_of g amid.plan_for.stored) (ground_of g (places_of before)) amid.plan amid.plan_for.planned refl refl sound.standing rows.apart.recorded rows.apart.unnamed texts old before.records refl sound.order (sound_lists before old sound)
       before.entries so_far now sound.safe amid.under_way
 
   behind_opens : (so_far : List Event) (now : World) → IsAmidBehind p beside before old so_far now → CanBeOpened now

@@ -1,15 +1,16 @@
 -- At each moment of an unpack the next opening can read all parts of the administration.
-use Rattle.std.proofs.Common.{◌≡◌, ◌⊎◌, inl, inr, ℕ, zero, suc, IsTrue, Bool, true, false, List, [], ◌∷◌, ◌++◌, Some, Contains, cond, refl, sym, ap, subst, ◌∙◌, arith}
+use Rattle.std.proofs.Common.{◌≡◌, ◌⊎◌, ◌||◌, inl, inr, ℕ, zero, suc, IsTrue, Bool, true, false, List, [], ◌∷◌, ◌++◌, Option, Some, None, Contains, cond, is_some, length, nat_le, refl, sym, ap, subst, ◌∙◌, arith}
 use Rattle.std.specs.List.{AllByRecursion}
 use Rattle.std.specs.Str.{IsUtf8, bytes_eq}
+use Rattle.std.proofs.lemmas.Bool.{true≢false}
 use Rattle.std.proofs.lemmas.List.{append-nil, map-append}
 use Rattle.std.proofs.lemmas.List.Elements.{Contains-append_cases, Contains-append_left}
 use Rattle.texts.specs.PackageNames.{is_package_name}
 use Rattle.host_core.specs.Events.{Event, changes_of}
 use Rattle.host_core.specs.Host.{State}
 use Rattle.host_core.specs.Paths.{Path}
-use Rattle.host_core.specs.World.{World}
-use Rattle.cleanup_stack.specs.Place.{Place, Forward}
+use Rattle.host_core.specs.World.{Change, World}
+use Rattle.cleanup_stack.specs.Place.{Place, Back, Forward}
 use Rattle.cleanup_stack.specs.Transcripts.{Ended, Committed, Unwound}
 use Rattle.control_members.specs.LaidOut.{IsIncoming}
 use Rattle.diversions.specs.declared.entry.Diversion.{Diversion}
@@ -24,30 +25,38 @@ use Rattle.package_tree.specs.declared.package.Package.{Package}
 use Rattle.status_db.proofs.Ordered.{put_standing, standing_same}
 use Rattle.status_db.specs.Held.{CanOpenRecords, HasRecords, IsKept}
 use Rattle.status_db.specs.Recorded.{Recorded}
-use Rattle.status_db.specs.Records.{AreStanding, put_record, record_in}
+use Rattle.status_db.specs.Records.{AreStanding, IsWithout, put_record, record_in}
 use Rattle.status_db.specs.Words.{is_not_installed}
 use Rattle.status_db.specs.declared.record.Record.{Record}
 use Rattle.unpack_commit.proofs.Those.{losing_stand}
 use Rattle.unpack_commit.specs.Takeover.{losing_records, put_records, taken_places}
-use Rattle.unpack_engine.proofs.Cleared.{beginning_kept, has_may, may_loose}
-use Rattle.unpack_engine.proofs.EndNames.{losing_named, puts_named}
+use Rattle.unpack_engine.proofs.Begun.{cleared_if}
+use Rattle.unpack_engine.proofs.Cleared.{begun_at, begun_loose, laid_loose, works_on}
+use Rattle.unpack_engine.proofs.EndNames.{has_record, losing_named, puts_named}
 use Rattle.unpack_engine.proofs.EndRecords.{IsKnown, all_known, found_known, has_name, known_name, known_standing, recorded_known, rows_known}
 use Rattle.unpack_engine.proofs.Leaving.{noted_first}
 use Rattle.unpack_engine.proofs.Losing.{loser_named}
-use Rattle.unpack_engine.proofs.Order.{own_list, own_members}
+use Rattle.unpack_engine.proofs.Order.{info_there}
 use Rattle.unpack_engine.specs.Order.{IsInOrder, record_names}
 use Rattle.unpack_engine.proofs.Dropping.{dropped_kept, laying_records}
-use Rattle.unpack_engine.specs.Units.{Begins, Ground, HasLeft, IsRunning, IsStage, IsUnderWay, changes, commit_records, end_table, last_place, lists_after, noted_so_far, package_name, stage_records, table_after, task_from, unit_losers}
+use Rattle.unpack_engine.specs.Units.{Begins, BeginsAt, Ground, HasLeft, IsRunning, IsStage, IsUnderWay, MayLeave, changes, commit_records, end_table, last_place, lists_after, noted_so_far, package_name, stage_records, table_after, task_from, unit_losers}
 use Rattle.unpack_plan.specs.Planned.{IsPlanned, Job, Planned, name_of}
 use Rattle.unpack_rows.specs.EndStates.{AreRecorded}
 use Rattle.unpack_rows.specs.ForwardRows.{records_of}
 use Rattle.unpack_rows.specs.Kinds.{kinds_of}
+use Rattle.unpack_rows.specs.Notes.{noted, notes_at}
+use Rattle.unpack_rows.proofs.Matching.{as_many}
+use Rattle.unpack_plan.specs.Members.{scripts_in}
+use Rattle.unwind_stack.specs.declared.rows.Row.{Row}
 use Rattle.unpack_rows.specs.Stages.{Stage, Unwritten, Wrote, Restored, stage_of}
-use Rattle.unpack_run.specs.At.{At, Holding}
-use Rattle.unpack_run.specs.Task.{lists_at}
-use Rattle.reopening.proofs.Beginning.{beginning_quiet, cleared_safe, leaving_quiet, left_quiet}
+use Rattle.unpack_run.specs.At.{AreWorksAt, At, Holding}
+use Rattle.unpack_run.specs.Clearing.{MayClear, is_gone, next_ready}
+use Rattle.unpack_run.specs.Task.{lists_at, state_on}
+use Rattle.unpack_run.specs.Trail.{HasCome}
+use Rattle.reopening.proofs.Beginning.{cleared_safe, going_quiet, leaving_quiet, left_quiet, recorded_safe}
+use Rattle.reopening.proofs.Unreached.{rows_behind, unreached}
 use Rattle.reopening.proofs.Entries.{IsSafe, safe_fewer, safe_quiet}
-use Rattle.reopening.proofs.Inside.{IsQuiet, quiet_laid, quiet_then}
+use Rattle.reopening.proofs.Inside.{IsQuiet, quiet_laid, quiet_still, quiet_then}
 use Rattle.reopening.proofs.Rows.{amid_quiet, come_quiet}
 use Rattle.reopening.proofs.Steps.{AreGood}
 use Rattle.reopening.proofs.Texts.{entries_text, good_paths, new_list_text}
@@ -199,9 +208,14 @@ with_good own paths lists one all n = subst AreGood (sym (paths_with lists own n
     by true = one
     by false = all n
 
+-- the package had a record, or its rows went on to its new preinst
+abbrev pub went_on : Planned → Ended → Bool
+went_on p Committed = true
+went_on p (Unwound fall failed) = is_some p.found || is_gone p.found (length p.others) (Back 0 fall failed)
+
 -- all of a unit
 module _ (j : Job) (g : Ground) (p : Planned) (planned : IsPlanned j p) (same : g.records ≡ j.records) (lists_same : g.lists ≡ j.lists) (standing : AreStanding g.records) (recorded : AreRecorded g.records (records_of j.others))
-    (texts : ShipsText j.«package») (old : World) (d : Recorded) (records_are : d.records ≡ g.records) (order : IsInOrder d g.lists old) (good : (name : List ℕ) → AreGood (paths_of g.lists name)) where
+    (unnamed : IsWithout (name_of j) (records_of j.others)) (texts : ShipsText j.«package») (old : World) (d : Recorded) (records_are : d.records ≡ g.records) (order : IsInOrder d g.lists old) (good : (name : List ℕ) → AreGood (paths_of g.lists name)) where
   abbrev unit_name : List ℕ
   unit_name = package_name g p
 
@@ -211,20 +225,56 @@ module _ (j : Job) (g : Ground) (p : Planned) (planned : IsPlanned j p) (same : 
   job_good : (name : List ℕ) → AreGood (paths_of j.lists name)
   job_good name = subst (λ (l : List PackageList). AreGood (paths_of l name)) lists_same (good name)
 
+  others_free : IsWithout unit_name p.others
+  others_free = subst (λ os. IsWithout unit_name os) (sym planned.rows_are.others_are) (subst (λ n. IsWithout n (records_of j.others)) (sym planned.records_are.own) unnamed)
+
   -- from the world in which nothing is left of a package without a record
   pub record IsFrom (now : World) : Type 0 where
     pub cleared : World
     pub clears : AreLoose cleared × ((names : List (List ℕ)) (entries : List Diversion) → ((r : Record) → p.found ≡ Some r → Contains names unit_name) → IsSafe names entries old → IsSafe (unit_name ∷ names) entries cleared)
     pub quiet : IsQuiet cleared now
 
-  from_begun : (begun : World) → Begins g p old begun → IsFrom begun
-  from_begun begun begins =
-      let loose = may_loose p.found unit_name named old begins.cleared (has_may p.found unit_name named old begins.cleared begins.clears) (own_list d g.lists old order unit_name named) (own_members d g.lists old order unit_name named) order.loose in
-      record {
-        cleared = begins.cleared;
-        clears = (loose, λ names entries known safe. cleared_safe names entries p.found unit_name old begins.cleared named begins.clears known loose safe);
-        quiet = quiet_laid begins.cleared begun begins.lays;
-      }
+  -- at a place of its rows
+  module _ (place : Place) (base : World) (begins : BeginsAt g p place old base) where
+    laid_loosely : AreLoose begins.begun
+    laid_loosely = laid_loose old begins.begun begins.begins.lays order.loose
+
+    laid_safe : (names : List (List ℕ)) (entries : List Diversion) → IsSafe names entries old → IsSafe names entries begins.begun
+    laid_safe names entries safe = safe_quiet names entries old begins.begun (quiet_laid old begins.begun begins.begins.lays) safe laid_loosely
+
+    base_loose : AreLoose base
+    base_loose = begun_loose g p place old base begins named (info_there d g.lists old order) order.loose
+
+    base_safe : (found : Option Record) → p.found ≡ found → (found ≡ None → is_gone found (length p.others) place ≡ true)
+        → MayClear (is_gone found (length p.others) place) (is_gone found (length p.others) (next_ready place)) unit_name begins.begun base
+        → (names : List (List ℕ)) (entries : List Diversion) → ((r : Record) → p.found ≡ Some r → Contains names unit_name) → IsSafe names entries old → IsSafe (unit_name ∷ names) entries base
+    base_safe None is gone may names entries known safe =
+        cleared_safe names entries unit_name begins.begun base named (cleared_if _ _ unit_name begins.begun base (gone refl) may) base_loose (laid_safe names entries safe)
+    base_safe (Some r) is gone kept names entries known safe =
+        recorded_safe names entries unit_name base (known r is) (subst (IsSafe names entries) (sym kept) (laid_safe names entries safe))
+
+    -- where nothing is left under the name of a package without a record
+    from_base : (p.found ≡ None → is_gone p.found (length p.others) place ≡ true) → IsFrom base
+    from_base gone = record { cleared = base; clears = (base_loose, base_safe p.found refl gone begins.clears); quiet = quiet_still base base refl }
+
+    base_quiet : IsQuiet old base
+    base_quiet = quiet_then old begins.begun base (quiet_laid old begins.begun begins.begins.lays)
+        (going_quiet unit_name named begins.begun base (is_gone p.found (length p.others) place) (is_gone p.found (length p.others) (next_ready place)) begins.clears)
+
+  -- until then its name isn't among those of the records
+  unnamed_yet : (place : Place) → p.found ≡ None → is_gone None (length p.others) place ≡ false → (q : List ℕ) → Contains (record_names (table_after g p place)) q → Contains (record_names g.records) q
+  unnamed_yet place none short q has = elim (known_name (record_names g.records) unit_name (table_after g p place) (rows_all j g p planned same standing recorded place) q has) [
+    | inl before ↦ before
+    | inr own ↦ absurd (true≢false (sym (has_record (table_after g p place) unit_name (subst (Contains (record_names (table_after g p place))) own has))
+        ∙ ap (λ f. is_some (record_in (noted g.records (notes_at f p.incoming (kinds_of f p.others) place)) unit_name)) none
+        ∙ ap is_some (unreached p.incoming unit_name p.others g.records others_free place short
+        ∙ (ap (λ (rs : List Record). record_in rs unit_name) same ∙ ap (record_in j.records) planned.records_are.own ∙ sym planned.records_are.found_is ∙ none))))
+  ]
+
+  -- where the rows went on to the new preinst of a package without a record, and where they didn't
+  abbrev pub From : Bool → List Record → World → Type 0
+  From true table now = IsFrom now
+  From false table now = IsQuiet old now × ((q : List ℕ) → Contains (record_names table) q → Contains (record_names g.records) q)
 
   from_then : (v w : World) → IsFrom v → IsQuiet v w → IsFrom w
   from_then v w from next = record { cleared = from.cleared; clears = from.clears; quiet = quiet_then from.cleared v w from.quiet next }
@@ -241,24 +291,48 @@ module _ (j : Job) (g : Ground) (p : Planned) (planned : IsPlanned j p) (same : 
   lists_good begun Restored name =
       with_good unit_name p.listed (with_list unit_name p.union g.lists) (listed_good j p planned texts job_good) (with_good unit_name p.union g.lists (union_good j p planned texts job_good) good) name
 
-  -- how far it is
-  stage_from : (so_far : List Event) (now : World) → IsStage g p old so_far now → IsFrom now ⊎ (IsQuiet old now × IsKept d now)
-  stage_from so_far now (IsStage.running (IsRunning.beginning none may)) = inr (
-    beginning_quiet p.found unit_name named old now may,
-    beginning_kept p.found unit_name named old (own_list d g.lists old order unit_name named) (own_members d g.lists old order unit_name named) order.loose now may d order.kept,
-  )
-  stage_from so_far now (IsStage.running (IsRunning.running begun before more is none begins stops)) =
-      inl (from_then begun.world now (from_begun begun.world begins)
-      (amid_quiet (task_from g p begun) named planned.works_are.named (union_good j p planned texts job_good) (listed_good j p planned texts job_good) _ _ now stops.files))
-  stage_from so_far now (IsStage.leaving ended works begun last begins are come may) =
+  -- by whether the rows went on to the new preinst
+  by_gone : (place : Place) (found : Option Record) → p.found ≡ found → (gone : Bool) → is_gone found (length p.others) place ≡ gone → (base : World) → BeginsAt g p place old base → (now : World) → IsQuiet base now
+      → From (is_some found || gone) (table_after g p place) now
+  by_gone place (Some r) is gone e base begins now next = from_then base now (from_base place base begins (λ none. absurd (let same : Some r ≡ None = sym is ∙ none in cc))) next
+  by_gone place None is true e base begins now next = from_then base now (from_base place base begins (λ none. ap (λ f. is_gone f (length p.others) place) is ∙ e)) next
+  by_gone place None is false e base begins now next = (quiet_then old base now (base_quiet place base begins) next, unnamed_yet place is e)
+
+  many : length p.rows ≡ length (kinds_of p.found p.others)
+  many = ap (λ (l : List Row). length l) planned.rows_are.rows_are ∙ as_many p.found p.incoming j.stored (scripts_in j.«package».scripts) j.others ∙ ap (λ os. length (kinds_of p.found os)) (sym planned.rows_are.others_are)
+
+  committed_gone : p.found ≡ None → is_gone p.found (length p.others) (last_place g p Committed) ≡ true
+  committed_gone none = rows_behind p.found none p.others (length p.rows) many
+
+  leaves_quietly : (ended : Ended) (begun : State) (works : List Work) (last now : World) → AreWorksAt (task_from g p begun) (last_place g p ended) (stage_of (kinds_of p.found p.others) (last_place g p ended)) works → (change : Change)
+      → HasCome (task_from g p begun) (stage_of (kinds_of p.found p.others) (last_place g p ended)) works change last
+      → MayLeave (changes g p works (lists_after g p ended begun)) (commit_records g p works (lists_after g p ended begun) (table_after g p (last_place g p ended))) g.entries (lists_after g p ended begun) (table_after g p (last_place g p ended)) (length p.others) ended last now
+      → IsQuiet begun.world now
+  leaves_quietly ended begun works last now are change come may =
       let stage = stage_of (kinds_of p.found p.others) (last_place g p ended) in
       let lists = lists_after g p ended begun in
-      inl (from_then last now (from_then begun.world last (from_begun begun.world begins)
-      (come_quiet (task_from g p begun) named planned.works_are.named (union_good j p planned texts job_good) (listed_good j p planned texts job_good) (last_place g p ended) stage works are (changes_of so_far) last come))
+      quiet_then begun.world last now
+      (come_quiet (task_from g p begun) named planned.works_are.named (union_good j p planned texts job_good) (listed_good j p planned texts job_good) (last_place g p ended) stage works are change last come)
       (leaving_quiet (changes g p works lists) g.entries lists named planned.lists_are.spares planned.names_are.elsewhere (new_good j p planned texts job_good)
       (λ q has. loser_named g.entries (taken_places works) lists unit_name g.yields q has)
       (λ q has. with_good unit_name p.new_list lists (new_good j p planned texts job_good) (lists_good begun stage) q)
-      (commit_records g p works lists (table_after g p (last_place g p ended))) (table_after g p (last_place g p ended)) ended last now may))
+      (commit_records g p works lists (table_after g p (last_place g p ended))) (table_after g p (last_place g p ended)) (length p.others) ended last now may)
+
+  -- how far it is
+  stage_from : (so_far : List Event) (now : World) (stage : IsStage g p old so_far now) → (went : Bool) × From went (stage_records g p old so_far now stage) now
+  stage_from so_far now (IsStage.running (IsRunning.beginning none may)) = (false, (quiet_laid old now may.rest, λ q has. has))
+  stage_from so_far now (IsStage.running (IsRunning.running begun before more is none begins stops)) = (
+    _,
+    by_gone stops.place p.found refl (is_gone p.found (length p.others) stops.place) refl stops.base (record { begun = begun.world; begins = begins; clears = stops.cleared }) now
+        (amid_quiet (task_from g p (state_on begun stops.base)) named planned.works_are.named (union_good j p planned texts job_good) (listed_good j p planned texts job_good) _ _ now stops.files),
+  )
+  stage_from so_far now (IsStage.leaving Committed works begun last begins are come may) =
+      (true, from_then begun.world now (from_base (last_place g p Committed) begun.world begins committed_gone) (leaves_quietly Committed begun works last now are (changes_of so_far) come may))
+  stage_from so_far now (IsStage.leaving (Unwound fall failed) works begun last begins are come may) = (
+    _,
+    by_gone (last_place g p (Unwound fall failed)) p.found refl (is_gone p.found (length p.others) (last_place g p (Unwound fall failed))) refl begun.world begins now
+        (leaves_quietly (Unwound fall failed) begun works last now are (changes_of so_far) come may),
+  )
 
   -- the records at a stage
   stage_table : (so_far : List Event) (now : World) (stage : IsStage g p old so_far now) → IsUnitTable g p (stage_records g p old so_far now stage)
@@ -267,21 +341,37 @@ module _ (j : Job) (g : Ground) (p : Planned) (planned : IsPlanned j p) (same : 
   stage_table so_far now (IsStage.leaving Committed works begun last begins are come may) =
       let lists = lists_after g p Committed begun in
       let rows = table_after g p (last_place g p Committed) in
-      let first = noted_first (changes g p works lists) (commit_records g p works lists rows) g.entries lists rows last now Committed may in
-      IsUnitTable.in_commit works lists (noted_so_far (changes g p works lists) (commit_records g p works lists rows) g.entries lists rows Committed last now may) first.0 first.1 refl
+      let first = noted_first (changes g p works lists) (commit_records g p works lists rows) g.entries lists rows (length p.others) last now Committed may in
+      IsUnitTable.in_commit works lists (noted_so_far (changes g p works lists) (commit_records g p works lists rows) g.entries lists rows (length p.others) Committed last now may) first.0 first.1 refl
   stage_table so_far now (IsStage.leaving (Unwound fall failed) works begun last begins are come may) = IsUnitTable.in_rows (last_place g p (Unwound fall failed)) refl
 
   -- where it ends
   pub carried_from : (ended : Ended) (mid : Holding) (begun last : State) (new : World) → Begins g p old begun.world → At (task_from g p begun) mid last (last_place g p ended) → IsTrue last.honest
-      → HasLeft (changes g p mid.works mid.lists) (commit_records g p mid.works mid.lists mid.database.records) g.entries mid.lists mid.database.records ended last.world new → IsFrom new
-  carried_from ended mid begun last new begins at h left =
-      let stage = stage_of (kinds_of p.found p.others) (last_place g p ended) in
-      from_then last.world new (from_then begun.world last.world (from_begun begun.world begins)
-      (come_quiet (task_from g p begun) named planned.works_are.named (union_good j p planned texts job_good) (listed_good j p planned texts job_good) (last_place g p ended) stage mid.works at.works (changes_of at.since) last.world (at.world h).came))
-      (left_quiet (changes g p mid.works mid.lists) g.entries mid.lists named planned.lists_are.spares planned.names_are.elsewhere (new_good j p planned texts job_good)
-      (λ q has. loser_named g.entries (taken_places mid.works) mid.lists unit_name g.yields q has)
-      (λ q has. with_good unit_name p.new_list mid.lists (new_good j p planned texts job_good) (λ n. subst (λ (l : List PackageList). AreGood (paths_of l n)) (sym at.lists) (lists_good begun stage n)) q)
-      (commit_records g p mid.works mid.lists mid.database.records) mid.database.records ended last.world new left)
+      → HasLeft (changes g p mid.works mid.lists) (commit_records g p mid.works mid.lists mid.database.records) g.entries mid.lists mid.database.records (length p.others) ended last.world new
+      → From (went_on p ended) (end_table g p ended mid.works mid.lists mid.database.records) new
+  carried_from ended mid begun last new begins at h left = by ended at left
+    where
+      ends_quietly : (e : Ended) (there : At (task_from g p begun) mid last (last_place g p e))
+          → HasLeft (changes g p mid.works mid.lists) (commit_records g p mid.works mid.lists mid.database.records) g.entries mid.lists mid.database.records (length p.others) e last.world new → IsQuiet there.base new
+      ends_quietly e there gone =
+          let stage = stage_of (kinds_of p.found p.others) (last_place g p e) in
+          quiet_then there.base last.world new
+          (come_quiet (task_from g p (state_on begun there.base)) named planned.works_are.named (union_good j p planned texts job_good) (listed_good j p planned texts job_good) (last_place g p e) stage mid.works
+          (works_on g p (last_place g p e) begun there.base mid.works there.works) (changes_of there.since) last.world (there.world h).came)
+          (left_quiet (changes g p mid.works mid.lists) g.entries mid.lists named planned.lists_are.spares planned.names_are.elsewhere (new_good j p planned texts job_good)
+          (λ q has. loser_named g.entries (taken_places mid.works) mid.lists unit_name g.yields q has)
+          (λ q has. with_good unit_name p.new_list mid.lists (new_good j p planned texts job_good) (λ n. subst (λ (l : List PackageList). AreGood (paths_of l n)) (sym there.lists) (lists_good begun stage n)) q)
+          (commit_records g p mid.works mid.lists mid.database.records) mid.database.records (length p.others) e last.world new gone)
+
+      by : (e : Ended) (there : At (task_from g p begun) mid last (last_place g p e))
+          → HasLeft (changes g p mid.works mid.lists) (commit_records g p mid.works mid.lists mid.database.records) g.entries mid.lists mid.database.records (length p.others) e last.world new
+          → From (went_on p e) (end_table g p e mid.works mid.lists mid.database.records) new
+      by Committed there gone =
+          from_then there.base new (from_base (last_place g p Committed) there.base (begun_at g p (last_place g p Committed) old begun mid last begins there h) committed_gone) (ends_quietly Committed there gone)
+      by (Unwound fall failed) there gone =
+          subst (λ (rs : List Record). From (went_on p (Unwound fall failed)) rs new) (sym there.records)
+          (by_gone (last_place g p (Unwound fall failed)) p.found refl (is_gone p.found (length p.others) (last_place g p (Unwound fall failed))) refl there.base
+          (begun_at g p (last_place g p (Unwound fall failed)) old begun mid last begins there h) new (ends_quietly (Unwound fall failed) there gone))
 
   -- and the records then
   pub ended_table : (ended : Ended) (mid : Holding) (begun last : State) → At (task_from g p begun) mid last (last_place g p ended) → IsUnitTable g p (end_table g p ended mid.works mid.lists mid.database.records)
@@ -290,18 +380,21 @@ module _ (j : Job) (g : Ground) (p : Planned) (planned : IsPlanned j p) (same : 
   ended_table (Unwound fall failed) mid begun last at = IsUnitTable.in_rows (last_place g p (Unwound fall failed)) at.records
 
   pub left_records : (ended : Ended) (mid : Holding) (begun last : State) (new : World) → At (task_from g p begun) mid last (last_place g p ended) → IsTrue last.honest
-      → HasLeft (changes g p mid.works mid.lists) (commit_records g p mid.works mid.lists mid.database.records) g.entries mid.lists mid.database.records ended last.world new → HasRecords new (end_table g p ended mid.works mid.lists mid.database.records)
+      → HasLeft (changes g p mid.works mid.lists) (commit_records g p mid.works mid.lists mid.database.records) g.entries mid.lists mid.database.records (length p.others) ended last.world new → HasRecords new (end_table g p ended mid.works mid.lists mid.database.records)
   left_records Committed mid begun last new at h left = laying_records left.followed new left.removed.rest _ left.has_followed.noted.has
   left_records (Unwound fall failed) mid begun last new at h left =
-      laying_records left.followed new left.removed.rest mid.database.records (dropped_kept (record_in mid.database.records unit_name) unit_name last.world left.followed left.has_followed mid.database (at.world h).kept).holds
+      laying_records left.followed new left.removed.rest mid.database.records (dropped_kept (nat_le (length p.others) fall.row) (record_in mid.database.records unit_name) unit_name last.world left.followed left.has_followed mid.database (at.world h).kept).holds
+
+  opens_from : (entries : List Diversion) (table : List Record) (now : World) → IsUnitTable g p table → HasRecords now table → CanOpenRecords now → IsIncoming now → AreLoose now → IsSafe (record_names g.records) entries old
+      → (went : Bool) → From went table now → CanBeOpened now
+  opens_from entries table now is has opens incoming loose safe true from =
+      opened_by (unit_name ∷ record_names g.records) entries table now has opens (amid_standing j g p planned same standing recorded table is)
+      (amid_names j g p planned same standing recorded table is) (from_safe entries now from loose safe) incoming
+  opens_from entries table now is has opens incoming loose safe false quiet =
+      opened_by (record_names g.records) entries table now has opens (amid_standing j g p planned same standing recorded table is) quiet.1
+      (safe_quiet (record_names g.records) entries old now quiet.0 safe loose) incoming
 
   pub under_way_opens : (entries : List Diversion) (so_far : List Event) (now : World) → IsSafe (record_names g.records) entries old → IsUnderWay g p old so_far now → CanBeOpened now
   under_way_opens entries so_far now safe way =
-      let table = stage_records g p old so_far now way.stage in
-      let is = stage_table so_far now way.stage in
-      elim (stage_from so_far now way.stage) [
-        | inl from ↦ opened_by (unit_name ∷ record_names g.records) entries table now way.records way.opens (amid_standing j g p planned same standing recorded table is)
-            (amid_names j g p planned same standing recorded table is) (from_safe entries now from way.loose safe) way.incoming
-        | inr begins ↦ opened_by (record_names g.records) entries g.records now (subst (HasRecords now) records_are begins.1.holds) way.opens standing (λ q has. has)
-            (safe_quiet (record_names g.records) entries old now begins.0 safe way.loose) way.incoming
-      ]
+      let from = stage_from so_far now way.stage in
+      opens_from entries (stage_records g p old so_far now way.stage) now (stage_table so_far now way.stage) way.records way.opens way.incoming way.loose safe from.0 from.1

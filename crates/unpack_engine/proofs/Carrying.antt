@@ -29,10 +29,10 @@ same_end n (Some u) = refl
 
 module _ (database : Recorded) (lists : Filed) (entries : List Diversion) (places : List Path) (rows : Rows) (works : List Work) (calls : List Row) (rest : Rest) where
   pub carried_out : (ended end : Ended) (mid : Holding) (after : Recorded) (end_of_lists : Filed) (old last new : State) (told now : List Called) → ended ≡ end
-      → HasRunRows (HasBegun rows.found (own_name rows.found rows.incoming) rest.members) (λ s. task_of s database lists entries places works rows) calls ended mid old last told now
+      → HasRunRows (HasBegun rest.members) (λ s. task_of s database lists entries places works rows) calls ended mid old last told now
       → Silent last new
-      → AtEachMoment (MayLeave (changes_from (own_name rows.found rows.incoming) rows.yields entries mid.lists mid.works rest) (records_from (own_name rows.found rows.incoming) rows.yields entries mid.lists mid.works rest mid.database.records) entries mid.lists mid.database.records ended) last new
-      → (IsTrue new.honest → HasLeft (changes_from (own_name rows.found rows.incoming) rows.yields entries mid.lists mid.works rest) (records_from (own_name rows.found rows.incoming) rows.yields entries mid.lists mid.works rest mid.database.records) entries mid.lists mid.database.records ended last.world new.world)
+      → AtEachMoment (MayLeave (changes_from (own_name rows.found rows.incoming) rows.yields entries mid.lists mid.works rest) (records_from (own_name rows.found rows.incoming) rows.yields entries mid.lists mid.works rest mid.database.records) entries mid.lists mid.database.records (length rows.others.items) ended) last new
+      → (IsTrue new.honest → HasLeft (changes_from (own_name rows.found rows.incoming) rows.yields entries mid.lists mid.works rest) (records_from (own_name rows.found rows.incoming) rows.yields entries mid.lists mid.works rest mid.database.records) entries mid.lists mid.database.records (length rows.others.items) ended last.world new.world)
       → after.records ≡ ended_table ended (records_from (own_name rows.found rows.incoming) rows.yields entries mid.lists mid.works rest mid.database.records) mid.database.records
       → end_of_lists.lists ≡ ended_lists ended (changes_from (own_name rows.found rows.incoming) rows.yields entries mid.lists mid.works rest) entries mid.lists
       → HasCarriedOut (ground database.records lists.lists entries places rows.yields) (planned_from rows works calls rest) end after end_of_lists.lists old new told now

@@ -1,40 +1,35 @@
--- What the beginning of a unit leaves: the records, and no directory in `info`.
-use Rattle.std.proofs.Common.{◌≡◌, ◌≢◌, ◌⊎◌, inl, inr, ℕ, Bool, true, false, List, ◌∷◌, ◌++◌, Option, Some, None, refl, sym, ap, subst, ◌∙◌, arith}
+-- What the beginning of a unit leaves, and what is left under the package's name then: the records, and no directory in `info`.
+use Rattle.std.proofs.Common.{◌≡◌, ◌≢◌, ◌⊎◌, inl, inr, IsTrue, ℕ, Bool, true, false, List, ◌∷◌, ◌++◌, Option, None, length, refl, sym, ap, subst, ◌∙◌, arith}
 use Rattle.texts.specs.PackageNames.{is_package_name}
 use Rattle.host_core.specs.Paths.{Path}
 use Rattle.host_core.specs.World.{World, IsDirectory, KeepsBut}
-use Rattle.host_core.specs.declared.node.Node.{Node}
+use Rattle.host_core.specs.Host.{State}
 use Rattle.administration.specs.Files.{NoDirectory}
-use Rattle.administration.specs.Places.{home_path, info_path, list_path, tmp_path, updates_path, is_within}
+use Rattle.administration.specs.Places.{info_path, list_path, tmp_path, is_within}
 use Rattle.administration.proofs.WholeFiles.{no_directory_at, no_directory_none}
-use Rattle.control_members.specs.LaidOut.{AreLaidOut, IsIncoming, IsLaying}
+use Rattle.cleanup_stack.specs.Place.{Place, Forward, Ready, Back}
+use Rattle.control_members.specs.LaidOut.{AreLaidOut}
 use Rattle.control_members.specs.Names.{is_member_name}
 use Rattle.control_members.specs.Stored.{IsMembersReady, stored_member_path}
-use Rattle.control_members.proofs.LaidOut.{incoming_elsewhere}
-use Rattle.control_members.proofs.Apart.{info_other}
-use Rattle.unpack_commit.proofs.Ready.{info_is_no_list}
-use Rattle.control_members.specs.declared.member.Member.{Member}
+use Rattle.control_members.proofs.LaidOut.{laid_elsewhere}
 use Rattle.file_lists.specs.Info.{AreLoose}
 use Rattle.file_lists.specs.Writing.{IsListReady}
-use Rattle.status_db.specs.Held.{IsKept, is_record_place}
-use Rattle.status_db.specs.Recorded.{Recorded}
-use Rattle.status_db.specs.declared.record.Record.{Record}
-use Rattle.status_db.proofs.NotedWorlds.{place_differs}
-use Rattle.unpack_engine.specs.Units.{HasBegun, HasCleared, IsBesideOwn, IsCleared, IsClearing, MayBegin, MayClear}
-use Rattle.unpack_engine.proofs.Begun.{byte, own_beside, tmp_byte}
-use Rattle.unpack_engine.proofs.Dropping.{laying_kept}
-use Rattle.unpack_engine.proofs.Ready.{kept_same}
-
-record_beside : (name q : Path) → is_record_place q ≡ true → IsBesideOwn name q
-record_beside name q is = record {
-  list = λ e. place_differs q (list_path name) is refl (sym e);
-  members = λ member m e. place_differs q (stored_member_path name member) is refl (sym e);
-}
+use Rattle.file_works.specs.declared.work.Work.{Work}
+use Rattle.unpack_plan.specs.Planned.{Planned}
+use Rattle.unpack_rows.specs.Kinds.{kinds_of}
+use Rattle.unpack_rows.specs.Stages.{Stage, Unwritten, Wrote, Restored, stage_of}
+use Rattle.unpack_run.specs.At.{AreFound, AreWorksAt, At, Holding}
+use Rattle.unpack_run.specs.Clearing.{IsBesideOwn, IsCleared, IsClearing, MayClear, is_gone, next_ready}
+use Rattle.unpack_run.specs.Stays.{clear_here}
+use Rattle.unpack_run.specs.Task.{state_on}
+use Rattle.unpack_engine.specs.Units.{Begins, BeginsAt, Ground, package_name, task_from}
+use Rattle.unpack_engine.proofs.Begun.{byte, may_same, own_beside, tmp_byte}
+use Rattle.unpack_engine.proofs.Ready.{list_ready, members_ready}
 
 pub gone_at : (w : World) (p q : Path) → w p ≡ None → IsDirectory (w q) → q ≡ p → ⊥
 gone_at w p q none is e = no_directory_at (w p) None none no_directory_none (subst (λ x. IsDirectory (w x)) e is)
 
-loose_at : (v w : World) (p q : Path) → (w p ≡ v p) ⊎ (w p ≡ None) → NoDirectory (v p) → IsDirectory (w q) → q ≡ p → ⊥
+pub loose_at : (v w : World) (p q : Path) → (w p ≡ v p) ⊎ (w p ≡ None) → NoDirectory (v p) → IsDirectory (w q) → q ≡ p → ⊥
 loose_at v w p q (inl same) loose is e = loose (subst IsDirectory same (subst (λ x. IsDirectory (w x)) e is))
 loose_at v w p q (inr none) loose is e = gone_at w p q none is e
 
@@ -53,68 +48,58 @@ module _ (name : Path) (named : is_package_name name ≡ true) (v w : World) whe
       let q = info_path ++ 47 ∷ entry in
       loose entry plain (subst IsDirectory (clearing.rest q (clearing_beside clearing loose q list.target members.own is)) is)
 
-  pub clearing_kept : IsClearing name v w → (d : Recorded) → IsKept d v → IsKept d w
-  clearing_kept clearing d kept = kept_same d v w (λ q is. clearing.rest q (record_beside name q is))
-      (clearing.rest home_path (own_beside name home_path (λ e. absurd (omega (arith, e))))) (clearing.rest updates_path (own_beside name updates_path (λ e. absurd (omega (arith, e))))) kept
+may_loose : (gone goes : Bool) (name : Path) → is_package_name name ≡ true → (v w : World) → MayClear gone goes name v w → IsListReady name v → IsMembersReady name v → AreLoose v → AreLoose w
+may_loose true goes name named v w cleared list members loose = clearing_loose name named v w (cleared_clearing name named v w cleared) list members loose
+may_loose false true name named v w clearing list members loose = clearing_loose name named v w clearing list members loose
+may_loose false false name named v w same list members loose = subst AreLoose (sym same) loose
 
-  pub clearing_tmp : IsClearing name v w → (q : Path) → is_within tmp_path q ≡ true → w q ≡ v q
-  clearing_tmp clearing q within = clearing.rest q (own_beside name q (λ e. absurd (omega (arith, e, tmp_byte q within))))
-
-module _ (found : Option Record) (name : Path) (named : is_package_name name ≡ true) (v w : World) where
-  pub may_loose : MayClear found name v w → IsListReady name v → IsMembersReady name v → AreLoose v → AreLoose w
-  may_loose may list members loose = by found may
-    where
-      by : (f : Option Record) → MayClear f name v w → AreLoose w
-      by None clearing = clearing_loose name named v w clearing list members loose
-      by (Some r) same = subst AreLoose (sym same) loose
-
-  pub may_kept : MayClear found name v w → (d : Recorded) → IsKept d v → IsKept d w
-  may_kept may d kept = by found may
-    where
-      by : (f : Option Record) → MayClear f name v w → IsKept d w
-      by None clearing = clearing_kept name named v w clearing d kept
-      by (Some r) same = subst (IsKept d) (sym same) kept
-
-  pub may_tmp : MayClear found name v w → (q : Path) → is_within tmp_path q ≡ true → w q ≡ v q
-  may_tmp may q within = by found may
-    where
-      by : (f : Option Record) → MayClear f name v w → w q ≡ v q
-      by None clearing = clearing_tmp name named v w clearing q within
-      by (Some r) same = ap (λ (x : World). x q) same
-
-  pub has_may : HasCleared found name v w → MayClear found name v w
-  has_may has = by found has
-    where
-      by : (f : Option Record) → HasCleared f name v w → MayClear f name v w
-      by None cleared = cleared_clearing name named v w cleared
-      by (Some r) same = same
-
--- and then the control files are laid out
+-- the control files are laid out
 pub laid_loose : (v w : World) → KeepsBut (is_within tmp_path) v w → AreLoose v → AreLoose w
 laid_loose v w keeps loose entry plain = no_directory_at (w (info_path ++ 47 ∷ entry)) (v (info_path ++ 47 ∷ entry)) (keeps (info_path ++ 47 ∷ entry) refl) (loose entry plain)
 
-module _ (found : Option Record) (name : Path) (named : is_package_name name ≡ true) (v : World) (list : IsListReady name v) (members : IsMembersReady name v) (loose : AreLoose v) where
-  pub begun_loose : (ms : List Member) (w : World) → HasBegun found name ms v w → AreLoose w
-  begun_loose ms w begun = laid_loose begun.cleared w begun.lays (may_loose found name named v begun.cleared (has_may found name named v begun.cleared begun.clears) list members loose)
+pub laid_info : (v w : World) → KeepsBut (is_within tmp_path) v w → IsDirectory (v info_path) → IsDirectory (w info_path)
+laid_info v w keeps info = subst IsDirectory (sym (keeps info_path refl)) info
 
-  pub begun_kept : (ms : List Member) (w : World) → HasBegun found name ms v w → (d : Recorded) → IsKept d v → IsKept d w
-  begun_kept ms w begun d kept = laying_kept begun.cleared w begun.lays d (may_kept found name named v begun.cleared (has_may found name named v begun.cleared begun.clears) d kept)
+-- and then what is left under the name goes
 
-  pub beginning_loose : (now : World) → MayBegin found name v now → AreLoose now
-  beginning_loose now (MayBegin.clearing may) = may_loose found name named v now may list members loose
-  beginning_loose now (MayBegin.laying cleared clears laying) = laid_loose cleared now laying.rest (may_loose found name named v cleared (has_may found name named v cleared clears) list members loose)
+module _ (g : Ground) (p : Planned) (place : Place) (old base : World) (begins : BeginsAt g p place old base) where
+  pub begun_loose : is_package_name (package_name g p) ≡ true → IsDirectory (old info_path) → AreLoose old → AreLoose base
+  begun_loose named info loose =
+      let then = laid_loose old begins.begun begins.begins.lays loose in
+      let there = laid_info old begins.begun begins.begins.lays info in
+      may_loose (is_gone p.found (length p.others) place) (is_gone p.found (length p.others) (next_ready place)) (package_name g p) named begins.begun base begins.clears
+      (list_ready begins.begun there then (package_name g p) named) (members_ready begins.begun there then (package_name g p) named) then
 
-  pub beginning_kept : (now : World) → MayBegin found name v now → (d : Recorded) → IsKept d v → IsKept d now
-  beginning_kept now (MayBegin.clearing may) d kept = may_kept found name named v now may d kept
-  beginning_kept now (MayBegin.laying cleared clears laying) d kept = laying_kept cleared now laying.rest d (may_kept found name named v cleared (has_may found name named v cleared clears) d kept)
+  -- beside `tmp.ci` and what is left under the name, all is as before
+  pub begun_beside : (q : Path) → is_within tmp_path q ≡ false → IsBesideOwn (package_name g p) q → base q ≡ old q
+  begun_beside q out beside =
+      may_same (is_gone p.found (length p.others) place) (is_gone p.found (length p.others) (next_ready place)) (package_name g p) begins.begun base q begins.clears beside ∙ begins.begins.lays q out
 
-  pub beginning_incoming : (now : World) → MayBegin found name v now → IsIncoming v → IsIncoming now
-  beginning_incoming now (MayBegin.clearing may) incoming = incoming_elsewhere v now (may_tmp found name named v now may) incoming
-  beginning_incoming now (MayBegin.laying cleared clears laying) incoming = laying.incoming
+  pub begun_laid : AreLaidOut p.members base
+  begun_laid = laid_elsewhere p.members begins.begun base
+      (λ q within. may_same (is_gone p.found (length p.others) place) (is_gone p.found (length p.others) (next_ready place)) (package_name g p) begins.begun base q begins.clears
+      (own_beside (package_name g p) q (λ e. absurd (omega (arith, e, tmp_byte q within))))) begins.begins.laid
 
-pub begun_info : (found : Option Record) (name : Path) (ms : List Member) (v w : World) → HasBegun found name ms v w → IsDirectory (v info_path) → IsDirectory (w info_path)
-begun_info found name ms v w begun is = subst IsDirectory (sym (begun.lays info_path refl ∙ by found begun.clears)) is
-  where
-    by : (f : Option Record) → HasCleared f name v begun.cleared → begun.cleared info_path ≡ v info_path
-    by None cleared = cleared.rest info_path (record { list = (info_is_no_list name).0; members = λ member m. info_other name member })
-    by (Some r) same = ap (λ (x : World). x info_path) same
+-- so it is at a place of the rows
+pub begun_at : (g : Ground) (p : Planned) (place : Place) (old : World) (begun : State) (mid : Holding) (last : State) → Begins g p old begun.world → (at : At (task_from g p begun) mid last place) → IsTrue last.honest → BeginsAt g p place old at.base
+begun_at g p place old begun mid last begins at h = record {
+  begun = begun.world;
+  begins = begins;
+  clears = clear_here (is_gone p.found (length p.others) place) (is_gone p.found (length p.others) (next_ready place)) (package_name g p) begun.world at.base (at.cleared h);
+}
+
+-- what is said of the works doesn't go by the world in which the rows began
+
+found_on : (g : Ground) (p : Planned) (place : Place) (begun : State) (base : World) (works : List Work) → AreFound (task_from g p begun) place works → AreFound (task_from g p (state_on begun base)) place works
+found_on g p (Forward k) begun base works is = is
+found_on g p (Ready k) begun base works is = is
+found_on g p (Back k fall failed) begun base works is = is
+
+stage_on : (g : Ground) (p : Planned) (place : Place) (stage : Stage) (begun : State) (base : World) (works : List Work) → AreWorksAt (task_from g p begun) place stage works → AreWorksAt (task_from g p (state_on begun base)) place stage works
+stage_on g p place Unwritten begun base works are = found_on g p place begun base works are
+stage_on g p place Wrote begun base works are = record { same = are.same; named = are.named; order = are.order }
+stage_on g p place Restored begun base works are = record { same = are.same; named = are.named; order = are.order }
+
+pub works_on : (g : Ground) (p : Planned) (place : Place) (begun : State) (base : World) (works : List Work)
+    → AreWorksAt (task_from g p begun) place (stage_of (kinds_of p.found p.others) place) works → AreWorksAt (task_from g p (state_on begun base)) place (stage_of (kinds_of p.found p.others) place) works
+works_on g p place begun base works are = stage_on g p place (stage_of (kinds_of p.found p.others) place) begun base works are

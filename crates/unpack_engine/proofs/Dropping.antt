@@ -1,5 +1,5 @@
 -- What stays when the list of a package without a record goes.
-use Rattle.std.proofs.Common.{◌≡◌, ◌≢◌, inl, inr, ℕ, true, false, List, [], Option, get_or, length, refl, sym, ap, ◌∙◌, arith}
+use Rattle.std.proofs.Common.{◌≡◌, ◌≢◌, inl, inr, ℕ, Bool, true, false, List, [], Option, get_or, length, refl, sym, ap, ◌∙◌, arith}
 use Rattle.std.proofs.lemmas.Bool.{false_from_ne_true, true≢false}
 use Rattle.host_core.specs.Paths.{Path}
 use Rattle.host_core.specs.World.{World, KeepsBut}
@@ -25,19 +25,19 @@ use Rattle.unpack_engine.proofs.Apart.{tmp_beside}
 use Rattle.unpack_engine.proofs.Begun.{byte, dropped_same, tmp_byte}
 use Rattle.unpack_engine.proofs.Ready.{kept_opens, kept_same, opens_on}
 
-module _ (found : Option Record) (name : Path) (v w : World) (dropped : HasDropped found name v w) where
+module _ (reached : Bool) (found : Option Record) (name : Path) (v w : World) (dropped : HasDropped reached found name v w) where
   pub dropped_laid' : (members : List Member) → AreLaidOut members v → AreLaidOut members w
-  dropped_laid' members laid = laid_elsewhere members v w (λ q within. dropped_same found name v w q dropped (tmp_beside name q within).unlisted) laid
+  dropped_laid' members laid = laid_elsewhere members v w (λ q within. dropped_same reached found name v w q dropped (tmp_beside name q within).unlisted) laid
 
   pub dropped_kept : (d : Recorded) → IsKept d v → IsKept d w
-  dropped_kept d kept = kept_same d v w (λ q is. dropped_same found name v w q dropped (λ e. place_differs q (list_path name) is refl (sym e)))
-      (dropped_same found name v w home_path dropped (λ e. absurd (omega (arith, ap byte e)))) (dropped_same found name v w updates_path dropped (λ e. absurd (omega (arith, ap byte e)))) kept
+  dropped_kept d kept = kept_same d v w (λ q is. dropped_same reached found name v w q dropped (λ e. place_differs q (list_path name) is refl (sym e)))
+      (dropped_same reached found name v w home_path dropped (λ e. absurd (omega (arith, ap byte e)))) (dropped_same reached found name v w updates_path dropped (λ e. absurd (omega (arith, ap byte e)))) kept
 
-pub dropped_laid : (found : Option Record) (name : Path) (members : List Member) (v w : World) → HasDropped found name v w → AreLaidOut members v → AreLaidOut members w
-dropped_laid found name members v w dropped laid = dropped_laid' found name v w dropped members laid
+pub dropped_laid : (reached : Bool) (found : Option Record) (name : Path) (members : List Member) (v w : World) → HasDropped reached found name v w → AreLaidOut members v → AreLaidOut members w
+dropped_laid reached found name members v w dropped laid = dropped_laid' reached found name v w dropped members laid
 
-pub dropped_opens : (found : Option Record) (name : Path) (d : Recorded) (v w : World) → HasDropped found name v w → IsKept d v → CanOpenRecords w
-dropped_opens found name d v w dropped kept = kept_opens d w (dropped_kept found name v w dropped d kept)
+pub dropped_opens : (reached : Bool) (found : Option Record) (name : Path) (d : Recorded) (v w : World) → HasDropped reached found name v w → IsKept d v → CanOpenRecords w
+dropped_opens reached found name d v w dropped kept = kept_opens d w (dropped_kept reached found name v w dropped d kept)
 
 -- only `tmp.ci` changes
 module _ (v w : World) (keeps : KeepsBut (is_within tmp_path) v w) where

@@ -1,10 +1,10 @@
 -- The lists of the recorded packages, in the end of a unit.
-use Rattle.std.proofs.Common.{◌≡◌, ◌≢◌, inl, inr, IsTrue, ℕ, zero, suc, Bool, true, false, cond, List, [], ◌∷◌, ◌++◌, Option, Some, None, is_some, length, take, refl, sym, ap, subst, ◌∙◌, arith, Contains}
+use Rattle.std.proofs.Common.{◌≡◌, ◌≢◌, inl, inr, IsTrue, ℕ, zero, suc, Bool, true, false, cond, List, [], ◌∷◌, ◌++◌, Option, Some, None, is_some, length, map, nat_le, ◌+◌, ◌&&◌, take, refl, sym, ap, subst, ◌∙◌, arith, Contains}
 use Rattle.std.specs.Prelude.{Result, Ok, Err, IfOk}
 use Rattle.std.specs.Str.{bytes_eq, IsUtf8}
 use Rattle.std.specs.List.{AllByRecursion}
 use Rattle.std.proofs.lemmas.Bool.{true≢false, false_from_ne_true, cond-true, cond-false}
-use Rattle.std.proofs.lemmas.List.{map-append}
+use Rattle.std.proofs.lemmas.List.{length-append, length-map, map-append}
 use Rattle.std.proofs.lemmas.List.Elements.{Contains-append_cases}
 use Rattle.std.proofs.lemmas.Slice.Eq.{bytes_eq-Decides}
 use Rattle.std.proofs.Math.Logic.{∥∥₁_map}
@@ -18,6 +18,7 @@ use Rattle.administration.specs.Places.{list_path}
 use Rattle.unwind_stack.specs.declared.fall.Fall.{Fall}
 use Rattle.unwind_stack.specs.declared.rows.Called.{Called}
 use Rattle.cleanup_stack.specs.declared.failed.Failed.{Failed}
+use Rattle.cleanup_stack.specs.Place.{Place, Forward, Back}
 use Rattle.cleanup_stack.specs.Transcripts.{Ended, Committed, Unwound}
 use Rattle.control_members.proofs.Apart.{no_list, no_list_temporary}
 use Rattle.file_lists.specs.Lists.{HasLists}
@@ -29,23 +30,26 @@ use Rattle.file_lists.proofs.TakingAll.{paths_with}
 use Rattle.status_db.specs.Recorded.{Recorded}
 use Rattle.status_db.specs.Records.{record_in}
 use Rattle.status_db.specs.declared.record.Record.{Record}
-use Rattle.unpack_rows.specs.EndStates.{end_of, end_record, own_end_by, OwnUndo, NoneFailed, OfPrerm, OfPreinstOrPostrm}
-use Rattle.unpack_rows.specs.Kinds.{kinds_of}
+use Rattle.unpack_rows.specs.EndStates.{end_of, end_record, is_preinst_reached, own_end, own_end_by, OwnUndo, NoneFailed, OfPrerm, OfPreinstOrPostrm}
+use Rattle.unpack_rows.specs.Kinds.{kinds_of, last_kinds}
+use Rattle.unpack_rows.specs.declared.kinds.RowKind.TheVariants.{Other}
 use Rattle.unpack_rows.specs.Notes.{noted, notes_at}
 use Rattle.unpack_rows.specs.Stages.{Stage, Unwritten, Wrote, Restored, has_files, stage_of}
 use Rattle.unpack_rows.specs.declared.rows.Present.{Present}
 use Rattle.unpack_rows.proofs.Ends.{end_table}
 use Rattle.unpack_rows.proofs.Matching.{as_many}
 use Rattle.unpack_run.specs.At.{At, Holding}
-use Rattle.unpack_run.specs.Task.{Task, lists_at}
+use Rattle.unpack_run.specs.Clearing.{IsBesideOwn, MayClear, is_gone}
+use Rattle.unpack_run.specs.Task.{Task, lists_at, state_on}
 use Rattle.unpack_run.specs.Trail.{HasCome}
 use Rattle.unpack_commit.specs.Takeover.{losing_records, put_records, taken_places, yields_of}
 use Rattle.unpack_commit.proofs.Left.{loser_list, other_list, own_list, same_list}
 use Rattle.unpack_plan.specs.Planned.{IsPlanned, Planned}
 use Rattle.unpack_plan.specs.Members.{scripts_in}
 use Rattle.unpack_engine.specs.Order.{record_names}
-use Rattle.unpack_engine.specs.Units.{Given, HasBegun, HasCarriedOut, HasCleared, HasDropped, HasLeft, changes, commit_records, ground_of, job_of, last_place, package_name, task_from, unit_losers}
-use Rattle.unpack_engine.proofs.Begun.{dropped_same}
+use Rattle.unpack_engine.specs.Units.{BeginsAt, Given, HasBegun, HasCarriedOut, HasDropped, HasLeft, changes, commit_records, end_table as table_then, ground_of, job_of, last_place, package_name, task_from, unit_losers}
+use Rattle.unpack_engine.proofs.Begun.{cleared_if, dropped_same}
+use Rattle.unpack_engine.proofs.Cleared.{begun_at, begun_beside, works_on}
 use Rattle.unpack_engine.proofs.EndNames.{both_recorded, has_record, is_recorded, losing_named, puts_keep, puts_last, puts_named}
 use Rattle.unpack_engine.proofs.EndOthers.{end_for, recorded_still}
 use Rattle.unpack_engine.proofs.Frames.{IsBeside, come_same}
@@ -57,15 +61,24 @@ module _ (name own : List ℕ) (ne : name ≢ own) where
   list_beside : IsBeside (list_path own) (list_path name)
   list_beside = record { own = refl; below = refl; unnoted = refl; unlisted = λ e. ne (same_list name own e); unspared = λ e. no_list_temporary name (list_path own) e }
 
-  list_cleared : (found : Option Record) (v w : World) → HasCleared found own v w → w (list_path name) ≡ v (list_path name)
-  list_cleared None v w cleared = cleared.rest (list_path name) (record { list = λ e. ne (same_list name own e); members = λ member m e. no_list own name member m (sym e) })
-  list_cleared (Some r) v w same = ap (λ (x : World). x (list_path name)) same
+  list_apart : IsBesideOwn own (list_path name)
+  list_apart = record { list = λ e. ne (same_list name own e); members = λ member is e. no_list own name member is (sym e) }
 
   not_own : bytes_eq name own ≡ false
   not_own = false_from_ne_true (bytes_eq name own) (λ t. ne ((bytes_eq-Decides name own).0 t))
 
   not_name : bytes_eq own name ≡ false
   not_name = false_from_ne_true (bytes_eq own name) (λ t. ne (sym ((bytes_eq-Decides own name).0 t)))
+
+-- behind all rows of a package without a record its new preinst's is behind
+enough : (n m : ℕ) → m ≡ n + 2 → nat_le (n + 1) m ≡ true
+enough n m e = grind arith
+
+bare_many : (others : List Record) → length (kinds_of None others) ≡ length others + 2
+bare_many others = length-append (map (λ r. Other r) others) (last_kinds false) ∙ ap (λ n. n + 2) (length-map (λ r. Other r) others)
+
+bare_rows : (others : List Record) → nat_le (length others + 1) (length (kinds_of None others)) ≡ true
+bare_rows others = enough (length others) (length (kinds_of None others)) (bare_many others)
 
 module _ (G : Given) (stored : Present) (p : Planned) (plan : IsPlanned (job_of G stored) p) (places : List Path) where
   abbrev own : List ℕ
@@ -90,6 +103,22 @@ module _ (G : Given) (stored : Present) (p : Planned) (plan : IsPlanned (job_of 
   own_unrecorded : p.found ≡ None → Contains names own → ⊥
   own_unrecorded none has = true≢false (sym (has_record G.records own has) ∙ ap is_some (sym found_is ∙ none))
 
+  none_end : (reached blamed : Bool) → reached ≡ false → own_end_by None p.incoming (cond (reached && blamed) OfPreinstOrPostrm NoneFailed) reached ≡ None
+  none_end true blamed e = absurd (true≢false e)
+  none_end false blamed e = refl
+
+  own_none : (found : Option Record) → found ≡ None → (fall : Fall) (failed : List Failed) → is_preinst_reached found p.incoming p.others fall ≡ false → own_end found p.incoming p.others fall failed ≡ None
+  own_none None e fall failed short = none_end (is_preinst_reached None p.incoming p.others fall) _ short
+  own_none (Some r) e fall failed short = absurd cc
+
+  not_reached : (found : Option Record) → found ≡ None → (fall : Fall) → is_gone found (length p.others) (Back 0 fall []) ≡ is_preinst_reached found p.incoming p.others fall
+  not_reached None e fall = refl
+  not_reached (Some r) e fall = absurd cc
+
+  all_rows : (found : Option Record) → found ≡ None → is_gone found (length p.others) (Forward (length (kinds_of found p.others))) ≡ true
+  all_rows None e = bare_rows p.others
+  all_rows (Some r) e = absurd cc
+
   module _ (begun last : State) (mid : Holding) (ended : Ended) (at : At (task_from (ground_of G places) p begun) mid last (last_place (ground_of G places) p ended)) where
     abbrev task : Task
     task = task_from (ground_of G places) p begun
@@ -99,6 +128,27 @@ module _ (G : Given) (stored : Present) (p : Planned) (plan : IsPlanned (job_of 
         ap (λ t. record_in t q) at.records
         ∙ ap (λ n. record_in (noted G.records (notes_at p.found p.incoming (kinds_of p.found p.others) (end_of n ended))) q) rows_many
         ∙ end_table p.found p.incoming p.others G.records at.sound.concerned ended q
+
+    -- where it had no record before and has one then, nothing is left of what stood under its name
+    reached_by : (e : Ended) → ended ≡ e → (b : Bool) → is_gone p.found (length p.others) (last_place (ground_of G places) p e) ≡ b → Contains (record_names mid.database.records) own → p.found ≡ None → b ≡ true
+    reached_by e is true gone recorded none = refl
+    reached_by Committed is false gone recorded none =
+        absurd (true≢false (sym (ap (λ n. is_gone p.found (length p.others) (Forward n)) rows_many ∙ all_rows p.found none) ∙ gone))
+    reached_by (Unwound fall failed) is false gone recorded none =
+        let short = sym (not_reached p.found none fall) ∙ gone in
+        absurd (true≢false (sym (has_record mid.database.records own recorded)
+        ∙ ap is_some (mid_record own ∙ ap (λ e. end_record p.found p.incoming p.others G.records e own) is ∙ cond-true (bytes_eq own own) _ _ ((bytes_eq-Decides own own).1 refl) ∙ own_none p.found none fall failed short)))
+
+    pub gone_recorded : Contains (record_names mid.database.records) own → p.found ≡ None → is_gone p.found (length p.others) (last_place (ground_of G places) p ended) ≡ true
+    gone_recorded recorded none = reached_by ended refl _ refl recorded none
+
+    pub gone_after : (after : List Record) → after ≡ table_then (ground_of G places) p ended mid.works mid.lists mid.database.records → Contains (record_names after) own → p.found ≡ None
+        → is_gone p.found (length p.others) (last_place (ground_of G places) p ended) ≡ true
+    gone_after after same recorded none = by ended refl same
+      where
+        by : (e : Ended) → ended ≡ e → after ≡ table_then (ground_of G places) p e mid.works mid.lists mid.database.records → is_gone p.found (length p.others) (last_place (ground_of G places) p e) ≡ true
+        by Committed is noted = ap (λ n. is_gone p.found (length p.others) (Forward n)) rows_many ∙ all_rows p.found none
+        by (Unwound fall failed) is kept = reached_by (Unwound fall failed) is _ refl (subst (λ rs. Contains (record_names rs) own) kept recorded) none
 
     -- whether another package is recorded stays
     mid_other : (q : List ℕ) → q ≢ own → is_some (record_in mid.database.records q) ≡ is_some (record_in G.records q)
@@ -117,11 +167,15 @@ module _ (G : Given) (stored : Present) (p : Planned) (plan : IsPlanned (job_of 
         by Restored = wrote p.listed (lists_at task Wrote) (wrote p.union G.lists refl)
 
     -- the list of another package stays until the rows have run
-    module _ (old : State) (begins : HasBegun p.found own p.members old.world begun.world) (h : IsTrue last.honest) where
+    module _ (old : State) (begins : HasBegun p.members old.world begun.world) (h : IsTrue last.honest) where
+      abbrev place : Place
+      place = last_place (ground_of G places) p ended
+
       list_kept : (q : List ℕ) → q ≢ own → last.world (list_path q) ≡ old.world (list_path q)
       list_kept q ne =
-          come_same task (list_path q) (list_beside q own ne) plan.works_are.named (last_place (ground_of G places) p ended) (stage_of (kinds_of p.found p.others) (last_place (ground_of G places) p ended)) mid.works at.works (changes_of at.since) last.world (at.world h).came
-          ∙ begins.lays (list_path q) refl ∙ list_cleared q own ne p.found old.world begins.cleared begins.clears
+          come_same (task_from (ground_of G places) p (state_on begun at.base)) (list_path q) (list_beside q own ne) plan.works_are.named place (stage_of (kinds_of p.found p.others) place) mid.works
+          (works_on (ground_of G places) p place begun at.base mid.works at.works) (changes_of at.since) last.world (at.world h).came
+          ∙ begun_beside (ground_of G places) p place old.world at.base (begun_at (ground_of G places) p place old.world begun mid last begins at h) (list_path q) refl (list_apart q own ne)
 
   -- a unit that has committed
   module _ (old new : State) (told now : List Called) (after : Recorded) (lists : List PackageList) (out : HasCarriedOut (ground_of G places) p Committed after lists old new told now) (h : IsTrue new.honest)
@@ -144,7 +198,7 @@ module _ (G : Given) (stored : Present) (p : Planned) (plan : IsPlanned (job_of 
     abbrev losing : List Record
     losing = losing_records G.entries taken lost mid.database.records
 
-    left : HasLeft (changes (ground_of G places) p mid.works mid.lists) (commit_records (ground_of G places) p mid.works mid.lists mid.database.records) G.entries mid.lists mid.database.records Committed last.world new.world
+    left : HasLeft (changes (ground_of G places) p mid.works mid.lists) (commit_records (ground_of G places) p mid.works mid.lists mid.database.records) G.entries mid.lists mid.database.records (length p.others) Committed last.world new.world
     left = out.leaves h
 
     -- the names
@@ -242,13 +296,10 @@ module _ (G : Given) (stored : Present) (p : Planned) (plan : IsPlanned (job_of 
   some_end found OfPrerm false is = refl
   some_end found OfPreinstOrPostrm reached is = refl
 
-  dropped_some : (o : Option Record) (v w : World) → is_some o ≡ true → HasDropped o own v w → w ≡ v
-  dropped_some None v w e dropped = absurd (true≢false (sym e))
-  dropped_some (Some r) v w e same = same
-
-  dropped_none : (o : Option Record) (v w : World) → is_some o ≡ false → HasDropped o own v w → w (list_path own) ≡ None
-  dropped_none None v w e dropped = dropped.target
-  dropped_none (Some r) v w e same = absurd (true≢false e)
+  dropped_some : (reached : Bool) (o : Option Record) (v w : World) → is_some o ≡ true → HasDropped reached o own v w → w ≡ v
+  dropped_some true None v w e dropped = absurd (true≢false (sym e))
+  dropped_some true (Some r) v w e same = same
+  dropped_some false o v w e same = same
 
   module _ (old new : State) (told now : List Called) (fall : Fall) (failed : List Failed) (after : Recorded) (lists : List PackageList) (out : HasCarriedOut (ground_of G places) p (Unwound fall failed) after lists old new told now) (h : IsTrue new.honest)
       (has : HasLists old.world names G.lists) where
@@ -267,10 +318,10 @@ module _ (G : Given) (stored : Present) (p : Planned) (plan : IsPlanned (job_of 
     hb : IsTrue back.honest
     hb = out.since.honest h
 
-    begins : HasBegun p.found own p.members old.world begun.world
-    begins = out.ran.begins_so hb
+    begins : BeginsAt (ground_of G places) p (last_place (ground_of G places) p (Unwound fall failed)) old.world rows_end.base
+    begins = begun_at (ground_of G places) p (last_place (ground_of G places) p (Unwound fall failed)) old.world begun back_mid back (out.ran.begins_so hb) rows_end hb
 
-    gone : HasLeft (changes (ground_of G places) p back_mid.works back_mid.lists) (commit_records (ground_of G places) p back_mid.works back_mid.lists back_mid.database.records) G.entries back_mid.lists back_mid.database.records (Unwound fall failed) back.world new.world
+    gone : HasLeft (changes (ground_of G places) p back_mid.works back_mid.lists) (commit_records (ground_of G places) p back_mid.works back_mid.lists back_mid.database.records) G.entries back_mid.lists back_mid.database.records (length p.others) (Unwound fall failed) back.world new.world
     gone = out.leaves h
 
     -- the names
@@ -291,13 +342,15 @@ module _ (G : Given) (stored : Present) (p : Planned) (plan : IsPlanned (job_of 
     listed_own : p.listed ≡ paths_of G.lists own
     listed_own = plan.lists_are.listed_is ∙ ap (paths_of G.lists) (sym plan.records_are.own)
 
-    end_begun : (w : World) → w (list_path own) ≡ begun.world (list_path own) → (ls : List PackageList) → paths_of ls own ≡ paths_of G.lists own → IsListEnd old.world w names (record_names after.records) G.lists ls own
-    end_begun w same ls paths_are = by p.found refl begins.clears
+    end_begun : Contains (record_names back_mid.database.records) own → (w : World) → w (list_path own) ≡ rows_end.base (list_path own) → (ls : List PackageList) → paths_of ls own ≡ paths_of G.lists own
+        → IsListEnd old.world w names (record_names after.records) G.lists ls own
+    end_begun recorded w same ls paths_are = by p.found refl (gone_recorded begun back back_mid (Unwound fall failed) rows_end recorded) begins.clears
       where
-        by : (found : Option Record) → p.found ≡ found → HasCleared found own old.world begins.cleared → IsListEnd old.world w names (record_names after.records) G.lists ls own
-        by None is cleared = IsListEnd.bare (same ∙ begins.lays (list_path own) refl ∙ cleared.list)
+        by : (found : Option Record) → p.found ≡ found → (found ≡ None → is_gone found (length p.others) (Back 0 fall failed) ≡ true)
+            → MayClear (is_gone found (length p.others) (Back 0 fall failed)) (is_gone found (length p.others) (Back 0 fall failed)) own begins.begun rows_end.base → IsListEnd old.world w names (record_names after.records) G.lists ls own
+        by None is gone may = IsListEnd.bare (same ∙ (cleared_if _ _ own begins.begun rows_end.base (gone refl) may).list)
             (paths_are ∙ unlisted old.world w names (record_names after.records) G.lists ls has own (own_unrecorded is))
-        by (Some r) is kept = IsListEnd.stays (own_recorded r is) (same ∙ begins.lays (list_path own) refl ∙ ap (λ (x : World). x (list_path own)) kept) paths_are
+        by (Some r) is gone kept = IsListEnd.stays (own_recorded r is) (same ∙ ap (λ (x : World). x (list_path own)) kept ∙ begins.begins.lays (list_path own) refl) paths_are
 
     end_restored : (w : World) → w (list_path own) ≡ Some (list_file p.listed) → (ls : List PackageList) → paths_of ls own ≡ paths_of G.lists own → IsListEnd old.world w names (record_names after.records) G.lists ls own
     end_restored w is ls paths_are = IsListEnd.written p.listed plan.lists_are.listed_paths.room
@@ -307,19 +360,19 @@ module _ (G : Given) (stored : Present) (p : Planned) (plan : IsPlanned (job_of 
     -- what the rows left of it
     record IsOwnBack (w : World) (ls : List PackageList) : Type 0 where
       pub paths_are : paths_of ls own ≡ paths_of G.lists own
-      pub ends : (v : World) → v (list_path own) ≡ w (list_path own) → IsListEnd old.world v names (record_names after.records) G.lists ls own
+      pub ends : Contains (record_names back_mid.database.records) own → (v : World) → v (list_path own) ≡ w (list_path own) → IsListEnd old.world v names (record_names after.records) G.lists ls own
 
-    own_back_at : (a b : Bool) → b ≡ false → HasCome (task_from (ground_of G places) p begun) (cond a (cond b Wrote Restored) Unwritten) back_mid.works (changes_of rows_end.since) back.world → IsOwnBack back.world (lists_at (task_from (ground_of G places) p begun) (cond a (cond b Wrote Restored) Unwritten))
+    own_back_at : (a b : Bool) → b ≡ false → HasCome (task_from (ground_of G places) p (state_on begun rows_end.base)) (cond a (cond b Wrote Restored) Unwritten) back_mid.works (changes_of rows_end.since) back.world → IsOwnBack back.world (lists_at (task_from (ground_of G places) p begun) (cond a (cond b Wrote Restored) Unwritten))
     own_back_at false b none came = record {
       paths_are = refl;
-      ends = λ v same. end_begun v (same ∙ came.rest (list_path own) refl ∙ changed_kept (is_kept places) (changes_of rows_end.since) begun.world came.avoids (list_path own) refl) G.lists refl;
+      ends = λ recorded v same. end_begun recorded v (same ∙ came.rest (list_path own) refl ∙ changed_kept (is_kept places) (changes_of rows_end.since) rows_end.base came.avoids (list_path own) refl) G.lists refl;
     }
     own_back_at true true none came = absurd (true≢false none)
     own_back_at true false none came =
         let paths_are = paths_with_own p.listed (with_list own p.union G.lists) ∙ listed_own in
         record {
           paths_are = paths_are;
-          ends = λ v same. end_restored v (same ∙ came.since.rest (list_path own) refl ∙ changed_kept (is_kept places) came.late came.back came.since.avoids (list_path own) refl ∙ came.unlisted.replaced.target)
+          ends = λ recorded v same. end_restored v (same ∙ came.since.rest (list_path own) refl ∙ changed_kept (is_kept places) came.late came.back came.since.avoids (list_path own) refl ∙ came.unlisted.replaced.target)
               (with_list own p.listed (with_list own p.union G.lists)) paths_are;
         }
 
@@ -329,13 +382,13 @@ module _ (G : Given) (stored : Present) (p : Planned) (plan : IsPlanned (job_of 
     -- each list
 
     back_own : Contains (record_names back_mid.database.records) own → IsListEnd old.world new.world names (record_names after.records) G.lists lists own
-    back_own is = own_back.ends new.world
-        (gone.removed.rest (list_path own) refl ∙ ap (λ (x : World). x (list_path own)) (dropped_some (record_in back_mid.database.records own) back.world gone.followed (has_record back_mid.database.records own is) gone.has_followed))
+    back_own is = own_back.ends is new.world
+        (gone.removed.rest (list_path own) refl ∙ ap (λ (x : World). x (list_path own)) (dropped_some (nat_le (length p.others) fall.row) (record_in back_mid.database.records own) back.world gone.followed (has_record back_mid.database.records own is) gone.has_followed))
 
     back_other : (q : List ℕ) → q ≢ own → Contains names q → IsListEnd old.world new.world names (record_names after.records) G.lists lists q
     back_other q ne is = IsListEnd.stays is
-        (gone.removed.rest (list_path q) refl ∙ dropped_same (record_in back_mid.database.records own) own back.world gone.followed (list_path q) gone.has_followed (λ e. ne (same_list q own e))
-        ∙ list_kept begun back back_mid (Unwound fall failed) rows_end old begins hb q ne)
+        (gone.removed.rest (list_path q) refl ∙ dropped_same (nat_le (length p.others) fall.row) (record_in back_mid.database.records own) own back.world gone.followed (list_path q) gone.has_followed (λ e. ne (same_list q own e))
+        ∙ list_kept begun back back_mid (Unwound fall failed) rows_end old (out.ran.begins_so hb) hb q ne)
         (ap (λ l. paths_of l q) out.lists_are ∙ paths_mid begun back back_mid (Unwound fall failed) rows_end q ne)
 
     back_each : (q : List ℕ) → Contains (record_names after.records) q → IsListEnd old.world new.world names (record_names after.records) G.lists lists q

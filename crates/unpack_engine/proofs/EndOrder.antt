@@ -1,5 +1,5 @@
 -- The administration as a unit leaves it.
-use Rattle.std.proofs.Common.{◌≡◌, IsTrue, true, List, [], refl, sym, ap, subst, ◌∙◌}
+use Rattle.std.proofs.Common.{◌≡◌, IsTrue, ℕ, true, nat_le, length, List, [], refl, sym, ap, subst, ◌∙◌}
 use Rattle.std.specs.Prelude.{Result, Ok, Err, IfOk, OnOk}
 use Rattle.texts.specs.PackageNames.{is_package_name}
 use Rattle.host_core.specs.Paths.{Path}
@@ -30,46 +30,47 @@ use Rattle.unpack_plan.specs.Planned.{IsPlanned, Job, Planned}
 use Rattle.unpack_rows.specs.Kinds.{kinds_of}
 use Rattle.unpack_rows.specs.Stages.{stage_of}
 use Rattle.unpack_run.specs.At.{At, Holding}
+use Rattle.unpack_run.specs.Task.{state_on}
 use Rattle.unpack_engine.specs.Order.{IsInOrder, record_names}
 use Rattle.unpack_engine.specs.Units.{Begins, Ground, HasCarriedOut, HasFollowed, HasLeft, changes, commit_records, last_place, package_name, task_from}
 use Rattle.unpack_engine.proofs.Apart.{loose_still}
 use Rattle.unpack_engine.proofs.Begun.{dropped_same}
-use Rattle.unpack_engine.proofs.Cleared.{begun_loose}
+use Rattle.unpack_engine.proofs.Cleared.{begun_at, begun_loose, works_on}
 use Rattle.unpack_engine.proofs.EndLoose.{left_loose}
 use Rattle.unpack_engine.proofs.Frames.{IsBeside, come_same}
-use Rattle.unpack_engine.proofs.Order.{own_list, own_members, there_directory}
+use Rattle.unpack_engine.proofs.Order.{info_there, there_directory}
 
 -- `info` is there yet after what follows the rows
-module _ (c : Changes) (records : List Record) (entries : List Diversion) (lists : List PackageList) (table : List Record) (old : World) (spares : SparesAdministration c.leaving) (elsewhere : AreElsewhere c.names) where
-  pub followed_info : (ended : Ended) (new : World) → HasFollowed c records entries lists table ended old new → IsListReady c.name old → IsDirectory (new info_path)
+module _ (c : Changes) (records : List Record) (entries : List Diversion) (lists : List PackageList) (table : List Record) (others : ℕ) (old : World) (spares : SparesAdministration c.leaving) (elsewhere : AreElsewhere c.names) where
+  pub followed_info : (ended : Ended) (new : World) → HasFollowed c records entries lists table others ended old new → IsListReady c.name old → IsDirectory (new info_path)
   followed_info Committed new has ready = (lists_still_ready c entries lists old spares elsewhere (put_records records table) new has c.name ready).info
   followed_info (Unwound fall failed) new has ready =
-      subst IsDirectory (sym (dropped_same (record_in table c.name) c.name old new info_path has ((info_is_no_list c.name).0))) ready.info
+      subst IsDirectory (sym (dropped_same (nat_le others fall.row) (record_in table c.name) c.name old new info_path has ((info_is_no_list c.name).0))) ready.info
 
-  pub left_info : (ended : Ended) (new : World) → HasLeft c records entries lists table ended old new → IsListReady c.name old → IsDirectory (new info_path)
+  pub left_info : (ended : Ended) (new : World) → HasLeft c records entries lists table others ended old new → IsListReady c.name old → IsDirectory (new info_path)
   left_info ended new left ready = subst IsDirectory (sym (left.removed.rest info_path refl)) (followed_info ended left.followed left.has_followed ready)
 
 -- while the rows ran no entry of `info` became a directory
 module _ (g : Ground) (p : Planned) (named : is_package_name (package_name g p) ≡ true) (works_named : Each IsNamed p.works) (before : Recorded) (lists_before : List PackageList)
     (old : World) (order : IsInOrder before lists_before old) (ended : Ended) (mid : Holding) (begun last : State) (begins : Begins g p old begun.world)
     (at : At (task_from g p begun) mid last (last_place g p ended)) (h : IsTrue last.honest) where
-  pub rows_same : (q : Path) → IsBeside (list_path (package_name g p)) q → last.world q ≡ begun.world q
-  rows_same q beside = come_same (task_from g p begun) q beside works_named (last_place g p ended) (stage_of (kinds_of p.found p.others) (last_place g p ended)) mid.works at.works (changes_of at.since) last.world (at.world h).came
+  pub rows_same : (q : Path) → IsBeside (list_path (package_name g p)) q → last.world q ≡ at.base q
+  rows_same q beside = come_same (task_from g p (state_on begun at.base)) q beside works_named (last_place g p ended) (stage_of (kinds_of p.found p.others) (last_place g p ended)) mid.works (works_on g p (last_place g p ended) begun at.base mid.works at.works) (changes_of at.since) last.world (at.world h).came
 
   pub rows_loose : AreLoose last.world
   rows_loose =
       let ready = (at.world h).ready in
-      loose_still (package_name g p) begun.world last.world rows_same ready.target ready.spare
-      (begun_loose p.found (package_name g p) named old (own_list before lists_before old order (package_name g p) named) (own_members before lists_before old order (package_name g p) named) order.loose p.members begun.world begins)
+      loose_still (package_name g p) at.base last.world rows_same ready.target ready.spare
+      (begun_loose g p (last_place g p ended) old at.base (begun_at g p (last_place g p ended) old begun mid last begins at h) named (info_there before lists_before old order) order.loose)
 
   -- all but the lists, which others show
   module _ (spares : SparesAdministration p.leaving) (elsewhere : AreElsewhere p.names) (new : World)
-      (left : HasLeft (changes g p mid.works mid.lists) (commit_records g p mid.works mid.lists mid.database.records) g.entries mid.lists mid.database.records ended last.world new) where
+      (left : HasLeft (changes g p mid.works mid.lists) (commit_records g p mid.works mid.lists mid.database.records) g.entries mid.lists mid.database.records (length p.others) ended last.world new) where
     pub end_order : (after : Recorded) (lists : List PackageList) → IsKept after new → ∥ HasLists new (record_names after.records) lists ∥₁ → IsInOrder after lists new
     end_order after lists kept listed = record {
       home = there_directory (new home_path) kept.unblocked.home;
-      info = there_directory (new info_path) (left_info (changes g p mid.works mid.lists) (commit_records g p mid.works mid.lists mid.database.records) g.entries mid.lists mid.database.records last.world spares elsewhere ended new left ((at.world h).ready));
-      loose = left_loose (changes g p mid.works mid.lists) (commit_records g p mid.works mid.lists mid.database.records) g.entries mid.lists mid.database.records last.world ended new left rows_loose;
+      info = there_directory (new info_path) (left_info (changes g p mid.works mid.lists) (commit_records g p mid.works mid.lists mid.database.records) g.entries mid.lists mid.database.records (length p.others) last.world spares elsewhere ended new left ((at.world h).ready));
+      loose = left_loose (changes g p mid.works mid.lists) (commit_records g p mid.works mid.lists mid.database.records) g.entries mid.lists mid.database.records (length p.others) last.world ended new left rows_loose;
       tmp = left.removed.inside tmp_path refl;
       kept = kept;
       listed = listed;

@@ -1,5 +1,5 @@
 -- What is in `info` as a unit leaves it: each entry is as before, nothing, or a file at a name that no opening refuses.
-use Rattle.std.proofs.Common.{◌≡◌, ◌≢◌, ◌&&◌, ◌||◌, ◌⊎◌, inl, inr, IsTrue, ℕ, zero, suc, Bool, true, false, not, List, [], ◌∷◌, ◌++◌, Option, Some, None, Contains, codes, drop, nat_eq, refl, sym, ap, subst, ◌∙◌, arith}
+use Rattle.std.proofs.Common.{◌≡◌, ◌≢◌, ◌&&◌, ◌||◌, ◌⊎◌, inl, inr, IsTrue, ℕ, nat_le, length, zero, suc, Bool, true, false, not, List, [], ◌∷◌, ◌++◌, Option, Some, None, Contains, codes, drop, nat_eq, refl, sym, ap, subst, ◌∙◌, arith}
 use Rattle.std.specs.Prelude.{IsSome}
 use Rattle.std.specs.List.{ends_with, list_all, list_any}
 use Rattle.std.specs.Str.{IsUtf8, bytes_eq}
@@ -49,9 +49,13 @@ use Rattle.unpack_plan.specs.Planned.{Planned}
 use Rattle.unpack_rows.specs.Kinds.{kinds_of}
 use Rattle.unpack_rows.specs.Stages.{stage_of}
 use Rattle.unpack_run.specs.At.{At, Holding}
-use Rattle.unpack_engine.specs.Units.{Begins, Ground, HasCleared, HasFollowed, HasLeft, changes, commit_records, last_place, package_name, task_from}
+use Rattle.unpack_run.specs.Clearing.{MayClear, is_gone, next_ready}
+use Rattle.unpack_run.specs.Task.{state_on}
+use Rattle.unpack_engine.specs.Units.{Begins, BeginsAt, Ground, HasFollowed, HasLeft, changes, commit_records, last_place, package_name, task_from}
 use Rattle.unpack_engine.proofs.Apart.{entry_beside}
-use Rattle.unpack_engine.proofs.Begun.{dropped_same}
+use Rattle.unpack_engine.proofs.Begun.{cleared_if, dropped_same}
+use Rattle.unpack_engine.proofs.Cleared.{begun_at, begun_beside, works_on}
+use Rattle.cleanup_stack.specs.Place.{Place}
 use Rattle.unpack_engine.proofs.Frames.{come_same}
 use Rattle.unpack_engine.proofs.Losing.{loser_named}
 
@@ -173,7 +177,7 @@ no_link_member ms name stood is link = at (member_of ms name) (sym is ∙ link.1
 
 module _ (g : Ground) (p : Planned) (named : is_package_name (package_name g p) ≡ true) (works_named : Each IsNamed p.works) (spares : SparesAdministration p.leaving) (elsewhere : AreElsewhere p.names)
     (ended : Ended) (mid : Holding) (old : World) (begun last : State) (begins : Begins g p old begun.world) (at : At (task_from g p begun) mid last (last_place g p ended)) (h : IsTrue last.honest)
-    (new : World) (left : HasLeft (changes g p mid.works mid.lists) (commit_records g p mid.works mid.lists mid.database.records) g.entries mid.lists mid.database.records ended last.world new) where
+    (new : World) (left : HasLeft (changes g p mid.works mid.lists) (commit_records g p mid.works mid.lists mid.database.records) g.entries mid.lists mid.database.records (length p.others) ended last.world new) where
   abbrev own : List ℕ
   own = package_name g p
 
@@ -185,15 +189,21 @@ module _ (g : Ground) (p : Planned) (named : is_package_name (package_name g p) 
 
   -- where the rows and what follows them leave an entry as it was
 
-  rows_same : (entry : Path) → entry_path entry ≢ list_path own → entry_path entry ≢ temporary (list_path own) → last.world (entry_path entry) ≡ begun.world (entry_path entry)
+  rows_same : (entry : Path) → entry_path entry ≢ list_path own → entry_path entry ≢ temporary (list_path own) → last.world (entry_path entry) ≡ at.base (entry_path entry)
   rows_same entry unlisted unspared =
-      come_same (task_from g p begun) (entry_path entry) (entry_beside own entry unlisted unspared) works_named (last_place g p ended) (stage_of (kinds_of p.found p.others) (last_place g p ended)) mid.works at.works (changes_of at.since) last.world (at.world h).came
+      come_same (task_from g p (state_on begun at.base)) (entry_path entry) (entry_beside own entry unlisted unspared) works_named (last_place g p ended) (stage_of (kinds_of p.found p.others) (last_place g p ended)) mid.works (works_on g p (last_place g p ended) begun at.base mid.works at.works) (changes_of at.since) last.world (at.world h).came
 
-  cleared_same : (entry : Path) → IsAside own c.losers entry → (found : Option Record) → HasCleared found own old begins.cleared → begins.cleared (entry_path entry) ≡ old (entry_path entry)
-  cleared_same entry aside None cleared = cleared.rest (entry_path entry) (record { list = (aside.lists own (zero, omega arith, refl)).0; members = λ member is. (aside.members member is).0 })
-  cleared_same entry aside (Some r) same = ap (λ (w : World). w (entry_path entry)) same
+  abbrev place : Place
+  place = last_place g p ended
 
-  followed_same : (entry : Path) → IsAside own c.losers entry → (e : Ended) (v w : World) → HasFollowed c (commit_records g p mid.works mid.lists mid.database.records) g.entries mid.lists mid.database.records e v w → w (entry_path entry) ≡ v (entry_path entry)
+  then : BeginsAt g p place old at.base
+  then = begun_at g p place old begun mid last begins at h
+
+  base_same : (entry : Path) → IsAside own c.losers entry → at.base (entry_path entry) ≡ old (entry_path entry)
+  base_same entry aside = begun_beside g p place old at.base then (entry_path entry) refl
+      (record { list = (aside.lists own (zero, omega arith, refl)).0; members = λ member is. (aside.members member is).0 })
+
+  followed_same : (entry : Path) → IsAside own c.losers entry → (e : Ended) (v w : World) → HasFollowed c (commit_records g p mid.works mid.lists mid.database.records) g.entries mid.lists mid.database.records (length p.others) e v w → w (entry_path entry) ≡ v (entry_path entry)
   followed_same entry aside Committed v w has =
       committed_keeps c g.entries mid.lists v (put_records (commit_records g p mid.works mid.lists mid.database.records) mid.database.records) w (entry_path entry) has (record {
         stays = no_leaving_place p.leaving (entry_path entry) spares refl;
@@ -202,7 +212,7 @@ module _ (g : Ground) (p : Planned) (named : is_package_name (package_name g p) 
         no_member = aside.members;
         unnoted = refl;
       })
-  followed_same entry aside (Unwound fall failed) v w dropped = dropped_same (record_in mid.database.records own) own v w (entry_path entry) dropped (aside.lists own (zero, omega arith, refl)).0
+  followed_same entry aside (Unwound fall failed) v w dropped = dropped_same (nat_le (length p.others) fall.row) (record_in mid.database.records own) own v w (entry_path entry) dropped (aside.lists own (zero, omega arith, refl)).0
 
   aside_same : (entry : Path) → IsAside own c.losers entry → new (entry_path entry) ≡ old (entry_path entry)
   aside_same entry aside =
@@ -210,8 +220,7 @@ module _ (g : Ground) (p : Planned) (named : is_package_name (package_name g p) 
       left.removed.rest (entry_path entry) refl
       ∙ followed_same entry aside ended last.world left.followed left.has_followed
       ∙ rows_same entry beside.0 beside.1
-      ∙ begins.lays (entry_path entry) refl
-      ∙ cleared_same entry aside p.found begins.clears
+      ∙ base_same entry aside
 
   -- each name in it is text still
   pub text_left : (HasBadName old info_path → ⊥) → HasBadName new info_path → ⊥
@@ -219,12 +228,15 @@ module _ (g : Ground) (p : Planned) (named : is_package_name (package_name g p) 
 
   -- no link takes the place of a script of the package
 
-  cleared_link : (script : Script) (found : Option Record) → HasCleared found own old begins.cleared → ((r : Record) → found ≡ Some r → IsLink (old (entry_path (stored_name own script))) → ⊥)
-      → IsLink (begins.cleared (entry_path (stored_name own script))) → ⊥
-  cleared_link script None cleared before link = no_link_none (begins.cleared (entry_path (stored_name own script))) (cleared.members (script_name script) (script_is_member script)) link
-  cleared_link script (Some r) same before link = before r refl (subst (λ (w : World). IsLink (w (entry_path (stored_name own script)))) same link)
+  base_link : (script : Script) (found : Option Record) → (found ≡ None → is_gone found (length p.others) place ≡ true)
+      → MayClear (is_gone found (length p.others) place) (is_gone found (length p.others) (next_ready place)) own then.begun at.base
+      → ((r : Record) → found ≡ Some r → IsLink (old (entry_path (stored_name own script))) → ⊥) → IsLink (at.base (entry_path (stored_name own script))) → ⊥
+  base_link script None gone may before link =
+      no_link_none (at.base (entry_path (stored_name own script))) ((cleared_if _ _ own then.begun at.base (gone refl) may).members (script_name script) (script_is_member script)) link
+  base_link script (Some r) gone same before link =
+      before r refl (subst IsLink (ap (λ (w : World). w (entry_path (stored_name own script))) same ∙ then.begins.lays (entry_path (stored_name own script)) refl) link)
 
-  followed_link : (script : Script) (e : Ended) (w : World) → HasFollowed c (commit_records g p mid.works mid.lists mid.database.records) g.entries mid.lists mid.database.records e last.world w
+  followed_link : (script : Script) (e : Ended) (w : World) → HasFollowed c (commit_records g p mid.works mid.lists mid.database.records) g.entries mid.lists mid.database.records (length p.others) e last.world w
       → (IsLink (last.world (entry_path (stored_name own script))) → ⊥) → IsLink (w (entry_path (stored_name own script))) → ⊥
   followed_link script Committed w has before link =
       let word = script_name script in
@@ -232,20 +244,20 @@ module _ (g : Ground) (p : Planned) (named : is_package_name (package_name g p) 
       no_link_member p.members word (w (stored_member_path own word))
       (members_stored c g.entries mid.lists last.world (put_records (commit_records g p mid.works mid.lists mid.database.records) mid.database.records) w elsewhere has word is) link
   followed_link script (Unwound fall failed) w dropped before link =
-      before (subst IsLink (dropped_same (record_in mid.database.records own) own last.world w (entry_path (stored_name own script)) dropped (no_list own own (script_name script) (script_is_member script))) link)
+      before (subst IsLink (dropped_same (nat_le (length p.others) fall.row) (record_in mid.database.records own) own last.world w (entry_path (stored_name own script)) dropped (no_list own own (script_name script) (script_is_member script))) link)
 
-  own_script : (script : Script) → ((r : Record) → p.found ≡ Some r → IsLink (old (entry_path (stored_name own script))) → ⊥) → IsLink (new (entry_path (stored_name own script))) → ⊥
-  own_script script before link =
+  own_script : (script : Script) → (p.found ≡ None → is_gone p.found (length p.others) place ≡ true) → ((r : Record) → p.found ≡ Some r → IsLink (old (entry_path (stored_name own script))) → ⊥) → IsLink (new (entry_path (stored_name own script))) → ⊥
+  own_script script gone before link =
       let entry = stored_name own script in
       let word = script_name script in
       let is = script_is_member script in
       followed_link script ended left.followed left.has_followed
-      (λ at_last. cleared_link script p.found begins.clears before
-      (subst IsLink (rows_same entry (no_list own own word is) (no_temporary own word (list_path own) is) ∙ begins.lays (entry_path entry) refl) at_last))
+      (λ at_last. base_link script p.found gone then.clears before (subst IsLink (rows_same entry (no_list own own word is) (no_temporary own word (list_path own) is)) at_last))
       (subst IsLink (left.removed.rest (entry_path entry) refl) link)
 
   -- each entry is sound in the end, for packages of before and this one
   module _ (before after : List (List ℕ)) (found : (r : Record) → p.found ≡ Some r → Contains before own) (known : (q : List ℕ) → Contains after q → Contains before q ⊎ (q ≡ own))
+      (gone : Contains after own → p.found ≡ None → is_gone p.found (length p.others) place ≡ true)
       (sound : AreSound old before) (loose : AreLoose new) (lists : List PackageList) (listed : HasLists new after lists) where
     colon_left : (entry : Path) → has_slash entry ≡ false → IsSome (new (entry_path entry)) → (b : Bool) → is_foreign entry ≡ b → b ≡ false
     colon_left entry whole some false e = refl
@@ -256,7 +268,7 @@ module _ (g : Ground) (p : Planned) (named : is_package_name (package_name g p) 
     script_left entry whole script q has is link true e =
         let same : q ≡ own = (bytes_eq-Decides q own).0 e in
         let at_own : entry ≡ stored_name own script = is ∙ ap (λ (n : List ℕ). stored_name n script) same in
-        own_script script (λ r is_found. (sound (stored_name own script) (stored_name_plain own (script_name script) named (script_is_member script))).script (script, own, found r is_found, refl)) (subst (λ (x : Path). IsLink (new (entry_path x))) at_own link)
+        own_script script (gone (subst (Contains after) same has)) (λ r is_found. (sound (stored_name own script) (stored_name_plain own (script_name script) named (script_is_member script))).script (script, own, found r is_found, refl)) (subst (λ (x : Path). IsLink (new (entry_path x))) at_own link)
     script_left entry whole script q has is link false e =
         let other : q ≡ own → ⊥ = (λ same. true≢false (sym ((bytes_eq-Decides q own).1 same) ∙ e)) in
         elim (known q has) [

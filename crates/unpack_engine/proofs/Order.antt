@@ -16,8 +16,9 @@ use Rattle.status_db.specs.Held.{IsKept, is_record_place}
 use Rattle.status_db.specs.Recorded.{Recorded}
 use Rattle.status_db.specs.declared.record.Record.{Record}
 use Rattle.unpack_engine.specs.Order.{IsInOrder}
-use Rattle.unpack_engine.specs.Units.{HasBegun, HasCleared, IsBesideOwn, MayBegin, MayClear}
-use Rattle.unpack_engine.proofs.Cleared.{begun_info, begun_kept, begun_loose}
+use Rattle.unpack_engine.specs.Units.{HasBegun}
+use Rattle.unpack_engine.proofs.Cleared.{laid_info, laid_loose}
+use Rattle.unpack_engine.proofs.Dropping.{laying_kept}
 use Rattle.unpack_engine.proofs.Ready.{list_ready, members_ready}
 
 pub directory_there : (node : Option Node) → is_directory node ≡ true → IsDirectory node
@@ -43,9 +44,12 @@ module _ (d : Recorded) (lists : List PackageList) (w : World) (order : IsInOrde
   own_members name named = members_ready w info_there order.loose name named
 
   -- what a unit that has begun finds
-  module _ (found : Option Record) (name : Path) (named : is_package_name name ≡ true) (ms : List Member) (new : World) (begun : HasBegun found name ms w new) where
+  module _ (name : Path) (named : is_package_name name ≡ true) (ms : List Member) (new : World) (begun : HasBegun ms w new) where
     pub records_begun : IsKept d new
-    records_begun = begun_kept found name named w (own_list name named) (own_members name named) order.loose ms new begun d order.kept
+    records_begun = laying_kept w new begun.lays d order.kept
 
     pub list_begun : IsListReady name new
-    list_begun = list_ready new (begun_info found name ms w new begun info_there) (begun_loose found name named w (own_list name named) (own_members name named) order.loose ms new begun) name named
+    list_begun = list_ready new (laid_info w new begun.lays info_there) (laid_loose w new begun.lays order.loose) name named
+
+    pub members_begun : IsMembersReady name new
+    members_begun = members_ready new (laid_info w new begun.lays info_there) (laid_loose w new begun.lays order.loose) name named

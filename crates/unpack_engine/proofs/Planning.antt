@@ -20,15 +20,11 @@ use Rattle.unpack_run.specs.Trail.{HasCome}
 use Rattle.unpack_rows.specs.Kinds.{kinds_of}
 use Rattle.unpack_rows.specs.Stages.{stage_of}
 use Rattle.unpack_engine.specs.Order.{IsInOrder}
-use Rattle.unpack_engine.specs.Units.{Begins, Given, Ground, HasCalled, HasCalledRows, HasCarriedOut, HasUnpacked, IsAmidUnit, IsPlanFor, IsRunning, IsStage, IsUnderWay, MayBegin, MayClear, ground_of, last_place, package_name, stage_records, task_from}
+use Rattle.unpack_engine.specs.Units.{Begins, Given, Ground, HasCalled, HasCalledRows, HasCarriedOut, HasUnpacked, IsAmidUnit, IsPlanFor, IsRunning, IsStage, IsUnderWay, ground_of, last_place, package_name, stage_records, task_from}
 use Rattle.unpack_engine.proofs.EndOrder.{plan_named}
 use Rattle.unpack_engine.proofs.Order.{own_list, own_members}
 use Rattle.unpack_engine.proofs.Sequel.{called_behind}
 use Rattle.unpack_engine.proofs.UnderWay.{IsStaged, beginning_under_way}
-
-clear_start : (found : Option Record) (name : Path) (w : World) → MayClear found name w w
-clear_start None name w = record { list = inl refl; members = λ member is. inl refl; rest = λ q beside. refl }
-clear_start (Some r) name w = refl
 
 -- before it begins
 pub start_under_way : (g : Ground) (j : Job) (p : Planned) → IsPlanned j p → (d : Recorded) (lists : List PackageList) → d.records ≡ g.records → (a : State) → Needs a (IsInOrder d lists) → Needs a IsTree → AtEachMomentOf (IsUnderWay g p) a a
@@ -36,7 +32,7 @@ start_under_way g j p planned d lists same a order tree = since_here (IsUnderWay
     let named = plan_named g j p planned in
     let o = order h in
     beginning_under_way g p named planned.works_are.named a.world (own_list d lists a.world o (package_name g p) named) (own_members d lists a.world o (package_name g p) named) o.loose
-    (incoming_absent a.world (tree h) o.tmp) d o.kept same [] a.world refl (MayBegin.clearing (clear_start p.found (package_name g p) a.world)))
+    (incoming_absent a.world (tree h) o.tmp) d o.kept same [] a.world refl (record { rest = λ q out. refl; incoming = incoming_absent a.world (tree h) o.tmp }))
 
 none_before : (es fs : List Event) → scripts_of es ≡ [] → scripts_of fs ≡ [] → scripts_of (es ++ fs) ≡ []
 none_before es fs first second = scripts_of-append es fs ∙ ap (λ (l : List Event). l ++ scripts_of fs) first ∙ second

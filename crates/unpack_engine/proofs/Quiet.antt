@@ -11,6 +11,7 @@ use Rattle.unpack_plan.specs.Planned.{Planned}
 use Rattle.unpack_rows.specs.Kinds.{kinds_of}
 use Rattle.unpack_rows.specs.Stages.{stage_of}
 use Rattle.unpack_run.specs.At.{IsAmid as AreFilesAmid, Stops, table_at}
+use Rattle.unpack_run.specs.Task.{state_on}
 use Rattle.unpack_run.specs.Trail.{HasCome}
 use Rattle.unpack_engine.specs.Units.{Given, Ground, IsAmid, IsAmidUnit, IsRunning, IsStage, IsUnderWay, ground_of, last_place, stage_records, task_from}
 use Rattle.unpack_engine.proofs.UnderWay.{IsStaged}
@@ -33,7 +34,9 @@ module _ (g : Ground) (p : Planned) (old : World) (x quiet : List Event) (now : 
         records = stops.records;
         opens = stops.opens;
         ready = stops.ready;
-        files = subst (λ c. AreFilesAmid (task_from g p begun) (table_at (task_from g p begun) stops.place) c now) (sym (quiet_changes stops.since quiet none)) stops.files;
+        base = stops.base;
+        cleared = stops.cleared;
+        files = subst (λ c. AreFilesAmid (task_from g p (state_on begun stops.base)) (table_at (task_from g p begun) stops.place) c now) (sym (quiet_changes stops.since quiet none)) stops.files;
       } in
       (IsStage.running (IsRunning.running begun before (more ++ quiet) (ap (λ (l : List Event). l ++ quiet) is ∙ append_assoc before more quiet) silent begins still), has)
   staged_still (IsStage.leaving ended works begun last begins are came may) has = (

@@ -1,5 +1,5 @@
 -- Before a commit begins.
-use Rattle.std.proofs.Common.{◌≡◌, inl, inr, true, List, Option, refl}
+use Rattle.std.proofs.Common.{◌≡◌, inl, inr, ℕ, true, List, Option, refl}
 use Rattle.host_core.specs.Paths.{Path}
 use Rattle.host_core.specs.World.{World}
 use Rattle.host_core.specs.Host.{State, AtEachMoment, Needs}
@@ -15,9 +15,9 @@ use Rattle.unpack_commit.specs.Commit.{Changes, MayCommit}
 use Rattle.unpack_engine.specs.Units.{MayLeave, MayLeaveBy}
 use Rattle.unpack_engine.proofs.Ready.{kept_opens}
 
-module _ (c : Changes) (entries : List Diversion) (lists : List PackageList) (records : List Record) (d : Recorded) where
+module _ (c : Changes) (entries : List Diversion) (lists : List PackageList) (records : List Record) (d : Recorded) (others : ℕ) where
   pub commit_start : (w : World) → IsKept d w → MayCommit c entries lists records d.records w w
   commit_start w kept = MayCommit.renewing (inl (record { each = λ q. inl refl })) kept.holds (kept_opens d w kept)
 
-  pub leave_start : (a : State) → Needs a (IsKept d) → AtEachMoment (MayLeave c records entries lists d.records Committed) a a
-  leave_start a kept = since_here (λ so_far. MayLeave c records entries lists d.records Committed a.world) a (λ h. MayLeaveBy.following (commit_start a.world (kept h)))
+  pub leave_start : (a : State) → Needs a (IsKept d) → AtEachMoment (MayLeave c records entries lists d.records others Committed) a a
+  leave_start a kept = since_here (λ so_far. MayLeave c records entries lists d.records others Committed a.world) a (λ h. MayLeaveBy.following (commit_start a.world (kept h)))

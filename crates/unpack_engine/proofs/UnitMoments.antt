@@ -1,5 +1,5 @@
 -- What holds at each moment of a unit, from those of its rows and of what follows them.
-use Rattle.std.proofs.Common.{◌≡◌, IsTrue, true, List, [], ◌++◌, refl, sym, ap, subst, ◌∙◌, append_assoc}
+use Rattle.std.proofs.Common.{◌≡◌, IsTrue, true, List, [], ◌++◌, length, refl, sym, ap, subst, ◌∙◌, append_assoc}
 use Rattle.std.proofs.lemmas.List.{append-nil, append_cancel_left}
 use Rattle.texts.specs.PackageNames.{is_package_name}
 use Rattle.host_core.specs.Paths.{Path}
@@ -12,6 +12,7 @@ use Rattle.host_core.specs.Tree.{IsTree}
 use Rattle.unwind_stack.specs.declared.rows.Called.{Called}
 use Rattle.unwind_stack.specs.declared.rows.Row.{Row}
 use Rattle.cleanup_stack.specs.Transcripts.{Ended}
+use Rattle.control_members.specs.LaidOut.{IsLaying}
 use Rattle.control_members.proofs.LaidOut.{incoming_absent}
 use Rattle.diversions.specs.declared.entry.Diversion.{Diversion}
 use Rattle.file_lists.specs.Filed.{Filed}
@@ -26,7 +27,7 @@ use Rattle.unpack_run.specs.declared.plan.Rows.{Rows}
 use Rattle.unpack_engine.specs.declared.course.Rest.{Rest}
 use Rattle.unpack_engine.specs.Courses.{changes_from, planned_from, records_from}
 use Rattle.unpack_engine.specs.Order.{IsInOrder}
-use Rattle.unpack_engine.specs.Units.{Begins, Ground, HasBegun, HasRunRows, IsRunning, IsUnderWay, MayBegin, MayBeginOne, MayLeave, changes, commit_records, ground, package_name, task_from}
+use Rattle.unpack_engine.specs.Units.{Begins, Ground, HasBegun, HasRunRows, IsRunning, IsUnderWay, MayLeave, changes, commit_records, ground, package_name, task_from}
 use Rattle.unpack_engine.proofs.AfterRows.{leaving_under_way}
 use Rattle.unpack_engine.proofs.EndOrder.{plan_named}
 use Rattle.unpack_engine.proofs.Order.{own_list, own_members}
@@ -42,22 +43,22 @@ same_changes a begun b early late all more quiet first second whole none =
 
 module _ (g : Ground) (j : Job) (p : Planned) (planned : IsPlanned j p) (before : Recorded) (lists_before : List PackageList) (same : before.records ≡ g.records)
     (a b : State) (order : Needs a (IsInOrder before lists_before)) (tree : Needs a IsTree)
-    (first : AtEachMomentOf (IsRunning (Begins g p) (MayBeginOne g p) (task_from g p)) a b) where
+    (first : AtEachMomentOf (IsRunning (Begins g p) IsLaying (task_from g p)) a b) where
   named : is_package_name (package_name g p) ≡ true
   named = plan_named g j p planned
 
   pub run_moments : AtEachMomentOf (IsUnderWay g p) a b
   run_moments =
-      since_weaker_if (IsRunning (Begins g p) (MayBeginOne g p) (task_from g p) a.world) (IsUnderWay g p a.world) a b
+      since_weaker_if (IsRunning (Begins g p) IsLaying (task_from g p) a.world) (IsUnderWay g p a.world) a b
       (λ h so_far now is.
       let o = order (first.honest h) in
       run_under_way g p named planned.works_are.named a.world (own_list before lists_before a.world o (package_name g p) named) (own_members before lists_before a.world o (package_name g p) named) o.loose
       (incoming_absent a.world (tree (first.honest h)) o.tmp) before o.kept same so_far now is) first
 
   module _ (c : State) (ended : Ended) (mid : Holding) (told now : List Called) (ran : HasRunRows (Begins g p) (task_from g p) p.rows ended mid a b told now) (silent : Silent b c)
-      (second : AtEachMoment (MayLeave (changes g p mid.works mid.lists) (commit_records g p mid.works mid.lists mid.database.records) g.entries mid.lists mid.database.records ended) b c) where
+      (second : AtEachMoment (MayLeave (changes g p mid.works mid.lists) (commit_records g p mid.works mid.lists mid.database.records) g.entries mid.lists mid.database.records (length p.others) ended) b c) where
     abbrev MayEnd : World → Type 0
-    MayEnd = MayLeave (changes g p mid.works mid.lists) (commit_records g p mid.works mid.lists mid.database.records) g.entries mid.lists mid.database.records ended b.world
+    MayEnd = MayLeave (changes g p mid.works mid.lists) (commit_records g p mid.works mid.lists mid.database.records) g.entries mid.lists mid.database.records (length p.others) ended b.world
 
     ends : (h : IsTrue c.honest) (so_far : List Event) (now : World) → MayEnd now × (scripts_of so_far ≡ []) → IsUnderWay g p a.world (run_moments.added ++ so_far) now
     ends h so_far now is =
@@ -85,12 +86,12 @@ module _ (database : Recorded) (lists : Filed) (entries : List Diversion) (place
   abbrev p : Planned
   p = planned_from rows works calls rest
 
-  pub course_begins : AtEachMomentOf (IsRunning (HasBegun rows.found own rest.members) (MayBegin rows.found own) (λ s. task_of s database lists entries places works rows)) a b → AtEachMomentOf (IsUnderWay g p) a b
+  pub course_begins : AtEachMomentOf (IsRunning (HasBegun rest.members) IsLaying (λ s. task_of s database lists entries places works rows)) a b → AtEachMomentOf (IsUnderWay g p) a b
   course_begins first = run_moments g j p planned database lists.lists refl a b order tree first
 
   pub course_moments : (c : State) (ended : Ended) (mid : Holding) (told now : List Called)
-      → AtEachMomentOf (IsRunning (HasBegun rows.found own rest.members) (MayBegin rows.found own) (λ s. task_of s database lists entries places works rows)) a b
-      → HasRunRows (HasBegun rows.found own rest.members) (λ s. task_of s database lists entries places works rows) calls ended mid a b told now → Silent b c
-      → AtEachMoment (MayLeave (changes_from own rows.yields entries mid.lists mid.works rest) (records_from own rows.yields entries mid.lists mid.works rest mid.database.records) entries mid.lists mid.database.records ended) b c
+      → AtEachMomentOf (IsRunning (HasBegun rest.members) IsLaying (λ s. task_of s database lists entries places works rows)) a b
+      → HasRunRows (HasBegun rest.members) (λ s. task_of s database lists entries places works rows) calls ended mid a b told now → Silent b c
+      → AtEachMoment (MayLeave (changes_from own rows.yields entries mid.lists mid.works rest) (records_from own rows.yields entries mid.lists mid.works rest mid.database.records) entries mid.lists mid.database.records (length rows.others.items) ended) b c
       → AtEachMomentOf (IsUnderWay g p) a c
   course_moments c ended mid told now first ran silent second = unit_moments g j p planned database lists.lists refl a b order tree first c ended mid told now ran silent second

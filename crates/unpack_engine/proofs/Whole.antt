@@ -168,7 +168,7 @@ module _ (database : Recorded) (lists : Filed) (entries : List Diversion) (place
   parts_length = plan_length g plan.job p plan.records_are plan.planned plan.others
 
   module _ (ended : Ended) (mid : Holding) (old last : State) (order : Needs old (IsInOrder database lists.lists)) (tree : Needs old IsTree) (told now : List Called)
-      (ran : HasRunRows (HasBegun rows.found own rest.members) (λ s. task_of s database lists entries places works rows) calls ended mid old last told now) where
+      (ran : HasRunRows (HasBegun rest.members) (λ s. task_of s database lists entries places works rows) calls ended mid old last told now) where
     pub parts_info : Needs last (λ w. IsDirectory (w info_path))
     parts_info = last_info g plan.job p plan.planned database lists.lists old last order tree ended mid told now ran parts_length
 

@@ -1,6 +1,6 @@
 -- The unit of an unpack: what it does, from the world that it finds to the one that it leaves, and what holds at each moment of it
 -- (Policy 6.6).
-use Rattle.std.specs.Prelude.{◌≡◌, ◌≢◌, ◌⊎◌, ◌↔◌, ℕ, Bool, true, false, IsTrue, List, [], ◌∷◌, ◌++◌, Option, Some, None, Contains, is_some, length}
+use Rattle.std.specs.Prelude.{◌≡◌, ◌≢◌, ◌⊎◌, ◌↔◌, ℕ, Bool, true, false, IsTrue, List, [], ◌∷◌, ◌++◌, Option, Some, None, Contains, is_some, length, nat_le}
 use Rattle.host_core.specs.Paths.{Path}
 use Rattle.host_core.specs.World.{World, KeepsBut}
 use Rattle.host_core.specs.Events.{Event, changes_of, scripts_of}
@@ -16,9 +16,7 @@ use Rattle.cleanup_stack.specs.Place.{Place}
 use Rattle.cleanup_stack.specs.Telling.{Begun, HasRun}
 use Rattle.cleanup_stack.specs.Transcripts.{Ended, Committed, Unwound, MayRun}
 use Rattle.control_members.specs.LaidOut.{AreLaidOut, IsIncoming, IsLaying}
-use Rattle.control_members.specs.Names.{is_member_name}
 use Rattle.control_members.specs.declared.member.Member.{Member}
-use Rattle.control_members.specs.Stored.{AreStored, stored_member_path}
 use Rattle.diversions.specs.declared.entry.Diversion.{Diversion}
 use Rattle.file_lists.specs.Increasing.{AreIncreasing}
 use Rattle.file_lists.specs.Info.{AreLoose}
@@ -38,6 +36,7 @@ use Rattle.unpack_rows.specs.Notes.{noted, notes_at}
 use Rattle.unpack_rows.specs.Stages.{stage_of}
 use Rattle.unpack_rows.specs.declared.rows.OtherPackage.{OtherPackage}
 use Rattle.unpack_rows.specs.declared.rows.Present.{Present}
+use Rattle.unpack_run.specs.Clearing.{MayClear, is_gone, next_ready}
 use Rattle.unpack_run.specs.Task.{Task, lists_at}
 use Rattle.unpack_run.specs.Trail.{HasCome}
 use Rattle.unpack_run.specs.At.{AreWorksAt, At, Holding, IsFileFault, Stops}
@@ -74,53 +73,27 @@ abbrev pub IsSeen : Option Record → List ℕ → World → Present → Type 0
 IsSeen None name w stored = (script : Script) → is_present stored script ≡ false
 IsSeen (Some r) name w stored = (script : Script) → is_present stored script ≡ is_some (w (script_path name script))
 
--- a path that is neither the list of a package nor one of its stored control files
-pub record IsBesideOwn (name : List ℕ) (q : Path) : Type 0 where
-  pub list : q ≢ list_path name
-  pub members : (member : Path) → is_member_name member ≡ true → q ≢ stored_member_path name member
-
--- nothing is left in `info` under this name, and all else is as before
-pub record IsCleared (name : List ℕ) (old new : World) : Type 0 where
-  pub list : new (list_path name) ≡ None
-  pub members : AreStored name [] new
-  pub rest : (q : Path) → IsBesideOwn name q → new q ≡ old q
-
--- at each moment: what stood there, or nothing
-pub record IsClearing (name : List ℕ) (old now : World) : Type 0 where
-  pub list : (now (list_path name) ≡ old (list_path name)) ⊎ (now (list_path name) ≡ None)
-  pub members : (member : Path) → is_member_name member ≡ true
-      → (now (stored_member_path name member) ≡ old (stored_member_path name member)) ⊎ (now (stored_member_path name member) ≡ None)
-  pub rest : (q : Path) → IsBesideOwn name q → now q ≡ old q
-
--- what a name without a record left behind goes; a package that has a record keeps its files
-abbrev pub HasCleared : Option Record → List ℕ → World → World → Type 0
-HasCleared None name old new = IsCleared name old new
-HasCleared (Some r) name old new = new ≡ old
-
-abbrev pub MayClear : Option Record → List ℕ → World → World → Type 0
-MayClear None name old now = IsClearing name old now
-MayClear (Some r) name old now = now ≡ old
-
--- what is left under the name is gone, and then these control files are laid out
-pub record HasBegun (found : Option Record) (name : List ℕ) (members : List Member) (old new : World) : Type 0 where
-  pub cleared : World
-  pub clears : HasCleared found name old cleared
-  pub lays : KeepsBut (is_within tmp_path) cleared new
+-- these control files are laid out, and nothing else is done
+pub record HasBegun (members : List Member) (old new : World) : Type 0 where
+  pub lays : KeepsBut (is_within tmp_path) old new
   pub laid : AreLaidOut members new
 
--- at each moment
-pub data MayBegin (found : Option Record) (name : List ℕ) (old now : World) : Type 0 where
-  clearing : MayClear found name old now → MayBegin found name old now
-  laying : (cleared : World) → HasCleared found name old cleared → IsLaying cleared now → MayBegin found name old now
+-- and then what is left in `info` under the name is gone already; or it goes, or all is as before
+pub record HasBegunSo (gone goes : Bool) (name : List ℕ) (members : List Member) (old new : World) : Type 0 where
+  pub begun : World
+  pub begins : HasBegun members old begun
+  pub clears : MayClear gone goes name begun new
 
--- the list of a package that has no record in the end goes too
-abbrev pub HasDropped : Option Record → List ℕ → World → World → Type 0
-HasDropped None name old new = IsDropped (list_path name) old new
-HasDropped (Some r) name old new = new ≡ old
+-- the list of a package that has no record in the end goes too, where the rows went on to its new preinst
+abbrev pub HasDropped : (reached : Bool) → Option Record → List ℕ → World → World → Type 0
+HasDropped true None name old new = IsDropped (list_path name) old new
+HasDropped true (Some r) name old new = new ≡ old
+HasDropped false found name old new = new ≡ old
 
-abbrev pub MayDrop : Option Record → List ℕ → World → World → Type 0
-MayDrop None name old now = IsDropping (list_path name) old now
-MayDrop (Some r) name old now = now ≡ old
+abbrev pub MayDrop : (reached : Bool) → Option Record → List ℕ → World → World → Type 0
+MayDrop true None name old now = IsDropping (list_path name) old now
+MayDrop true (Some r) name old now = now ≡ old
+MayDrop false found name old now = now ≡ old
 
 -- and then `tmp.ci` is gone
 pub record HasLeftBy (follows : World → World → Type 0) (old new : World) : Type 0 where
@@ -133,15 +106,16 @@ pub data MayLeaveBy (follows may_follow : World → World → Type 0) (old now :
   following : may_follow old now → MayLeaveBy follows may_follow old now
   clearing_away : (followed : World) → follows old followed → CanOpenRecords followed → IsLaying followed now → MayLeaveBy follows may_follow old now
 
--- what follows the rows: this commit with these records; or for a package that has no record now the end of its list
-module _ (c : Changes) (records : List Record) (entries : List Diversion) (lists : List PackageList) (table : List Record) where
+-- what follows the rows, of which so many are of other packages: this commit with these records; or for a package that has no
+-- record now the end of its list
+module _ (c : Changes) (records : List Record) (entries : List Diversion) (lists : List PackageList) (table : List Record) (others : ℕ) where
   abbrev pub HasFollowed : Ended → World → World → Type 0
   HasFollowed Committed old new = HasCommitted c entries lists (put_records records table) old new
-  HasFollowed (Unwound fall failed) old new = HasDropped (record_in table c.name) c.name old new
+  HasFollowed (Unwound fall failed) old new = HasDropped (nat_le others fall.row) (record_in table c.name) c.name old new
 
   abbrev pub MayFollow : Ended → World → World → Type 0
   MayFollow Committed old now = MayCommit c entries lists records table old now
-  MayFollow (Unwound fall failed) old now = MayDrop (record_in table c.name) c.name old now
+  MayFollow (Unwound fall failed) old now = MayDrop (nat_le others fall.row) (record_in table c.name) c.name old now
 
   -- and then `tmp.ci` goes
   abbrev pub HasLeft : Ended → World → World → Type 0
@@ -258,20 +232,21 @@ module _ (g : Ground) (p : Planned) where
   abbrev pub lists_after : Ended → State → List PackageList
   lists_after ended begun = lists_at (task_from begun) (stage_of (kinds_of p.found p.others) (last_place ended))
 
-  -- how it begins, and each moment of that
+  -- how it begins
   abbrev pub Begins : World → World → Type 0
-  Begins = HasBegun p.found package_name p.members
+  Begins = HasBegun p.members
 
-  abbrev pub MayBeginOne : World → World → Type 0
-  MayBeginOne = MayBegin p.found package_name
+  -- with what is left under the package's name at a place of its rows
+  abbrev pub BeginsAt : Place → World → World → Type 0
+  BeginsAt place = HasBegunSo (is_gone p.found (length p.others) place) (is_gone p.found (length p.others) (next_ready place)) package_name p.members
 
   -- How far a unit is: it begins, its rows run, or they have run and what follows is under way.
   pub data IsStage (old : World) (so_far : List Event) (now : World) : Type 0 where
-    running : IsRunning Begins MayBeginOne task_from old so_far now → IsStage old so_far now
-    leaving : (ended : Ended) (works : List Work) (begun : State) (last : World) → Begins old begun.world
+    running : IsRunning Begins IsLaying task_from old so_far now → IsStage old so_far now
+    leaving : (ended : Ended) (works : List Work) (begun : State) (last : World) → BeginsAt (last_place ended) old begun.world
         → AreWorksAt (task_from begun) (last_place ended) (stage_of (kinds_of p.found p.others) (last_place ended)) works
         → HasCome (task_from begun) (stage_of (kinds_of p.found p.others) (last_place ended)) works (changes_of so_far) last
-        → MayLeave (changes works (lists_after ended begun)) (commit_records works (lists_after ended begun) (table_after (last_place ended))) g.entries (lists_after ended begun) (table_after (last_place ended)) ended last now
+        → MayLeave (changes works (lists_after ended begun)) (commit_records works (lists_after ended begun) (table_after (last_place ended))) g.entries (lists_after ended begun) (table_after (last_place ended)) (length p.others) ended last now
         → IsStage old so_far now
 
   -- The records at a stage: while it begins those of before; while its rows run these with the notes up to their place; then those
@@ -282,7 +257,7 @@ module _ (g : Ground) (p : Planned) where
   stage_records old so_far now (IsStage.leaving ended works begun last begins are come may) =
       let lists = lists_after ended begun in
       let table = table_after (last_place ended) in
-      put_records (noted_so_far (changes works lists) (commit_records works lists table) g.entries lists table ended last now may) table
+      put_records (noted_so_far (changes works lists) (commit_records works lists table) g.entries lists table (length p.others) ended last now may) table
 
   -- The unit once it is planned: it begins, calls its rows' scripts and none else, and commits or undoes. These records and lists
   -- are left.
@@ -292,7 +267,7 @@ module _ (g : Ground) (p : Planned) where
     pub ran : HasRunRows Begins task_from p.rows ended mid old last told now
     pub since : Silent last new
     pub later : IsLater last new
-    pub leaves : IsTrue new.honest → HasLeft (changes mid.works mid.lists) (commit_records mid.works mid.lists mid.database.records) g.entries mid.lists mid.database.records ended last.world new.world
+    pub leaves : IsTrue new.honest → HasLeft (changes mid.works mid.lists) (commit_records mid.works mid.lists mid.database.records) g.entries mid.lists mid.database.records (length p.others) ended last.world new.world
     pub records : after.records ≡ end_table ended mid.works mid.lists mid.database.records
     pub lists_are : lists ≡ end_lists ended mid.works mid.lists
 

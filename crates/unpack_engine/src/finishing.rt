@@ -1,5 +1,5 @@
 // What follows the rows of a unit, however they ended.
-ghost use Rattle.std.specs.Prelude.{◌≡◌, ◌++◌, true, false, ℕ, List, IfOk, OnOk, Contains};
+ghost use Rattle.std.specs.Prelude.{◌≡◌, ◌++◌, true, false, ℕ, List, IfOk, OnOk, Contains, length};
 ghost use Rattle.texts.specs.PackageNames.{is_package_name};
 ghost use Rattle.host_core.specs.World.{IsDirectory};
 ghost use Rattle.host_core.specs.Host.{AtEachMoment, Counts, Leaves, Needs, Silent};
@@ -45,12 +45,13 @@ pub struct Unpacked {
     pub touched: Texts,
 }
 
-// Ends a unit whose rows were unwound.
+// Ends a unit whose rows were unwound, and had gone on to the new preinst's or hadn't.
 fn finish_unwound<H: Host>(
     alloc: Global,
     host: &mut H,
     database: &NotedDatabase,
     name: &Text,
+    reached: bool,
     others: &[Record],
     members: &Members,
 ) -> Result<Texts, HostFault>
@@ -59,12 +60,12 @@ fn finish_unwound<H: Host>(
     requires laid { Needs (H.state host.old) (AreLaidOut members.now) }
     requires kept { Needs (H.state host.old) (IsKept database.now) }
     ensures told { IfOk result (AreTold name.now (deconfigured database.now.records others.now)) }
-    ensures left { Leaves result (HasLeftBy (HasDropped (record_in database.now.records name.now) name.now)) (H.state host.old) (H.state host.new) }
-    ensures any_moment { AtEachMoment (MayLeaveBy (HasDropped (record_in database.now.records name.now) name.now) (MayDrop (record_in database.now.records name.now) name.now)) (H.state host.old) (H.state host.new) }
+    ensures left { Leaves result (HasLeftBy (HasDropped reached (record_in database.now.records name.now) name.now)) (H.state host.old) (H.state host.new) }
+    ensures any_moment { AtEachMoment (MayLeaveBy (HasDropped reached (record_in database.now.records name.now) name.now) (MayDrop reached (record_in database.now.records name.now) name.now)) (H.state host.old) (H.state host.new) }
     ensures silent { Silent (H.state host.old) (H.state host.new) }
     ensures counts { Counts (H.state host.old) (H.state host.new) result }
 {
-    end_unwound(alloc, host, database, name, members)?;
+    end_unwound(alloc, host, database, name, reached, members)?;
     Ok(touched_of(alloc, database, name, &[], others)?)
 }
 
@@ -143,9 +144,9 @@ fn finish_committed<H: Host>(
     ensures lists { OnOk result (lists.new ≡ record lists.old { lists = committed_lists (changes_from name.now yields.now diversions.now.entries lists.old.lists works.now rest) diversions.now.entries lists.old.lists }) }
     ensures records { OnOk result (database.new.records ≡ put_records (records_from name.now yields.now diversions.now.entries lists.old.lists works.now rest database.old.records) database.old.records) }
     ensures opened { OnOk result (database.new.closed ≡ false) }
-    ensures left { Leaves result (HasLeft (changes_from name.now yields.now diversions.now.entries lists.old.lists works.now rest) (records_from name.now yields.now diversions.now.entries lists.old.lists works.now rest database.old.records) diversions.now.entries lists.old.lists database.old.records Committed) (H.state host.old) (H.state host.new) }
+    ensures left { Leaves result (HasLeft (changes_from name.now yields.now diversions.now.entries lists.old.lists works.now rest) (records_from name.now yields.now diversions.now.entries lists.old.lists works.now rest database.old.records) diversions.now.entries lists.old.lists database.old.records (length others.now) Committed) (H.state host.old) (H.state host.new) }
     ensures kept { Leaves result (λ old new. IsKept database.new new) (H.state host.old) (H.state host.new) }
-    ensures any_moment { AtEachMoment (MayLeave (changes_from name.now yields.now diversions.now.entries lists.old.lists works.now rest) (records_from name.now yields.now diversions.now.entries lists.old.lists works.now rest database.old.records) diversions.now.entries lists.old.lists database.old.records Committed) (H.state host.old) (H.state host.new) }
+    ensures any_moment { AtEachMoment (MayLeave (changes_from name.now yields.now diversions.now.entries lists.old.lists works.now rest) (records_from name.now yields.now diversions.now.entries lists.old.lists works.now rest database.old.records) diversions.now.entries lists.old.lists database.old.records (length others.now) Committed) (H.state host.old) (H.state host.new) }
     ensures silent { Silent (H.state host.old) (H.state host.new) }
     ensures counts { Counts (H.state host.old) (H.state host.new) result }
 {
@@ -187,9 +188,9 @@ pub(crate) fn finish<H: Host>(
     ensures lists { OnOk result (lists.new ≡ record lists.old { lists = ended_lists (ended_as unwinding) (changes_from (own_name rows.now.found rows.now.incoming) rows.now.yields diversions.now.entries lists.old.lists works.now rest) diversions.now.entries lists.old.lists }) }
     ensures records { OnOk result (database.new.records ≡ ended_table (ended_as unwinding) (records_from (own_name rows.now.found rows.now.incoming) rows.now.yields diversions.now.entries lists.old.lists works.now rest database.old.records) database.old.records) }
     ensures opened { OnOk result (database.new.closed ≡ false) }
-    ensures left { Leaves result (HasLeft (changes_from (own_name rows.now.found rows.now.incoming) rows.now.yields diversions.now.entries lists.old.lists works.now rest) (records_from (own_name rows.now.found rows.now.incoming) rows.now.yields diversions.now.entries lists.old.lists works.now rest database.old.records) diversions.now.entries lists.old.lists database.old.records (ended_as unwinding)) (H.state host.old) (H.state host.new) }
+    ensures left { Leaves result (HasLeft (changes_from (own_name rows.now.found rows.now.incoming) rows.now.yields diversions.now.entries lists.old.lists works.now rest) (records_from (own_name rows.now.found rows.now.incoming) rows.now.yields diversions.now.entries lists.old.lists works.now rest database.old.records) diversions.now.entries lists.old.lists database.old.records (length rows.now.others.items) (ended_as unwinding)) (H.state host.old) (H.state host.new) }
     ensures kept { Leaves result (λ old new. IsKept database.new new) (H.state host.old) (H.state host.new) }
-    ensures any_moment { AtEachMoment (MayLeave (changes_from (own_name rows.now.found rows.now.incoming) rows.now.yields diversions.now.entries lists.old.lists works.now rest) (records_from (own_name rows.now.found rows.now.incoming) rows.now.yields diversions.now.entries lists.old.lists works.now rest database.old.records) diversions.now.entries lists.old.lists database.old.records (ended_as unwinding)) (H.state host.old) (H.state host.new) }
+    ensures any_moment { AtEachMoment (MayLeave (changes_from (own_name rows.now.found rows.now.incoming) rows.now.yields diversions.now.entries lists.old.lists works.now rest) (records_from (own_name rows.now.found rows.now.incoming) rows.now.yields diversions.now.entries lists.old.lists works.now rest database.old.records) diversions.now.entries lists.old.lists database.old.records (length rows.now.others.items) (ended_as unwinding)) (H.state host.old) (H.state host.new) }
     ensures silent { Silent (H.state host.old) (H.state host.new) }
     ensures counts { Counts (H.state host.old) (H.state host.new) result }
 {
@@ -209,8 +210,9 @@ pub(crate) fn finish<H: Host>(
             }
         }
         Some(unwinding) => {
+            let reached = others.len() <= unwinding.fall.row;
             let members = &rest.members;
-            match finish_unwound(alloc, host, database, name, others, members) {
+            match finish_unwound(alloc, host, database, name, reached, others, members) {
                 Ok(touched) => Ok(Unpacked {
                     unwinding: Some(unwinding),
                     touched,

@@ -1,7 +1,6 @@
 //! The unit of an unpack: rows, notes, lists and files, in Policy's order (Policy 6.6).
 #![tactic(auto)]
 
-mod beginning;
 mod committed;
 mod course;
 mod finishing;

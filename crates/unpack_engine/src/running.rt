@@ -2,6 +2,7 @@
 ghost use Rattle.std.specs.Prelude.{◌≡◌, false, IfOk, length};
 ghost use Rattle.host_core.specs.Host.{AtEachMomentOf, Counts, Needs};
 ghost use Rattle.cleanup_stack.specs.Place.{Fit};
+ghost use Rattle.control_members.specs.LaidOut.{IsLaying};
 ghost use Rattle.stack_run.specs.Ended.{IsCauseOf, ended_as};
 ghost use Rattle.unpack_rows.specs.EndStates.{own_name};
 ghost use Rattle.unpack_rows.specs.ForwardRows.{Fits};
@@ -9,10 +10,9 @@ ghost use Rattle.unpack_rows.specs.Kinds.{kinds_of};
 ghost use Rattle.unpack_run.specs.At.{holding};
 ghost use Rattle.unpack_run.specs.Task.{IsSound, task_of};
 ghost use Rattle.unpack_engine.specs.Order.{IsInOrder};
-ghost use Rattle.unpack_engine.specs.Units.{HasBegun, HasCalledRows, HasRunRows, IsRunning, MayBegin};
+ghost use Rattle.unpack_engine.specs.Units.{HasBegun, HasCalledRows, HasRunRows, IsRunning};
 
-use crate::beginning::begin;
-use control_members::Members;
+use control_members::{Members, lay_out};
 use diversions::Diversions;
 use file_lists::FileLists;
 use file_works::Work;
@@ -23,7 +23,7 @@ use std::alloc::Global;
 use unpack_run::{Rows, run_unpack_rows};
 use unwind_stack::{Called, Row};
 
-/// Begins a unit and runs its rows.
+/// Begins a unit, for which the tree's control files are laid out, and runs its rows.
 pub(crate) fn begin_and_run<H: Host>(
     alloc: Global,
     host: &mut H,
@@ -44,13 +44,18 @@ pub(crate) fn begin_and_run<H: Host>(
     requires rows { Fit (Fits (own_name rows.now.found rows.now.incoming) (kinds_of rows.now.found rows.now.others.items)) calls.items }
     requires length { length calls.items ≡ length (kinds_of rows.now.found rows.now.others.items) }
     requires order { Needs (H.state host.old) (IsInOrder database.old lists.old.lists) }
-    ensures ran { IfOk result (λ u. HasRunRows (HasBegun rows.now.found (own_name rows.now.found rows.now.incoming) members.now) (λ s. task_of s database.old lists.old diversions.now.entries places.old works.old.items rows.now) calls.items (ended_as u) (holding database.new lists.new places.new works.new.items) (H.state host.old) (H.state host.new) told.old.items told.new.items) }
+    ensures ran { IfOk result (λ u. HasRunRows (HasBegun members.now)
+        (λ s. task_of s database.old lists.old diversions.now.entries places.old works.old.items rows.now) calls.items
+        (ended_as u) (holding database.new lists.new places.new works.new.items)
+        (H.state host.old) (H.state host.new) told.old.items told.new.items) }
     ensures cause { IfOk result (IsCauseOf calls.items) }
     ensures told { HasCalledRows calls.items (H.state host.old) (H.state host.new) told.old.items told.new.items }
-    ensures any_moment { AtEachMomentOf (IsRunning (HasBegun rows.now.found (own_name rows.now.found rows.now.incoming) members.now) (MayBegin rows.now.found (own_name rows.now.found rows.now.incoming)) (λ s. task_of s database.old lists.old diversions.now.entries places.old works.old.items rows.now)) (H.state host.old) (H.state host.new) }
+    ensures any_moment { AtEachMomentOf (IsRunning (HasBegun members.now) IsLaying
+        (λ s. task_of s database.old lists.old diversions.now.entries places.old works.old.items rows.now))
+        (H.state host.old) (H.state host.new) }
     ensures counts { Counts (H.state host.old) (H.state host.new) result }
 {
-    match begin(alloc, host, rows.name(), &rows.found, members) {
+    match lay_out(alloc, host, members) {
         Ok(()) => run_unpack_rows(
             alloc, host, database, lists, places, diversions, rows, works, calls, told,
         ),

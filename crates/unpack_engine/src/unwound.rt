@@ -29,43 +29,49 @@ fn drop_list<H: Host>(alloc: Global, host: &mut H, name: &Text) -> Result<(), Ho
     discard(host, &path)
 }
 
-// Drops the list of a package that has no record.
+// Drops the list of a package that has no record, where its rows went on to the new preinst's.
 fn drop_unrecorded<H: Host>(
     alloc: Global,
     host: &mut H,
     database: &NotedDatabase,
     name: &Text,
+    reached: bool,
 ) -> Result<(), HostFault>
     requires named { is_package_name name.now ≡ true }
     requires ready { Needs (H.state host.old) (IsListReady name.now) }
-    ensures dropped { Leaves result (HasDropped (record_in database.now.records name.now) name.now) (H.state host.old) (H.state host.new) }
-    ensures any_moment { AtEachMoment (MayDrop (record_in database.now.records name.now) name.now) (H.state host.old) (H.state host.new) }
+    ensures dropped { Leaves result (HasDropped reached (record_in database.now.records name.now) name.now) (H.state host.old) (H.state host.new) }
+    ensures any_moment { AtEachMoment (MayDrop reached (record_in database.now.records name.now) name.now) (H.state host.old) (H.state host.new) }
     ensures silent { Silent (H.state host.old) (H.state host.new) }
     ensures counts { Counts (H.state host.old) (H.state host.new) result }
 {
+    if !reached {
+        return Ok(());
+    }
     match database.get(name) {
         Some(_) => Ok(()),
         None => drop_list(alloc, host, name),
     }
 }
 
-/// Ends a unit whose rows were unwound: nothing of a package without a record stays, and `tmp.ci` goes.
+/// Ends a unit whose rows were unwound: nothing that it brought of a package without a record stays, and `tmp.ci` goes. What
+/// stood under such a name is left alone where the rows didn't go on to its new preinst.
 pub(crate) fn end_unwound<H: Host>(
     alloc: Global,
     host: &mut H,
     database: &NotedDatabase,
     name: &Text,
+    reached: bool,
     members: &Members,
 ) -> Result<(), HostFault>
     requires named { is_package_name name.now ≡ true }
     requires ready { Needs (H.state host.old) (IsListReady name.now) }
     requires laid { Needs (H.state host.old) (AreLaidOut members.now) }
     requires kept { Needs (H.state host.old) (IsKept database.now) }
-    ensures left { Leaves result (HasLeftBy (HasDropped (record_in database.now.records name.now) name.now)) (H.state host.old) (H.state host.new) }
-    ensures any_moment { AtEachMoment (MayLeaveBy (HasDropped (record_in database.now.records name.now) name.now) (MayDrop (record_in database.now.records name.now) name.now)) (H.state host.old) (H.state host.new) }
+    ensures left { Leaves result (HasLeftBy (HasDropped reached (record_in database.now.records name.now) name.now)) (H.state host.old) (H.state host.new) }
+    ensures any_moment { AtEachMoment (MayLeaveBy (HasDropped reached (record_in database.now.records name.now) name.now) (MayDrop reached (record_in database.now.records name.now) name.now)) (H.state host.old) (H.state host.new) }
     ensures silent { Silent (H.state host.old) (H.state host.new) }
     ensures counts { Counts (H.state host.old) (H.state host.new) result }
 {
-    drop_unrecorded(alloc, host, database, name)?;
+    drop_unrecorded(alloc, host, database, name, reached)?;
     clear_away(alloc, host, members)
 }

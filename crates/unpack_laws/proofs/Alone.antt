@@ -1,5 +1,5 @@
 -- A path that no part of a unit touches: what stands there changes by script calls alone, at each moment.
-use Rattle.std.proofs.Common.{◌≡◌, ◌≢◌, ℕ, zero, suc, false, List, [], ◌∷◌, ◌++◌, Option, Some, None, length, sym, ap, subst, ◌∙◌, arith}
+use Rattle.std.proofs.Common.{◌≡◌, ◌≢◌, ℕ, zero, suc, false, List, [], ◌∷◌, ◌++◌, Option, Some, None, length, nat_le, sym, ap, subst, ◌∙◌, arith}
 use Rattle.std.proofs.lemmas.List.{append_cancel_left}
 use Rattle.std.proofs.lemmas.List.Sorted.{IsPermutation-refl}
 use Rattle.host_core.specs.Paths.{Path}
@@ -8,7 +8,8 @@ use Rattle.host_core.specs.Events.{Event, changes_of, scripts_of}
 use Rattle.host_core.specs.Host.{State}
 use Rattle.host_core.specs.Scripts.{changed_at, changes_of-append, no_change}
 use Rattle.administration.specs.Places.{list_path, temporary, tmp_path, is_within}
-use Rattle.cleanup_stack.specs.Place.{Forward}
+use Rattle.cleanup_stack.specs.Place.{Place, Forward}
+use Rattle.control_members.specs.LaidOut.{IsLaying}
 use Rattle.cleanup_stack.specs.Transcripts.{Ended, Committed, Unwound}
 use Rattle.file_lists.specs.Taking.{IsNoList}
 use Rattle.file_lists.specs.declared.paths.PackageList.{PackageList}
@@ -27,10 +28,12 @@ use Rattle.unpack_moves.specs.Areas.{is_leaving_place}
 use Rattle.unpack_plan.specs.Planned.{Planned}
 use Rattle.unpack_rows.specs.Kinds.{kinds_of}
 use Rattle.unpack_rows.specs.Stages.{Stage, Unwritten, Wrote, Restored, stage_of}
-use Rattle.unpack_run.specs.Task.{Task, lists_at}
-use Rattle.unpack_run.specs.At.{AreWorksAt}
-use Rattle.unpack_engine.specs.Units.{Begins, Ground, HasCleared, HasFollowed, IsBesideOwn, IsRunning, IsStage, MayBegin, MayBeginOne, MayClear, MayFollow, MayLeave, MayLeaveBy, changes, commit_records, last_place, package_name, table_after, task_from, unit_losers}
+use Rattle.unpack_run.specs.Task.{Task, lists_at, state_on}
+use Rattle.unpack_run.specs.At.{AreWorksAt, Stops}
+use Rattle.unpack_run.specs.Clearing.{IsBesideOwn}
+use Rattle.unpack_engine.specs.Units.{Begins, BeginsAt, Ground, HasFollowed, IsRunning, IsStage, MayFollow, MayLeave, MayLeaveBy, changes, commit_records, last_place, package_name, table_after, task_from, unit_losers}
 use Rattle.unpack_engine.proofs.Begun.{dropped_same, may_drop_same}
+use Rattle.unpack_engine.proofs.Cleared.{begun_beside as base_beside}
 use Rattle.unpack_laws.proofs.Scripted.{IsSpared, amid_avoids, amid_there, come_avoids, come_there}
 
 -- the works of rows that all succeeded, in some order
@@ -61,11 +64,18 @@ module _ (g : Ground) (p : Planned) where
     pub aside : IsAside q
     pub missed : Each (λ x. Misses x q) p.works
 
+  -- it has begun, and what is left under the package's name stands as at some place of its rows
+  abbrev pub Based : World → World → Type 0
+  Based old new = (place : Place) × BeginsAt g p place old new
+
+  pub based_amid : (old : World) (begun : State) (es : List Event) (now : World) → Begins g p old begun.world → (stops : Stops (task_from g p begun) es now) → Based old stops.base
+  based_amid old begun es now begins stops = (stops.place, record { begun = begun.world; begins = begins; clears = stops.cleared })
+
   -- what scripts leave alone they leave alone at each moment
   pub stage_avoids : (old : World) (so_far : List Event) (now : World) → IsStage g p old so_far now → Avoids (is_kept g.places) (changes_of so_far)
   stage_avoids old so_far now (IsStage.running (IsRunning.beginning none may)) = subst (Avoids (is_kept g.places)) (sym (no_change so_far none)) tt
   stage_avoids old so_far now (IsStage.running (IsRunning.running begun before more is none begins stops)) =
-      subst (Avoids (is_kept g.places)) (calls_since begun.events so_far before more stops.since is none stops.events) (amid_avoids (task_from g p begun) _ (changes_of stops.since) now stops.files)
+      subst (Avoids (is_kept g.places)) (calls_since begun.events so_far before more stops.since is none stops.events) (amid_avoids (task_from g p (state_on begun stops.base)) _ (changes_of stops.since) now stops.files)
   stage_avoids old so_far now (IsStage.leaving ended works begun last begins are come may) = come_avoids (task_from g p begun) _ works (changes_of so_far) last come
 
   -- where all rows succeeded the works of the commit are those of the plan, in some order
@@ -79,29 +89,20 @@ module _ (g : Ground) (p : Planned) where
 
   -- where a unit begins
   module _ (q : Path) (beside_own : IsBesideOwn (package_name g p) q) (tmp : is_within tmp_path q ≡ false) where
-    may_clear_same : (found : Option Record) (v w : World) → MayClear found (package_name g p) v w → w q ≡ v q
-    may_clear_same None v w may = may.rest q beside_own
-    may_clear_same (Some r) v w same = ap (λ (x : World). x q) same
+    pub beginning_beside : (old now : World) → IsLaying old now → now q ≡ old q
+    beginning_beside old now laying = laying.rest q tmp
 
-    cleared_same : (found : Option Record) (v w : World) → HasCleared found (package_name g p) v w → w q ≡ v q
-    cleared_same None v w cleared = cleared.rest q beside_own
-    cleared_same (Some r) v w same = ap (λ (x : World). x q) same
-
-    pub beginning_beside : (old now : World) → MayBeginOne g p old now → now q ≡ old q
-    beginning_beside old now (MayBegin.clearing may) = may_clear_same p.found old now may
-    beginning_beside old now (MayBegin.laying cleared clears laying) = laying.rest q tmp ∙ cleared_same p.found old cleared clears
-
-    pub begun_beside : (old new : World) → Begins g p old new → new q ≡ old q
-    begun_beside old new begins = begins.lays q tmp ∙ cleared_same p.found old begins.cleared begins.clears
+    pub begun_beside : (old new : World) → Based old new → new q ≡ old q
+    begun_beside old new begins = base_beside g p begins.0 old new begins.1 q tmp beside_own
 
   module _ (q : Path) (aside : IsAside q) where
     beside_own : IsBesideOwn (package_name g p) q
     beside_own = record { list = aside.list.0; members = λ member is. (aside.no_member member is).0 }
 
-    pub beginning_same : (old now : World) → MayBeginOne g p old now → now q ≡ old q
+    pub beginning_same : (old now : World) → IsLaying old now → now q ≡ old q
     beginning_same old now may = beginning_beside q beside_own aside.tmp old now may
 
-    pub begun_same : (old new : World) → Begins g p old new → new q ≡ old q
+    pub begun_same : (old new : World) → Based old new → new q ≡ old q
     begun_same old new begins = begun_beside q beside_own aside.tmp old new begins
 
     -- what follows the rows
@@ -123,15 +124,15 @@ module _ (g : Ground) (p : Planned) where
           each_list moved n (suc k, lt, is) = aside.unlost works begun stage moved n (k, omega (arith, lt), is)
 
       module _ (table : List Record) where
-        may_follow_same : (e : Ended) → AreMoved e works → (v w : World) → MayFollow (changes g p works lists) (commit_records g p works lists table) g.entries lists table e v w → w q ≡ v q
+        may_follow_same : (e : Ended) → AreMoved e works → (v w : World) → MayFollow (changes g p works lists) (commit_records g p works lists table) g.entries lists table (length p.others) e v w → w q ≡ v q
         may_follow_same Committed moved v w may = committing_keeps (changes g p works lists) g.entries lists v (commit_records g p works lists table) table w q may (untouched moved)
-        may_follow_same (Unwound fall failed) moved v w may = may_drop_same (record_in table (package_name g p)) (package_name g p) v w q may aside.list.0
+        may_follow_same (Unwound fall failed) moved v w may = may_drop_same (nat_le (length p.others) fall.row) (record_in table (package_name g p)) (package_name g p) v w q may aside.list.0
 
-        followed_same : (e : Ended) → AreMoved e works → (v w : World) → HasFollowed (changes g p works lists) (commit_records g p works lists table) g.entries lists table e v w → w q ≡ v q
+        followed_same : (e : Ended) → AreMoved e works → (v w : World) → HasFollowed (changes g p works lists) (commit_records g p works lists table) g.entries lists table (length p.others) e v w → w q ≡ v q
         followed_same Committed moved v w has = committed_keeps (changes g p works lists) g.entries lists v (put_records (commit_records g p works lists table) table) w q has (untouched moved)
-        followed_same (Unwound fall failed) moved v w has = dropped_same (record_in table (package_name g p)) (package_name g p) v w q has aside.list.0
+        followed_same (Unwound fall failed) moved v w has = dropped_same (nat_le (length p.others) fall.row) (record_in table (package_name g p)) (package_name g p) v w q has aside.list.0
 
-        pub leave_same : (e : Ended) → AreMoved e works → (v w : World) → MayLeave (changes g p works lists) (commit_records g p works lists table) g.entries lists table e v w → w q ≡ v q
+        pub leave_same : (e : Ended) → AreMoved e works → (v w : World) → MayLeave (changes g p works lists) (commit_records g p works lists table) g.entries lists table (length p.others) e v w → w q ≡ v q
         leave_same e moved v w (MayLeaveBy.following may) = may_follow_same e moved v w may
         leave_same e moved v w (MayLeaveBy.clearing_away followed has opens laying) = laying.rest q aside.tmp ∙ followed_same e moved v followed has
 
@@ -142,10 +143,10 @@ module _ (g : Ground) (p : Planned) where
     pub stage_there : (old : World) (so_far : List Event) (now : World) → IsStage g p old so_far now → now q ≡ changed (changes_of so_far) old q
     stage_there old so_far now (IsStage.running (IsRunning.beginning none may)) = beginning_same q alone.aside old now may ∙ ap (λ c. changed c old q) (sym (no_change so_far none))
     stage_there old so_far now (IsStage.running (IsRunning.running begun before more is none begins stops)) =
-        amid_there (task_from g p begun) q spared named _ (changes_of stops.since) now stops.files
-        ∙ changed_at (changes_of stops.since) begun.world old q (begun_same q alone.aside old begun.world begins)
+        amid_there (task_from g p (state_on begun stops.base)) q spared named _ (changes_of stops.since) now stops.files
+        ∙ changed_at (changes_of stops.since) stops.base old q (begun_same q alone.aside old stops.base (based_amid g p old begun _ now begins stops))
         ∙ ap (λ c. changed c old q) (calls_since begun.events so_far before more stops.since is none stops.events)
     stage_there old so_far now (IsStage.leaving ended works begun last begins are come may) =
         leave_same q alone.aside works begun (stage_of (kinds_of p.found p.others) (last_place g p ended)) (table_after g p (last_place g p ended)) ended (are_moved begun ended _ works are) last now may
         ∙ come_there (task_from g p begun) q spared named (last_place g p ended) _ works are (changes_of so_far) last come
-        ∙ changed_at (changes_of so_far) begun.world old q (begun_same q alone.aside old begun.world begins)
+        ∙ changed_at (changes_of so_far) begun.world old q (begun_same q alone.aside old begun.world (last_place g p ended, begins))

@@ -1,5 +1,5 @@
 -- What stands behind an unpack that was carried out whole.
-use Rattle.std.proofs.Common.{◌≡◌, ◌≢◌, ◌||◌, inl, inr, not, ℕ, zero, suc, Bool, true, false, cond, List, [], ◌∷◌, None, IsTrue, Contains, refl, sym, ap, subst, ◌∙◌, arith}
+use Rattle.std.proofs.Common.{◌≡◌, ◌≢◌, ◌||◌, inl, inr, not, ℕ, zero, suc, Bool, true, false, cond, List, [], ◌∷◌, None, IsTrue, Contains, length, refl, sym, ap, subst, ◌∙◌, arith}
 use Rattle.std.specs.List.{list_any}
 use Rattle.std.specs.Str.{bytes_eq}
 use Rattle.std.proofs.lemmas.Bool.{false_from_ne_true, true≢false}
@@ -39,7 +39,8 @@ use Rattle.unpack_plan.specs.Names.{backups, known_conffiles, left_names}
 use Rattle.unpack_plan.specs.Planned.{IsPlanned, Planned}
 use Rattle.unpack_plan.specs.Records.{IsFresh, entries_of}
 use Rattle.unpack_rows.specs.declared.rows.Present.{Present}
-use Rattle.unpack_run.specs.Task.{Task}
+use Rattle.unpack_run.specs.Task.{Task, state_on}
+use Rattle.unpack_engine.proofs.Cleared.{works_on}
 use Rattle.unpack_run.specs.At.{AreWorksAt, IsThere}
 use Rattle.unpack_run.specs.Trail.{AreOrdered, HasCome, HasFiles}
 use Rattle.unpack_run.proofs.FileWorlds.{still_written}
@@ -208,7 +209,7 @@ module _ (g : Given) (stored : Present) (p : Planned) (plan : IsPlanned (job_of 
   -- the whole unit
 
   module _ (after : Recorded) (lists : List PackageList) (old new : State) (told now : List Called) (out : HasCarriedOut here p Committed after lists old new told now) (honest : IsTrue new.honest) where
-    abbrev left : HasLeft (changes here p out.mid.works out.mid.lists) (commit_records here p out.mid.works out.mid.lists out.mid.database.records) g.entries out.mid.lists out.mid.database.records Committed out.last.world new.world
+    abbrev left : HasLeft (changes here p out.mid.works out.mid.lists) (commit_records here p out.mid.works out.mid.lists out.mid.database.records) g.entries out.mid.lists out.mid.database.records (length p.others) Committed out.last.world new.world
     left = out.leaves honest
 
     tmp_out : (q : Path) → is_below_administration q ≡ false → is_within tmp_path q ≡ false
@@ -217,14 +218,15 @@ module _ (g : Given) (stored : Present) (p : Planned) (plan : IsPlanned (job_of 
     same_there : (q : Path) → is_below_administration q ≡ false → new.world q ≡ left.followed q
     same_there q elsewhere = left.removed.rest q (tmp_out q elsewhere)
 
-    there : IsThere (task_from here p out.ran.begun) out.mid (last_place here p Committed) (changes_of out.ran.rows_end.since) out.last.world
+    there : IsThere (task_from here p (state_on out.ran.begun out.ran.rows_end.base)) out.mid (last_place here p Committed) (changes_of out.ran.rows_end.since) out.last.world
     there = out.ran.rows_end.world (out.since.honest honest)
 
-    ordered_then : AreOrdered (task_from here p out.ran.begun) out.mid.works
-    ordered_then = subst (λ s. AreWorksAt (task_from here p out.ran.begun) (last_place here p Committed) s out.mid.works) (wrote_then g stored p plan places) out.ran.rows_end.works
+    ordered_then : AreOrdered (task_from here p (state_on out.ran.begun out.ran.rows_end.base)) out.mid.works
+    ordered_then = subst (λ s. AreWorksAt (task_from here p (state_on out.ran.begun out.ran.rows_end.base)) (last_place here p Committed) s out.mid.works) (wrote_then g stored p plan places)
+        (works_on here p (last_place here p Committed) out.ran.begun out.ran.rows_end.base out.mid.works out.ran.rows_end.works)
 
-    files_then : HasFiles (task_from here p out.ran.begun) out.mid.works (changes_of out.ran.rows_end.since) out.last.world
-    files_then = subst (λ s. HasCome (task_from here p out.ran.begun) s out.mid.works (changes_of out.ran.rows_end.since) out.last.world) (wrote_then g stored p plan places) there.came
+    files_then : HasFiles (task_from here p (state_on out.ran.begun out.ran.rows_end.base)) out.mid.works (changes_of out.ran.rows_end.since) out.last.world
+    files_then = subst (λ s. HasCome (task_from here p (state_on out.ran.begun out.ran.rows_end.base)) s out.mid.works (changes_of out.ran.rows_end.since) out.last.world) (wrote_then g stored p plan places) there.came
 
     pub beside_planned : Each (IsClearBeside new.world) (unit_works g)
     beside_planned = subst (Each (IsClearBeside new.world)) (works_are g stored p plan places)
@@ -234,7 +236,7 @@ module _ (g : Given) (stored : Present) (p : Planned) (plan : IsPlanned (job_of 
           fresh = clear_at (new.world x.fresh) (left.followed x.fresh) (same_there x.fresh (name_out x named x.fresh (λ m. m.fresh refl))) clear.fresh;
         })
         p.works plan.works_are.named
-        (all_beside out.ran.begun out.mid.works (changes_of out.ran.rows_end.since) out.mid.lists (put_records (commit_records here p out.mid.works out.mid.lists out.mid.database.records) out.mid.database.records) out.last.world left.followed
+        (all_beside (state_on out.ran.begun out.ran.rows_end.base) out.mid.works (changes_of out.ran.rows_end.since) out.mid.lists (put_records (commit_records here p out.mid.works out.mid.lists out.mid.database.records) out.mid.database.records) out.last.world left.followed
         ordered_then files_then left.has_followed))
 
     pub old_planned : LeavesNoOldFile g new.world

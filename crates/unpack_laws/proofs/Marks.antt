@@ -33,11 +33,12 @@ use Rattle.unpack_run.specs.Task.{Task, all_places}
 use Rattle.unpack_run.specs.Trail.{Follows, HasFiles}
 use Rattle.unpack_run.proofs.FileWorlds.{still_written}
 use Rattle.unpack_run.proofs.Rearranged.{named_rearranged}
-use Rattle.unpack_engine.specs.Units.{Begins, Given, Ground, IsBesideOwn, ground_of, job_of, package_name, task_from}
+use Rattle.unpack_run.specs.Clearing.{IsBesideOwn}
+use Rattle.unpack_engine.specs.Units.{Given, Ground, ground_of, job_of, package_name, task_from}
 use Rattle.unpack_laws.specs.InHand.{unit_found, unit_name, unit_works}
 use Rattle.unpack_laws.specs.Marked.{IsAccounted, IsMarkedAmid, IsNamedIn, IsRestored}
 use Rattle.unpack_laws.specs.Whole.{IsWorkBack}
-use Rattle.unpack_laws.proofs.Alone.{begun_beside}
+use Rattle.unpack_laws.proofs.Alone.{Based, begun_beside}
 use Rattle.unpack_laws.proofs.NamesBack.{IsBesideBack, name_at, names_back, names_gone_back, target_beside, target_out_tmp}
 use Rattle.unpack_laws.proofs.OwnFiles.{rebased_back}
 use Rattle.unpack_laws.proofs.Passing.{outside_list, outside_member, outside_records, outside_tmp, works_are}
@@ -122,13 +123,13 @@ module _ (g : Given) (stored : Present) (p : Planned) (plan : IsPlanned (job_of 
   pub out_beside : (q : Path) → is_within home_path q ≡ false → IsBesideOwn own q
   out_beside q out = record { list = (outside_list q out own).0; members = λ member is. (outside_member q out own member).0 }
 
-  pub begun_out : (old : World) (begun : State) → Begins here p old begun.world → (q : Path) → is_within home_path q ≡ false → begun.world q ≡ old q
+  pub begun_out : (old : World) (begun : State) → Based here p old begun.world → (q : Path) → is_within home_path q ≡ false → begun.world q ≡ old q
   begun_out old begun begins q out = begun_beside here p q (out_beside q out) (outside_tmp q out) old begun.world begins
 
   pub out_spared : (q : Path) → is_within home_path q ≡ false → Each (λ x. Misses x q) p.works → IsSpared list p.works q
   out_spared q out missed = record { unnoted = outside_records q out; unlisted = (outside_list q out own).0; unspared = (outside_list q out own).1; missed = missed }
 
-  module _ (old : World) (begun : State) (begins : Begins here p old begun.world) where
+  module _ (old : World) (begun : State) (begins : Based here p old begun.world) where
     abbrev task : Task
     task = task_from here p begun
 

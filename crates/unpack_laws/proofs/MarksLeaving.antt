@@ -1,6 +1,6 @@
 -- What outside the administration differs behind the rows: while the package's last note isn't written it is marked, and its list
 -- names what differs.
-use Rattle.std.proofs.Common.{◌≡◌, ◌⊎◌, inl, inr, ℕ, zero, Bool, true, false, cond, List, [], ◌∷◌, ◌++◌, Option, Some, None, Contains, length, map, take, refl, sym, ap, subst, ◌∙◌, arith}
+use Rattle.std.proofs.Common.{◌≡◌, ◌⊎◌, inl, inr, ℕ, zero, Bool, true, false, cond, List, [], ◌∷◌, ◌++◌, Option, Some, None, Contains, length, nat_le, map, take, refl, sym, ap, subst, ◌∙◌, arith}
 use Rattle.std.specs.List.{AllByRecursion}
 use Rattle.std.specs.Str.{bytes_eq}
 use Rattle.std.proofs.lemmas.Bool.{cond-true, or_cases, true≢false}
@@ -50,16 +50,16 @@ use Rattle.unpack_rows.proofs.Matching.{as_many}
 use Rattle.unpack_rows.proofs.Staging.{marked}
 use Rattle.unpack_plan.specs.Members.{scripts_in}
 use Rattle.unpack_run.specs.At.{AreWorksAt}
-use Rattle.unpack_run.specs.Task.{Task, lists_at}
+use Rattle.unpack_run.specs.Task.{Task, lists_at, state_on}
 use Rattle.unpack_run.specs.Trail.{HasCome, HasFiles}
-use Rattle.unpack_engine.specs.Units.{Begins, Given, Ground, IsAmidUnit, IsRunning, IsStage, MayLeave, MayLeaveBy, changes, commit_records, ground_of, job_of, last_place, package_name, table_after, task_from, unit_losers}
+use Rattle.unpack_engine.specs.Units.{Given, Ground, IsAmidUnit, IsRunning, IsStage, MayLeave, MayLeaveBy, changes, commit_records, ground_of, job_of, last_place, package_name, table_after, task_from, unit_losers}
 use Rattle.unpack_engine.proofs.Begun.{dropped_same, may_drop_same}
 use Rattle.unpack_engine.proofs.Dropping.{laying_records}
 use Rattle.unpack_engine.proofs.Losing.{loser_other}
 use Rattle.unpack_laws.specs.InHand.{unit_found, unit_listed, unit_name}
 use Rattle.unpack_laws.specs.Marked.{IsAccounted, IsListedSo, IsMarkedAmid, IsRestored}
 use Rattle.unpack_laws.specs.Whole.{IsWorkBack}
-use Rattle.unpack_laws.proofs.Alone.{beginning_beside, calls_since}
+use Rattle.unpack_laws.proofs.Alone.{Based, based_amid, beginning_beside, calls_since}
 use Rattle.unpack_laws.proofs.Marks.{HasShipped, IsNameOf, begun_out, begun_target, each_at, from_begun, marks_amid, named_in, names_or_misses, new_shipped, out_beside, out_spared, union_shipped, unit_work, union_list}
 use Rattle.unpack_laws.proofs.NamesBack.{IsBesideBack, name_at, names_gone_back}
 use Rattle.unpack_laws.proofs.NotedRecords.{IsGoodRecord, good_front, good_records, good_then, losing_good}
@@ -223,7 +223,7 @@ module _ (g : Given) (stored : Present) (p : Planned) (plan : IsPlanned (job_of 
 
   -- where all rows succeeded
 
-  module _ (old : World) (begun : State) (begins : Begins here p old begun.world) where
+  module _ (old : World) (begun : State) (begins : Based here p old begun.world) where
     abbrev task : Task
     task = task_from here p begun
 
@@ -319,7 +319,7 @@ module _ (g : Given) (stored : Present) (p : Planned) (plan : IsPlanned (job_of 
       fresh_noted = subst (λ (n : List ℕ). record_in (put_records committed table) n ≡ Some p.fresh) (plan.records_are.fresh_is.is.name_is ∙ sym plan.records_are.own)
           (put_last (losing_records g.entries (taken_places works) (unit_losers here p works lists) table) p.fresh table)
 
-      committed_marks : (now : World) → MayLeave (changes here p works lists) committed g.entries lists table Committed last now → IsMarkedAmid g old now change
+      committed_marks : (now : World) → MayLeave (changes here p works lists) committed g.entries lists table (length p.others) Committed last now → IsMarkedAmid g old now change
       committed_marks now (MayLeaveBy.following may) = commit_marks now may
       committed_marks now (MayLeaveBy.clearing_away followed has_followed opens laying) =
           noted_by now
@@ -332,12 +332,12 @@ module _ (g : Given) (stored : Present) (p : Planned) (plan : IsPlanned (job_of 
       abbrev ended : Ended
       ended = Unwound fall failed
 
-      unwound_same : (last now : World) → MayLeave (changes here p works lists) records g.entries lists table ended last now → (q : Path) → is_within home_path q ≡ false → now q ≡ last q
-      unwound_same last now (MayLeaveBy.following may) q out = may_drop_same (record_in table own) own last now q may (outside_list q out own).0
-      unwound_same last now (MayLeaveBy.clearing_away followed has opens laying) q out = laying.rest q (outside_tmp q out) ∙ dropped_same (record_in table own) own last followed q has (outside_list q out own).0
+      unwound_same : (last now : World) → MayLeave (changes here p works lists) records g.entries lists table (length p.others) ended last now → (q : Path) → is_within home_path q ≡ false → now q ≡ last q
+      unwound_same last now (MayLeaveBy.following may) q out = may_drop_same (nat_le (length p.others) fall.row) (record_in table own) own last now q may (outside_list q out own).0
+      unwound_same last now (MayLeaveBy.clearing_away followed has opens laying) q out = laying.rest q (outside_tmp q out) ∙ dropped_same (nat_le (length p.others) fall.row) (record_in table own) own last followed q has (outside_list q out own).0
 
       unwound_marks : (b : Bool) → AreWorksAt task (last_place here p ended) (cond b Restored Unwritten) works → (last now : World) → HasCome task (cond b Restored Unwritten) works change last
-          → MayLeave (changes here p works lists) records g.entries lists table ended last now → IsMarkedAmid g old now change
+          → MayLeave (changes here p works lists) records g.entries lists table (length p.others) ended last now → IsMarkedAmid g old now change
       unwound_marks false are last now come may = IsMarkedAmid.untouched (λ q out.
           from_begun g stored p plan places old begun begins change now q out (unwound_same last now may q out ∙ come.rest q (outside_records q out)))
       unwound_marks true are last now come may = IsMarkedAmid.restored restored
@@ -363,7 +363,7 @@ module _ (g : Given) (stored : Present) (p : Planned) (plan : IsPlanned (job_of 
     -- however they ended
     leaving_marks : (ended : Ended) (works : List Work) (change : Change) (last now : World) → AreWorksAt task (last_place here p ended) (stage_of kinds (last_place here p ended)) works
         → HasCome task (stage_of kinds (last_place here p ended)) works change last
-        → MayLeave (changes here p works (lists_at task (stage_of kinds (last_place here p ended)))) (commit_records here p works (lists_at task (stage_of kinds (last_place here p ended))) (table_after here p (last_place here p ended))) g.entries (lists_at task (stage_of kinds (last_place here p ended))) (table_after here p (last_place here p ended)) ended last now
+        → MayLeave (changes here p works (lists_at task (stage_of kinds (last_place here p ended)))) (commit_records here p works (lists_at task (stage_of kinds (last_place here p ended))) (table_after here p (last_place here p ended))) g.entries (lists_at task (stage_of kinds (last_place here p ended))) (table_after here p (last_place here p ended)) (length p.others) ended last now
         → IsMarkedAmid g old now change
     leaving_marks Committed works change last now are come may =
         committed_marks works change last (subst (λ s. AreWorksAt task (last_place here p Committed) s works) wrote_then are) (subst (λ s. HasCome task s works change last) wrote_then come)
@@ -379,8 +379,8 @@ module _ (g : Given) (stored : Present) (p : Planned) (plan : IsPlanned (job_of 
   stage_marks old so_far now (IsStage.running (IsRunning.beginning none may)) = IsMarkedAmid.untouched (λ q out.
       beginning_beside here p q (out_beside g stored p plan places q out) (outside_tmp q out) old now may ∙ ap (λ c. changed c old q) (sym (no_change so_far none)))
   stage_marks old so_far now (IsStage.running (IsRunning.running begun before more is none begins stops)) =
-      subst (IsMarkedAmid g old now) (calls_since begun.events so_far before more stops.since is none stops.events) (marks_amid g stored p plan places old begun begins _ (changes_of stops.since) now stops.records stops.files)
-  stage_marks old so_far now (IsStage.leaving ended works begun last begins are come may) = leaving_marks old begun begins ended works (changes_of so_far) last now are come may
+      subst (IsMarkedAmid g old now) (calls_since begun.events so_far before more stops.since is none stops.events) (marks_amid g stored p plan places old (state_on begun stops.base) (based_amid here p old begun _ now begins stops) _ (changes_of stops.since) now stops.records stops.files)
+  stage_marks old so_far now (IsStage.leaving ended works begun last begins are come may) = leaving_marks old begun (last_place here p ended, begins) ended works (changes_of so_far) last now are come may
 
 pub marks_unit : (g : Given) (places : List Path) (old now : World) (so_far : List Event) → IsAmidUnit g places old so_far now → IsMarkedAmid g old now (changes_of so_far)
 marks_unit g places old now so_far (inl looks) = IsMarkedAmid.untouched (λ q out. ap (λ (w : World). w q) looks.0 ∙ ap (λ c. changed c old q) (sym (no_change so_far looks.1)))

@@ -1,5 +1,5 @@
 -- The record of a name at each place of the rows, and with the first records of the commit.
-use Rattle.std.proofs.Common.{◌≡◌, ◌+◌, ◌&&◌, ℕ, zero, suc, Bool, true, false, cond, List, [], ◌∷◌, ◌++◌, Option, Some, Contains, filter, map, take, drop, refl, sym, ap, subst, ◌∙◌}
+use Rattle.std.proofs.Common.{◌≡◌, ◌+◌, ◌&&◌, ℕ, zero, suc, Bool, true, false, cond, List, [], ◌∷◌, ◌++◌, Option, Some, Contains, filter, length, map, take, drop, refl, sym, ap, subst, ◌∙◌}
 use Rattle.std.specs.List.{AllByRecursion, list_any}
 use Rattle.std.specs.Str.{bytes_eq}
 use Rattle.std.proofs.lemmas.Bool.{and_parts, true≢false}
@@ -245,11 +245,11 @@ module _ (Q P : Option Record → Type 0) (q : List ℕ) (g : Ground) (p : Plann
         (λ has r is. lost works begun moved has r (subst Q is (record_then (last_place g p Committed)))) table_apart)
         fresh
 
-    record_noted : (last now : World) (may : MayLeave (changes g p works lists) (commit_records g p works lists table) g.entries lists table Committed last now)
-        → P (record_in (put_records (noted_so_far (changes g p works lists) (commit_records g p works lists table) g.entries lists table Committed last now may) table) q)
+    record_noted : (last now : World) (may : MayLeave (changes g p works lists) (commit_records g p works lists table) g.entries lists table (length p.others) Committed last now)
+        → P (record_in (put_records (noted_so_far (changes g p works lists) (commit_records g p works lists table) g.entries lists table (length p.others) Committed last now may) table) q)
     record_noted last now may =
-        let front = noted_so_far (changes g p works lists) (commit_records g p works lists table) g.entries lists table Committed last now may in
-        let first = noted_first (changes g p works lists) (commit_records g p works lists table) g.entries lists table last now Committed may in
+        let front = noted_so_far (changes g p works lists) (commit_records g p works lists table) g.entries lists table (length p.others) Committed last now may in
+        let first = noted_first (changes g p works lists) (commit_records g p works lists table) g.entries lists table (length p.others) last now Committed may in
         good_records P q front table (good_front P q front first.0 (subst (AllByRecursion (IsGoodRecord P q)) first.1 all_good))
         (wider _ (record_then (last_place g p Committed)))
 

@@ -1,5 +1,5 @@
 -- The lists of other packages at each moment of a unit.
-use Rattle.std.proofs.Common.{◌≡◌, ◌≢◌, inl, inr, ℕ, cond, List, Option, Some, Contains, refl, sym, ap, subst, ◌∙◌}
+use Rattle.std.proofs.Common.{◌≡◌, ◌≢◌, inl, inr, ℕ, cond, nat_le, length, List, Option, Some, Contains, refl, sym, ap, subst, ◌∙◌}
 use Rattle.std.proofs.lemmas.Bool.{true≢false}
 use Rattle.host_core.specs.Paths.{Path}
 use Rattle.host_core.specs.World.{World, is_kept}
@@ -31,13 +31,14 @@ use Rattle.unpack_plan.specs.Planned.{IsPlanned, Planned}
 use Rattle.unpack_rows.specs.Kinds.{kinds_of}
 use Rattle.unpack_rows.specs.Stages.{Stage, stage_of}
 use Rattle.unpack_rows.specs.declared.rows.Present.{Present}
-use Rattle.unpack_run.specs.Task.{lists_at}
-use Rattle.unpack_engine.specs.Units.{Given, Ground, IsAmidUnit, IsBesideOwn, IsRunning, IsStage, MayLeave, MayLeaveBy, changes, commit_records, ground_of, job_of, last_place, package_name, table_after, task_from}
+use Rattle.unpack_run.specs.Clearing.{IsBesideOwn}
+use Rattle.unpack_run.specs.Task.{lists_at, state_on}
+use Rattle.unpack_engine.specs.Units.{Given, Ground, IsAmidUnit, IsRunning, IsStage, MayLeave, MayLeaveBy, changes, commit_records, ground_of, job_of, last_place, package_name, table_after, task_from}
 use Rattle.unpack_engine.proofs.Begun.{dropped_same, may_drop_same}
 use Rattle.unpack_engine.proofs.ListEnds.{among}
 use Rattle.unpack_laws.specs.InHand.{unit_name}
 use Rattle.unpack_laws.specs.Info.{IsOtherList}
-use Rattle.unpack_laws.proofs.Alone.{AreMoved, are_moved, beginning_beside, begun_beside}
+use Rattle.unpack_laws.proofs.Alone.{AreMoved, are_moved, based_amid, beginning_beside, begun_beside}
 use Rattle.unpack_laws.proofs.Passing.{listed_then, loses_places, unnamed, with_other}
 use Rattle.unpack_laws.proofs.Scripted.{IsSpared, amid_avoids, amid_there, come_avoids, come_there}
 
@@ -133,27 +134,27 @@ module _ (g : Given) (stored : Present) (p : Planned) (plan : IsPlanned (job_of 
     abbrev had : List PackageList
     had = lists_at (task_from here p begun) stage
 
-    leave_theirs : (e : Ended) → AreMoved here p e works → MayLeave (changes here p works had) (commit_records here p works had table) g.entries had table e last now → Theirs (last theirs) (now theirs)
+    leave_theirs : (e : Ended) → AreMoved here p e works → MayLeave (changes here p works had) (commit_records here p works had table) g.entries had table (length p.others) e last now → Theirs (last theirs) (now theirs)
     leave_theirs Committed moved (MayLeaveBy.following may) = commit_theirs works begun stage moved last (commit_records here p works had table) table now may
     leave_theirs Committed moved (MayLeaveBy.clearing_away followed has opens laying) =
         still works begun stage moved last followed now (laying.rest theirs refl) (committed_theirs works begun stage moved last (put_records (commit_records here p works had table) table) followed has)
-    leave_theirs (Unwound fall failed) moved (MayLeaveBy.following may) = IsOtherList.stood (may_drop_same (record_in table own) own last now theirs may apart.0)
-    leave_theirs (Unwound fall failed) moved (MayLeaveBy.clearing_away followed has opens laying) = IsOtherList.stood (laying.rest theirs refl ∙ dropped_same (record_in table own) own last followed theirs has apart.0)
+    leave_theirs (Unwound fall failed) moved (MayLeaveBy.following may) = IsOtherList.stood (may_drop_same (nat_le (length p.others) fall.row) (record_in table own) own last now theirs may apart.0)
+    leave_theirs (Unwound fall failed) moved (MayLeaveBy.clearing_away followed has opens laying) = IsOtherList.stood (laying.rest theirs refl ∙ dropped_same (nat_le (length p.others) fall.row) (record_in table own) own last followed theirs has apart.0)
 
   pub stage_theirs : (old : World) (so_far : List Event) (now : World) → IsStage here p old so_far now → Theirs (old theirs) (now theirs)
   stage_theirs old so_far now (IsStage.running (IsRunning.beginning none may)) = IsOtherList.stood (beginning_beside here p theirs beside refl old now may)
   stage_theirs old so_far now (IsStage.running (IsRunning.running begun before more is none begins stops)) =
-      let task = task_from here p begun in
+      let task = task_from here p (state_on begun stops.base) in
       let c = changes_of stops.since in
-      IsOtherList.stood (amid_there task theirs spared plan.works_are.named _ c now stops.files ∙ changed_kept (is_kept places) c begun.world (amid_avoids task _ c now stops.files) theirs refl
-      ∙ begun_beside here p theirs beside refl old begun.world begins)
+      IsOtherList.stood (amid_there task theirs spared plan.works_are.named _ c now stops.files ∙ changed_kept (is_kept places) c stops.base (amid_avoids task _ c now stops.files) theirs refl
+      ∙ begun_beside here p theirs beside refl old stops.base (based_amid here p old begun _ now begins stops))
   stage_theirs old so_far now (IsStage.leaving ended works begun last begins are come may) =
       let task = task_from here p begun in
       let stage = stage_of (kinds_of p.found p.others) (last_place here p ended) in
       let c = changes_of so_far in
       subst (λ n. Theirs n (now theirs))
       (come_there task theirs spared plan.works_are.named (last_place here p ended) stage works are c last come ∙ changed_kept (is_kept places) c begun.world (come_avoids task stage works c last come) theirs refl
-      ∙ begun_beside here p theirs beside refl old begun.world begins)
+      ∙ begun_beside here p theirs beside refl old begun.world (last_place here p ended, begins))
       (leave_theirs works begun stage (table_after here p (last_place here p ended)) last now ended (are_moved here p begun ended stage works are) may)
 
 pub theirs_unit : (g : Given) (places : List Path) (old now : World) (so_far : List Event) (q : List ℕ) → q ≢ unit_name g → IsAmidUnit g places old so_far now → IsOtherList g q (old (list_path q)) (now (list_path q))

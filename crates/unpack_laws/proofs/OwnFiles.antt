@@ -30,7 +30,8 @@ use Rattle.unpack_engine.specs.Units.{Given, Ground, IsAmidUnit, IsRunning, IsSt
 use Rattle.unpack_engine.proofs.Apart.{tmp_beside}
 use Rattle.unpack_laws.specs.InHand.{unit_works}
 use Rattle.unpack_laws.specs.Whole.{IsLasting, IsTargetAmid, IsTargetBack, IsTargetSet, IsWorkAmid, IsWorkSet}
-use Rattle.unpack_laws.proofs.Alone.{IsAside, are_moved, begun_same, beginning_same, calls_since, leave_same}
+use Rattle.unpack_run.specs.Task.{state_on}
+use Rattle.unpack_laws.proofs.Alone.{IsAside, are_moved, based_amid, begun_same, beginning_same, calls_since, leave_same}
 use Rattle.unpack_laws.proofs.Passing.{no_cleared, no_leaving, works_are}
 use Rattle.unpack_laws.proofs.Targets.{hits_target, name_apart, name_unnoted, targets_amid, targets_come}
 
@@ -117,18 +118,18 @@ module _ (g : Given) (stored : Present) (p : Planned) (plan : IsPlanned (job_of 
       (λ x named lasting. IsTargetAmid.whole (IsTargetSet.before (IsTargetBack.stood (beginning_same here p x.target (target_aside x named lasting) old now may ∙ ap (λ c. changed c old x.target) (sym (no_change so_far none))))))
       p.works plan.works_are.named
   stage_targets old so_far now (IsStage.running (IsRunning.running begun before more is none begins stops)) =
-      each_map IsNamed (IsWorkAmid begun.world now (changes_of so_far)) (Lasts old now (changes_of so_far))
-      (λ x named amid lasting. rebased x.target x.backup x.node old begun.world now (changes_of so_far) (begun_same here p x.target (target_aside x named lasting) old begun.world begins) amid)
+      each_map IsNamed (IsWorkAmid stops.base now (changes_of so_far)) (Lasts old now (changes_of so_far))
+      (λ x named amid lasting. rebased x.target x.backup x.node old stops.base now (changes_of so_far) (begun_same here p x.target (target_aside x named lasting) old stops.base (based_amid here p old begun _ now begins stops)) amid)
       p.works plan.works_are.named
-      (subst (λ c. Each (IsWorkAmid begun.world now c) p.works) (calls_since begun.events so_far before more stops.since is none stops.events)
-      (targets_amid (task_from here p begun) plan.works_are.named _ (changes_of stops.since) now stops.files))
+      (subst (λ c. Each (IsWorkAmid stops.base now c) p.works) (calls_since begun.events so_far before more stops.since is none stops.events)
+      (targets_amid (task_from here p (state_on begun stops.base)) plan.works_are.named _ (changes_of stops.since) now stops.files))
   stage_targets old so_far now (IsStage.leaving ended works begun last begins are come may) =
       each_map IsNamed (IsWorkSet begun.world last (changes_of so_far)) (Lasts old now (changes_of so_far))
       (λ x named set lasting.
       let aside = target_aside x named lasting in
       IsTargetAmid.whole (set_then x.target x.node old last now (changes_of so_far)
       (leave_same here p x.target aside works begun (stage_of (kinds_of p.found p.others) (last_place here p ended)) (table_after here p (last_place here p ended)) ended (are_moved here p begun ended _ works are) last now may)
-      (rebased_set x.target x.node old begun.world last (changes_of so_far) (begun_same here p x.target aside old begun.world begins) set)))
+      (rebased_set x.target x.node old begun.world last (changes_of so_far) (begun_same here p x.target aside old begun.world (last_place here p ended, begins)) set)))
       p.works plan.works_are.named
       (targets_come (task_from here p begun) plan.works_are.named (last_place here p ended) _ works are (changes_of so_far) last come)
 

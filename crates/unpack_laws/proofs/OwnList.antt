@@ -1,5 +1,5 @@
 -- The list of the package at each moment of a unit.
-use Rattle.std.proofs.Common.{◌≡◌, ◌⊎◌, inl, inr, ℕ, List, [], ◌∷◌, Option, Some, None, Contains, refl, sym, ap, subst, ◌∙◌}
+use Rattle.std.proofs.Common.{◌≡◌, ◌⊎◌, inl, inr, ℕ, Bool, true, false, nat_le, length, List, [], ◌∷◌, Option, Some, None, Contains, refl, sym, ap, subst, ◌∙◌}
 use Rattle.std.specs.List.{AllByRecursion}
 use Rattle.std.proofs.lemmas.Bool.{or_from}
 use Rattle.host_core.specs.Paths.{Path}
@@ -42,11 +42,13 @@ use Rattle.unpack_rows.specs.Stages.{Stage, Unwritten, Wrote, Restored, stage_of
 use Rattle.unpack_rows.specs.declared.notes.Note.TheVariants.{Put}
 use Rattle.unpack_rows.specs.declared.rows.Present.{Present}
 use Rattle.unpack_run.specs.At.{AreWorksAt, IsAmid}
-use Rattle.unpack_run.specs.Task.{Task, all_places, lists_at}
+use Rattle.unpack_run.specs.Task.{Task, all_places, lists_at, state_on}
 use Rattle.unpack_run.specs.Trail.{Follows, HasCome, HasFiles, HasGoneBack}
 use Rattle.unpack_run.proofs.FileWorlds.{still_written}
 use Rattle.unpack_run.proofs.Rearranged.{named_rearranged}
-use Rattle.unpack_engine.specs.Units.{Begins, Given, Ground, HasCleared, HasDropped, HasFollowed, IsAmidUnit, IsRunning, IsStage, MayBegin, MayBeginOne, MayClear, MayDrop, MayFollow, MayLeave, MayLeaveBy, changes, commit_records, ground_of, job_of, last_place, package_name, table_after, task_from, unit_losers}
+use Rattle.unpack_run.specs.Clearing.{MayClear, is_gone, next_ready}
+use Rattle.unpack_laws.proofs.Alone.{Based, based_amid}
+use Rattle.unpack_engine.specs.Units.{Given, Ground, HasDropped, HasFollowed, IsAmidUnit, IsRunning, IsStage, MayDrop, MayFollow, MayLeave, MayLeaveBy, changes, commit_records, ground_of, job_of, last_place, package_name, table_after, task_from, unit_losers}
 use Rattle.unpack_engine.proofs.Losing.{loser_other}
 use Rattle.unpack_laws.specs.InHand.{unit_found, unit_listed, unit_name}
 use Rattle.unpack_laws.specs.Whole.{IsOwnList}
@@ -194,13 +196,15 @@ module _ (g : Given) (stored : Present) (p : Planned) (plan : IsPlanned (job_of 
       unrecorded : record_in (table_after here p place) own ≡ None → p.found ≡ None
       unrecorded none = record_at WasNone own p.found p.incoming p.others some_rows g.records place (λ before. found_is ∙ ap (record_in g.records) (sym plan.records_are.own) ∙ before) none
 
-      dropping_list : (found : Option Record) → record_in (table_after here p place) own ≡ found → (v w : World) → MayDrop found own v w → (w list ≡ v list) ⊎ ((p.found ≡ None) × (w list ≡ None))
-      dropping_list None is v w may = elim may.target [ inl same ↦ inl same | inr none ↦ inr (unrecorded is, none) ]
-      dropping_list (Some r) is v w same = inl (ap (λ (x : World). x list) same)
+      dropping_list : (reached : Bool) (found : Option Record) → record_in (table_after here p place) own ≡ found → (v w : World) → MayDrop reached found own v w → (w list ≡ v list) ⊎ ((p.found ≡ None) × (w list ≡ None))
+      dropping_list true None is v w may = elim may.target [ inl same ↦ inl same | inr none ↦ inr (unrecorded is, none) ]
+      dropping_list true (Some r) is v w same = inl (ap (λ (x : World). x list) same)
+      dropping_list false found is v w same = inl (ap (λ (x : World). x list) same)
 
-      dropped_list : (found : Option Record) → record_in (table_after here p place) own ≡ found → (v w : World) → HasDropped found own v w → (w list ≡ v list) ⊎ ((p.found ≡ None) × (w list ≡ None))
-      dropped_list None is v w has = inr (unrecorded is, has.target)
-      dropped_list (Some r) is v w same = inl (ap (λ (x : World). x list) same)
+      dropped_list : (reached : Bool) (found : Option Record) → record_in (table_after here p place) own ≡ found → (v w : World) → HasDropped reached found own v w → (w list ≡ v list) ⊎ ((p.found ≡ None) × (w list ≡ None))
+      dropped_list true None is v w has = inr (unrecorded is, has.target)
+      dropped_list true (Some r) is v w same = inl (ap (λ (x : World). x list) same)
+      dropped_list false found is v w same = inl (ap (λ (x : World). x list) same)
 
     -- from what stood there as the rows ended
     module _ (before : Option Node) (v w : World) (was : IsOwnList g before (v list)) where
@@ -215,36 +219,34 @@ module _ (g : Given) (stored : Present) (p : Planned) (plan : IsPlanned (job_of 
       kept_or_renewed (inl same) = still same
       kept_or_renewed (inr new) = renews before (w list) new
 
-      may_follow_list : (e : Ended) → MayFollow c (commit_records here p works lists (table_after here p (last_place here p e))) g.entries lists (table_after here p (last_place here p e)) e v w → IsOwnList g before (w list)
+      may_follow_list : (e : Ended) → MayFollow c (commit_records here p works lists (table_after here p (last_place here p e))) g.entries lists (table_after here p (last_place here p e)) (length p.others) e v w → IsOwnList g before (w list)
       may_follow_list Committed may = kept_or_renewed (committing_list (commit_records here p works lists (table_after here p (last_place here p Committed))) (table_after here p (last_place here p Committed)) v w may)
-      may_follow_list (Unwound fall failed) may = kept_or_gone (dropping_list (last_place here p (Unwound fall failed)) (record_in (table_after here p (last_place here p (Unwound fall failed))) own) refl v w may)
+      may_follow_list (Unwound fall failed) may = kept_or_gone (dropping_list (last_place here p (Unwound fall failed)) (nat_le (length p.others) fall.row) (record_in (table_after here p (last_place here p (Unwound fall failed))) own) refl v w may)
 
-      followed_list : (e : Ended) → HasFollowed c (commit_records here p works lists (table_after here p (last_place here p e))) g.entries lists (table_after here p (last_place here p e)) e v w → IsOwnList g before (w list)
+      followed_list : (e : Ended) → HasFollowed c (commit_records here p works lists (table_after here p (last_place here p e))) g.entries lists (table_after here p (last_place here p e)) (length p.others) e v w → IsOwnList g before (w list)
       followed_list Committed has = renews before (w list) (committed_list (put_records (commit_records here p works lists (table_after here p (last_place here p Committed))) (table_after here p (last_place here p Committed))) v w has)
-      followed_list (Unwound fall failed) has = kept_or_gone (dropped_list (last_place here p (Unwound fall failed)) (record_in (table_after here p (last_place here p (Unwound fall failed))) own) refl v w has)
+      followed_list (Unwound fall failed) has = kept_or_gone (dropped_list (last_place here p (Unwound fall failed)) (nat_le (length p.others) fall.row) (record_in (table_after here p (last_place here p (Unwound fall failed))) own) refl v w has)
 
     leave_list : (e : Ended) (before : Option Node) (v w : World) → IsOwnList g before (v list)
-        → MayLeave c (commit_records here p works lists (table_after here p (last_place here p e))) g.entries lists (table_after here p (last_place here p e)) e v w → IsOwnList g before (w list)
+        → MayLeave c (commit_records here p works lists (table_after here p (last_place here p e))) g.entries lists (table_after here p (last_place here p e)) (length p.others) e v w → IsOwnList g before (w list)
     leave_list e before v w was (MayLeaveBy.following may) = may_follow_list before v w was e may
     leave_list e before v w was (MayLeaveBy.clearing_away followed has opens laying) = subst (IsOwnList g before) (sym (laying.rest list refl)) (followed_list before v followed was e has)
 
   -- how it begins
 
-  clearing_list : (found : Option Record) → p.found ≡ found → (v w : World) → MayClear found own v w → (w list ≡ v list) ⊎ ((p.found ≡ None) × (w list ≡ None))
-  clearing_list None is v w may = elim may.list [ inl same ↦ inl same | inr none ↦ inr (is, none) ]
-  clearing_list (Some r) is v w same = inl (ap (λ (x : World). x list) same)
-
-  cleared_list : (found : Option Record) → p.found ≡ found → (v w : World) → HasCleared found own v w → (w list ≡ v list) ⊎ ((p.found ≡ None) × (w list ≡ None))
-  cleared_list None is v w has = inr (is, has.list)
-  cleared_list (Some r) is v w same = inl (ap (λ (x : World). x list) same)
+  going_list : (found : Option Record) → p.found ≡ found → (place : Place) (v w : World)
+      → MayClear (is_gone found (length p.others) place) (is_gone found (length p.others) (next_ready place)) own v w → (w list ≡ v list) ⊎ ((p.found ≡ None) × (w list ≡ None))
+  going_list None is place v w may = by (is_gone None (length p.others) place) (is_gone None (length p.others) (next_ready place)) may
+    where
+      by : (gone goes : Bool) → MayClear gone goes own v w → (w list ≡ v list) ⊎ ((p.found ≡ None) × (w list ≡ None))
+      by true goes has = inr (is, has.list)
+      by false true may = elim may.list [ inl same ↦ inl same | inr none ↦ inr (is, none) ]
+      by false false same = inl (ap (λ (x : World). x list) same)
+  going_list (Some r) is place v w same = inl (ap (λ (x : World). x list) same)
 
   stood_or_gone : (before now : Option Node) → (now ≡ before) ⊎ ((p.found ≡ None) × (now ≡ None)) → IsOwnList g before now
   stood_or_gone before now (inl same) = IsOwnList.stood same
   stood_or_gone before now (inr gone) = IsOwnList.gone (sym found_is ∙ gone.0) gone.1
-
-  beginning_list : (old now : World) → MayBeginOne here p old now → IsOwnList g (old list) (now list)
-  beginning_list old now (MayBegin.clearing may) = stood_or_gone (old list) (now list) (clearing_list p.found refl old now may)
-  beginning_list old now (MayBegin.laying cleared clears laying) = subst (IsOwnList g (old list)) (sym (laying.rest list refl)) (stood_or_gone (old list) (cleared list) (cleared_list p.found refl old cleared clears))
 
   -- and from there
   rebased : (before begun now : Option Node) → IsOwnList g before begun → (now ≡ begun → IsOwnList g before now) → IsOwnList g begun now → IsOwnList g before now
@@ -254,16 +256,18 @@ module _ (g : Given) (stored : Present) (p : Planned) (plan : IsPlanned (job_of 
   rebased before begun now first still (IsOwnList.joined union are is) = IsOwnList.joined union are is
   rebased before begun now first still (IsOwnList.renewed fresh paths is_fresh are is) = IsOwnList.renewed fresh paths is_fresh are is
 
-  since_begun : (old : World) (begun : State) (now : Option Node) → Begins here p old begun.world → IsOwnList g (begun.world list) now → IsOwnList g (old list) now
+  since_begun : (old : World) (begun : State) (now : Option Node) → Based here p old begun.world → IsOwnList g (begun.world list) now → IsOwnList g (old list) now
   since_begun old begun now begins is =
-      let first : IsOwnList g (old list) (begun.world list) = subst (IsOwnList g (old list)) (sym (begins.lays list refl)) (stood_or_gone (old list) (begins.cleared list) (cleared_list p.found refl old begins.cleared begins.clears)) in
+      let first : IsOwnList g (old list) (begun.world list) = subst (λ n. IsOwnList g n (begun.world list)) (begins.1.begins.lays list refl)
+      (stood_or_gone (begins.1.begun list) (begun.world list) (going_list p.found refl begins.0 begins.1.begun begun.world begins.1.clears)) in
       rebased (old list) (begun.world list) now first (λ same. subst (IsOwnList g (old list)) (sym same) first) is
 
   stage_list : (old : World) (so_far : List Event) (now : World) → IsStage here p old so_far now → IsOwnList g (old list) (now list)
-  stage_list old so_far now (IsStage.running (IsRunning.beginning none may)) = beginning_list old now may
-  stage_list old so_far now (IsStage.running (IsRunning.running begun before more is none begins stops)) = since_begun old begun (now list) begins (amid_list begun _ _ now stops.files)
+  stage_list old so_far now (IsStage.running (IsRunning.beginning none may)) = IsOwnList.stood (may.rest list refl)
+  stage_list old so_far now (IsStage.running (IsRunning.running begun before more is none begins stops)) =
+      since_begun old (state_on begun stops.base) (now list) (based_amid here p old begun _ now begins stops) (amid_list (state_on begun stops.base) _ _ now stops.files)
   stage_list old so_far now (IsStage.leaving ended works begun last begins are come may) =
-      since_begun old begun (now list) begins
+      since_begun old begun (now list) (last_place here p ended, begins)
       (leave_list works (lists_at (task_from here p begun) (stage_of (kinds_of p.found p.others) (last_place here p ended))) ended (begun.world list) last now
       (come_list begun (last_place here p ended) _ works are _ last come) may)
 

@@ -1,5 +1,5 @@
 -- The stored control files of the package at each moment of a unit.
-use Rattle.std.proofs.Common.{◌≡◌, ◌≢◌, ◌⊎◌, inl, inr, ℕ, Bool, true, false, cond, List, Option, Some, None, refl, sym, ap, subst, ◌∙◌}
+use Rattle.std.proofs.Common.{◌≡◌, ◌≢◌, ◌⊎◌, inl, inr, ℕ, Bool, true, false, cond, nat_le, length, List, Option, Some, None, refl, sym, ap, subst, ◌∙◌}
 use Rattle.host_core.specs.Paths.{Path}
 use Rattle.host_core.specs.World.{World, is_kept}
 use Rattle.host_core.specs.Events.{Event, changes_of}
@@ -26,8 +26,9 @@ use Rattle.unpack_plan.specs.Planned.{IsPlanned, Planned}
 use Rattle.unpack_rows.specs.Kinds.{kinds_of}
 use Rattle.unpack_rows.specs.Stages.{stage_of}
 use Rattle.unpack_rows.specs.declared.rows.Present.{Present}
-use Rattle.unpack_run.specs.Task.{lists_at}
-use Rattle.unpack_engine.specs.Units.{Begins, Given, Ground, HasCleared, IsAmidUnit, IsRunning, IsStage, MayBegin, MayBeginOne, MayClear, MayLeave, MayLeaveBy, changes, commit_records, ground_of, job_of, last_place, package_name, table_after, task_from}
+use Rattle.unpack_run.specs.Task.{lists_at, state_on}
+use Rattle.unpack_run.specs.Clearing.{MayClear, is_gone, next_ready}
+use Rattle.unpack_engine.specs.Units.{Given, Ground, IsAmidUnit, IsRunning, IsStage, MayLeave, MayLeaveBy, changes, commit_records, ground_of, job_of, last_place, package_name, table_after, task_from}
 use Rattle.unpack_engine.proofs.Begun.{dropped_same, may_drop_same}
 use Rattle.unpack_laws.specs.InHand.{unit_name}
 use Rattle.unpack_laws.specs.Info.{IsOwnMember}
@@ -63,23 +64,18 @@ module _ (g : Given) (stored : Present) (p : Planned) (plan : IsPlanned (job_of 
 
   -- how it begins
 
-  clearing_file : (found : Option Record) (v w : World) → MayClear found own v w → Own (v file) (w file)
-  clearing_file None v w may = elim (may.members member named) [ inl same ↦ IsOwnMember.stood same | inr none ↦ IsOwnMember.gone none ]
-  clearing_file (Some r) v w same = IsOwnMember.stood (ap (λ (x : World). x file) same)
-
-  cleared_file : (found : Option Record) (v w : World) → HasCleared found own v w → Own (v file) (w file)
-  cleared_file None v w has = IsOwnMember.gone (has.members member named)
-  cleared_file (Some r) v w same = IsOwnMember.stood (ap (λ (x : World). x file) same)
+  going_file : (gone goes : Bool) (v w : World) → MayClear gone goes own v w → Own (v file) (w file)
+  going_file true goes v w has = IsOwnMember.gone (has.members member named)
+  going_file false true v w may = elim (may.members member named) [ inl same ↦ IsOwnMember.stood same | inr none ↦ IsOwnMember.gone none ]
+  going_file false false v w same = IsOwnMember.stood (ap (λ (x : World). x file) same)
 
   still : (before : Option Node) (v w : World) → w file ≡ v file → Own before (v file) → Own before (w file)
   still before v w same = subst (Own before) (sym same)
 
-  beginning_file : (old now : World) → MayBeginOne here p old now → Own (old file) (now file)
-  beginning_file old now (MayBegin.clearing may) = clearing_file p.found old now may
-  beginning_file old now (MayBegin.laying cleared clears laying) = still (old file) cleared now (laying.rest file refl) (cleared_file p.found old cleared clears)
-
-  begun_file : (old new : World) → Begins here p old new → Own (old file) (new file)
-  begun_file old new begins = still (old file) begins.cleared new (begins.lays file refl) (cleared_file p.found old begins.cleared begins.clears)
+  begun_file : (old new : World) → Based here p old new → Own (old file) (new file)
+  begun_file old new begins =
+      subst (λ n. Own n (new file)) (begins.1.begins.lays file refl)
+      (going_file (is_gone p.found (length p.others) begins.0) (is_gone p.found (length p.others) (next_ready begins.0)) begins.1.begun new begins.1.clears)
 
   -- what follows the rows
   module _ (works : List Work) (lists : List PackageList) (before : Option Node) (last : World) (was : Own before (last file)) where
@@ -115,27 +111,27 @@ module _ (g : Given) (stored : Present) (p : Planned) (plan : IsPlanned (job_of 
         ∙ whole member named)
 
     module _ (table : List Record) (now : World) where
-      leave_file : (e : Ended) → MayLeave c (commit_records here p works lists table) g.entries lists table e last now → Own before (now file)
+      leave_file : (e : Ended) → MayLeave c (commit_records here p works lists table) g.entries lists table (length p.others) e last now → Own before (now file)
       leave_file Committed (MayLeaveBy.following may) = commit_file (commit_records here p works lists table) table now may
       leave_file Committed (MayLeaveBy.clearing_away followed has opens laying) =
           stores before (now file) (laying.rest file refl ∙ members_stored c g.entries lists last (put_records (commit_records here p works lists table) table) followed plan.names_are.elsewhere has member named)
-      leave_file (Unwound fall failed) (MayLeaveBy.following may) = kept now (may_drop_same (record_in table own) own last now file may apart.0)
-      leave_file (Unwound fall failed) (MayLeaveBy.clearing_away followed has opens laying) = kept now (laying.rest file refl ∙ dropped_same (record_in table own) own last followed file has apart.0)
+      leave_file (Unwound fall failed) (MayLeaveBy.following may) = kept now (may_drop_same (nat_le (length p.others) fall.row) (record_in table own) own last now file may apart.0)
+      leave_file (Unwound fall failed) (MayLeaveBy.clearing_away followed has opens laying) = kept now (laying.rest file refl ∙ dropped_same (nat_le (length p.others) fall.row) (record_in table own) own last followed file has apart.0)
 
   stage_file : (old : World) (so_far : List Event) (now : World) → IsStage here p old so_far now → Own (old file) (now file)
-  stage_file old so_far now (IsStage.running (IsRunning.beginning none may)) = beginning_file old now may
+  stage_file old so_far now (IsStage.running (IsRunning.beginning none may)) = IsOwnMember.stood (may.rest file refl)
   stage_file old so_far now (IsStage.running (IsRunning.running begun before more is none begins stops)) =
-      let task = task_from here p begun in
+      let task = task_from here p (state_on begun stops.base) in
       let c = changes_of stops.since in
-      still (old file) begun.world now
-      (amid_there task file spared plan.works_are.named _ c now stops.files ∙ changed_kept (is_kept places) c begun.world (amid_avoids task _ c now stops.files) file refl) (begun_file old begun.world begins)
+      still (old file) stops.base now
+      (amid_there task file spared plan.works_are.named _ c now stops.files ∙ changed_kept (is_kept places) c stops.base (amid_avoids task _ c now stops.files) file refl) (begun_file old stops.base (based_amid here p old begun _ now begins stops))
   stage_file old so_far now (IsStage.leaving ended works begun last begins are come may) =
       let task = task_from here p begun in
       let stage = stage_of (kinds_of p.found p.others) (last_place here p ended) in
       let c = changes_of so_far in
       leave_file works (lists_at task stage) (old file) last
       (still (old file) begun.world last
-      (come_there task file spared plan.works_are.named (last_place here p ended) stage works are c last come ∙ changed_kept (is_kept places) c begun.world (come_avoids task stage works c last come) file refl) (begun_file old begun.world begins))
+      (come_there task file spared plan.works_are.named (last_place here p ended) stage works are c last come ∙ changed_kept (is_kept places) c begun.world (come_avoids task stage works c last come) file refl) (begun_file old begun.world (last_place here p ended, begins)))
       (table_after here p (last_place here p ended)) now ended may
 
   pub file_planned : (old : World) (so_far : List Event) (now : World) → IsStage here p old so_far now → IsOwnMember g member (old (stored_member_path (unit_name g) member)) (now (stored_member_path (unit_name g) member))

@@ -1,5 +1,5 @@
 -- Where the rows begin.
-use Rattle.std.proofs.Common.{◌≡◌, false, List, [], refl, sym, arith}
+use Rattle.std.proofs.Common.{◌≡◌, ℕ, ◌+◌, false, List, [], Option, Some, None, nat_le, length, refl, sym, subst, arith}
 use Rattle.std.proofs.lemmas.List.{append-nil}
 use Rattle.host_core.specs.Paths.{Path}
 use Rattle.host_core.specs.Host.{State, Needs}
@@ -8,10 +8,17 @@ use Rattle.diversions.specs.declared.entry.Diversion.{Diversion}
 use Rattle.file_lists.specs.Filed.{Filed}
 use Rattle.file_works.specs.declared.work.Work.{Work}
 use Rattle.status_db.specs.Recorded.{Recorded}
+use Rattle.status_db.specs.declared.record.Record.{Record}
 use Rattle.unpack_run.specs.declared.plan.Rows.{Rows}
 use Rattle.unpack_run.specs.At.{At, IsBegun, holding}
 use Rattle.unpack_run.specs.Follows.{follows_none}
-use Rattle.unpack_run.specs.Task.{IsSound, task_of}
+use Rattle.unpack_run.specs.Clearing.{HasCleared, is_gone}
+use Rattle.unpack_run.specs.Task.{IsSound, name, task_of}
+
+-- before any row nothing is gone
+nothing_gone : (found : Option Record) (others : ℕ) → is_gone found others (Forward 0) ≡ false
+nothing_gone None others = grind arith
+nothing_gone (Some r) others = refl
 
 pub at_begin : (s : State) (d : Recorded) (l : Filed) (entries : List Diversion) (places : List Path) (works : List Work) (plan : Rows) → IsSound (task_of s d l entries places works plan) → d.closed ≡ false → l.closed ≡ false
     → Needs s (IsBegun (task_of s d l entries places works plan) d) → At (task_of s d l entries places works plan) (holding d l places works) s (Forward 0)
@@ -29,5 +36,8 @@ at_begin s d l entries places works plan sound opened lists_open begun = record 
   events = sym (append-nil s.events);
   ran = [];
   ended = refl;
+  base = s.world;
+  cleared = λ h. subst (λ gone. HasCleared gone (name (task_of s d l entries places works plan)) s.world s.world) (sym (nothing_gone plan.found (length plan.others.items))) refl;
+  members = λ h. (begun h).members;
   world = λ h. record { kept = (begun h).kept; ready = (begun h).ready; came = follows_none places s.world };
 }

@@ -1,10 +1,13 @@
 pub mod Standing
 pub mod Rearranged
 pub mod FileWorlds
+pub mod Going
 pub mod FileRow
 pub mod Answering
 pub mod RowKinds
 pub mod Hooks
 pub mod Notables
 pub mod HookRows
+pub mod Leftovers
+pub mod Clears
 pub mod Begins

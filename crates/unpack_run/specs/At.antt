@@ -1,5 +1,5 @@
 -- What holds while the rows of an unpack run: at each place of the run, and at each moment.
-use Rattle.std.specs.Prelude.{◌≡◌, ◌<◌, ◌≤◌, ◌+◌, ℕ, Bool, false, IsTrue, List, ◌++◌, Option, Some, None, length}
+use Rattle.std.specs.Prelude.{◌≡◌, ◌<◌, ◌≤◌, ◌+◌, ℕ, Bool, false, IsTrue, List, ◌++◌, Option, Some, None, is_some, length, not}
 use Rattle.host_core.specs.Paths.{Path}
 use Rattle.host_core.specs.World.{World, Change}
 use Rattle.host_core.specs.Events.{Event, Ran, changes_of, scripts_of}
@@ -7,6 +7,7 @@ use Rattle.host_core.specs.Host.{State, Falls, calls, finished}
 use Rattle.administration.specs.Places.{list_path}
 use Rattle.unwind_stack.specs.declared.fall.StepFault.{StepFault}
 use Rattle.cleanup_stack.specs.Place.{Place, Forward, Ready, Back}
+use Rattle.control_members.specs.Stored.{IsMembersReady}
 use Rattle.file_check.specs.Clashes.{owning}
 use Rattle.file_check.specs.Sound.{AllSound, IsFirstFault}
 use Rattle.file_lists.specs.Filed.{Filed}
@@ -22,7 +23,8 @@ use Rattle.unpack_moves.specs.Listing.{MayList, MayUnlist}
 use Rattle.unpack_rows.specs.Kinds.{own_of}
 use Rattle.unpack_rows.specs.Notes.{half_installed, noted, notes_at}
 use Rattle.unpack_rows.specs.Stages.{Stage, Unwritten, Wrote, Restored, stage_of}
-use Rattle.unpack_run.specs.Task.{Task, IsSound, kinds, lists_at, name, places_at}
+use Rattle.unpack_run.specs.Clearing.{HasCleared, MayClear, next_ready}
+use Rattle.unpack_run.specs.Task.{Task, IsSound, based_on, has_gone, kinds, lists_at, name, places_at}
 use Rattle.unpack_run.specs.Trail.{AreOrdered, Follows, HasCome, HasFiles, HasGoneBack}
 
 -- what changes while the rows run
@@ -64,7 +66,8 @@ pub record IsThere (t : Task) (g : Holding) (place : Place) (change : Change) (n
   pub ready : IsListReady (name t) now
   pub came : HasCome t (stage_of (kinds t) place) g.works change now
 
-pub record At (t : Task) (g : Holding) (s : State) (place : Place) : Type 0 where
+-- at a place, where what is left under the package's name is gone or isn't
+pub record IsAt (t : Task) (gone : Bool) (g : Holding) (s : State) (place : Place) : Type 0 where
   pub sound : IsSound t
   pub falls : Falls t.start s
   pub within : IsWithin (length (kinds t)) place
@@ -79,7 +82,15 @@ pub record At (t : Task) (g : Holding) (s : State) (place : Place) : Type 0 wher
   pub events : s.events ≡ t.start.events ++ since
   pub ran : List Ran
   pub ended : scripts_of since ≡ finished ran
-  pub world : IsTrue s.honest → IsThere t g place (changes_of since) s.world
+  -- what the rows began with, but for what is gone since
+  pub base : World
+  pub cleared : IsTrue s.honest → HasCleared gone (name t) t.start.world base
+  pub members : IsTrue s.honest → IsMembersReady (name t) t.start.world
+  pub world : IsTrue s.honest → IsThere (based_on t base) g place (changes_of since) s.world
+
+-- that it is gone goes by the place
+abbrev pub At : Task → Holding → State → Place → Type 0
+At t g s place = IsAt t (has_gone t place) g s place
 
 -- the step fault of the shipped paths in a world, or none
 abbrev pub HasFault : Task → World → Option StepFault → Type 0
@@ -87,12 +98,14 @@ HasFault t w None = AllSound (owning t.entries t.lists t.yields (name t)) t.work
 HasFault t w (Some fault) = IsFirstFault (owning t.entries t.lists t.yields (name t)) t.works w fault
 
 -- The step fault of the file row after all these calls of the host: that in a world to which those since the rows began, and
--- notes, have led.
+-- notes, have led, and in which nothing is left of what stood under a name without a record.
 pub record IsFileFault (t : Task) (past : List Ran) (fault : Option StepFault) : Type 0 where
   pub ran : List Ran
   pub calls_are : past ≡ calls t.start ++ ran
+  pub base : World
+  pub cleared : HasCleared (not (is_some t.found)) (name t) t.start.world base
   pub found : World
-  pub came : Follows t.places (changes_of (finished ran)) t.start.world found
+  pub came : Follows t.places (changes_of (finished ran)) base found
   pub has : HasFault t found fault
 
 -- the package is noted as half-installed, to be installed again
@@ -110,7 +123,8 @@ pub data IsAmid (t : Task) (table : List Record) (change : Change) (now : World)
       → HasFiles t works change last → MayUnlist (list_path (name t)) (list_file t.listed) works last now → IsAmid t table change now
   back : (works : List Work) → IsRearranged t.works works → HasGoneBack t works change now → IsAmid t table change now
 
--- At each moment the next opening finds the records of before with the first of the rows' notes, and nothing in its way.
+-- At each moment the next opening finds the records of before with the first of the rows' notes, and nothing in its way. What
+-- stands under a name without a record is as before until the row of its new preinst is prepared, and gone then.
 pub record Stops (t : Task) (es : List Event) (now : World) : Type 0 where
   pub since : List Event
   pub events : es ≡ t.start.events ++ since
@@ -119,9 +133,12 @@ pub record Stops (t : Task) (es : List Event) (now : World) : Type 0 where
   pub records : HasRecords now (table_at t place)
   pub opens : CanOpenRecords now
   pub ready : IsListReady (name t) now
-  pub files : IsAmid t (table_at t place) (changes_of since) now
+  pub base : World
+  pub cleared : MayClear (has_gone t place) (has_gone t (next_ready place)) (name t) t.start.world base
+  pub files : IsAmid (based_on t base) (table_at t place) (changes_of since) now
 
--- the rows can begin: the records stand, and nothing is in the list's way
+-- the rows can begin: the records stand, and nothing is in the way of the list and the control files
 pub record IsBegun (t : Task) (d : Recorded) (w : World) : Type 0 where
   pub kept : IsKept d w
   pub ready : IsListReady (name t) w
+  pub members : IsMembersReady (name t) w

@@ -1,4 +1,5 @@
 pub mod Task
+pub mod Clearing
 pub mod Trail
 pub mod At
 pub mod Notable

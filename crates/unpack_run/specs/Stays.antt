@@ -1,35 +1,50 @@
 -- What holds at a place while scripts run there.
-use Rattle.std.specs.Prelude.{◌≡◌, List, ◌++◌, length}
-use Rattle.std.proofs.Common.{IsTrue, refl, sym, ◌∙◌, ap, subst, append_assoc}
+use Rattle.std.specs.Prelude.{◌≡◌, Bool, true, false, List, ◌++◌, length}
+use Rattle.std.proofs.Common.{inl, IsTrue, refl, sym, ◌∙◌, ap, subst, append_assoc}
 use Rattle.std.proofs.lemmas.List.{map-append}
 use Rattle.host_core.specs.World.{World, Avoids, Change, SameOn, changed, is_kept}
 use Rattle.host_core.specs.Events.{Event, Finished, Ran, changes_of, scripts_of}
 use Rattle.host_core.specs.Host.{State, Calls, OnlyScripts, finished}
 use Rattle.host_core.specs.Moments.{scripts_of-append}
+use Rattle.host_core.specs.Paths.{Path}
 use Rattle.host_core.specs.Scripts.{changed_kept, changes_of-append}
+use Rattle.administration.specs.Places.{list_path}
 use Rattle.cleanup_stack.specs.Place.{Place}
+use Rattle.control_members.specs.Stored.{stored_member_path}
 use Rattle.file_lists.specs.Writing.{IsListReady}
 use Rattle.file_works.specs.declared.work.Work.{Work}
 use Rattle.status_db.specs.Held.{CanOpenRecords, HasRecords}
 use Rattle.status_db.specs.declared.record.Record.{Record}
 use Rattle.unpack_rows.specs.Stages.{Stage, Unwritten, Wrote, Restored, stage_of}
 use Rattle.unpack_rows.proofs.Staging.{marked}
-use Rattle.unpack_run.specs.At.{AreWorksAt, At, Holding, IsAmid, IsMarked, IsThere, IsWithin, Stops, table_at}
+use Rattle.unpack_run.specs.At.{AreWorksAt, At, Holding, IsAmid, IsAt, IsMarked, IsThere, IsWithin, Stops, table_at}
 use Rattle.unpack_run.specs.Follows.{come_then, follow_finished, follows_scripts, ready_kept, records_kept, scripts_of-finished}
-use Rattle.unpack_run.specs.Task.{Task, kinds, name, places_at}
+use Rattle.unpack_run.specs.Clearing.{HasCleared, MayClear, next_ready}
+use Rattle.unpack_run.specs.Task.{Task, based_on, has_gone, kinds, name, places_at}
 use Rattle.unpack_run.specs.Trail.{Follows, HasCome}
 
+-- where it is gone or isn't, it may go from there
+pub clear_here : (gone goes : Bool) (owner : Path) (old now : World) → HasCleared gone owner old now → MayClear gone goes owner old now
+clear_here true goes owner old now has = has
+clear_here false true owner old now same = record {
+  list = inl (ap (λ (w : World). w (list_path owner)) same);
+  members = λ member is. inl (ap (λ (w : World). w (stored_member_path owner member)) same);
+  rest = λ q beside. ap (λ (w : World). w q) same;
+}
+clear_here false false owner old now same = same
+
 -- what a stop shows of the files in each stage
-amid_at : (t : Task) (place : Place) (stage : Stage) (works : List Work) (table : List Record) (c : Change) (w : World)
-    → AreWorksAt t place stage works → (stage ≡ Wrote → IsMarked t table) → HasCome t stage works c w → IsAmid t table c w
-amid_at t place Unwritten works table c w are marks has = IsAmid.untouched has
-amid_at t place Wrote works table c w are marks has = IsAmid.written works are.same (marks refl) has
-amid_at t place Restored works table c w are marks has = IsAmid.back works are.same has
+amid_at : (t : Task) (base : World) (place : Place) (stage : Stage) (works : List Work) (table : List Record) (c : Change) (w : World)
+    → AreWorksAt t place stage works → (stage ≡ Wrote → IsMarked t table) → HasCome (based_on t base) stage works c w → IsAmid (based_on t base) table c w
+amid_at t base place Unwritten works table c w are marks has = IsAmid.untouched has
+amid_at t base place Wrote works table c w are marks has = IsAmid.written works are.same (marks refl) has
+amid_at t base place Restored works table c w are marks has = IsAmid.back works are.same has
 
 -- at a place a stop may come
 pub stop_at : (t : Task) (place : Place) (works : List Work) (since es : List Event) (w : World) → IsWithin (length (kinds t)) place → es ≡ t.start.events ++ since
-    → HasRecords w (table_at t place) → CanOpenRecords w → IsListReady (name t) w → AreWorksAt t place (stage_of (kinds t) place) works → HasCome t (stage_of (kinds t) place) works (changes_of since) w → Stops t es w
-stop_at t place works since es w within events records opens ready are has = record {
+    → HasRecords w (table_at t place) → CanOpenRecords w → IsListReady (name t) w → AreWorksAt t place (stage_of (kinds t) place) works
+    → (base : World) → MayClear (has_gone t place) (has_gone t (next_ready place)) (name t) t.start.world base → HasCome (based_on t base) (stage_of (kinds t) place) works (changes_of since) w → Stops t es w
+stop_at t place works since es w within events records opens ready are base cleared has = record {
   since = since;
   events = events;
   place = place;
@@ -37,7 +52,9 @@ stop_at t place works since es w within events records opens ready are has = rec
   records = records;
   opens = opens;
   ready = ready;
-  files = amid_at t place (stage_of (kinds t) place) works (table_at t place) (changes_of since) w are (marked t.found t.incoming t.others t.records place) has;
+  base = base;
+  cleared = cleared;
+  files = amid_at t base place (stage_of (kinds t) place) works (table_at t place) (changes_of since) w are (marked t.found t.incoming t.others t.records place) has;
 }
 
 -- after script calls it is as before
@@ -64,15 +81,18 @@ stays_at t g s u place us at calls = record {
   since = at.since ++ finished us;
   events = calls.goes.events ∙ ap (λ (l : List Event). l ++ finished us) at.events ∙ append_assoc t.start.events at.since (finished us);
   ran = at.ran ++ us;
+  base = at.base;
+  cleared = λ h. at.cleared (calls.goes.honest h);
+  members = λ h. at.members (calls.goes.honest h);
   ended = scripts_of-append at.since (finished us) ∙ ap (λ (l : List Event). scripts_of at.since ++ l) (scripts_of-finished us)
       ∙ ap (λ (l : List Event). l ++ finished us) at.ended ∙ sym (map-append Finished at.ran us);
-  world = λ h. subst (λ c. IsThere t g place c u.world) (sym (changes_of-append at.since (finished us)))
-      (there_still t g place (changes_of at.since) (changes_of (finished us)) s.world u.world (calls.goes.world ∙ follow_finished us s.world) (calls.avoids h) at.places (at.world (calls.goes.honest h)));
+  world = λ h. subst (λ c. IsThere (based_on t at.base) g place c u.world) (sym (changes_of-append at.since (finished us)))
+      (there_still (based_on t at.base) g place (changes_of at.since) (changes_of (finished us)) s.world u.world (calls.goes.world ∙ follow_finished us s.world) (calls.avoids h) at.places (at.world (calls.goes.honest h)));
 }
 
 pub holds_at : (t : Task) (g : Holding) (s : State) (place : Place) (more : List Event) (v : World) → At t g s place → IsTrue s.honest → OnlyScripts (is_kept g.places) s.world more v → Stops t (s.events ++ more) v
 holds_at t g s place more v at h only =
-    let there = there_still t g place (changes_of at.since) (changes_of more) s.world v only.world only.avoids at.places (at.world h) in
+    let there = there_still (based_on t at.base) g place (changes_of at.since) (changes_of more) s.world v only.world only.avoids at.places (at.world h) in
     stop_at t place g.works (at.since ++ more) (s.events ++ more) v at.within (ap (λ (l : List Event). l ++ more) at.events ∙ append_assoc t.start.events at.since more)
     (subst (HasRecords v) at.records there.kept.holds) (record { unblocked = there.kept.unblocked; table = g.database.records; records = there.kept.holds })
-    there.ready at.works (subst (λ c. HasCome t (stage_of (kinds t) place) g.works c v) (sym (changes_of-append at.since more)) there.came)
+    there.ready at.works at.base (clear_here (has_gone t place) (has_gone t (next_ready place)) (name t) t.start.world at.base (at.cleared h)) (subst (λ c. HasCome (based_on t at.base) (stage_of (kinds t) place) g.works c v) (sym (changes_of-append at.since more)) there.came)

@@ -1,6 +1,7 @@
 -- What stays the same while the rows of an unpack run (Policy 6.6).
-use Rattle.std.specs.Prelude.{◌≡◌, ℕ, ◌<◌, true, List, Option, map, ◌++◌, get_or, length}
+use Rattle.std.specs.Prelude.{◌≡◌, ℕ, ◌<◌, Bool, true, List, Option, map, ◌++◌, get_or, length}
 use Rattle.host_core.specs.Paths.{Path}
+use Rattle.host_core.specs.World.{World}
 use Rattle.host_core.specs.Host.{State}
 use Rattle.texts.specs.PackageNames.{is_package_name}
 use Rattle.diversions.specs.declared.entry.Diversion.{Diversion}
@@ -18,9 +19,11 @@ use Rattle.status_db.specs.declared.record.Record.{Record}
 use Rattle.unpack_rows.specs.EndStates.{AreConcerned, own_name}
 use Rattle.unpack_rows.specs.Kinds.{kinds_of}
 use Rattle.unpack_rows.specs.Stages.{Stage, Unwritten, Wrote, Restored}
+use Rattle.cleanup_stack.specs.Place.{Place}
 use Rattle.unpack_rows.specs.declared.kinds.RowKind.{RowKind}
 use Rattle.unpack_rows.specs.declared.kinds.RowKind.TheVariants.{Files}
 use Rattle.unpack_run.specs.declared.plan.Rows.{Rows}
+use Rattle.unpack_run.specs.Clearing.{is_gone}
 
 pub record Task : Type 0 where
   -- the host where the rows begin
@@ -60,12 +63,24 @@ task_of start database lists entries places works plan = record {
   union = plan.union;
 }
 
+-- a host in which this stands
+abbrev pub state_on : State → World → State
+state_on s w = record { honest = s.honest; world = w; events = s.events }
+
+-- the same, as if this had stood there where the rows began
+abbrev pub based_on : Task → World → Task
+based_on t w = record t { start = state_on t.start w }
+
 module _ (t : Task) where
   abbrev pub name : List ℕ
   name = own_name t.found t.incoming
 
   abbrev pub kinds : List RowKind
   kinds = kinds_of t.found t.others
+
+  -- nothing is left of what stood under the name of a package without a record
+  abbrev pub has_gone : Place → Bool
+  has_gone place = is_gone t.found (length t.others) place
 
   -- the places of the shipped paths
   abbrev pub shipped_places : List Path

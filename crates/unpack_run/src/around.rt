@@ -6,6 +6,7 @@ ghost use Rattle.unpack_run.specs.At.{At, IsFileFault, Stops, holding};
 ghost use Rattle.unpack_run.specs.Stays.{holds_at, stays_at};
 ghost use Rattle.unpack_run.specs.Task.{Task, kinds, name, task_of};
 
+use crate::clearing::clear_left;
 use crate::files::{restore_row, write_row};
 use crate::notes::write_note;
 use crate::plan::Rows;
@@ -71,6 +72,7 @@ impl<'a, 's, H: Host> Around<H> for Unpacking<'a, 's, H> {
 
     fn prepare(&mut self, host: &mut H, _row: &Row, index: usize) -> Result<(), HostFault> {
         let kind = self.plan.kind(index);
+        clear_left(self.alloc, host, self.plan, kind)?;
         let entry = note_before(self.plan.found.as_ref(), &self.plan.incoming, kind)?;
         write_note(self.alloc, host, self.database, entry)
     }

@@ -3,6 +3,7 @@
 #![tactic(auto)]
 
 mod around;
+mod clearing;
 mod file_moves;
 mod files;
 mod notes;

@@ -1,4 +1,5 @@
-use Rattle.std.proofs.Common.{◌≡◌, ◌++◌, List, Option, None, sym, subst}
+use Rattle.std.proofs.Common.{◌≡◌, ◌++◌, List, Option, None, length, nat_le, sym, subst}
+use Rattle.cleanup_stack.specs.Transcripts.{Committed}
 use Rattle.host_core.specs.Paths.{Path}
 use Rattle.host_core.specs.Host.{AtEachMoment}
 use Rattle.file_lists.specs.Writing.{IsListReady}
@@ -39,27 +40,33 @@ returns-in-Ok-clause-left g c = λ h.
     let entries = c.args.diversions.now.entries in
     let lists = c.args.lists.now.lists in
     let before = c.args.database.now.records in
-    moved (λ n y u. HasLeft (changes_from n y entries lists c.args.works.now c.args.rest) (records_from n y entries lists c.args.works.now c.args.rest before) entries lists before (ended_as u)
+    moved (λ n y u. HasLeft (changes_from n y entries lists c.args.works.now c.args.rest) (records_from n y entries lists c.args.works.now c.args.rest before) entries lists before (length c.args.rows.now.others.items) (ended_as u)
     (g.H.Host.state c.args.host.now).world (g.H.Host.state c.finish_committed.new.host).world)
-    c.name-name.result.now _ c.as_slice-yields.result.now _ c.args.unwinding c.name-name.ensures c.as_slice-yields.ensures c.in-None.is (c.in-Ok.ensures.left h)
+    c.name-name.result.now _ c.as_slice-yields.result.now _ c.args.unwinding c.name-name.ensures c.as_slice-yields.ensures c.in-None.is
+    (subst (λ os. HasLeft (changes_from c.name-name.result.now c.as_slice-yields.result.now entries lists c.args.works.now c.args.rest) (records_from c.name-name.result.now c.as_slice-yields.result.now entries lists c.args.works.now c.args.rest before) entries lists before (length os) Committed
+    (g.H.Host.state c.args.host.now).world (g.H.Host.state c.finish_committed.new.host).world) c.as_slice-others.ensures.value (c.in-Ok.ensures.left h))
 
 pub returns-in-Ok-clause-any_moment : goal.returns-in-Ok-clause-any_moment
 returns-in-Ok-clause-any_moment g c =
     let entries = c.args.diversions.now.entries in
     let lists = c.args.lists.now.lists in
     let before = c.args.database.now.records in
-    moved (λ n y u. AtEachMoment (MayLeave (changes_from n y entries lists c.args.works.now c.args.rest) (records_from n y entries lists c.args.works.now c.args.rest before) entries lists before (ended_as u))
+    moved (λ n y u. AtEachMoment (MayLeave (changes_from n y entries lists c.args.works.now c.args.rest) (records_from n y entries lists c.args.works.now c.args.rest before) entries lists before (length c.args.rows.now.others.items) (ended_as u))
     (g.H.Host.state c.args.host.now) (g.H.Host.state c.finish_committed.new.host))
-    c.name-name.result.now _ c.as_slice-yields.result.now _ c.args.unwinding c.name-name.ensures c.as_slice-yields.ensures c.in-None.is c.finish_committed.ensures.any_moment
+    c.name-name.result.now _ c.as_slice-yields.result.now _ c.args.unwinding c.name-name.ensures c.as_slice-yields.ensures c.in-None.is
+    (subst (λ os. AtEachMoment (MayLeave (changes_from c.name-name.result.now c.as_slice-yields.result.now entries lists c.args.works.now c.args.rest) (records_from c.name-name.result.now c.as_slice-yields.result.now entries lists c.args.works.now c.args.rest before) entries lists before (length os) Committed)
+    (g.H.Host.state c.args.host.now) (g.H.Host.state c.finish_committed.new.host)) c.as_slice-others.ensures.value c.finish_committed.ensures.any_moment)
 
 pub returns-in-None-clause-any_moment : goal.returns-in-None-clause-any_moment
 returns-in-None-clause-any_moment g c =
     let entries = c.args.diversions.now.entries in
     let lists = c.args.lists.now.lists in
     let before = c.args.database.now.records in
-    moved (λ n y u. AtEachMoment (MayLeave (changes_from n y entries lists c.args.works.now c.args.rest) (records_from n y entries lists c.args.works.now c.args.rest before) entries lists before (ended_as u))
+    moved (λ n y u. AtEachMoment (MayLeave (changes_from n y entries lists c.args.works.now c.args.rest) (records_from n y entries lists c.args.works.now c.args.rest before) entries lists before (length c.args.rows.now.others.items) (ended_as u))
     (g.H.Host.state c.args.host.now) (g.H.Host.state c.finish_committed.new.host))
-    c.name-name.result.now _ c.as_slice-yields.result.now _ c.args.unwinding c.name-name.ensures c.as_slice-yields.ensures c.in-None.is c.finish_committed.ensures.any_moment
+    c.name-name.result.now _ c.as_slice-yields.result.now _ c.args.unwinding c.name-name.ensures c.as_slice-yields.ensures c.in-None.is
+    (subst (λ os. AtEachMoment (MayLeave (changes_from c.name-name.result.now c.as_slice-yields.result.now entries lists c.args.works.now c.args.rest) (records_from c.name-name.result.now c.as_slice-yields.result.now entries lists c.args.works.now c.args.rest before) entries lists before (length os) Committed)
+    (g.H.Host.state c.args.host.now) (g.H.Host.state c.finish_committed.new.host)) c.as_slice-others.ensures.value c.finish_committed.ensures.any_moment)
 
 pub finish_unwound-requires-clause-ready : goal.finish_unwound-requires-clause-ready
 finish_unwound-requires-clause-ready g c = λ h.
@@ -71,22 +78,27 @@ returns-in-Ok-finish_unwound-clause-kept g c = λ h.
     let old = (g.H.Host.state c.args.host.now).world in
     let new = (g.H.Host.state c.finish_unwound.new.host).world in
     let name = c.name-name.result.now in
+    let reached = nat_le (length c.as_slice-others.result.now) c.in-Some.unwinding.fall.row in
     let left = c.in-Ok-finish_unwound.ensures.left h in
     laying_kept left.followed new left.removed.rest c.args.database.now
-    (dropped_kept (record_in c.args.database.now.records name) name old left.followed left.has_followed c.args.database.now (c.requires.kept (c.finish_unwound.ensures.silent.honest h)))
+    (dropped_kept reached (record_in c.args.database.now.records name) name old left.followed left.has_followed c.args.database.now (c.requires.kept (c.finish_unwound.ensures.silent.honest h)))
 
 pub returns-in-Ok-finish_unwound-clause-any_moment : goal.returns-in-Ok-finish_unwound-clause-any_moment
 returns-in-Ok-finish_unwound-clause-any_moment g c =
     let before = c.args.database.now.records in
     let old = g.H.Host.state c.args.host.now in
     let new = g.H.Host.state c.finish_unwound.new.host in
-    subst (λ u. AtEachMoment (MayLeave (changes_from (own_name c.args.rows.now.found c.args.rows.now.incoming) c.args.rows.now.yields c.args.diversions.now.entries c.args.lists.now.lists c.args.works.now c.args.rest) (records_from (own_name c.args.rows.now.found c.args.rows.now.incoming) c.args.rows.now.yields c.args.diversions.now.entries c.args.lists.now.lists c.args.works.now c.args.rest before) c.args.diversions.now.entries c.args.lists.now.lists before (ended_as u)) old new) (sym c.in-Some.is)
-    (subst (λ n. AtEachMoment (MayLeaveBy (HasDropped (record_in before n) n) (MayDrop (record_in before n) n)) old new) c.name-name.ensures c.finish_unwound.ensures.any_moment)
+    subst (λ u. AtEachMoment (MayLeave (changes_from (own_name c.args.rows.now.found c.args.rows.now.incoming) c.args.rows.now.yields c.args.diversions.now.entries c.args.lists.now.lists c.args.works.now c.args.rest) (records_from (own_name c.args.rows.now.found c.args.rows.now.incoming) c.args.rows.now.yields c.args.diversions.now.entries c.args.lists.now.lists c.args.works.now c.args.rest before) c.args.diversions.now.entries c.args.lists.now.lists before (length c.args.rows.now.others.items) (ended_as u)) old new) (sym c.in-Some.is)
+    (subst (λ n. AtEachMoment (MayLeaveBy (HasDropped (nat_le (length c.args.rows.now.others.items) c.in-Some.unwinding.fall.row) (record_in before n) n) (MayDrop (nat_le (length c.args.rows.now.others.items) c.in-Some.unwinding.fall.row) (record_in before n) n)) old new) c.name-name.ensures
+    (subst (λ os. AtEachMoment (MayLeaveBy (HasDropped (nat_le (length os) c.in-Some.unwinding.fall.row) (record_in before c.name-name.result.now) c.name-name.result.now) (MayDrop (nat_le (length os) c.in-Some.unwinding.fall.row) (record_in before c.name-name.result.now) c.name-name.result.now)) old new)
+    c.as_slice-others.ensures.value c.finish_unwound.ensures.any_moment))
 
 pub returns-clause-any_moment : goal.returns-clause-any_moment
 returns-clause-any_moment g c =
     let before = c.args.database.now.records in
     let old = g.H.Host.state c.args.host.now in
     let new = g.H.Host.state c.finish_unwound.new.host in
-    subst (λ u. AtEachMoment (MayLeave (changes_from (own_name c.args.rows.now.found c.args.rows.now.incoming) c.args.rows.now.yields c.args.diversions.now.entries c.args.lists.now.lists c.args.works.now c.args.rest) (records_from (own_name c.args.rows.now.found c.args.rows.now.incoming) c.args.rows.now.yields c.args.diversions.now.entries c.args.lists.now.lists c.args.works.now c.args.rest before) c.args.diversions.now.entries c.args.lists.now.lists before (ended_as u)) old new) (sym c.in-Some.is)
-    (subst (λ n. AtEachMoment (MayLeaveBy (HasDropped (record_in before n) n) (MayDrop (record_in before n) n)) old new) c.name-name.ensures c.finish_unwound.ensures.any_moment)
+    subst (λ u. AtEachMoment (MayLeave (changes_from (own_name c.args.rows.now.found c.args.rows.now.incoming) c.args.rows.now.yields c.args.diversions.now.entries c.args.lists.now.lists c.args.works.now c.args.rest) (records_from (own_name c.args.rows.now.found c.args.rows.now.incoming) c.args.rows.now.yields c.args.diversions.now.entries c.args.lists.now.lists c.args.works.now c.args.rest before) c.args.diversions.now.entries c.args.lists.now.lists before (length c.args.rows.now.others.items) (ended_as u)) old new) (sym c.in-Some.is)
+    (subst (λ n. AtEachMoment (MayLeaveBy (HasDropped (nat_le (length c.args.rows.now.others.items) c.in-Some.unwinding.fall.row) (record_in before n) n) (MayDrop (nat_le (length c.args.rows.now.others.items) c.in-Some.unwinding.fall.row) (record_in before n) n)) old new) c.name-name.ensures
+    (subst (λ os. AtEachMoment (MayLeaveBy (HasDropped (nat_le (length os) c.in-Some.unwinding.fall.row) (record_in before c.name-name.result.now) c.name-name.result.now) (MayDrop (nat_le (length os) c.in-Some.unwinding.fall.row) (record_in before c.name-name.result.now) c.name-name.result.now)) old new)
+    c.as_slice-others.ensures.value c.finish_unwound.ensures.any_moment))

@@ -1,4 +1,4 @@
-use Rattle.std.proofs.Common.{Contains, sym, ap, subst, ◌∙◌}
+use Rattle.std.proofs.Common.{Contains, length, sym, ap, subst, ◌∙◌}
 use Rattle.texts.specs.PackageNames.{is_package_name}
 use Rattle.cleanup_stack.specs.Transcripts.{Committed}
 use Rattle.control_members.specs.LaidOut.{AreLaidOut}
@@ -52,7 +52,7 @@ pub finish_ready-requires-clause-laid : goal.finish_ready-requires-clause-laid
 finish_ready-requires-clause-laid g c = λ h. subst (λ ms. AreLaidOut ms (g.H.Host.state c.args.host.now).world) (sym c.in-Ok.ensures.members) (c.requires.laid h)
 
 pub returns-in-Err-clause-any_moment : goal.returns-in-Err-clause-any_moment
-returns-in-Err-clause-any_moment g c = leave_start _ c.args.diversions.now.entries c.args.lists.now.lists _ c.args.database.now (g.H.Host.state c.args.host.now) c.requires.kept
+returns-in-Err-clause-any_moment g c = leave_start _ c.args.diversions.now.entries c.args.lists.now.lists _ c.args.database.now (length c.args.others.now) (g.H.Host.state c.args.host.now) c.requires.kept
 
 pub returns-in-Ok-clause-left : goal.returns-in-Ok-clause-left
 returns-in-Ok-clause-left g c = λ h.
@@ -63,9 +63,9 @@ returns-in-Ok-clause-left g c = λ h.
     let new = (g.H.Host.state c.finish_ready.new.host).world in
     let made = changes_of c.in-Ok.committing.change c.in-Ok.committing.new_list in
     let noted = c.in-Ok.committing.records.items in
-    on_ok c.finish_ready.result (HasLeft made noted entries lists before Committed old new) _
-    (λ left. subst (λ x. HasLeft x (records_from c.args.name.now c.args.yields.now entries lists c.args.works.now c.args.rest before) entries lists before Committed old new) c.in-Ok.ensures.change
-    (subst (λ r. HasLeft made r entries lists before Committed old new) c.in-Ok.ensures.records left)) (c.finish_ready.ensures.left h)
+    on_ok c.finish_ready.result (HasLeft made noted entries lists before (length c.args.others.now) Committed old new) _
+    (λ left. subst (λ x. HasLeft x (records_from c.args.name.now c.args.yields.now entries lists c.args.works.now c.args.rest before) entries lists before (length c.args.others.now) Committed old new) c.in-Ok.ensures.change
+    (subst (λ r. HasLeft made r entries lists before (length c.args.others.now) Committed old new) c.in-Ok.ensures.records left)) (c.finish_ready.ensures.left h)
 
 pub returns-in-Ok-clause-any_moment : goal.returns-in-Ok-clause-any_moment
 returns-in-Ok-clause-any_moment g c =
@@ -75,5 +75,5 @@ returns-in-Ok-clause-any_moment g c =
     let old = g.H.Host.state c.args.host.now in
     let new = g.H.Host.state c.finish_ready.new.host in
     let made = changes_of c.in-Ok.committing.change c.in-Ok.committing.new_list in
-    subst (λ x. AtEachMoment (MayLeave x (records_from c.args.name.now c.args.yields.now entries lists c.args.works.now c.args.rest before) entries lists before Committed) old new) c.in-Ok.ensures.change
-    (subst (λ r. AtEachMoment (MayLeave made r entries lists before Committed) old new) c.in-Ok.ensures.records c.finish_ready.ensures.any_moment)
+    subst (λ x. AtEachMoment (MayLeave x (records_from c.args.name.now c.args.yields.now entries lists c.args.works.now c.args.rest before) entries lists before (length c.args.others.now) Committed) old new) c.in-Ok.ensures.change
+    (subst (λ r. AtEachMoment (MayLeave made r entries lists before (length c.args.others.now) Committed) old new) c.in-Ok.ensures.records c.finish_ready.ensures.any_moment)

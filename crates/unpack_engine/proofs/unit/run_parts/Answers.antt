@@ -68,8 +68,8 @@ returns-in-Ok-clause-unit g c =
     if_ok_all c.finish.result (λ u. u.unwinding ≡ c.in-Ok.unwinding) (λ u. HasCarriedOut (ground c.args.database.now.records c.args.lists.now.lists c.args.diversions.now.entries c.args.places.now c.args.rows.now.yields) (planned_from c.args.rows.now c.args.works.now.items c.args.calls.items c.args.rest) (ended_as u.unwinding) c.finish.new.database c.finish.new.lists.lists (g.H.Host.state c.args.host.now) (g.H.Host.state c.finish.new.host) c.args.told.now.items c.begin_and_run.new.told.items)
     _ _ _ _ (λ u same table lists_are left.
     carried_out c.args.database.now c.args.lists.now c.args.diversions.now.entries c.args.places.now c.args.rows.now c.args.works.now.items c.args.calls.items c.args.rest (ended_as c.in-Ok.unwinding) (ended_as u.unwinding) (holding c.begin_and_run.new.database c.begin_and_run.new.lists c.begin_and_run.new.places c.begin_and_run.new.works.items) c.finish.new.database c.finish.new.lists (g.H.Host.state c.args.host.now) (g.H.Host.state c.begin_and_run.new.host) (g.H.Host.state c.finish.new.host) c.args.told.now.items c.begin_and_run.new.told.items
-    (ap ended_as (sym same)) c.in-Ok.ensures.ran c.finish.ensures.silent (subst (λ (x : List Work). AtEachMoment (MayLeave (changes_from (own_name c.args.rows.now.found c.args.rows.now.incoming) c.args.rows.now.yields c.args.diversions.now.entries c.begin_and_run.new.lists.lists x c.args.rest) (records_from (own_name c.args.rows.now.found c.args.rows.now.incoming) c.args.rows.now.yields c.args.diversions.now.entries c.begin_and_run.new.lists.lists x c.args.rest c.begin_and_run.new.database.records) c.args.diversions.now.entries c.begin_and_run.new.lists.lists c.begin_and_run.new.database.records (ended_as c.in-Ok.unwinding)) (g.H.Host.state c.begin_and_run.new.host) (g.H.Host.state c.finish.new.host)) c.as_slice-shipped.ensures.value c.finish.ensures.any_moment)
-    (λ h. subst (λ (x : List Work). HasLeft (changes_from (own_name c.args.rows.now.found c.args.rows.now.incoming) c.args.rows.now.yields c.args.diversions.now.entries c.begin_and_run.new.lists.lists x c.args.rest) (records_from (own_name c.args.rows.now.found c.args.rows.now.incoming) c.args.rows.now.yields c.args.diversions.now.entries c.begin_and_run.new.lists.lists x c.args.rest c.begin_and_run.new.database.records) c.args.diversions.now.entries c.begin_and_run.new.lists.lists c.begin_and_run.new.database.records (ended_as c.in-Ok.unwinding) (g.H.Host.state c.begin_and_run.new.host).world (g.H.Host.state c.finish.new.host).world) c.as_slice-shipped.ensures.value (left h))
+    (ap ended_as (sym same)) c.in-Ok.ensures.ran c.finish.ensures.silent (subst (λ (x : List Work). AtEachMoment (MayLeave (changes_from (own_name c.args.rows.now.found c.args.rows.now.incoming) c.args.rows.now.yields c.args.diversions.now.entries c.begin_and_run.new.lists.lists x c.args.rest) (records_from (own_name c.args.rows.now.found c.args.rows.now.incoming) c.args.rows.now.yields c.args.diversions.now.entries c.begin_and_run.new.lists.lists x c.args.rest c.begin_and_run.new.database.records) c.args.diversions.now.entries c.begin_and_run.new.lists.lists c.begin_and_run.new.database.records (length c.args.rows.now.others.items) (ended_as c.in-Ok.unwinding)) (g.H.Host.state c.begin_and_run.new.host) (g.H.Host.state c.finish.new.host)) c.as_slice-shipped.ensures.value c.finish.ensures.any_moment)
+    (λ h. subst (λ (x : List Work). HasLeft (changes_from (own_name c.args.rows.now.found c.args.rows.now.incoming) c.args.rows.now.yields c.args.diversions.now.entries c.begin_and_run.new.lists.lists x c.args.rest) (records_from (own_name c.args.rows.now.found c.args.rows.now.incoming) c.args.rows.now.yields c.args.diversions.now.entries c.begin_and_run.new.lists.lists x c.args.rest c.begin_and_run.new.database.records) c.args.diversions.now.entries c.begin_and_run.new.lists.lists c.begin_and_run.new.database.records (length c.args.rows.now.others.items) (ended_as c.in-Ok.unwinding) (g.H.Host.state c.begin_and_run.new.host).world (g.H.Host.state c.finish.new.host).world) c.as_slice-shipped.ensures.value (left h))
     (table ∙ ap (λ (x : List Work). ended_table (ended_as c.in-Ok.unwinding) (records_from (own_name c.args.rows.now.found c.args.rows.now.incoming) c.args.rows.now.yields c.args.diversions.now.entries c.begin_and_run.new.lists.lists x c.args.rest c.begin_and_run.new.database.records) c.begin_and_run.new.database.records) c.as_slice-shipped.ensures.value)
     (ap (λ l. l.lists) lists_are ∙ ap (λ (x : List Work). ended_lists (ended_as c.in-Ok.unwinding) (changes_from (own_name c.args.rows.now.found c.args.rows.now.incoming) c.args.rows.now.yields c.args.diversions.now.entries c.begin_and_run.new.lists.lists x c.args.rest) c.args.diversions.now.entries c.begin_and_run.new.lists.lists) c.as_slice-shipped.ensures.value))
     c.finish.ensures.unwinding c.finish.ensures.records c.finish.ensures.lists c.finish.ensures.left
@@ -91,7 +91,7 @@ returns-in-Ok-clause-told g c = called_then c.args.calls.items (g.H.Host.state c
 pub returns-in-Ok-clause-any_moment : goal.returns-in-Ok-clause-any_moment
 returns-in-Ok-clause-any_moment g c =
     course_moments c.args.database.now c.args.lists.now c.args.diversions.now.entries c.args.places.now c.args.rows.now c.args.works.now.items c.args.calls.items c.args.rest c.requires.plan.job c.requires.plan.planned (g.H.Host.state c.args.host.now) (g.H.Host.state c.begin_and_run.new.host) c.requires.order (g.H.Host.tree c.args.host.now) (g.H.Host.state c.finish.new.host) (ended_as c.in-Ok.unwinding) (holding c.begin_and_run.new.database c.begin_and_run.new.lists c.begin_and_run.new.places c.begin_and_run.new.works.items) c.args.told.now.items c.begin_and_run.new.told.items c.begin_and_run.ensures.any_moment c.in-Ok.ensures.ran c.finish.ensures.silent
-    (subst (λ (x : List Work). AtEachMoment (MayLeave (changes_from (own_name c.args.rows.now.found c.args.rows.now.incoming) c.args.rows.now.yields c.args.diversions.now.entries c.begin_and_run.new.lists.lists x c.args.rest) (records_from (own_name c.args.rows.now.found c.args.rows.now.incoming) c.args.rows.now.yields c.args.diversions.now.entries c.begin_and_run.new.lists.lists x c.args.rest c.begin_and_run.new.database.records) c.args.diversions.now.entries c.begin_and_run.new.lists.lists c.begin_and_run.new.database.records (ended_as c.in-Ok.unwinding)) (g.H.Host.state c.begin_and_run.new.host) (g.H.Host.state c.finish.new.host)) c.as_slice-shipped.ensures.value c.finish.ensures.any_moment)
+    (subst (λ (x : List Work). AtEachMoment (MayLeave (changes_from (own_name c.args.rows.now.found c.args.rows.now.incoming) c.args.rows.now.yields c.args.diversions.now.entries c.begin_and_run.new.lists.lists x c.args.rest) (records_from (own_name c.args.rows.now.found c.args.rows.now.incoming) c.args.rows.now.yields c.args.diversions.now.entries c.begin_and_run.new.lists.lists x c.args.rest c.begin_and_run.new.database.records) c.args.diversions.now.entries c.begin_and_run.new.lists.lists c.begin_and_run.new.database.records (length c.args.rows.now.others.items) (ended_as c.in-Ok.unwinding)) (g.H.Host.state c.begin_and_run.new.host) (g.H.Host.state c.finish.new.host)) c.as_slice-shipped.ensures.value c.finish.ensures.any_moment)
 
 pub returns-in-Err-clause-any_moment : goal.returns-in-Err-clause-any_moment
 returns-in-Err-clause-any_moment g c = course_begins c.args.database.now c.args.lists.now c.args.diversions.now.entries c.args.places.now c.args.rows.now c.args.works.now.items c.args.calls.items c.args.rest c.requires.plan.job c.requires.plan.planned (g.H.Host.state c.args.host.now) (g.H.Host.state c.begin_and_run.new.host) c.requires.order (g.H.Host.tree c.args.host.now) c.begin_and_run.ensures.any_moment

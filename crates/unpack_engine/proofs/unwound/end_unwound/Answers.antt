@@ -11,26 +11,26 @@ use Rattle.unpack_engine.proofs.unwound.end_unwound.Goals as goal
 pub returns-in_err-drop_unrecorded-clause-any_moment : goal.returns-in_err-drop_unrecorded-clause-any_moment
 returns-in_err-drop_unrecorded-clause-any_moment g c =
     let found = record_in c.args.database.now.records c.args.name.now in
-    at_each (MayDrop found c.args.name.now) (MayLeaveBy (HasDropped found c.args.name.now) (MayDrop found c.args.name.now)) _ _ (λ now is. MayLeaveBy.following is) c.drop_unrecorded.ensures.any_moment
+    at_each (MayDrop c.args.reached found c.args.name.now) (MayLeaveBy (HasDropped c.args.reached found c.args.name.now) (MayDrop c.args.reached found c.args.name.now)) _ _ (λ now is. MayLeaveBy.following is) c.drop_unrecorded.ensures.any_moment
 
 pub clear_away-requires : goal.clear_away-requires
 clear_away-requires g c = λ h.
-    dropped_laid (record_in c.args.database.now.records c.args.name.now) c.args.name.now c.args.members.now _ _ (c.in_ok-drop_unrecorded.ensures.dropped h) (c.requires.laid (c.drop_unrecorded.ensures.silent.honest h))
+    dropped_laid c.args.reached (record_in c.args.database.now.records c.args.name.now) c.args.name.now c.args.members.now _ _ (c.in_ok-drop_unrecorded.ensures.dropped h) (c.requires.laid (c.drop_unrecorded.ensures.silent.honest h))
 
 pub returns-clause-left : goal.returns-clause-left
 returns-clause-left g c = λ h.
     let found = record_in c.args.database.now.records c.args.name.now in
     let mid = g.H.Host.state c.drop_unrecorded.new.host in
     let end = g.H.Host.state c.clear_away.new.host in
-    on_ok c.clear_away.result (IsRemoved tmp_path mid.world end.world) (HasLeftBy (HasDropped found c.args.name.now) (g.H.Host.state c.args.host.now).world end.world)
+    on_ok c.clear_away.result (IsRemoved tmp_path mid.world end.world) (HasLeftBy (HasDropped c.args.reached found c.args.name.now) (g.H.Host.state c.args.host.now).world end.world)
     (λ removed. record { followed = mid.world; has_followed = c.in_ok-drop_unrecorded.ensures.dropped (c.clear_away.ensures.silent.honest h); removed = removed }) (c.clear_away.ensures.removed h)
 
 pub returns-clause-any_moment : goal.returns-clause-any_moment
 returns-clause-any_moment g c =
     let found = record_in c.args.database.now.records c.args.name.now in
     let mid = g.H.Host.state c.drop_unrecorded.new.host in
-    then_at_each (MayDrop found c.args.name.now) IsLaying (MayLeaveBy (HasDropped found c.args.name.now) (MayDrop found c.args.name.now)) _ _ _ (λ now is. MayLeaveBy.following is)
+    then_at_each (MayDrop c.args.reached found c.args.name.now) IsLaying (MayLeaveBy (HasDropped c.args.reached found c.args.name.now) (MayDrop c.args.reached found c.args.name.now)) _ _ _ (λ now is. MayLeaveBy.following is)
     (λ h now is. (let h1 = c.clear_away.ensures.silent.honest h in
     let dropped = c.in_ok-drop_unrecorded.ensures.dropped h1 in
-    MayLeaveBy.clearing_away mid.world dropped (dropped_opens found c.args.name.now c.args.database.now _ _ dropped (c.requires.kept (c.drop_unrecorded.ensures.silent.honest h1))) is))
+    MayLeaveBy.clearing_away mid.world dropped (dropped_opens c.args.reached found c.args.name.now c.args.database.now _ _ dropped (c.requires.kept (c.drop_unrecorded.ensures.silent.honest h1))) is))
     c.drop_unrecorded.ensures.any_moment c.clear_away.ensures.any_moment

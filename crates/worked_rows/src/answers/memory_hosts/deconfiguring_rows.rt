@@ -84,6 +84,40 @@ bravo 1 half-configured
 ",
 );
 
+const LEFT_POSTRM: &str = "write /var/lib/dpkg/info/alpha.postrm #!/bin/sh\n";
+
+const LEFT_LIST: &str = "write /var/lib/dpkg/info/alpha.list /.\n/old\n";
+
+// What a name without a record left behind stays where bravo's call fails, and goes before the new preinst's.
+const LEFT_BEHIND: DeconfiguringRow = (
+    &[BRAVO, BRAVO_PRERM, LEFT_POSTRM, LEFT_LIST],
+    &[FAILS, SUCCEEDS],
+    &[
+        "dpkg_cli unpack --auto-deconfigure one",
+        "read /var/lib/dpkg/info",
+        "read /var/lib/dpkg/info/alpha.list",
+        "dpkg_cli unpack --auto-deconfigure one",
+        "read /var/lib/dpkg/info",
+        "read /var/lib/dpkg/info/alpha.list",
+    ],
+    "call old bravo prerm deconfigure in-favour alpha 2.0: exit 1
+failed bravo prerm deconfigure in-favour alpha 2.0
+||1
+directory: alpha.list alpha.postrm bravo.prerm
+/.
+/old
+
+call old bravo prerm deconfigure in-favour alpha 2.0: exit 0
+state alpha 2.0 install ok unpacked
+state bravo 1 install ok half-configured
+done
+||0
+directory: alpha.list bravo.prerm
+/.
+
+",
+);
+
 const WHOLE: &[&str] = &[
     "write /var/lib/dpkg/status Package: alpha\nStatus: install ok installed\nVersion: 1.0\n\nPackage: bravo\nStatus: install ok installed\nVersion: 1\n\nPackage: charlie\nStatus: install ok installed\nVersion: 1\n",
     "write /var/lib/dpkg/info/alpha.list /.\n/usr\n/usr/bin\n/usr/bin/a\n",
@@ -161,7 +195,13 @@ charlie 1 half-configured
 ",
 );
 
-const ROWS: &[DeconfiguringRow] = &[DECONFIGURED, INSTALLED, OWN_UNDO_FAILS, OTHER_UNDO_FAILS];
+const ROWS: &[DeconfiguringRow] = &[
+    DECONFIGURED,
+    INSTALLED,
+    LEFT_BEHIND,
+    OWN_UNDO_FAILS,
+    OTHER_UNDO_FAILS,
+];
 
 #[test]
 fn packages_are_deconfigured(rt: HostRuntime) -> Result<(), Fail> {

@@ -274,6 +274,81 @@ fn configuring_is_tried_again(rt: HostRuntime) -> Result<(), Fail> {
     check(&rt, POSTINST_FAILS)
 }
 
+const LOOK_AT_INFO: &str = "cat started
+>started
+ls root/var/lib/dpkg/info";
+
+// What a name without a record left behind stays where a call of another package fails, and goes before the new preinst's.
+const LEFT_BEHIND: &[Deed] = &[
+    Deed {
+        before: "mkdir root
+>started
+tree bravo bravo 1
+script bravo prerm 755 'exit 1'",
+        words: "install",
+        tree: "bravo",
+        calls: "",
+        rest: "state bravo 1 install ok unpacked
+done
+state bravo 1 install ok installed
+done
+||0
+",
+        look: LOOK_AT_INFO,
+        left: "bravo.list
+bravo.prerm
+",
+    },
+    Deed {
+        before: "tree one alpha 2
+echo 'Breaks: bravo' >>one/DEBIAN/control
+script one preinst 755 'ls var/lib/dpkg/info >>../started'
+printf '#!/bin/sh\n' >root/var/lib/dpkg/info/alpha.postrm
+printf '/.\n/old\n' >root/var/lib/dpkg/info/alpha.list",
+        words: "unpack --auto-deconfigure",
+        tree: "one",
+        calls: "call old bravo prerm deconfigure in-favour alpha 2: exit 1
+",
+        rest: "failed bravo prerm deconfigure in-favour alpha 2
+||1
+",
+        look: LOOK_AT_INFO,
+        left: "prerm deconfigure in-favour alpha 2
+alpha.list
+alpha.postrm
+bravo.list
+bravo.prerm
+",
+    },
+    Deed {
+        before: "printf '#!/bin/sh\nexit 0\n' >root/var/lib/dpkg/info/bravo.prerm",
+        words: "unpack --auto-deconfigure",
+        tree: "one",
+        calls: "call old bravo prerm deconfigure in-favour alpha 2: exit 0
+call new alpha preinst install: exit 0
+",
+        rest: "state alpha 2 install ok unpacked
+state bravo 1 install ok half-configured
+done
+||0
+",
+        look: LOOK_AT_INFO,
+        left: "preinst install
+bravo.list
+bravo.prerm
+alpha.list
+alpha.preinst
+bravo.list
+bravo.prerm
+",
+    },
+];
+
+#[test]
+fn what_is_left_behind_goes_before_the_new_preinst(rt: HostRuntime) -> Result<(), Fail> {
+    check(&rt, LEFT_BEHIND)
+}
+
 const NO_FILE: &[Deed] = &[Deed {
     before: "mkdir root root/etc
 ln -s other root/etc/z.conf

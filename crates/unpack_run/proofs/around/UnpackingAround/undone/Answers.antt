@@ -8,7 +8,7 @@ use Rattle.unpack_run.proofs.HookRows.{Leads, noted_moments, noted_place, spared
 use Rattle.unpack_run.proofs.RowKinds.{kind_at, not_files}
 use Rattle.unpack_rows.specs.declared.kinds.RowKind.{RowKind}
 use Rattle.unpack_run.specs.At.{Holding, holding}
-use Rattle.unpack_run.specs.Task.{Task, kinds, name, task_of}
+use Rattle.unpack_run.specs.Task.{Task, has_gone, kinds, name, task_of}
 use Rattle.unpack_run.proofs.around.UnpackingAround.undone.Goals as goal
 
 pub returns-then-is_spared-clause-place : goal.returns-then-is_spared-clause-place
@@ -81,8 +81,8 @@ returns-clause-place g c =
     let before = Back (c.args.index + 1) c.args._fall.now c.args.failed.now in
     let after = Back c.args.index c.args._fall.now (blamed c.args.fails c.args.index c.args.row.now.owner c.args.failed.now) in
     let u = g.H.Host.state c.write_note.new.host in
-    let leads = subst (Leads t h s before after) (sym entry_is) (undone t h s c.args.index k c.requires.row.0 is c.args._fall.now c.args.fails c.args.failed.now c.args.row.now.owner whose calls at asked) in
-    noted_place t h s u before after c.in_ok-entry.entry at leads c.write_note.ensures.silent c.write_note.result c.write_note.new.database c.write_note.ensures.any_moment c.write_note.ensures.records c.write_note.ensures.opened c.write_note.ensures.kept
+    let leads = subst (Leads t (has_gone t before) h s before after) (sym entry_is) (undone t h s c.args.index k c.requires.row.0 is c.args._fall.now c.args.fails c.args.failed.now c.args.row.now.owner whose calls at asked) in
+    noted_place t (has_gone t before) h s u before after c.in_ok-entry.entry at leads c.write_note.ensures.silent c.write_note.result c.write_note.new.database c.write_note.ensures.any_moment c.write_note.ensures.records c.write_note.ensures.opened c.write_note.ensures.kept
 
 pub returns-clause-any_moment : goal.returns-clause-any_moment
 returns-clause-any_moment g c =
@@ -100,5 +100,5 @@ returns-clause-any_moment g c =
     let before = Back (c.args.index + 1) c.args._fall.now c.args.failed.now in
     let after = Back c.args.index c.args._fall.now (blamed c.args.fails c.args.index c.args.row.now.owner c.args.failed.now) in
     let u = g.H.Host.state c.write_note.new.host in
-    let leads = subst (Leads t h s before after) (sym entry_is) (undone t h s c.args.index k c.requires.row.0 is c.args._fall.now c.args.fails c.args.failed.now c.args.row.now.owner whose calls at asked) in
-    noted_moments t h s u before after c.in_ok-entry.entry at leads c.write_note.ensures.silent c.write_note.ensures.any_moment
+    let leads = subst (Leads t (has_gone t before) h s before after) (sym entry_is) (undone t h s c.args.index k c.requires.row.0 is c.args._fall.now c.args.fails c.args.failed.now c.args.row.now.owner whose calls at asked) in
+    noted_moments t (has_gone t before) h s u before after c.in_ok-entry.entry at leads c.write_note.ensures.silent c.write_note.ensures.any_moment

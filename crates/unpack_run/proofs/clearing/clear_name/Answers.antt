@@ -6,9 +6,9 @@ use Rattle.administration.proofs.WholeFiles.{no_directory_at}
 use Rattle.control_members.specs.Stored.{AreMemberNames, AreStoredNames, IsMembersReady, goes}
 use Rattle.control_members.proofs.Apart.{no_list}
 use Rattle.file_writing.proofs.WriteMoments.{on_ok}
-use Rattle.unpack_engine.specs.Units.{IsCleared}
-use Rattle.unpack_engine.proofs.Clearing.{clears, since_dropping, since_looked, since_taking}
-use Rattle.unpack_engine.proofs.beginning.clear_name.Goals as goal
+use Rattle.unpack_run.specs.Clearing.{IsCleared}
+use Rattle.unpack_run.proofs.Leftovers.{clears, since_dropping, since_looked, since_taking}
+use Rattle.unpack_run.proofs.clearing.clear_name.Goals as goal
 
 pub returns-in_err-names-clause-any_moment : goal.returns-in_err-names-clause-any_moment
 returns-in_err-names-clause-any_moment g c = since_looked c.args.name.now _ _ c.stored_names.ensures.reads

@@ -14,7 +14,7 @@ use Rattle.control_members.proofs.Drawn.{contains_any}
 use Rattle.host_core.specs.Host.{State, AtEachMoment, Reads}
 use Rattle.host_core.specs.Moments.{since_reads}
 use Rattle.unpack_moves.proofs.Moments.{then_at_each}
-use Rattle.unpack_engine.specs.Units.{IsBesideOwn, IsCleared, IsClearing}
+use Rattle.unpack_run.specs.Clearing.{IsBesideOwn, IsCleared, IsClearing}
 
 by_gone : (b : Bool) (was now : Option Node) → now ≡ cond b None was → (now ≡ was) ⊎ (now ≡ None)
 by_gone true was now e = inr e
