@@ -1,3 +1,4 @@
 pub mod Above
 pub mod Listings
 pub mod Going
+pub mod Outside

@@ -7,7 +7,7 @@ use Rattle.administration.proofs.Within.{taken_more}
 use Rattle.file_lists.specs.Owners.{IsListable, IsSameSet}
 use Rattle.file_lists.proofs.Increasing.{all_from}
 use Rattle.file_lists.proofs.Sorting.{all_of}
-use Rattle.list_changes.specs.NewList.{IsAbove, IsAboveOne, IsNewList}
+use Rattle.list_changes.specs.NewList.{IsAbove, IsAboveOne, IsNewList, IsWithParents}
 use Rattle.list_changes.proofs.Above.{listable_above}
 
 among_both : (a b : List Path) (q : Path) → Contains (a ++ b) q ↔ (Contains a q ⊎ Contains b q)
@@ -67,3 +67,14 @@ module _ (shipped staying all : List Path) (are : (q : Path) → Contains all q 
       | inr (inr above) ↦ (are q).1 (inr above)
     ]),
   )
+
+-- of paths, and the directories above others
+module _ (paths of all : List Path) (are : IsWithParents paths of all) where
+  pub parents_listable : AllByRecursion IsListable paths → AllByRecursion IsListable of → AllByRecursion IsListable all
+  parents_listable first second = all_from IsListable all (λ q has. elim ((are q).0 has) [
+    | inl h ↦ all_of IsListable paths q first h
+    | inr above ↦ listable_above q above.0 (all_of IsListable of above.0 second above.1) above.2
+  ])
+
+  pub with_parents_is : (listed : List Path) → IsSameSet all listed → IsWithParents paths of listed
+  with_parents_is listed same q = (λ has. (are q).0 ((same q).0 has), λ has. (same q).1 ((are q).1 has))

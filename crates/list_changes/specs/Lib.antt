@@ -1,2 +1,3 @@
 pub mod NewList
 pub mod Leaving
+pub mod Clearable

@@ -13,3 +13,7 @@ IsAboveOne q paths = (path : Path) × Contains paths path × IsAbove q path
 -- the paths that are shipped, those that stay, and the directories above these
 abbrev pub IsNewList : (shipped staying paths : List Path) → Type 0
 IsNewList shipped staying paths = (q : Path) → Contains paths q ↔ (Contains shipped q ⊎ (Contains staying q ⊎ IsAboveOne q staying))
+
+-- these paths, and the directories above others
+abbrev pub IsWithParents : (paths of listed : List Path) → Type 0
+IsWithParents paths of listed = (q : Path) → Contains listed q ↔ (Contains paths q ⊎ IsAboveOne q of)

@@ -3,7 +3,7 @@ ghost use Rattle.std.specs.Prelude.{◌≡◌, ◌≢◌, ◌<◌, ◌↔◌, �
 ghost use Rattle.std.specs.List.{AllByRecursion};
 ghost use Rattle.host_core.specs.Paths.{Path};
 ghost use Rattle.file_lists.specs.Owners.{AreListPaths, IsListable};
-ghost use Rattle.list_changes.specs.NewList.{IsAbove, IsAboveOne, IsNewList};
+ghost use Rattle.list_changes.specs.NewList.{IsAbove, IsAboveOne, IsNewList, IsWithParents};
 
 use crate::ordering::in_order;
 use crate::union::add_all;
@@ -66,4 +66,23 @@ pub fn list_of(
     add_all(&mut paths, staying)?;
     add_all_parents(alloc, &mut paths, staying)?;
     in_order(alloc, paths)
+}
+
+/// What a package lists once its files are removed: paths, and the directories above others, each once.
+pub fn list_with_parents(
+    alloc: Global,
+    paths: &[RootPath],
+    of: &[RootPath],
+) -> Result<Paths, AllocError>
+    requires paths { AllByRecursion IsListable paths.now }
+    requires of { AllByRecursion IsListable of.now }
+    ensures paths { IfOk result AreListPaths }
+    ensures list { IfOk result (IsWithParents paths.now of.now) }
+{
+    let mut listed = Paths {
+        items: Vec::new(alloc),
+    };
+    add_all(&mut listed, paths)?;
+    add_all_parents(alloc, &mut listed, of)?;
+    in_order(alloc, listed)
 }

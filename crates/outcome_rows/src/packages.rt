@@ -46,6 +46,8 @@ pub(crate) const NO_PATHS: &str = "/.\n";
 
 pub(crate) const CONFFILE_ALONE: &str = "/.\n/etc\n/etc/a.conf\n";
 
+pub(crate) const ABOVE_CONFFILE: &str = "/.\n/etc\n";
+
 pub(crate) const ALL_PATHS: &str = "/.\n/etc\n/etc/a.conf\n/usr\n/usr/bin\n/usr/bin/a\n";
 
 // Version 1.0, with a conffile that holds `a`; version 2.0 ships `c`.

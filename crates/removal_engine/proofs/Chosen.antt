@@ -10,11 +10,8 @@ use Rattle.host_core.specs.Paths.{Path}
 use Rattle.diversions.specs.declared.entry.Diversion.{Diversion}
 use Rattle.file_lists.specs.declared.paths.PackageList.{PackageList}
 use Rattle.list_changes.specs.Leaving.{has_other_owner}
-use Rattle.removal_engine.specs.Names.{clearable, is_clearable, ownerless}
-
-pub not_both : (a b : Bool) → b ≡ true → a && not b ≡ false
-not_both true b is = ap not is
-not_both false b is = refl
+use Rattle.list_changes.specs.Clearable.{clearable, is_clearable}
+use Rattle.removal_engine.specs.Names.{ownerless}
 
 -- one more of what is chosen name by name
 pub gathered : (F : List Path → List Path) → ((xs ys : List Path) → F (xs ++ ys) ≡ F xs ++ F ys) → (done : List Path) (p q : Path) (base mid new : List Path) → mid ≡ base ++ F done → new ≡ mid ++ F (q ∷ []) → q ≡ p → new ≡ base ++ F (done ++ p ∷ [])

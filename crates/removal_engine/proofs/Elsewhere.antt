@@ -13,14 +13,16 @@ use Rattle.host_core.specs.Suffixes.{suffix_text}
 use Rattle.host_core.specs.declared.suffix.Suffix.TheVariants.{New}
 use Rattle.file_lists.specs.declared.paths.PackageList.{PackageList}
 use Rattle.file_removal.specs.Clearing.{is_among}
+use Rattle.list_changes.specs.Clearable.{clearable}
 use Rattle.list_changes.specs.Leaving.{has_other_owner}
+use Rattle.list_changes.proofs.Outside.{clearable_elsewhere}
 use Rattle.status_db.specs.declared.entries.ConffileEntry.{ConffileEntry}
 use Rattle.status_db.specs.declared.entries.PendingDigest.{PendingDigest}
 use Rattle.status_db.specs.declared.record.Record.{Record}
 use Rattle.unpack_moves.specs.Concluding.{AreElsewhere}
 use Rattle.file_lists.specs.Owners.{paths_of}
 use Rattle.removal_engine.specs.Records.{entry_paths}
-use Rattle.removal_engine.specs.Names.{cleared_names, clearable, is_clearable, ownerless, purged_names, side_names, side_names_at, stopped_names, unpack_names, waiting_names}
+use Rattle.removal_engine.specs.Names.{cleared_names, ownerless, purged_names, side_names, side_names_at, stopped_names, unpack_names, waiting_names}
 
 head_elsewhere : (n : Path) (names : List Path) → AreElsewhere (n ∷ names) → (q : Path) → is_within home_path q ≡ true → bytes_eq q n ≡ false
 head_elsewhere n names all q within = (or_parts (bytes_eq q n) (is_among names q) (all q within)).0
@@ -47,23 +49,6 @@ flat_elsewhere : {X : Type 0} (f : X → List Path) → ((x : X) → AreElsewher
 flat_elsewhere f each [] = λ q within. refl
 flat_elsewhere f each (x ∷ xs) = append_elsewhere (f x) (flat_map f xs) (each x) (flat_elsewhere f each xs)
 
-spared : (a b c : Bool) → c ≡ true → a && not (b || c) ≡ true → ⊥
-spared false b c within is = true≢false (sym is)
-spared true true c within is = true≢false (sym is)
-spared true false c within is = true≢false (sym is ∙ ap not within)
-
-one_elsewhere : (n : Path) → is_clearable n ≡ true → (q : Path) → is_within home_path q ≡ true → bytes_eq q n ≡ false
-one_elsewhere n is q within = false_from_ne_true (bytes_eq q n) (λ same.
-    spared (is_path_text n) (bytes_eq n (codes "/")) (is_within home_path n) (ap (is_within home_path) (sym ((bytes_eq-Decides q n).0 same)) ∙ within) is)
-
-clearable_elsewhere : (xs : List Path) → AreElsewhere (clearable xs)
-clearable_elsewhere [] = λ q within. refl
-clearable_elsewhere (x ∷ xs) = by (clearable_elsewhere xs) (is_clearable x) refl
-  where
-    by : AreElsewhere (clearable xs) → (b : Bool) → is_clearable x ≡ b → AreElsewhere (cond b (x ∷ clearable xs) (clearable xs))
-    by rest true is = both_elsewhere x (clearable xs) (one_elsewhere x is) rest
-    by rest false is = rest
-
 unless : (b : Bool) (xs : List Path) → AreElsewhere xs → AreElsewhere (cond b [] xs)
 unless true xs all = λ q within. refl
 unless false xs all = all
@@ -82,9 +67,7 @@ module _ (entries : List Diversion) where
       flat_elsewhere (λ (d : PendingDigest). clearable ((place entries name d.path ++ suffix_text New) ∷ [])) (λ d. clearable_elsewhere ((place entries name d.path ++ suffix_text New) ∷ [])) pending
 
   pub cleared_elsewhere : (lists : List PackageList) (r : Record) → AreElsewhere (cleared_names entries lists r)
-  cleared_elsewhere lists r =
-      append_elsewhere (stopped_names entries r.name (entry_paths r.conffiles) (paths_of lists r.name)) (waiting_names entries r.name r.pending)
-      (stopped_elsewhere r.name (entry_paths r.conffiles) (paths_of lists r.name)) (waiting_elsewhere r.name r.pending)
+  cleared_elsewhere lists r = stopped_elsewhere r.name (entry_paths r.conffiles) (paths_of lists r.name)
 
   pub purged_elsewhere : (lists : List PackageList) (r : Record) → AreElsewhere (purged_names entries lists r)
   purged_elsewhere lists r =

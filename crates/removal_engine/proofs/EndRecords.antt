@@ -23,9 +23,9 @@ use Rattle.unit_stages.specs.Runs.{HasRestored, HaveRun}
 use Rattle.unit_stages.specs.declared.stage.Stage.{Stage}
 use Rattle.removal_engine.specs.Extents.{BeginsFrom}
 use Rattle.removal_engine.specs.Ends.{EndsWith, left_by, left_by_all}
-use Rattle.removal_engine.specs.Records.{config_files, half_configured, purged, without_files}
+use Rattle.removal_engine.specs.Records.{config_files, goes_at_once, half_configured, purged, without_files}
 use Rattle.removal_engine.specs.Scripts.{call_of}
-use Rattle.removal_engine.specs.Stages.{Deed, Planned, deed, files_stages, goes_at_once, gone_stage, left_stage, planned, prerm_stage, purge_stages, removal_stages, stages_from}
+use Rattle.removal_engine.specs.Stages.{Deed, Planned, deed, files_stages, gone_stage, left_stage, planned, prerm_stage, purge_stages, removal_stages, stages_from}
 use Rattle.removal_engine.specs.Units.{HasEnded, IsCallOf, IsEndOf}
 use Rattle.removal_engine.specs.declared.extent.Extent.{Extent}
 use Rattle.removal_engine.specs.declared.extent.Extent.TheVariants.{Remove, Purge, InFavour}
@@ -190,7 +190,7 @@ module _ (entries : List Diversion) (lists : List PackageList) (stored : Stored)
     ends_own false purge = (((tt, (own, tt)), tt), behind_own purge)
 
     files_own : (purge : Bool) → AreOwnStages name (files_stages entries lists r stored purge to_come)
-    files_own purge = (((own, (tt, (tt, (tt, (own, tt))))), tt), ends_own (goes_at_once r stored) purge)
+    files_own purge = (((own, (tt, (tt, (tt, (tt, (own, tt)))))), tt), ends_own (goes_at_once r stored) purge)
 
     from_own : (s : PackageState) (purge : Bool) → AreOwnStages name (stages_from entries lists s r stored purge to_come)
     from_own state.NotInstalled purge = files_own purge

@@ -14,11 +14,11 @@ use Rattle.status_db.specs.declared.words.State.TheVariants as state
 use Rattle.removal_engine.specs.Lists.{IsToCome}
 use Rattle.removal_engine.specs.declared.extent.Extent.{Extent}
 use Rattle.removal_engine.specs.declared.extent.Extent.TheVariants.{Remove, Purge, InFavour}
-use Rattle.removal_engine.specs.Records.{config_files, entry_paths, half_configured, losing_files, purged, without_files}
-use Rattle.removal_engine.specs.Stages.{Planned, files_stage, files_stages, goes_at_once, gone_stage, last_stage, left_stage, prerm_stage, purge_stage, purge_stages, removal_stages, stages_from}
+use Rattle.removal_engine.specs.Records.{config_files, entry_paths, goes_at_once, half_configured, losing_files, purged, without_files}
+use Rattle.removal_engine.specs.Stages.{Planned, files_stage, files_stages, gone_stage, last_stage, left_stage, prerm_stage, purge_stage, purge_stages, removal_stages, stages_from}
 use Rattle.removal_engine.specs.declared.scripts.Stored.{Stored}
 use Rattle.removal_engine.proofs.Deeds.{ArePlannedFit, IsPlannedFit, IsStillStage}
-use Rattle.removal_engine.proofs.Elsewhere.{cleared_elsewhere, purged_elsewhere}
+use Rattle.removal_engine.proofs.Elsewhere.{cleared_elsewhere, purged_elsewhere, waiting_elsewhere}
 use Rattle.removal_engine.proofs.Sparing.{leaving_spares}
 use Rattle.removal_engine.proofs.Tables.{known_put, none_listed}
 
@@ -33,12 +33,15 @@ module _ (entries : List Diversion) (lists : List PackageList) (name : List ℕ)
       (
         record { own = own; stands = refl; known = known },
         (
-          leaving_spares entries lists r.name to_come (entry_paths r.conffiles) (paths_of lists r.name),
+          waiting_elsewhere entries r.name r.pending,
           (
-            cleared_elsewhere entries lists r,
+            leaving_spares entries lists r.name to_come (entry_paths r.conffiles) (paths_of lists r.name),
             (
-              record { listable = paths; known = known_put (losing_files r) rs name own },
-              (record { own = own; stands = refl; known = known_put (losing_files r) rs name own }, tt),
+              cleared_elsewhere entries lists r,
+              (
+                record { listable = paths; known = known_put (losing_files r) rs name own },
+                (record { own = own; stands = refl; known = known_put (losing_files r) rs name own }, tt),
+              ),
             ),
           ),
         ),
@@ -67,7 +70,7 @@ module _ (entries : List Diversion) (lists : List PackageList) (name : List ℕ)
     purges_fit : is_not_installed r.state ≡ false → (listed : List Path) (rs : List Record) (ls : List PackageList) → is_some (record_in rs name) ≡ true → ArePlannedFit name (purge_stages entries lists r stored listed) rs ls
     purges_fit stands listed rs ls known = (purge_fit stands rs ls known, (last_fit listed (put_record (purged r) rs) ls (known_put (purged r) rs name own), tt))
 
-  module _ (r : Record) (own : r.name ≡ name) (to_come : List Path) (comes : IsToCome r to_come) where
+  module _ (r : Record) (own : r.name ≡ name) (to_come : List Path) (comes : IsToCome r stored to_come) where
     behind_left : (purge : Bool) (rs : List Record) (ls : List PackageList) → ArePlannedFit name (cond purge (purge_stages entries lists (config_files r) stored to_come) []) (put_record (config_files r) rs) ls
     behind_left true rs ls = purges_fit (config_files r) own refl to_come (put_record (config_files r) rs) ls (known_put (config_files r) rs name own)
     behind_left false rs ls = tt
@@ -119,7 +122,7 @@ module _ (entries : List Diversion) (lists : List PackageList) (name : List ℕ)
     ends_still false purge = (((tt, (tt, tt)), tt), behind_still purge)
 
     files_still : (purge : Bool) → AllStill (files_stages entries lists r stored purge to_come)
-    files_still purge = (((tt, (tt, (tt, (tt, (tt, tt))))), tt), ends_still (goes_at_once r stored) purge)
+    files_still purge = (((tt, (tt, (tt, (tt, (tt, (tt, tt)))))), tt), ends_still (goes_at_once r stored) purge)
 
     from_still : (s : State) (purge : Bool) → AllStill (stages_from entries lists s r stored purge to_come)
     from_still state.NotInstalled purge = files_still purge

@@ -1,19 +1,24 @@
 -- What a package lists once its files are removed, and which of its paths go (Policy 6.8).
-use Rattle.std.specs.Prelude.{List, []}
+use Rattle.std.specs.Prelude.{List, [], cond}
 use Rattle.host_core.specs.Paths.{Path}
 use Rattle.diversions.specs.declared.entry.Diversion.{Diversion}
 use Rattle.file_lists.specs.Owners.{AreListPaths, paths_of}
 use Rattle.file_lists.specs.declared.paths.PackageList.{PackageList}
 use Rattle.file_removal.specs.declared.leaving.Leaving.{Leaving}
 use Rattle.list_changes.specs.Leaving.{leaving_of}
-use Rattle.list_changes.specs.NewList.{IsNewList}
+use Rattle.list_changes.specs.NewList.{IsWithParents}
 use Rattle.status_db.specs.declared.record.Record.{Record}
-use Rattle.removal_engine.specs.Records.{entry_paths, kept_entries}
+use Rattle.removal_engine.specs.Records.{entry_paths, goes_at_once, kept_entries}
+use Rattle.removal_engine.specs.declared.scripts.Stored.{Stored}
 
--- the conffiles that stay, and the directories above them, in order
-pub record IsToCome (r : Record) (paths : List Path) : Type 0 where
+-- the conffiles above which directories stay listed to the last step of a purge: all of the record's, unless nothing is left of the package
+abbrev pub housed : Record → Stored → List Path
+housed r stored = cond (goes_at_once r stored) [] (entry_paths r.conffiles)
+
+-- the conffiles that stay, and the directories above all of them, in order; no path where nothing is left of the package
+pub record IsToCome (r : Record) (stored : Stored) (paths : List Path) : Type 0 where
   pub are_paths : AreListPaths paths
-  pub are : IsNewList [] (entry_paths (kept_entries r.conffiles)) paths
+  pub are : IsWithParents (entry_paths (kept_entries r.conffiles)) (housed r stored) paths
 
 -- Of the listed paths those go that aren't in the list to come, but for conffiles.
 abbrev pub leaving_files : List Diversion → List PackageList → Record → (to_come : List Path) → List Leaving

@@ -1,26 +1,19 @@
 -- Names beside the places of a package at which nothing is left behind a removal or a purge (Policy 6.8, 10.7.3).
-use Rattle.std.specs.Prelude.{◌||◌, ◌&&◌, ℕ, Bool, not, cond, List, [], ◌∷◌, ◌++◌, map, filter, codes, nat_eq}
+use Rattle.std.specs.Prelude.{ℕ, not, cond, List, [], ◌∷◌, ◌++◌, map, filter, codes, nat_eq}
 use Rattle.std.specs.List.{flat_map, list_any}
 use Rattle.std.specs.Str.{bytes_eq}
-use Rattle.host_core.specs.Paths.{Path, is_path_text, reserved_suffixes}
+use Rattle.host_core.specs.Paths.{Path, reserved_suffixes}
 use Rattle.host_core.specs.Suffixes.{suffix_text}
 use Rattle.host_core.specs.declared.suffix.Suffix.TheVariants.{New, Tmp, Inst}
-use Rattle.administration.specs.Places.{home_path, is_within}
 use Rattle.diversions.specs.Places.{place}
 use Rattle.diversions.specs.declared.entry.Diversion.{Diversion}
 use Rattle.file_lists.specs.Owners.{paths_of}
 use Rattle.file_lists.specs.declared.paths.PackageList.{PackageList}
+use Rattle.list_changes.specs.Clearable.{clearable}
 use Rattle.list_changes.specs.Leaving.{has_other_owner}
 use Rattle.status_db.specs.declared.entries.PendingDigest.{PendingDigest}
 use Rattle.status_db.specs.declared.record.Record.{Record}
 use Rattle.removal_engine.specs.Records.{entry_paths}
-
--- a path below the root at which a node can stand that isn't the administration's
-abbrev pub is_clearable : Path → Bool
-is_clearable q = is_path_text q && not (bytes_eq q (codes "/") || is_within home_path q)
-
-abbrev pub clearable : List Path → List Path
-clearable names = filter is_clearable names
 
 -- what an unpack leaves beside a place where it is stopped
 abbrev pub unpack_names : Path → List Path
@@ -31,14 +24,13 @@ abbrev pub stopped_names : List Diversion → List ℕ → (conffiles listed : L
 stopped_names entries name conffiles listed =
     flat_map (λ path. cond (list_any (bytes_eq path) conffiles) [] (clearable (unpack_names (place entries name path)))) listed
 
--- where conffiles wait to be settled
+-- where conffiles wait to be settled: a removal clears these names before the paths, since one may be all that is left in a directory
 abbrev pub waiting_names : List Diversion → List ℕ → List PendingDigest → List Path
 waiting_names entries name pending = flat_map (λ d. clearable ((place entries name d.path ++ suffix_text New) ∷ [])) pending
 
--- the names that a removal clears behind the files
+-- the names that a removal clears behind the paths
 abbrev pub cleared_names : List Diversion → List PackageList → Record → List Path
-cleared_names entries lists r =
-    stopped_names entries r.name (entry_paths r.conffiles) (paths_of lists r.name) ++ waiting_names entries r.name r.pending
+cleared_names entries lists r = stopped_names entries r.name (entry_paths r.conffiles) (paths_of lists r.name)
 
 -- a number sign in front of what stands behind the last slash
 abbrev pub signed : Path → Path

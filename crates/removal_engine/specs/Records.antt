@@ -1,5 +1,5 @@
 -- What a removal and a purge note of a package (Policy 6.8).
-use Rattle.std.specs.Prelude.{◌||◌, Bool, false, List, [], is_some, map, filter}
+use Rattle.std.specs.Prelude.{◌||◌, ◌&&◌, Bool, false, not, List, [], is_some, map, filter}
 use Rattle.std.specs.List.{list_any}
 use Rattle.host_core.specs.Paths.{Path}
 use Rattle.status_db.specs.Standings.{standing_as, wanting, removed, with_conffiles}
@@ -8,6 +8,7 @@ use Rattle.status_db.specs.declared.record.Record.{Record}
 use Rattle.status_db.specs.declared.words.Want.TheVariants as want
 use Rattle.status_db.specs.declared.words.Flag.TheVariants as flag
 use Rattle.status_db.specs.declared.words.State.TheVariants as state
+use Rattle.removal_engine.specs.declared.scripts.Stored.{Stored}
 
 -- while its prerm runs
 abbrev pub half_configured : Record → Record
@@ -28,6 +29,10 @@ kept_entries es = map kept_entry (filter (λ e. is_some e.digest) es)
 -- one of its conffiles was settled
 abbrev pub has_settled : Record → Bool
 has_settled r = list_any (λ e. is_some e.digest) r.conffiles
+
+-- of a package that has neither postrm nor a conffile nothing is left
+abbrev pub goes_at_once : Record → Stored → Bool
+goes_at_once r stored = not stored.postrm && not (has_settled r)
 
 -- once its files are gone: nobody wants it installed, and no conffile waits to be settled
 abbrev pub without_files : Record → Record

@@ -16,6 +16,14 @@ pub record AreStored (name : List ℕ) (w : World) (stored : Stored) : Type 0 wh
   pub postinst : stored.postinst ≡ is_some (w (script_path name script.Postinst))
   pub postrm : stored.postrm ≡ is_some (w (script_path name script.Postrm))
 
+-- those of this world
+abbrev pub stored_in : List ℕ → World → Stored
+stored_in name w = record {
+  prerm = is_some (w (script_path name script.Prerm));
+  postinst = is_some (w (script_path name script.Postinst));
+  postrm = is_some (w (script_path name script.Postrm));
+}
+
 -- a call of a stored script with one argument; where the script isn't there it isn't called
 abbrev pub call_of : List ℕ → Script → Bool → (word : List ℕ) → Option Call
 call_of name s there word =

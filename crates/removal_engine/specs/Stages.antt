@@ -1,5 +1,5 @@
 -- The stages of a removal and of a purge (Policy 6.8).
-use Rattle.std.specs.Prelude.{◌&&◌, Bool, true, false, not, cond, List, [], ◌∷◌, map}
+use Rattle.std.specs.Prelude.{Bool, true, false, cond, List, [], ◌∷◌, map}
 use Rattle.host_core.specs.Paths.{Path}
 use Rattle.diversions.specs.declared.entry.Diversion.{Diversion}
 use Rattle.conffiles.specs.declared.entries.Settled.{Settled}
@@ -17,8 +17,8 @@ use Rattle.removal_engine.specs.declared.extent.Extent.{Extent}
 use Rattle.removal_engine.specs.declared.extent.Extent.TheVariants as extent
 use Rattle.removal_engine.specs.declared.scripts.Stored.{Stored}
 use Rattle.removal_engine.specs.Lists.{leaving_directories, leaving_files}
-use Rattle.removal_engine.specs.Names.{cleared_names, purged_names}
-use Rattle.removal_engine.specs.Records.{config_files, half_configured, has_settled, losing_files, purged, without_files}
+use Rattle.removal_engine.specs.Names.{cleared_names, purged_names, waiting_names}
+use Rattle.removal_engine.specs.Records.{config_files, goes_at_once, half_configured, losing_files, purged, without_files}
 use Rattle.removal_engine.specs.Scripts.{postrm_row, prerm_row, purge_row, quiet_row}
 
 -- what a part does
@@ -60,10 +60,7 @@ stage_of parts row = record { parts = parts; row = row; restore = [] }
 abbrev pub prerm_stage : Record → Stored → Planned
 prerm_stage r stored = record { parts = Notes (half_configured r) ∷ []; row = prerm_row r.name stored; restore = Notes r ∷ [] }
 
--- of a package that has neither postrm nor a conffile nothing is left
-abbrev pub goes_at_once : Record → Stored → Bool
-goes_at_once r stored = not stored.postrm && not (has_settled r)
-
+-- of a package of which nothing is left all that the administration has of it goes
 abbrev pub gone_stage : Record → Planned
 gone_stage r = stage_of (DropsMembers false ∷ Lists [] ∷ DropsList ∷ Forgets ∷ []) (quiet_row r.name)
 
@@ -72,10 +69,13 @@ abbrev pub left_stage : Record → Planned
 left_stage r = stage_of (DropsMembers true ∷ Notes (config_files r) ∷ []) (quiet_row r.name)
 
 module _ (entries : List Diversion) (lists : List PackageList) where
-  -- its files go, and then postrm `remove` is called
+  -- what waits to be settled goes, then its files, and then postrm `remove` is called
   abbrev pub files_stage : Record → Stored → (to_come : List Path) → Planned
   files_stage r stored to_come = stage_of
-      (Notes (losing_files r) ∷ Removes (leaving_files entries lists r to_come) ∷ Clears (cleared_names entries lists r) ∷ Lists to_come ∷ Notes (without_files r) ∷ [])
+      (
+      Notes (losing_files r) ∷ Clears (waiting_names entries r.name r.pending) ∷ Removes (leaving_files entries lists r to_come)
+      ∷ Clears (cleared_names entries lists r) ∷ Lists to_come ∷ Notes (without_files r) ∷ []
+      )
       (postrm_row r.name stored)
 
   -- its conffiles go, and then postrm `purge` is called

@@ -42,7 +42,7 @@ pub record IsPlanFor (entries : List Diversion) (lists : List PackageList) (r : 
   pub stored : Stored
   pub seen : IsTrue honest → AreStored r.name w stored
   pub to_come : List Path
-  pub comes : IsToCome r to_come
+  pub comes : IsToCome r stored to_come
   pub are : map as_planned stages ≡ removal_stages entries lists extent r stored to_come
 
 -- what a unit is given: its extent, the name of its package, the diversions, and the records and lists that it finds

@@ -1,54 +1,23 @@
 // Names beside the places of a package at which nothing is left behind a removal.
-ghost use Rattle.std.specs.Prelude.{◌≡◌, ◌||◌, ◌++◌, ◌∷◌, [], List, codes, string_bytes, IfOk, MatchOption, OnOk, true, false, cond};
+ghost use Rattle.std.specs.Prelude.{◌≡◌, ◌++◌, ◌∷◌, [], List, IfOk, OnOk, cond};
 ghost use Rattle.std.specs.BTreeSet.{contains_text};
-ghost use Rattle.std.specs.List.{flat_map, list_any};
+ghost use Rattle.std.specs.List.{list_any};
 ghost use Rattle.std.specs.Str.{bytes_eq};
 ghost use Rattle.host_core.specs.Paths.{Path};
-ghost use Rattle.administration.specs.Places.{home_path, is_within};
 ghost use Rattle.diversions.specs.Places.{place};
+ghost use Rattle.list_changes.specs.Clearable.{clearable};
 ghost use Rattle.unpack_moves.specs.Concluding.{AreElsewhere};
-ghost use Rattle.removal_engine.specs.Names.{cleared_names, clearable, is_clearable, stopped_names, unpack_names, waiting_names};
+ghost use Rattle.removal_engine.specs.Names.{cleared_names, stopped_names, unpack_names, waiting_names};
 
 use crate::paths::conffile_paths;
 use diversions::Diversions;
 use file_lists::FileLists;
 use host_core::{RootPath, ShipPath, Suffix};
+use list_changes::clearable_name;
 use status_db::{PendingDigest, Record};
 use std::alloc::{AllocError, Global};
 use std::collections::BTreeSet;
 use texts::Text;
-
-// The root, and what is the administration's.
-fn is_spared(at: &str) -> bool
-    ensures { result ≡ (bytes_eq at.now (codes "/") || is_within home_path at.now) }
-{
-    at == "/" || at == "/var/lib/dpkg" || at.as_bytes().starts_with(b"/var/lib/dpkg/")
-}
-
-/// Two texts, one behind the other.
-pub(crate) fn joined(alloc: Global, front: &str, ending: &str) -> Result<String, AllocError>
-    ensures { IfOk result (λ s. string_bytes s ≡ front.now ++ ending.now) }
-{
-    let mut text = String::from_str(alloc, front)?;
-    text.push_str(ending)?;
-    Ok(text)
-}
-
-/// A name with an ending, where that is a path that can be cleared.
-pub(crate) fn clearable_name(
-    alloc: Global,
-    at: &str,
-    ending: &str,
-) -> Result<Option<RootPath>, AllocError>
-    ensures { IfOk result (λ o. MatchOption o (is_clearable (at.now ++ ending.now) ≡ false) (λ p. (is_clearable (at.now ++ ending.now) ≡ true) × (p ≡ at.now ++ ending.now))) }
-{
-    let text = joined(alloc, at, ending)?;
-    let name = text.as_str();
-    if is_spared(name) {
-        return Ok(None);
-    }
-    RootPath::parse(alloc, name)
-}
 
 // Adds it.
 fn push_name(
@@ -142,7 +111,22 @@ fn push_waiting(
     Ok(())
 }
 
-/// The names that a removal clears behind the files.
+/// Where conffiles of a package wait to be settled.
+pub(crate) fn waiting_names(
+    alloc: Global,
+    diversions: &Diversions,
+    entry: &Record,
+) -> Result<Vec<RootPath>, AllocError>
+    ensures names { IfOk result (λ names. names.items ≡ waiting_names diversions.now.entries entry.now.name entry.now.pending) }
+    ensures elsewhere { IfOk result (λ names. AreElsewhere names.items) }
+{
+    let mut names = Vec::new(alloc);
+    let pending = entry.pending.as_slice();
+    push_waiting(alloc, diversions, &entry.name, pending, &mut names)?;
+    Ok(names)
+}
+
+/// The names that a removal clears behind the paths.
 pub(crate) fn cleared_names(
     alloc: Global,
     lists: &FileLists,
@@ -161,13 +145,6 @@ pub(crate) fn cleared_names(
         &entry.name,
         conffiles.as_slice(),
         listed,
-        &mut names,
-    )?;
-    push_waiting(
-        alloc,
-        diversions,
-        &entry.name,
-        entry.pending.as_slice(),
         &mut names,
     )?;
     Ok(names)

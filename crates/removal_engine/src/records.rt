@@ -1,7 +1,8 @@
 // What a removal and a purge note of a package.
 ghost use Rattle.std.specs.Prelude.{◌≡◌, IfOk};
-ghost use Rattle.removal_engine.specs.Records.{config_files, half_configured, has_settled, kept_entries, kept_entry, losing_files, purged, without_files};
+ghost use Rattle.removal_engine.specs.Records.{config_files, goes_at_once, half_configured, has_settled, kept_entries, kept_entry, losing_files, purged, without_files};
 
+use crate::scripts::Stored;
 use status_db::{ConffileEntries, ConffileEntry, Flag, PendingDigests, Record, State, Want};
 use std::alloc::{AllocError, Global};
 
@@ -50,8 +51,8 @@ pub(crate) fn kept_entries(
     Ok(kept)
 }
 
-/// Whether one of its conffiles was settled.
-pub(crate) fn has_settled(entry: &Record) -> bool
+// Whether one of its conffiles was settled.
+fn has_settled(entry: &Record) -> bool
     ensures { result ≡ has_settled entry.now }
 {
     entry
@@ -59,6 +60,13 @@ pub(crate) fn has_settled(entry: &Record) -> bool
         .as_slice()
         .iter()
         .any(|conffile| conffile.digest.is_some())
+}
+
+/// Whether nothing is left of the package once its files are gone.
+pub(crate) fn goes_at_once(entry: &Record, stored: Stored) -> bool
+    ensures { result ≡ goes_at_once entry.now stored }
+{
+    !stored.postrm && !has_settled(entry)
 }
 
 /// Once its files are gone.

@@ -8,10 +8,10 @@ ghost use Rattle.list_changes.specs.Leaving.{has_other_owner};
 ghost use Rattle.unpack_moves.specs.Concluding.{AreElsewhere};
 ghost use Rattle.removal_engine.specs.Names.{ownerless, purged_names, side_names_at, signed};
 
-use crate::names::{clearable_name, joined};
 use diversions::Diversions;
 use file_lists::{FileLists, Listed};
 use host_core::{RootPath, ShipPath, Suffix};
+use list_changes::{clearable_name, joined};
 use status_db::Record;
 use std::alloc::{AllocError, Global};
 use texts::Text;

@@ -4,13 +4,13 @@ ghost use Rattle.host_core.specs.Paths.{Path};
 ghost use Rattle.texts.specs.PackageNames.{is_package_name};
 ghost use Rattle.file_lists.specs.Owners.{AreListPaths};
 ghost use Rattle.removal_engine.specs.Lists.{IsToCome};
-ghost use Rattle.removal_engine.specs.Stages.{end_stages, files_stage, files_stages, goes_at_once, gone_stage, last_stage, left_stage, planned, prerm_stage, purge_stage, purge_stages, removal_stages, stage_of, stages_from, deed};
+ghost use Rattle.removal_engine.specs.Stages.{end_stages, files_stage, files_stages, gone_stage, last_stage, left_stage, planned, prerm_stage, purge_stage, purge_stages, removal_stages, stage_of, stages_from, deed};
 
 use crate::extent::Extent;
 use crate::lists::{leaving_directories, leaving_files};
-use crate::names::cleared_names;
+use crate::names::{cleared_names, waiting_names};
 use crate::records::{
-    config_files, half_configured, has_settled, losing_files, purged, without_files,
+    config_files, goes_at_once, half_configured, losing_files, purged, without_files,
 };
 use crate::scripts::{Stored, postrm_row, prerm_row, purge_row, quiet_row};
 use crate::side_names::purged_names;
@@ -83,10 +83,13 @@ fn files_stage(
     requires named { is_package_name entry.now.name ≡ true }
     ensures { IfOk result (λ s. planned s ≡ files_stage diversions.now.entries lists.now.lists entry.now stored to_come.now) }
 {
+    let waiting = waiting_names(alloc, diversions, entry)?;
     let leaving = leaving_files(alloc, lists, diversions, entry, to_come)?;
     let names = cleared_names(alloc, lists, diversions, entry)?;
     let mut parts = Vec::new(alloc);
     parts.push(Part::Note(losing_files(entry)?))?;
+    // One of them may be all that is left in a directory.
+    parts.push(Part::Clear(waiting))?;
     parts.push(Part::Remove(leaving))?;
     parts.push(Part::Clear(names))?;
     parts.push(Part::List(copied(alloc, to_come)?))?;
@@ -175,12 +178,6 @@ fn push_purge(
     stages.push(purge_stage(alloc, lists, diversions, entry, stored)?)?;
     stages.push(last_stage(alloc, lists, diversions, entry, listed)?)?;
     Ok(())
-}
-
-fn goes_at_once(entry: &Record, stored: Stored) -> bool
-    ensures { result ≡ goes_at_once entry.now stored }
-{
-    !stored.postrm && !has_settled(entry)
 }
 
 // Adds the stages behind that of the files.

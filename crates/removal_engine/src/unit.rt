@@ -37,7 +37,7 @@ fn plan<H: Host>(
 {
     match stored_scripts(alloc, host, &entry.name) {
         Ok(stored) => {
-            let to_come = list_to_come(alloc, entry)?;
+            let to_come = list_to_come(alloc, entry, stored)?;
             let paths = to_come.as_slice();
             Ok(removal_stages(alloc, lists, diversions, entry, stored, extent, paths)?)
         }

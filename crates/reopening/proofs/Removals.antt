@@ -1,6 +1,7 @@
 -- The stages of a removal or a purge, and of a configure, are of their package and write lists that are read back.
-use Rattle.std.proofs.Common.{◌≡◌, ℕ, Bool, true, false, cond, List, [], ◌∷◌, ◌++◌, map, refl, sym, ap, subst, arith}
+use Rattle.std.proofs.Common.{◌≡◌, ℕ, Bool, true, false, cond, List, [], ◌∷◌, ◌++◌, map, refl, sym, ap, subst, arith, Contains}
 use Rattle.std.specs.List.{AllByRecursion}
+use Rattle.std.specs.Str.{IsUtf8}
 use Rattle.host_core.specs.Paths.{Path}
 use Rattle.host_core.specs.World.{World}
 use Rattle.conffiles.specs.declared.decisions.ConfPolicy.{ConfPolicy}
@@ -12,17 +13,18 @@ use Rattle.configure_engine.specs.Waiting.{going_paths}
 use Rattle.diversions.specs.declared.entry.Diversion.{Diversion}
 use Rattle.file_lists.specs.Owners.{paths_of}
 use Rattle.file_lists.specs.declared.paths.PackageList.{PackageList}
-use Rattle.removal_engine.proofs.Elsewhere.{cleared_elsewhere, purged_elsewhere}
+use Rattle.removal_engine.proofs.Elsewhere.{cleared_elsewhere, purged_elsewhere, waiting_elsewhere}
 use Rattle.removal_engine.proofs.Sparing.{leaving_spares}
 use Rattle.removal_engine.specs.Lists.{IsToCome}
-use Rattle.removal_engine.specs.Records.{config_files, entry_paths}
-use Rattle.removal_engine.specs.Stages.{Deed, Planned, deed, files_stage, files_stages, goes_at_once, gone_stage, last_stage, left_stage, planned, prerm_stage, purge_stages, removal_stages, stages_from}
+use Rattle.removal_engine.specs.Records.{config_files, entry_paths, goes_at_once}
+use Rattle.removal_engine.specs.Stages.{Deed, Planned, deed, files_stage, files_stages, gone_stage, last_stage, left_stage, planned, prerm_stage, purge_stages, removal_stages, stages_from}
 use Rattle.removal_engine.specs.Stages.{Notes, Forgets, Settles, Removes, RemovesDirectories, Clears, Lists, DropsList, DropsMembers}
 use Rattle.removal_engine.specs.Units.{IsPlanFor}
 use Rattle.removal_engine.specs.declared.extent.Extent.{Extent}
 use Rattle.removal_engine.specs.declared.extent.Extent.TheVariants.{Remove, Purge, InFavour}
 use Rattle.removal_engine.specs.declared.scripts.Stored.{Stored}
 use Rattle.status_db.specs.Words.{is_not_installed}
+use Rattle.status_db.specs.declared.entries.ConffileEntry.{ConffileEntry}
 use Rattle.status_db.specs.declared.record.Record.{Record}
 use Rattle.status_db.specs.declared.words.State.{State}
 use Rattle.status_db.specs.declared.words.State.TheVariants as state
@@ -34,7 +36,7 @@ use Rattle.unpack_moves.specs.Concluding.{AreElsewhere}
 use Rattle.reopening.proofs.Parts.{AreSafeParts, IsSafePart}
 use Rattle.reopening.proofs.Stages.{AreSafeStages}
 use Rattle.reopening.proofs.Steps.{AreGood, good_filter}
-use Rattle.reopening.proofs.Texts.{entries_text, good_none, good_paths, new_list_text}
+use Rattle.reopening.proofs.Texts.{entries_text, good_none, good_paths, with_parents_text}
 
 -- the same of what a part does
 
@@ -87,7 +89,10 @@ module _ (entries : List Diversion) (lists : List PackageList) (name : List ℕ)
     files_safe to_come good = record {
       parts = (
         (own, refl),
-        (leaving_spares entries lists r.name to_come (entry_paths r.conffiles) (paths_of lists r.name), (cleared_elsewhere entries lists r, (good, ((own, refl), tt)))),
+        (
+          waiting_elsewhere entries r.name r.pending,
+          (leaving_spares entries lists r.name to_come (entry_paths r.conffiles) (paths_of lists r.name), (cleared_elsewhere entries lists r, (good, ((own, refl), tt)))),
+        ),
       );
       restore = tt;
     }
@@ -129,12 +134,18 @@ module _ (entries : List Diversion) (lists : List PackageList) (name : List ℕ)
     removal_safe Purge = from_safe r.state refl true
     removal_safe InFavour = all_files_safe false
 
-to_come_good : (r : Record) (to_come : List Path) → IsToCome r to_come → AreGood to_come
-to_come_good r to_come comes = good_paths to_come comes.are_paths (new_list_text [] _ to_come comes.are (λ q none. absurd (omega (arith, none.1))) (λ q has. entries_text _ q has))
+housed_text : (at_once : Bool) (entries : List ConffileEntry) (q : Path) → Contains (cond at_once [] (entry_paths entries)) q → IsUtf8 q
+housed_text true entries q none = absurd (omega (arith, none.1))
+housed_text false entries q has = entries_text entries q has
+
+to_come_good : (r : Record) (stored : Stored) (to_come : List Path) → IsToCome r stored to_come → AreGood to_come
+to_come_good r stored to_come comes =
+    good_paths to_come comes.are_paths
+    (with_parents_text _ _ to_come comes.are (λ q has. entries_text _ q has) (λ q has. housed_text (goes_at_once r stored) r.conffiles q has))
 
 pub removal_plan_safe : (entries : List Diversion) (lists : List PackageList) (r : Record) (extent : Extent) (w : World) (honest : Bool) (stages : List Stage) (name : List ℕ) → r.name ≡ name → IsPlanFor entries lists r extent w honest stages → AreSafeStages name stages
 removal_plan_safe entries lists r extent w honest stages name own plan =
-    planned_safe name stages (subst (AreSafePlanned name) (sym plan.are) (removal_safe entries lists name plan.stored r own plan.to_come (to_come_good r plan.to_come plan.comes) extent))
+    planned_safe name stages (subst (AreSafePlanned name) (sym plan.are) (removal_safe entries lists name plan.stored r own plan.to_come (to_come_good r plan.stored plan.to_come plan.comes) extent))
 
 -- a configure
 

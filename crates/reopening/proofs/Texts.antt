@@ -14,7 +14,7 @@ use Rattle.file_lists.proofs.Increasing.{all_from}
 use Rattle.file_lists.specs.Lists.{HasLists}
 use Rattle.file_lists.specs.Owners.{AreListPaths, IsListable, paths_of}
 use Rattle.file_lists.specs.declared.paths.PackageList.{PackageList}
-use Rattle.list_changes.specs.NewList.{IsNewList}
+use Rattle.list_changes.specs.NewList.{IsNewList, IsWithParents}
 use Rattle.status_db.specs.ConffilePaths.{is_ship_path, is_trimmed}
 use Rattle.status_db.specs.declared.entries.ConffileEntry.{ConffileEntry}
 use Rattle.unpack_engine.proofs.ListEnds.{listed_can, listed_texts}
@@ -61,6 +61,13 @@ new_list_text shipped staying paths is ships stays q has = elim ((is q).0 has) [
     | inl staying_one ↦ stays q staying_one
     | inr above ↦ front_text q above.2.0 (subst IsUtf8 above.2.1 (stays above.0 above.1))
   ]
+]
+
+-- these paths, and the directories above others
+pub with_parents_text : (paths of listed : List Path) → IsWithParents paths of listed → ((q : Path) → Contains paths q → IsUtf8 q) → ((q : Path) → Contains of q → IsUtf8 q) → (q : Path) → Contains listed q → IsUtf8 q
+with_parents_text paths of listed is ones others q has = elim ((is q).0 has) [
+  | inl one ↦ ones q one
+  | inr above ↦ front_text q above.2.0 (subst IsUtf8 above.2.1 (others above.0 above.1))
 ]
 
 pub good_paths : (paths : List Path) → AreListPaths paths → ((q : Path) → Contains paths q → IsUtf8 q) → AreGood paths

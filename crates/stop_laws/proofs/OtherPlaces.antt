@@ -18,14 +18,17 @@ use Rattle.diversions.specs.declared.entry.Diversion.{Diversion}
 use Rattle.file_lists.specs.Owners.{paths_of}
 use Rattle.file_lists.specs.declared.paths.PackageList.{PackageList}
 use Rattle.file_removal.specs.Clearing.{is_among}
+use Rattle.list_changes.specs.Clearable.{clearable, is_clearable}
 use Rattle.list_changes.specs.Leaving.{has_other_owner, is_place_of, leaving_of}
 use Rattle.status_db.specs.declared.entries.ConffileEntry.{ConffileEntry}
 use Rattle.status_db.specs.declared.entries.PendingDigest.{PendingDigest}
 use Rattle.status_db.specs.declared.record.Record.{Record}
 use Rattle.unpack_moves.specs.Areas.{is_leaving_place}
-use Rattle.removal_engine.specs.Names.{cleared_names, clearable, is_clearable, ownerless, purged_names, side_names, side_names_at, stopped_names, unpack_names, waiting_names}
+use Rattle.removal_engine.specs.Names.{cleared_names, ownerless, purged_names, side_names, side_names_at, unpack_names, waiting_names}
 use Rattle.removal_engine.specs.Records.{entry_paths}
+use Rattle.removal_engine.specs.Scripts.{stored_in}
 use Rattle.removal_engine.specs.Units.{Given, IsAmidUnit, IsRemovable}
+use Rattle.removal_engine.specs.declared.scripts.Stored.{Stored}
 use Rattle.stop_laws.specs.Left.{IsLeft}
 use Rattle.stop_laws.specs.Removing.{GoesWithFiles, GoesWithPurge, IsPurgedFrom, MayGo}
 use Rattle.stop_laws.proofs.Others.{others_avoided}
@@ -79,10 +82,11 @@ module _ (q : Path) where
 
     not_cleared : (lists : List PackageList) (r : Record) → IsNone (cleared_names entries lists r)
     not_cleared lists r =
-        none_append (stopped_names entries r.name (entry_paths r.conffiles) (paths_of lists r.name)) (waiting_names entries r.name r.pending)
-        (none_flat (λ (path : Path). cond (list_any (bytes_eq path) (entry_paths r.conffiles)) [] (clearable (unpack_names (place entries r.name path))))
-        (λ path. none_unless (list_any (bytes_eq path) (entry_paths r.conffiles)) (clearable (unpack_names (place entries r.name path))) (not_beside (place entries r.name path))) (paths_of lists r.name))
-        (none_flat (λ (d : PendingDigest). clearable ((place entries r.name d.path ++ suffix_text New) ∷ [])) (λ d. not_waiting (place entries r.name d.path)) r.pending)
+        none_flat (λ (path : Path). cond (list_any (bytes_eq path) (entry_paths r.conffiles)) [] (clearable (unpack_names (place entries r.name path))))
+        (λ path. none_unless (list_any (bytes_eq path) (entry_paths r.conffiles)) (clearable (unpack_names (place entries r.name path))) (not_beside (place entries r.name path))) (paths_of lists r.name)
+
+    none_waits : (r : Record) → IsNone (waiting_names entries r.name r.pending)
+    none_waits r = none_flat (λ (d : PendingDigest). clearable ((place entries r.name d.path ++ suffix_text New) ∷ [])) (λ d. not_waiting (place entries r.name d.path)) r.pending
 
   -- nor is a place of another package one that goes
   module _ (entries : List Diversion) (lists : List PackageList) (name : List ℕ) (owned : has_other_owner entries lists name q ≡ true) where
@@ -126,20 +130,22 @@ module _ (g : Given) (removable : IsRemovable g.extent g.before.records g.name) 
   not_leaving_of r named to_come conffiles xs is =
       not_leaving q g.entries g.before.lists g.name owned to_come conffiles xs (subst (λ (n : List ℕ). is_leaving_place (leaving_of g.entries g.before.lists n to_come conffiles xs) q ≡ true) named is)
 
-  purged_named : (c : Record) (listed : List Path) → IsPurgedFrom g removable.entry c listed → c.name ≡ g.name
-  purged_named c listed (IsPurgedFrom.found state is there) = ap (λ (x : Record). x.name) is ∙ own_named g removable
-  purged_named c listed (IsPurgedFrom.left is comes) = ap (λ (x : Record). x.name) is ∙ own_named g removable
+  module _ (stored : Stored) where
+    purged_named : (c : Record) (listed : List Path) → IsPurgedFrom g removable.entry stored c listed → c.name ≡ g.name
+    purged_named c listed (IsPurgedFrom.found state is there) = ap (λ (x : Record). x.name) is ∙ own_named g removable
+    purged_named c listed (IsPurgedFrom.left is comes) = ap (λ (x : Record). x.name) is ∙ own_named g removable
 
-  never_goes : MayGo g removable.entry q → ⊥
-  never_goes (MayGo.with_files (GoesWithFiles.listed to_come comes is)) = not_leaving_of removable.entry (own_named g removable) to_come (entry_paths removable.entry.conffiles) (paths_of g.before.lists removable.entry.name) is
-  never_goes (MayGo.with_files (GoesWithFiles.beside is)) = not_cleared q plain g.entries g.before.lists removable.entry is
-  never_goes (MayGo.with_purge purges c listed from (GoesWithPurge.conffile is)) = not_purged q g.entries g.before.lists g.name owned c (purged_named c listed from) is
-  never_goes (MayGo.with_purge purges c listed from (GoesWithPurge.directory is)) = not_leaving_of c (purged_named c listed from) [] (entry_paths c.conffiles) listed is
+    never_goes : MayGo g removable.entry stored q → ⊥
+    never_goes (MayGo.with_files (GoesWithFiles.listed to_come comes is)) = not_leaving_of removable.entry (own_named g removable) to_come (entry_paths removable.entry.conffiles) (paths_of g.before.lists removable.entry.name) is
+    never_goes (MayGo.with_files (GoesWithFiles.beside is)) = not_cleared q plain g.entries g.before.lists removable.entry is
+    never_goes (MayGo.with_files (GoesWithFiles.waiting is)) = none_waits q plain g.entries removable.entry is
+    never_goes (MayGo.with_purge purges c listed from (GoesWithPurge.conffile is)) = not_purged q g.entries g.before.lists g.name owned c (purged_named c listed from) is
+    never_goes (MayGo.with_purge purges c listed from (GoesWithPurge.directory is)) = not_leaving_of c (purged_named c listed from) [] (entry_paths c.conffiles) listed is
 
   module _ (out : is_within home_path q ≡ false) (old now : World) (so_far : List Event) where
-    scripted : IsLeft q (MayGo g removable.entry q) (changes_of so_far) old now → now q ≡ changed (changes_of so_far) old q
+    scripted : IsLeft q (MayGo g removable.entry (stored_in g.name old) q) (changes_of so_far) old now → now q ≡ changed (changes_of so_far) old q
     scripted (IsLeft.stood is) = is
-    scripted (IsLeft.went may early late are gone none is) = absurd (never_goes may)
+    scripted (IsLeft.went may early late are gone none is) = absurd (never_goes (stored_in g.name old) may)
 
     pub removal_keeps : IsAmidUnit g old so_far now → now q ≡ old q
     removal_keeps (inl looks) = ap (λ (w : World). w q) looks.0

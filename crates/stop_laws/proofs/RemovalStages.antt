@@ -10,9 +10,9 @@ use Rattle.status_db.specs.declared.words.State.{State}
 use Rattle.status_db.specs.declared.words.State.TheVariants as state
 use Rattle.removal_engine.specs.Extents.{BeginsFrom}
 use Rattle.removal_engine.specs.Lists.{leaving_directories, leaving_files}
-use Rattle.removal_engine.specs.Names.{cleared_names, purged_names}
-use Rattle.removal_engine.specs.Records.{config_files, half_configured, losing_files, purged, without_files}
-use Rattle.removal_engine.specs.Stages.{Deed, files_stage, files_stages, goes_at_once, gone_stage, last_stage, left_stage, purge_stage, purge_stages, removal_stages, stages_from}
+use Rattle.removal_engine.specs.Names.{cleared_names, purged_names, waiting_names}
+use Rattle.removal_engine.specs.Records.{config_files, goes_at_once, half_configured, losing_files, purged, without_files}
+use Rattle.removal_engine.specs.Stages.{Deed, files_stage, files_stages, gone_stage, last_stage, left_stage, purge_stage, purge_stages, removal_stages, stages_from}
 use Rattle.removal_engine.specs.declared.extent.Extent.{Extent}
 use Rattle.removal_engine.specs.declared.extent.Extent.TheVariants.{Remove, Purge, InFavour}
 use Rattle.removal_engine.specs.declared.scripts.Stored.{Stored}
@@ -33,6 +33,7 @@ module _ (P : Deed → Type 0) (entries : List Diversion) (lists : List PackageL
   -- of those with the files
   pub record OfFiles : Type 0 where
     pub losing : P (Deed.Notes (losing_files r))
+    pub waiting : P (Deed.Clears (waiting_names entries r.name r.pending))
     pub files : P (Deed.Removes (leaving_files entries lists r to_come))
     pub names : P (Deed.Clears (cleared_names entries lists r))
     pub listed : P (Deed.Lists to_come)
@@ -72,7 +73,7 @@ module _ (P : Deed → Type 0) (entries : List Diversion) (lists : List PackageL
 
     module _ (files : OfFiles) where
       pub files_stage_all : All P (files_stage entries lists r stored to_come).parts
-      files_stage_all = (files.losing, (files.files, (files.names, (files.listed, (files.lost, tt)))))
+      files_stage_all = (files.losing, (files.waiting, (files.files, (files.names, (files.listed, (files.lost, tt))))))
 
       pub files_all : (purge : Bool) → (purge ≡ true → OfPurge (config_files r) to_come) → AllIn P (files_stages entries lists r stored purge to_come)
       files_all purge of = ((files_stage_all, tt), ends_all (goes_at_once r stored) purge of)

@@ -25,13 +25,14 @@ use Rattle.unpack_commit.proofs.Stays.{no_leaving_place}
 use Rattle.unpack_moves.specs.Areas.{is_leaving_place}
 use Rattle.unpack_moves.specs.Concluding.{AreElsewhere}
 use Rattle.removal_engine.specs.Lists.{IsToCome}
-use Rattle.removal_engine.specs.Names.{cleared_names, purged_names}
+use Rattle.removal_engine.specs.Names.{cleared_names, purged_names, waiting_names}
 use Rattle.removal_engine.specs.Records.{config_files, entry_paths}
+use Rattle.removal_engine.specs.Scripts.{AreStored, stored_in}
 use Rattle.removal_engine.specs.Stages.{Deed, Planned, removal_stages}
 use Rattle.removal_engine.specs.Units.{Given, IsAmid, IsAmidUnit, IsRemovable}
 use Rattle.removal_engine.specs.declared.extent.Extent.TheVariants.{InFavour, Purge}
 use Rattle.removal_engine.specs.declared.scripts.Stored.{Stored}
-use Rattle.removal_engine.proofs.Elsewhere.{cleared_elsewhere, purged_elsewhere}
+use Rattle.removal_engine.proofs.Elsewhere.{cleared_elsewhere, purged_elsewhere, waiting_elsewhere}
 use Rattle.removal_engine.proofs.Sparing.{leaving_spares}
 use Rattle.removal_engine.proofs.Tables.{is_named, one_record}
 use Rattle.stop_laws.specs.Left.{IsLeft}
@@ -42,6 +43,10 @@ use Rattle.stop_laws.proofs.Noted.{NotesOwn, stages_good}
 use Rattle.stop_laws.proofs.Places.{beside_list, beside_member, beside_spare, outside_list, outside_member, outside_records, outside_spare, set_kept}
 use Rattle.stop_laws.proofs.RemovalStages.{OfEnds, OfFiles, OfPrerm, OfPurge, removal_all}
 use Rattle.stop_laws.proofs.Taken.{IsSet, Sets, stages_set}
+
+-- the scripts that are stored in a world are those
+are_those : (name : List ℕ) (w : World) (stored : Stored) → AreStored name w stored → stored ≡ stored_in name w
+are_those name w stored are = λ i. record stored { prerm = are.prerm i; postinst = are.postinst i; postrm = are.postrm i }
 
 module _ (g : Given) (removable : IsRemovable g.extent g.before.records g.name) where
   abbrev pub own : Record
@@ -55,34 +60,34 @@ module _ (g : Given) (removable : IsRemovable g.extent g.before.records g.name) 
   stages_by stored to_come = removal_stages g.entries g.before.lists g.extent own stored to_come
 
   -- P holds of each deed of them
-  module _ (P : Deed → Type 0) (stored : Stored) (to_come : List Path) (comes : IsToCome own to_come) where
+  module _ (P : Deed → Type 0) (stored : Stored) (to_come : List Path) (comes : IsToCome own stored to_come) where
     pub of_each : OfEnds P g.entries g.before.lists own stored to_come → OfFiles P g.entries g.before.lists own stored to_come → (g.extent ≢ InFavour → OfPrerm P g.entries g.before.lists own stored to_come)
-        → (g.extent ≡ Purge → (c : Record) (listed : List Path) → IsPurgedFrom g own c listed → OfPurge P g.entries g.before.lists own stored to_come c listed) → AllIn P (stages_by stored to_come)
+        → (g.extent ≡ Purge → (c : Record) (listed : List Path) → IsPurgedFrom g own stored c listed → OfPurge P g.entries g.before.lists own stored to_come c listed) → AllIn P (stages_by stored to_come)
     of_each ends files prerm purge =
         removal_all P g.entries g.before.lists own stored to_come ends files g.extent removable.begins prerm
         (λ is. purge is (config_files own) to_come (IsPurgedFrom.left refl comes))
         (λ is found. purge is own (paths_of g.before.lists own.name) (IsPurgedFrom.found found refl refl))
 
   -- what is noted
-  module _ (stored : Stored) (to_come : List Path) (comes : IsToCome own to_come) where
+  module _ (stored : Stored) (to_come : List Path) (comes : IsToCome own stored to_come) where
     abbrev Notes : Deed → Type 0
-    Notes = NotesOwn g.name g.before.records (IsOwnRecord g own)
+    Notes = NotesOwn g.name g.before.records (IsOwnRecord g own stored)
 
-    purged_named : (c : Record) (listed : List Path) → IsPurgedFrom g own c listed → c.name ≡ g.name
+    purged_named : (c : Record) (listed : List Path) → IsPurgedFrom g own stored c listed → c.name ≡ g.name
     purged_named c listed (IsPurgedFrom.found state is at) = ap (λ (x : Record). x.name) is ∙ own_named
     purged_named c listed (IsPurgedFrom.left is comes_then) = ap (λ (x : Record). x.name) is ∙ own_named
 
     pub all_noted : AllIn Notes (stages_by stored to_come)
     all_noted = of_each Notes stored to_come comes
         (record { left = (own_named, IsOwnRecord.removed refl); members = λ keep. (tt, tt); bare = (tt, tt); unlisted = (tt, tt); forgotten = (tt, IsOwnRecord.gone refl) })
-        (record { losing = (own_named, IsOwnRecord.losing refl); files = (tt, tt); names = (tt, tt); listed = (tt, tt); lost = (own_named, IsOwnRecord.lost refl) })
+        (record { losing = (own_named, IsOwnRecord.losing refl); waiting = (tt, tt); files = (tt, tt); names = (tt, tt); listed = (tt, tt); lost = (own_named, IsOwnRecord.lost refl) })
         (λ favours. record { half = (own_named, IsOwnRecord.deconfigured favours refl); before = (own_named, IsOwnRecord.stayed refl) })
         (λ purges c listed from. record { noted = (purged_named c listed from, IsOwnRecord.purging purges c listed from refl); names = (tt, tt); directories = (tt, tt) })
 
     -- what is left outside the administration
     module _ (q : Path) (out : is_within home_path q ≡ false) where
       abbrev Went : Option Node → Type 0
-      Went there = MayGo g own q × (there ≡ None)
+      Went there = MayGo g own stored q × (there ≡ None)
 
       outside_listing : (paths : List Path) → Sets g.name q Went (Deed.Lists paths)
       outside_listing paths = (outside_spare q out g.name, λ is. absurd (outside_list q out g.name is))
@@ -95,6 +100,7 @@ module _ (g : Given) (removable : IsRemovable g.extent g.before.records g.name) 
           (record { left = unnoted; members = λ keep. inl (λ member is. outside_member q out g.name member); bare = outside_listing []; unlisted = λ is. absurd (off is); forgotten = unnoted })
           (record {
             losing = unnoted;
+            waiting = λ is. (MayGo.with_files (GoesWithFiles.waiting is), refl);
             files = λ is. (MayGo.with_files (GoesWithFiles.listed to_come comes is), refl);
             names = λ is. (MayGo.with_files (GoesWithFiles.beside is), refl);
             listed = outside_listing to_come;
@@ -116,12 +122,13 @@ module _ (g : Given) (removable : IsRemovable g.extent g.before.records g.name) 
       no_name : (names : List Path) → AreElsewhere names → is_among names q ≡ true → V None
       no_name names elsewhere is = absurd (true≢false (sym is ∙ elsewhere q within))
 
-      pub all_within : ((paths : List Path) → (paths ≡ []) ⊎ IsToCome own paths → Sets g.name q V (Deed.Lists paths)) → Sets g.name q V Deed.DropsList → ((keep : Bool) → Sets g.name q V (Deed.DropsMembers keep)) → AllIn (Sets g.name q V) (stages_by stored to_come)
+      pub all_within : ((paths : List Path) → (paths ≡ []) ⊎ IsToCome own stored paths → Sets g.name q V (Deed.Lists paths)) → Sets g.name q V Deed.DropsList → ((keep : Bool) → Sets g.name q V (Deed.DropsMembers keep)) → AllIn (Sets g.name q V) (stages_by stored to_come)
       all_within listing dropping members =
           of_each (Sets g.name q V) stored to_come comes
           (record { left = unnoted; members = members; bare = listing [] (inl refl); unlisted = dropping; forgotten = unnoted })
           (record {
             losing = unnoted;
+            waiting = no_name (waiting_names g.entries own.name own.pending) (waiting_elsewhere g.entries own.name own.pending);
             files = no_leaving (paths_of g.before.lists own.name) to_come own;
             names = no_name (cleared_names g.entries g.before.lists own) (cleared_elsewhere g.entries g.before.lists own);
             listed = listing to_come (inr comes);
@@ -137,7 +144,7 @@ module _ (g : Given) (removable : IsRemovable g.extent g.before.records g.name) 
   -- at each moment of a planned unit
   module _ (old now : World) (so_far : List Event) (amid : IsAmid g old so_far now) where
     abbrev pub stored_then : Stored
-    stored_then = amid.plan.plan.stored
+    stored_then = stored_in g.name old
 
     abbrev pub list_then : List Path
     list_then = amid.plan.plan.to_come
@@ -145,27 +152,31 @@ module _ (g : Given) (removable : IsRemovable g.extent g.before.records g.name) 
     entry_is : amid.plan.entry ≡ own
     entry_is = one_record amid.plan.entry own (sym amid.plan.found ∙ removable.found)
 
-    pub comes_then : IsToCome own list_then
-    comes_then = subst (λ (e : Record). IsToCome e list_then) entry_is amid.plan.plan.comes
+    stored_is : amid.plan.plan.stored ≡ stored_then
+    stored_is = are_those g.name old amid.plan.plan.stored (subst (λ (n : List ℕ). AreStored n old amid.plan.plan.stored) (ap (λ (e : Record). e.name) entry_is ∙ own_named) (amid.plan.plan.seen refl))
+
+    pub comes_then : IsToCome own stored_then list_then
+    comes_then = subst (λ (s : Stored). IsToCome own s list_then) stored_is (subst (λ (e : Record). IsToCome e amid.plan.plan.stored list_then) entry_is amid.plan.plan.comes)
 
     pub amid_at : AmidStages g.name (stages_by stored_then list_then) g.before.records old (changes_of so_far) now
     amid_at = subst (λ (ps : List Planned). AmidStages g.name ps g.before.records old (changes_of so_far) now)
-        (amid.plan.plan.are ∙ ap (λ (e : Record). removal_stages g.entries g.before.lists g.extent e stored_then list_then) entry_is)
+        (amid.plan.plan.are ∙ ap (λ (e : Record). removal_stages g.entries g.before.lists g.extent e amid.plan.plan.stored list_then) entry_is
+        ∙ ap (λ (s : Stored). stages_by s list_then) stored_is)
         (stages_amid g.name g.entries amid.stages g.before old so_far now amid.running)
 
     pub avoided : Avoids is_own (changes_of so_far)
     avoided = own_avoided g.name g.entries amid.stages g.before old so_far now amid.running
 
-    records_amid : HasRecordsAmid g own now
+    records_amid : HasRecordsAmid g own stored_then now
     records_amid =
-        let standing = stages_good g.name g.before.records (IsOwnRecord g own) (stages_by stored_then list_then) g.before.records old (changes_of so_far) now
+        let standing = stages_good g.name g.before.records (IsOwnRecord g own stored_then) (stages_by stored_then list_then) g.before.records old (changes_of so_far) now
         (all_noted stored_then list_then comes_then) (record { own = IsOwnRecord.stayed removable.found; others = λ q other. refl }) amid_at in
         record { table = standing.table; records = standing.records; opens = amid.running.opens.opens; own = standing.good.own; others = standing.good.others }
 
-    left_amid : (q : Path) → is_within home_path q ≡ false → IsLeft q (MayGo g own q) (changes_of so_far) old now
+    left_amid : (q : Path) → is_within home_path q ≡ false → IsLeft q (MayGo g own stored_then q) (changes_of so_far) old now
     left_amid q out = by (stages_set g.name q (Went stored_then list_then comes_then q out) (stages_by stored_then list_then) g.before.records old (changes_of so_far) now (all_outside stored_then list_then comes_then q out) amid_at)
       where
-        by : IsSet g.name q (Went stored_then list_then comes_then q out) (changes_of so_far) old now → IsLeft q (MayGo g own q) (changes_of so_far) old now
+        by : IsSet g.name q (Went stored_then list_then comes_then q out) (changes_of so_far) old now → IsLeft q (MayGo g own stored_then q) (changes_of so_far) old now
         by (IsSet.stood is) = IsLeft.stood is
         by (IsSet.left early late are mid has is) = IsLeft.went has.0 early late are mid has.1 is
 
@@ -210,20 +221,20 @@ module _ (g : Given) (removable : IsRemovable g.extent g.before.records g.name) 
         (λ keep. inl (λ word known e. other (same_stored q g.name member word is known e).0))))
 
     abbrev ListValue : Option Node → Type 0
-    ListValue there = ((paths : List Path) × IsToCome own paths × (there ≡ Some (list_file paths))) ⊎ ((there ≡ Some (list_file [])) ⊎ (there ≡ None))
+    ListValue there = ((paths : List Path) × IsToCome own stored_then paths × (there ≡ Some (list_file paths))) ⊎ ((there ≡ Some (list_file [])) ⊎ (there ≡ None))
 
-    own_list_amid : IsOwnList g own (old (list_path g.name)) (now (list_path g.name))
+    own_list_amid : IsOwnList g own stored_then (old (list_path g.name)) (now (list_path g.name))
     own_list_amid = by (value_amid (list_path g.name) ListValue refl
         (all_within stored_then list_then comes_then (list_path g.name) ListValue (list_within g.name) refl
         (λ paths is. ((λ e. no_list_temporary g.name (list_path g.name) e), λ e. listing paths is))
         (λ e. inr (inr refl))
         (λ keep. inl (λ member is. (list_is_no_member g.name g.name member is).0))))
       where
-        listing : (paths : List Path) → (paths ≡ []) ⊎ IsToCome own paths → ListValue (Some (list_file paths))
+        listing : (paths : List Path) → (paths ≡ []) ⊎ IsToCome own stored_then paths → ListValue (Some (list_file paths))
         listing paths (inl none) = inr (inl (ap (λ (l : List Path). Some (list_file l)) none))
         listing paths (inr comes) = inl (paths, comes, refl)
 
-        by : (now (list_path g.name) ≡ old (list_path g.name)) ⊎ ListValue (now (list_path g.name)) → IsOwnList g own (old (list_path g.name)) (now (list_path g.name))
+        by : (now (list_path g.name) ≡ old (list_path g.name)) ⊎ ListValue (now (list_path g.name)) → IsOwnList g own stored_then (old (list_path g.name)) (now (list_path g.name))
         by (inl same) = IsOwnList.stood same
         by (inr (inl some)) = IsOwnList.to_come some.0 some.1 some.2
         by (inr (inr (inl bare))) = IsOwnList.bare bare
@@ -240,8 +251,8 @@ module _ (g : Given) (removable : IsRemovable g.extent g.before.records g.name) 
 
   -- at each moment of a unit
   module _ (old now : World) (so_far : List Event) where
-    pub removal_records : (d : Recorded) → IsInOrder d g.before.lists old → d.records ≡ g.before.records → IsAmidUnit g old so_far now → HasRecordsAmid g own now
-    removal_records d order same (inl looks) = subst (HasRecordsAmid g own) (sym looks.0) (record {
+    pub removal_records : (d : Recorded) → IsInOrder d g.before.lists old → d.records ≡ g.before.records → IsAmidUnit g old so_far now → HasRecordsAmid g own (stored_in g.name old) now
+    removal_records d order same (inl looks) = subst (HasRecordsAmid g own (stored_in g.name old)) (sym looks.0) (record {
       table = g.before.records;
       records = subst (HasRecords old) same order.kept.holds;
       opens = kept_opens d old order.kept;
@@ -250,7 +261,7 @@ module _ (g : Given) (removable : IsRemovable g.extent g.before.records g.name) 
     })
     removal_records d order same (inr amid) = records_amid old now so_far amid
 
-    pub removal_left : (q : Path) → is_within home_path q ≡ false → IsAmidUnit g old so_far now → IsLeft q (MayGo g own q) (changes_of so_far) old now
+    pub removal_left : (q : Path) → is_within home_path q ≡ false → IsAmidUnit g old so_far now → IsLeft q (MayGo g own (stored_in g.name old) q) (changes_of so_far) old now
     removal_left q out (inl looks) = IsLeft.stood (ap (λ (w : World). w q) looks.0 ∙ ap (λ c. changed c old q) (sym (no_change so_far looks.1)))
     removal_left q out (inr amid) = left_amid old now so_far amid q out
 
@@ -266,7 +277,7 @@ module _ (g : Given) (removable : IsRemovable g.extent g.before.records g.name) 
     removal_diversions (inl looks) = ap (λ (w : World). w diversions_path) looks.0
     removal_diversions (inr amid) = diversions_amid old now so_far amid
 
-    pub removal_list : IsAmidUnit g old so_far now → IsOwnList g own (old (list_path g.name)) (now (list_path g.name))
+    pub removal_list : IsAmidUnit g old so_far now → IsOwnList g own (stored_in g.name old) (old (list_path g.name)) (now (list_path g.name))
     removal_list (inl looks) = IsOwnList.stood (ap (λ (w : World). w (list_path g.name)) looks.0)
     removal_list (inr amid) = own_list_amid old now so_far amid
 

@@ -17,9 +17,10 @@ use Rattle.status_db.specs.declared.words.State.TheVariants as state
 use Rattle.unit_parts.specs.Order.{IsInOrder}
 use Rattle.removal_engine.specs.Extents.{BeginsFrom}
 use Rattle.removal_engine.specs.Lists.{IsToCome, leaving_files}
-use Rattle.removal_engine.specs.Names.{cleared_names, purged_names}
-use Rattle.removal_engine.specs.Records.{config_files, half_configured, losing_files, purged, without_files}
-use Rattle.removal_engine.specs.Stages.{Deed, Planned, files_stage, files_stages, goes_at_once, gone_stage, last_stage, left_stage, prerm_stage, purge_stages, removal_stages, stages_from}
+use Rattle.removal_engine.specs.Names.{cleared_names, purged_names, waiting_names}
+use Rattle.removal_engine.specs.Records.{config_files, goes_at_once, half_configured, losing_files, purged, without_files}
+use Rattle.removal_engine.specs.Stages.{Deed, Planned, files_stage, files_stages, gone_stage, last_stage, left_stage, prerm_stage, purge_stages, removal_stages, stages_from}
+use Rattle.removal_engine.specs.Scripts.{stored_in}
 use Rattle.removal_engine.specs.Units.{Given, IsAmidUnit, IsRemovable}
 use Rattle.removal_engine.specs.declared.extent.Extent.{Extent}
 use Rattle.removal_engine.specs.declared.extent.Extent.TheVariants.{Remove, Purge, InFavour}
@@ -52,10 +53,10 @@ scripted_same change u v w first then = scripted_then [] change u v w first then
 same_scripted : (change : Change) (u v w : World) → IsScripted change u v → IsSame v w → IsScripted change u w
 same_scripted change u v w first then q out = then q out ∙ first q out
 
-module _ (g : Given) (r : Record) (named : r.name ≡ g.name) where
+module _ (g : Given) (r : Record) (named : r.name ≡ g.name) (stored : Stored) where
   -- the same, where it all happened since some calls were made
 
-  since_lost : (early late : Change) (old v now : World) → IsScripted early old v → HasLost g r v late now → HasLost g r old (early ++ late) now
+  since_lost : (early late : Change) (old v now : World) → IsScripted early old v → HasLost g r stored v late now → HasLost g r stored old (early ++ late) now
   since_lost early late old v now before has = record {
     early = early ++ has.early;
     late = has.late;
@@ -67,17 +68,17 @@ module _ (g : Given) (r : Record) (named : r.name ≡ g.name) where
     since = has.since;
   }
 
-  since_purge : (c : Record) (listed : List Path) (early late : Change) (old v now : World) → IsScripted early old v → HasBegunPurge g r v c listed late now → HasBegunPurge g r old c listed (early ++ late) now
+  since_purge : (c : Record) (listed : List Path) (early late : Change) (old v now : World) → IsScripted early old v → HasBegunPurge g r stored v c listed late now → HasBegunPurge g r stored old c listed (early ++ late) now
   since_purge c listed early late old v now before (HasBegunPurge.found state is at scripted) = HasBegunPurge.found state is at (scripted_then early late old v now before scripted)
   since_purge c listed early late old v now before (HasBegunPurge.left is comes lost) = HasBegunPurge.left is comes (since_lost early late old v now before lost)
 
-  since_losing : (early late : Change) (old v now : World) → IsScripted early old v → IsLosing g r v late now → IsLosing g r old (early ++ late) now
+  since_losing : (early late : Change) (old v now : World) → IsScripted early old v → IsLosing g r stored v late now → IsLosing g r stored old (early ++ late) now
   since_losing early late old v now before losing q out = elim (losing q out) [
     | inl is ↦ inl (is ∙ changed_at late v (changed early old) q (before q out) ∙ ap (λ (x : World). x q) (sym (changed-append early late old)))
     | inr gone ↦ inr gone
   ]
 
-  since_step : (early late : Change) (old v now : World) → IsScripted early old v → IsAtStep g r v late now → IsAtStep g r old (early ++ late) now
+  since_step : (early late : Change) (old v now : World) → IsScripted early old v → IsAtStep g r stored v late now → IsAtStep g r stored old (early ++ late) now
   since_step early late old v now before (IsAtStep.begun is scripted) = IsAtStep.begun is (scripted_then early late old v now before scripted)
   since_step early late old v now before (IsAtStep.losing is losing) = IsAtStep.losing is (since_losing early late old v now before losing)
   since_step early late old v now before (IsAtStep.lost is lost) = IsAtStep.lost is (since_lost early late old v now before lost)
@@ -85,7 +86,7 @@ module _ (g : Given) (r : Record) (named : r.name ≡ g.name) where
       IsAtStep.purging purges c listed is (early ++ first) second (ap (λ (x : Change). early ++ x) are ∙ sym (append_assoc early first second)) start (since_purge c listed early first old v start before has) left
 
   -- scripts ran on behind the files
-  lost_then : (first second : Change) (old v w : World) → HasLost g r old first v → IsScripted second v w → HasLost g r old (first ++ second) w
+  lost_then : (first second : Change) (old v w : World) → HasLost g r stored old first v → IsScripted second v w → HasLost g r stored old (first ++ second) w
   lost_then first second old v w has then = record {
     early = has.early;
     late = has.late ++ second;
@@ -108,7 +109,7 @@ module _ (g : Given) (r : Record) (named : r.name ≡ g.name) where
   good_now : (P : Option Record → Type 0) (rs : List Record) → P (record_in rs g.name) → IsGood g.name rs P rs
   good_now P rs is = record { own = is; others = λ q other. refl }
 
-  module _ (stored : Stored) (to_come : List Path) where
+  module _ (to_come : List Path) where
     -- what the deeds behind the files do outside, and what they note
     module _ (q : Path) (out : is_within home_path q ≡ false) (V : Option Node → Type 0) where
       listing : (paths : List Path) → Sets g.name q V (Deed.Lists paths)
@@ -127,7 +128,7 @@ module _ (g : Given) (r : Record) (named : r.name ≡ g.name) where
 
     module _ (c : Record) (listed : List Path) (c_named : c.name ≡ g.name) where
       abbrev Went : Path → Option Node → Type 0
-      Went q there = GoesWithPurge g r c listed q × (there ≡ None)
+      Went q there = GoesWithPurge g r stored c listed q × (there ≡ None)
 
       purge_outside : (q : Path) (out : is_within home_path q ≡ false) → AllIn (Sets g.name q (Went q)) (purge_stages g.entries g.before.lists c stored listed)
       purge_outside q out =
@@ -146,10 +147,10 @@ module _ (g : Given) (r : Record) (named : r.name ≡ g.name) where
             directories = λ is. (GoesWithPurge.directory is, refl);
           })
 
-      purge_left : (rs : List Record) (start : World) (late : Change) (now : World) → AmidStages g.name (purge_stages g.entries g.before.lists c stored listed) rs start late now → (q : Path) → is_within home_path q ≡ false → IsLeft q (GoesWithPurge g r c listed q) late start now
+      purge_left : (rs : List Record) (start : World) (late : Change) (now : World) → AmidStages g.name (purge_stages g.entries g.before.lists c stored listed) rs start late now → (q : Path) → is_within home_path q ≡ false → IsLeft q (GoesWithPurge g r stored c listed q) late start now
       purge_left rs start late now is q out = by (stages_set g.name q (Went q) (purge_stages g.entries g.before.lists c stored listed) rs start late now (purge_outside q out) is)
         where
-          by : IsSet g.name q (Went q) late start now → IsLeft q (GoesWithPurge g r c listed q) late start now
+          by : IsSet g.name q (Went q) late start now → IsLeft q (GoesWithPurge g r stored c listed q) late start now
           by (IsSet.stood at) = IsLeft.stood at
           by (IsSet.left early more are mid has at) = IsLeft.went has.0 early more are mid has.1 at
 
@@ -186,8 +187,8 @@ module _ (g : Given) (r : Record) (named : r.name ≡ g.name) where
           inr (recorded Purged then now (stages_good g.name then Purged (last_stage g.entries g.before.lists c listed ∷ []) then (changed passed.early passed.ready) passed.late now ((purge_notes then, tt), tt) (noted_purged rs) passed.further))
 
       -- behind what came before, from where a purge begins
-      purge_steps : g.extent ≡ Purge → (early late : Change) (old start now : World) (rs : List Record) → HasBegunPurge g r old c listed early start → (HasRecords now rs → IsScripted late start now → IsAtStep g r old (early ++ late) now)
-          → AmidStages g.name (purge_stages g.entries g.before.lists c stored listed) rs start late now → IsAtStep g r old (early ++ late) now
+      purge_steps : g.extent ≡ Purge → (early late : Change) (old start now : World) (rs : List Record) → HasBegunPurge g r stored old c listed early start → (HasRecords now rs → IsScripted late start now → IsAtStep g r stored old (early ++ late) now)
+          → AmidStages g.name (purge_stages g.entries g.before.lists c stored listed) rs start late now → IsAtStep g r stored old (early ++ late) now
       purge_steps purges early late old start now rs begun still is = elim (purge_recorded rs start late now is) [
         | inl before ↦ still before.0 before.1
         | inr noted ↦ IsAtStep.purging purges c listed noted early late refl start begun (purge_left rs start late now is)
@@ -195,7 +196,7 @@ module _ (g : Given) (r : Record) (named : r.name ≡ g.name) where
 
     -- a removal, behind its files
 
-    module _ (comes : IsToCome r to_come) where
+    module _ (comes : IsToCome r stored to_come) where
       abbrev Lost : Option Record → Type 0
       Lost = IsLostRecord r
 
@@ -236,22 +237,22 @@ module _ (g : Given) (r : Record) (named : r.name ≡ g.name) where
       left_notes first = ((tt, tt), ((named, inr (inl refl)), tt))
 
       -- what was lost before these stages is still lost
-      module _ (early : Change) (old start : World) (lost : HasLost g r old early start) where
-        still_lost : (late : Change) (now : World) → IsRecorded g.name Lost now → IsScripted late start now → IsAtStep g r old (early ++ late) now
+      module _ (early : Change) (old start : World) (lost : HasLost g r stored old early start) where
+        still_lost : (late : Change) (now : World) → IsRecorded g.name Lost now → IsScripted late start now → IsAtStep g r stored old (early ++ late) now
         still_lost late now is scripted = IsAtStep.lost is (lost_then early late old start now lost scripted)
 
-        before_lost : (rs : List Record) (late : Change) (now : World) → Lost (record_in rs g.name) → IsBefore g.name rs start late now → IsAtStep g r old (early ++ late) now
+        before_lost : (rs : List Record) (late : Change) (now : World) → Lost (record_in rs g.name) → IsBefore g.name rs start late now → IsAtStep g r stored old (early ++ late) now
         before_lost rs late now own before =
             still_lost late now (recorded_by Lost rs now before.records own) (λ q out. ap (λ (x : World). x q) before.same ∙ ap (λ d. changed d start q) (sym before.none))
 
         inside_lost : (p : Planned) (rs : List Record) (late : Change) (now : World) → Lost (record_in rs g.name) → All (NotesOwn g.name rs Lost) p.parts → p.restore ≡ []
-            → ((q : Path) (out : is_within home_path q ≡ false) → All (Sets g.name q (λ (there : Option Node). ⊥)) p.parts) → IsInside g.name p rs start late now → IsAtStep g r old (early ++ late) now
+            → ((q : Path) (out : is_within home_path q ≡ false) → All (Sets g.name q (λ (there : Option Node). ⊥)) p.parts) → IsInside g.name p rs start late now → IsAtStep g r stored old (early ++ late) now
         inside_lost p rs late now own notes none sets inside =
             still_lost late now
             (recorded Lost rs now (inside_good g.name rs Lost p rs start late now notes (subst (All (NotesOwn g.name rs Lost)) (sym none) tt) (good_now Lost rs own) inside))
             (inside_outside p rs start late now sets none inside)
 
-        gone_steps : (rs : List Record) (late : Change) (now : World) → Lost (record_in rs g.name) → AmidStages g.name (gone_stage r ∷ []) rs start late now → IsAtStep g r old (early ++ late) now
+        gone_steps : (rs : List Record) (late : Change) (now : World) → Lost (record_in rs g.name) → AmidStages g.name (gone_stage r ∷ []) rs start late now → IsAtStep g r stored old (early ++ late) now
         gone_steps rs late now own (inl before) = before_lost rs late now own before
         gone_steps rs late now own (inr (inl inside)) = inside_lost (gone_stage r) rs late now own (gone_notes rs) refl gone_outside inside
         gone_steps rs late now own (inr (inr passed)) =
@@ -264,46 +265,49 @@ module _ (g : Given) (r : Record) (named : r.name ≡ g.name) where
 
         -- from where its conffiles are all that is left
         behind_steps : (purge : Bool) → (purge ≡ true → g.extent ≡ Purge) → (rs : List Record) (late : Change) (now : World) → record_in rs g.name ≡ Some (config_files r)
-            → AmidStages g.name (cond purge (purge_stages g.entries g.before.lists (config_files r) stored to_come) []) rs start late now → IsAtStep g r old (early ++ late) now
+            → AmidStages g.name (cond purge (purge_stages g.entries g.before.lists (config_files r) stored to_come) []) rs start late now → IsAtStep g r stored old (early ++ late) now
         behind_steps true purges rs late now own is =
             purge_steps (config_files r) to_come named (purges refl) early late old start now rs (HasBegunPurge.left refl comes lost)
             (λ has scripted. still_lost late now (recorded_by Lost rs now has (inr (inl own))) scripted) is
         behind_steps false purges rs late now own before = before_lost rs late now (inr (inl own)) before
 
-      left_steps : (purge : Bool) → (purge ≡ true → g.extent ≡ Purge) → (early : Change) (old start : World) → HasLost g r old early start → (rs : List Record) (late : Change) (now : World) → Lost (record_in rs g.name)
-          → AmidStages g.name (left_stage r ∷ cond purge (purge_stages g.entries g.before.lists (config_files r) stored to_come) []) rs start late now → IsAtStep g r old (early ++ late) now
+      left_steps : (purge : Bool) → (purge ≡ true → g.extent ≡ Purge) → (early : Change) (old start : World) → HasLost g r stored old early start → (rs : List Record) (late : Change) (now : World) → Lost (record_in rs g.name)
+          → AmidStages g.name (left_stage r ∷ cond purge (purge_stages g.entries g.before.lists (config_files r) stored to_come) []) rs start late now → IsAtStep g r stored old (early ++ late) now
       left_steps purge purges early old start lost rs late now own (inl before) = before_lost early old start lost rs late now own before
       left_steps purge purges early old start lost rs late now own (inr (inl inside)) = inside_lost early old start lost (left_stage r) rs late now own (left_notes rs) refl left_outside inside
       left_steps purge purges early old start lost rs late now own (inr (inr passed)) =
           let mid = changed passed.early passed.ready in
           let before : IsScripted passed.early start mid =
           scripted_same passed.early start passed.ready mid (done_outside (left_stage r).parts rs start passed.ready left_outside passed.done) (λ q out. refl) in
-          subst (λ (c : Change). IsAtStep g r old c now) (append_assoc early passed.early passed.late ∙ ap (λ (c : Change). early ++ c) (sym passed.changes))
+          subst (λ (c : Change). IsAtStep g r stored old c now) (append_assoc early passed.early passed.late ∙ ap (λ (c : Change). early ++ c) (sym passed.changes))
           (behind_steps (early ++ passed.early) old mid (lost_then early passed.early old start mid lost before) purge purges (deeds_records g.name (left_stage r).parts rs) passed.late now (put_own (config_files r) rs g.name named) passed.further)
 
-      ends_steps : (at_once purge : Bool) → (purge ≡ true → g.extent ≡ Purge) → (early : Change) (old start : World) → HasLost g r old early start → (rs : List Record) (late : Change) (now : World) → Lost (record_in rs g.name)
-          → AmidStages g.name (cond at_once (gone_stage r ∷ []) (left_stage r ∷ cond purge (purge_stages g.entries g.before.lists (config_files r) stored to_come) [])) rs start late now → IsAtStep g r old (early ++ late) now
+      ends_steps : (at_once purge : Bool) → (purge ≡ true → g.extent ≡ Purge) → (early : Change) (old start : World) → HasLost g r stored old early start → (rs : List Record) (late : Change) (now : World) → Lost (record_in rs g.name)
+          → AmidStages g.name (cond at_once (gone_stage r ∷ []) (left_stage r ∷ cond purge (purge_stages g.entries g.before.lists (config_files r) stored to_come) [])) rs start late now → IsAtStep g r stored old (early ++ late) now
       ends_steps true purge purges early old start lost rs late now own is = gone_steps early old start lost rs late now own is
       ends_steps false purge purges early old start lost rs late now own is = left_steps purge purges early old start lost rs late now own is
 
       -- with its files
 
       abbrev tail : List Deed
-      tail = Deed.Removes (leaving_files g.entries g.before.lists r to_come) ∷ Deed.Clears (cleared_names g.entries g.before.lists r) ∷ Deed.Lists to_come ∷ Deed.Notes (without_files r) ∷ []
+      tail = Deed.Clears (waiting_names g.entries r.name r.pending) ∷ Deed.Removes (leaving_files g.entries g.before.lists r to_come) ∷ Deed.Clears (cleared_names g.entries g.before.lists r) ∷ Deed.Lists to_come ∷ Deed.Notes (without_files r) ∷ []
 
       abbrev With : Path → Option Node → Type 0
-      With q there = GoesWithFiles g r q × (there ≡ None)
+      With q there = GoesWithFiles g r stored q × (there ≡ None)
 
       tail_outside : (q : Path) (out : is_within home_path q ≡ false) → All (Sets g.name q (With q)) tail
       tail_outside q out = (
-        (λ is. (GoesWithFiles.listed to_come comes is, refl)),
-        ((λ is. (GoesWithFiles.beside is, refl)), (listing q out (With q) to_come, (outside_records q out, tt))),
+        (λ is. (GoesWithFiles.waiting is, refl)),
+        (
+          (λ is. (GoesWithFiles.listed to_come comes is, refl)),
+          ((λ is. (GoesWithFiles.beside is, refl)), (listing q out (With q) to_come, (outside_records q out, tt))),
+        ),
       )
 
       -- the files went, and nothing else outside is changed
       record IsGoneBy (v w : World) : Type 0 where
         gone : World
-        files : HaveGone g r v gone
+        files : HaveGone g r stored v gone
         since : IsSame gone w
 
       abbrev GoneBefore : List Record → World → World → Type 0
@@ -313,14 +317,17 @@ module _ (g : Given) (r : Record) (named : r.name ≡ g.name) where
       same_then u v w first then q out = then q out ∙ first q out
 
       module _ (rs : List Record) (v : World) where
-        abbrev Removing : World → Type 0
-        Removing mid = Done g.name (Deed.Removes (leaving_files g.entries g.before.lists r to_come)) rs v mid
+        -- what waits went first, and then the paths
+        record Removing (mid : World) : Type 0 where
+          first : World
+          waiting : Done g.name (Deed.Clears (waiting_names g.entries r.name r.pending)) rs v first
+          paths : Done g.name (Deed.Removes (leaving_files g.entries g.before.lists r to_come)) rs first mid
 
         abbrev Clearing : World → World → Type 0
         Clearing mid gone = Done g.name (Deed.Clears (cleared_names g.entries g.before.lists r)) rs mid gone
 
         gone_by : (mid gone w : World) → Removing mid → Clearing mid gone → IsSame gone w → IsGoneBy v w
-        gone_by mid gone w removed cleared since = record { gone = gone; files = record { to_come = to_come; comes = comes; mid = mid; removed = removed; cleared = cleared }; since = since }
+        gone_by mid gone w removed cleared since = record { gone = gone; files = record { to_come = to_come; comes = comes; first = removed.first; waiting = removed.waiting; mid = mid; removed = removed.paths; cleared = cleared }; since = since }
 
         listed_same : (gone w : World) → Done g.name (Deed.Lists to_come) rs gone w → IsSame gone w
         listed_same gone w done q out = done.rest q (outside_list q out g.name) (outside_spare q out g.name)
@@ -348,24 +355,30 @@ module _ (g : Given) (r : Record) (named : r.name ≡ g.name) where
         behind_paths mid now removed (inl here) = elim here.records [ inl is ↦ inl is | inr is ↦ inl is ]
         behind_paths mid now removed (inr behind) = behind_names mid behind.mid now removed behind.done behind.further
 
+        behind_waiting : (first now : World) → Done g.name (Deed.Clears (waiting_names g.entries r.name r.pending)) rs v first
+            → Amid g.name (Deed.Removes (leaving_files g.entries g.before.lists r to_come) ∷ Deed.Clears (cleared_names g.entries g.before.lists r) ∷ Deed.Lists to_come ∷ Deed.Notes (without_files r) ∷ []) rs first now → GoneBefore rs v now
+        behind_waiting first now waiting (inl here) = elim here.records [ inl is ↦ inl is | inr is ↦ inl is ]
+        behind_waiting first now waiting (inr behind) = behind_paths behind.mid now (record { first = first; waiting = waiting; paths = behind.done }) behind.further
+
         tail_amid : (now : World) → Amid g.name tail rs v now → GoneBefore rs v now
         tail_amid now (inl here) = elim here.records [ inl is ↦ inl is | inr is ↦ inl is ]
-        tail_amid now (inr behind) = behind_paths behind.mid now behind.done behind.further
+        tail_amid now (inr behind) = behind_waiting behind.mid now behind.done behind.further
 
         -- all done
         tail_done : (w : World) → AllDone g.name tail rs v w → IsGoneBy v w
         tail_done w done =
-            let cleared = done.2 in
+            let paths = done.2 in
+            let cleared = paths.2 in
             let listed_at = cleared.2 in
             let noted = listed_at.2 in
-            gone_by done.0 cleared.0 w done.1 cleared.1
+            gone_by paths.0 cleared.0 w (record { first = done.0; waiting = done.1; paths = paths.1 }) cleared.1
             (same_then cleared.0 listed_at.0 w (listed_same cleared.0 listed_at.0 listed_at.1)
             (λ q out. ap (λ (x : World). x q) noted.2 ∙ noted.1.rest q (outside_records q out)))
 
       noted_same : (c : Record) (rs : List Record) (v w : World) → Done g.name (Deed.Notes c) rs v w → IsSame v w
       noted_same c rs v w done q out = done.rest q (outside_records q out)
 
-      lost_since : (start mid now : World) (change : Change) (at : World) → IsSame start mid → IsGoneBy mid at → IsScripted change at now → HasLost g r start change now
+      lost_since : (start mid now : World) (change : Change) (at : World) → IsSame start mid → IsGoneBy mid at → IsScripted change at now → HasLost g r stored start change now
       lost_since start mid now change at first gone then = record {
         early = [];
         late = change;
@@ -390,7 +403,7 @@ module _ (g : Given) (r : Record) (named : r.name ≡ g.name) where
         own_lost : IsLostRecord r (record_in (put_record (without_files r) marked) g.name)
         own_lost = inl (put_own (without_files r) marked g.name named)
 
-        files_amid : (now : World) → Unmarked → Amid g.name (Deed.Notes (losing_files r) ∷ tail) rs start now → IsAtStep g r start [] now
+        files_amid : (now : World) → Unmarked → Amid g.name (Deed.Notes (losing_files r) ∷ tail) rs start now → IsAtStep g r stored start [] now
         files_amid now own (inl here) = elim here.records [
           | inl before ↦ IsAtStep.begun (recorded_by (IsFirstRecord r) rs now before own) (λ q out. here.may.rest q (outside_records q out))
           | inr after ↦ IsAtStep.losing (recorded_by (IsLosingRecord r) marked now after own_marked) (λ q out. inl (here.may.rest q (outside_records q out)))
@@ -400,26 +413,26 @@ module _ (g : Given) (r : Record) (named : r.name ≡ g.name) where
           | inr lost ↦ IsAtStep.lost (recorded_by Lost (put_record (without_files r) marked) now lost.1 own_lost) (lost_since start behind.mid now [] now (noted_same (losing_files r) rs start behind.mid behind.done) lost.0 (λ q out. refl))
         ]
           where
-            losing_at : (q : Path) → is_within home_path q ≡ false → (now q ≡ behind.mid q) ⊎ With q (now q) → (now q ≡ start q) ⊎ (GoesWithFiles g r q × (now q ≡ None))
+            losing_at : (q : Path) → is_within home_path q ≡ false → (now q ≡ behind.mid q) ⊎ With q (now q) → (now q ≡ start q) ⊎ (GoesWithFiles g r stored q × (now q ≡ None))
             losing_at q out (inl same) = inl (same ∙ behind.done.rest q (outside_records q out))
             losing_at q out (inr gone) = inr gone
 
-        files_done : (ready : World) → AllDone g.name (Deed.Notes (losing_files r) ∷ tail) rs start ready → (now : World) (change : Change) → IsScripted change ready now → HasLost g r start change now
+        files_done : (ready : World) → AllDone g.name (Deed.Notes (losing_files r) ∷ tail) rs start ready → (now : World) (change : Change) → IsScripted change ready now → HasLost g r stored start change now
         files_done ready done now change then = lost_since start done.0 now change ready (noted_same (losing_files r) rs start done.0 done.1) (tail_done marked done.0 ready done.2) then
 
-        files_inside : (change : Change) (now : World) → Unmarked → IsInside g.name (files_stage g.entries g.before.lists r stored to_come) rs start change now → IsAtStep g r start change now
-        files_inside change now own (IsInside.in_parts none amid) = subst (λ (c : Change). IsAtStep g r start c now) (sym none) (files_amid now own amid)
+        files_inside : (change : Change) (now : World) → Unmarked → IsInside g.name (files_stage g.entries g.before.lists r stored to_come) rs start change now → IsAtStep g r stored start change now
+        files_inside change now own (IsInside.in_parts none amid) = subst (λ (c : Change). IsAtStep g r stored start c now) (sym none) (files_amid now own amid)
         files_inside change now own (IsInside.in_calls ready done (IsCalled.on_calls same has)) =
             IsAtStep.lost (recorded_by Lost (put_record (without_files r) marked) now has own_lost) (files_done ready done now change (λ q out. ap (λ (x : World). x q) same))
         files_inside change now own (IsInside.in_calls ready done (IsCalled.on_restore called same over)) =
             IsAtStep.lost (recorded_by Lost (put_record (without_files r) marked) now over.records own_lost) (files_done ready done now change (λ q out. ap (λ (x : World). x q) (over.same ∙ same)))
 
-        files_steps : (purge : Bool) → (purge ≡ true → g.extent ≡ Purge) → (change : Change) (now : World) → Unmarked → AmidStages g.name (files_stages g.entries g.before.lists r stored purge to_come) rs start change now → IsAtStep g r start change now
+        files_steps : (purge : Bool) → (purge ≡ true → g.extent ≡ Purge) → (change : Change) (now : World) → Unmarked → AmidStages g.name (files_stages g.entries g.before.lists r stored purge to_come) rs start change now → IsAtStep g r stored start change now
         files_steps purge purges change now own (inl before) =
             IsAtStep.begun (recorded_by (IsFirstRecord r) rs now before.records own) (λ q out. ap (λ (x : World). x q) before.same ∙ ap (λ d. changed d start q) (sym before.none))
         files_steps purge purges change now own (inr (inl inside)) = files_inside change now own inside
         files_steps purge purges change now own (inr (inr passed)) =
-            subst (λ (c : Change). IsAtStep g r start c now) (sym passed.changes)
+            subst (λ (c : Change). IsAtStep g r stored start c now) (sym passed.changes)
             (ends_steps (goes_at_once r stored) purge purges passed.early start (changed passed.early passed.ready)
             (files_done passed.ready passed.done (changed passed.early passed.ready) passed.early (λ q out. refl))
             (put_record (without_files r) marked) passed.late now own_lost passed.further)
@@ -441,7 +454,7 @@ module _ (g : Given) (r : Record) (named : r.name ≡ g.name) where
           by (IsSet.left early late are mid has is) = absurd has
 
       prerm_steps : (rs : List Record) (old : World) (purge : Bool) → (purge ≡ true → g.extent ≡ Purge) → (change : Change) (now : World) → record_in rs g.name ≡ Some r
-          → AmidStages g.name (prerm_stage r stored ∷ files_stages g.entries g.before.lists r stored purge to_come) rs old change now → IsAtStep g r old change now
+          → AmidStages g.name (prerm_stage r stored ∷ files_stages g.entries g.before.lists r stored purge to_come) rs old change now → IsAtStep g r stored old change now
       prerm_steps rs old purge purges change now own (inl before) =
           IsAtStep.begun (recorded_by (IsFirstRecord r) rs now before.records (inl own)) (λ q out. ap (λ (x : World). x q) before.same ∙ ap (λ d. changed d old q) (sym before.none))
       prerm_steps rs old purge purges change now own (inr (inl inside)) =
@@ -451,19 +464,19 @@ module _ (g : Given) (r : Record) (named : r.name ≡ g.name) where
       prerm_steps rs old purge purges change now own (inr (inr passed)) =
           let mid = changed passed.early passed.ready in
           let noted = passed.done.1 in
-          subst (λ (c : Change). IsAtStep g r old c now) (sym passed.changes)
+          subst (λ (c : Change). IsAtStep g r stored old c now) (sym passed.changes)
           (since_step passed.early passed.late old mid now
           (scripted_same passed.early old passed.ready mid (λ q out. ap (λ (x : World). x q) passed.done.2 ∙ noted.rest q (outside_records q out)) (λ q out. refl))
           (files_steps (put_record (half_configured r) rs) mid purge purges passed.late now (inr (put_own (half_configured r) rs g.name named)) passed.further))
 
       found_steps : g.extent ≡ Purge → r.state ≡ state.ConfigFiles → (rs : List Record) (old : World) (change : Change) (now : World) → record_in rs g.name ≡ Some r
-          → AmidStages g.name (purge_stages g.entries g.before.lists r stored (paths_of g.before.lists r.name)) rs old change now → IsAtStep g r old change now
+          → AmidStages g.name (purge_stages g.entries g.before.lists r stored (paths_of g.before.lists r.name)) rs old change now → IsAtStep g r stored old change now
       found_steps purges removed rs old change now own is =
           purge_steps r (paths_of g.before.lists r.name) named purges [] change old old now rs (HasBegunPurge.found removed refl refl (λ q out. refl))
           (λ has scripted. IsAtStep.begun (recorded_by (IsFirstRecord r) rs now has (inl own)) scripted) is
 
       module _ (rs : List Record) (old : World) (change : Change) (now : World) (found : record_in rs g.name ≡ Some r) where
-        from_steps : (s : State) → r.state ≡ s → (purge : Bool) → (purge ≡ true → g.extent ≡ Purge) → (r.state ≡ state.ConfigFiles → g.extent ≡ Purge) → AmidStages g.name (stages_from g.entries g.before.lists s r stored purge to_come) rs old change now → IsAtStep g r old change now
+        from_steps : (s : State) → r.state ≡ s → (purge : Bool) → (purge ≡ true → g.extent ≡ Purge) → (r.state ≡ state.ConfigFiles → g.extent ≡ Purge) → AmidStages g.name (stages_from g.entries g.before.lists s r stored purge to_come) rs old change now → IsAtStep g r stored old change now
         from_steps state.NotInstalled at purge purges removed is = files_steps rs old purge purges change now (inl found) is
         from_steps state.ConfigFiles at purge purges removed is = found_steps (removed at) at rs old change now found is
         from_steps state.HalfInstalled at purge purges removed is = files_steps rs old purge purges change now (inl found) is
@@ -474,7 +487,7 @@ module _ (g : Given) (r : Record) (named : r.name ≡ g.name) where
         never : {X : Type 0} → false ≡ true → X
         never e = absurd (true≢false (sym e))
 
-        pub extent_steps : (extent : Extent) → g.extent ≡ extent → BeginsFrom extent r.state → AmidStages g.name (removal_stages g.entries g.before.lists extent r stored to_come) rs old change now → IsAtStep g r old change now
+        pub extent_steps : (extent : Extent) → g.extent ≡ extent → BeginsFrom extent r.state → AmidStages g.name (removal_stages g.entries g.before.lists extent r stored to_come) rs old change now → IsAtStep g r stored old change now
         extent_steps Remove at begins is = from_steps r.state refl false (λ e. never e) (λ e. absurd (begins e)) is
         extent_steps Purge at begins is = from_steps r.state refl true (λ e. at) (λ e. at) is
         extent_steps InFavour at begins is = files_steps rs old false (λ e. never e) change now (inl found) is
@@ -482,7 +495,7 @@ module _ (g : Given) (r : Record) (named : r.name ≡ g.name) where
 -- at each moment of a unit
 
 pub removal_steps : (g : Given) (removable : IsRemovable g.extent g.before.records g.name) (d : Recorded) (old now : World) (so_far : List Event) → IsInOrder d g.before.lists old → d.records ≡ g.before.records
-    → IsAmidUnit g old so_far now → IsAtStep g removable.entry old (changes_of so_far) now
+    → IsAmidUnit g old so_far now → IsAtStep g removable.entry (stored_in g.name old) old (changes_of so_far) now
 removal_steps g removable d old now so_far order same (inl looks) =
     IsAtStep.begun (record { table = g.before.records; records = subst (λ (w : World). HasRecords w g.before.records) (sym looks.0) (subst (HasRecords old) same order.kept.holds); own = inl removable.found })
     (λ q out. ap (λ (w : World). w q) looks.0 ∙ ap (λ c. changed c old q) (sym (no_change so_far looks.1)))

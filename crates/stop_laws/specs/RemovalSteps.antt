@@ -10,10 +10,11 @@ use Rattle.file_removal.specs.Removal.{Removed}
 use Rattle.status_db.specs.declared.record.Record.{Record}
 use Rattle.status_db.specs.declared.words.State.TheVariants.{ConfigFiles}
 use Rattle.removal_engine.specs.Lists.{IsToCome, leaving_files}
-use Rattle.removal_engine.specs.Names.{cleared_names}
+use Rattle.removal_engine.specs.Names.{cleared_names, waiting_names}
 use Rattle.removal_engine.specs.Records.{config_files, half_configured, losing_files, purged, without_files}
 use Rattle.removal_engine.specs.Units.{Given}
 use Rattle.removal_engine.specs.declared.extent.Extent.TheVariants.{Purge}
+use Rattle.removal_engine.specs.declared.scripts.Stored.{Stored}
 use Rattle.stop_laws.specs.Left.{IsLeft, IsRecorded, IsScripted}
 use Rattle.stop_laws.specs.Removing.{GoesWithFiles, GoesWithPurge}
 
@@ -33,13 +34,15 @@ IsLostRecord r o = (o ≡ Some (without_files r)) ⊎ ((o ≡ Some (config_files
 abbrev pub IsPurgedRecord : Record → Option Record → Type 0
 IsPurgedRecord c o = (o ≡ Some (purged c)) ⊎ (o ≡ None)
 
-module _ (g : Given) (r : Record) where
-  -- the package's files have gone from a world: the listed paths, and then the names beside them
+module _ (g : Given) (r : Record) (stored : Stored) where
+  -- the package's files have gone from a world: what waits to be settled, the listed paths, and then the names beside them
   pub record HaveGone (before gone : World) : Type 0 where
     pub to_come : List Path
-    pub comes : IsToCome r to_come
+    pub comes : IsToCome r stored to_come
+    pub first : World
+    pub waiting : Cleared (waiting_names g.entries r.name r.pending) before first
     pub mid : World
-    pub removed : Removed (leaving_files g.entries g.before.lists r to_come) before mid
+    pub removed : Removed (leaving_files g.entries g.before.lists r to_come) first mid
     pub cleared : Cleared (cleared_names g.entries g.before.lists r) mid gone
 
   module _ (old : World) where
@@ -58,11 +61,11 @@ module _ (g : Given) (r : Record) where
     -- a purge began with this record and list: of a package that was found removed, or behind its removal
     pub data HasBegunPurge (c : Record) (listed : List Path) (change : Change) (begun : World) : Type 0 where
       found : r.state ≡ ConfigFiles → c ≡ r → listed ≡ paths_of g.before.lists r.name → IsScripted change old begun → HasBegunPurge c listed change begun
-      left : c ≡ config_files r → IsToCome r listed → HasLost change begun → HasBegunPurge c listed change begun
+      left : c ≡ config_files r → IsToCome r stored listed → HasLost change begun → HasBegunPurge c listed change begun
 
     -- what stands there while files go: what scripts made of what stood there, or nothing where something goes with the files
     abbrev pub IsLosing : Change → World → Type 0
-    IsLosing change now = (q : Path) → is_within home_path q ≡ false → (now q ≡ changed change old q) ⊎ (GoesWithFiles g r q × (now q ≡ None))
+    IsLosing change now = (q : Path) → is_within home_path q ≡ false → (now q ≡ changed change old q) ⊎ (GoesWithFiles g r stored q × (now q ≡ None))
 
     -- Nothing has gone; or files are going, and the package is marked; or they are gone; or a purge takes conffiles and directories away,
     -- until the record goes.
@@ -71,4 +74,4 @@ module _ (g : Given) (r : Record) where
       losing : IsRecorded g.name (IsLosingRecord r) now → IsLosing change now → IsAtStep change now
       lost : IsRecorded g.name (IsLostRecord r) now → HasLost change now → IsAtStep change now
       purging : g.extent ≡ Purge → (c : Record) (listed : List Path) → IsRecorded g.name (IsPurgedRecord c) now → (early late : Change) → change ≡ early ++ late → (start : World) → HasBegunPurge c listed early start
-          → ((q : Path) → is_within home_path q ≡ false → IsLeft q (GoesWithPurge g r c listed q) late start now) → IsAtStep change now
+          → ((q : Path) → is_within home_path q ≡ false → IsLeft q (GoesWithPurge g r stored c listed q) late start now) → IsAtStep change now

@@ -13,22 +13,25 @@ use Rattle.status_db.specs.declared.record.Record.{Record}
 use Rattle.status_db.specs.declared.words.State.TheVariants.{ConfigFiles}
 use Rattle.unpack_moves.specs.Areas.{is_leaving_place}
 use Rattle.removal_engine.specs.Lists.{IsToCome, leaving_directories, leaving_files}
-use Rattle.removal_engine.specs.Names.{cleared_names, purged_names}
+use Rattle.removal_engine.specs.Names.{cleared_names, purged_names, waiting_names}
 use Rattle.removal_engine.specs.Records.{config_files, half_configured, losing_files, purged, without_files}
 use Rattle.removal_engine.specs.Units.{Given}
 use Rattle.removal_engine.specs.declared.extent.Extent.TheVariants.{Purge, InFavour}
+use Rattle.removal_engine.specs.declared.scripts.Stored.{Stored}
 
-module _ (g : Given) (r : Record) where
+-- of a package of this record, with which these scripts are stored when the unit begins
+module _ (g : Given) (r : Record) (stored : Stored) where
   -- what goes with the files: a listed path, unless it is a conffile or its place is one to come or another package's; and what is left
   -- beside such paths, or waits to be settled
   pub data GoesWithFiles (q : Path) : Type 0 where
-    listed : (to_come : List Path) → IsToCome r to_come → is_leaving_place (leaving_files g.entries g.before.lists r to_come) q ≡ true → GoesWithFiles q
+    listed : (to_come : List Path) → IsToCome r stored to_come → is_leaving_place (leaving_files g.entries g.before.lists r to_come) q ≡ true → GoesWithFiles q
     beside : is_among (cleared_names g.entries g.before.lists r) q ≡ true → GoesWithFiles q
+    waiting : is_among (waiting_names g.entries r.name r.pending) q ≡ true → GoesWithFiles q
 
   -- with which record and list a purge begins: those that it finds of a removed package, or those that the removal left
   pub data IsPurgedFrom (c : Record) (listed : List Path) : Type 0 where
     found : r.state ≡ ConfigFiles → c ≡ r → listed ≡ paths_of g.before.lists r.name → IsPurgedFrom c listed
-    left : c ≡ config_files r → IsToCome r listed → IsPurgedFrom c listed
+    left : c ≡ config_files r → IsToCome r stored listed → IsPurgedFrom c listed
 
   -- what goes with a purge from there: conffiles and the names beside them, and listed directories
   pub data GoesWithPurge (c : Record) (listed : List Path) (q : Path) : Type 0 where
@@ -58,10 +61,10 @@ module _ (g : Given) (r : Record) where
     pub own : IsOwnRecord (record_in table g.name)
     pub others : (q : List ℕ) → q ≢ g.name → record_in table q ≡ record_in g.before.records q
 
-  -- the package's list: that of before, the conffiles that stay and the directories above them, one without a path, or none
+  -- the package's list: that of before, the conffiles that stay and the directories above all of them, one without a path, or none
   pub data IsOwnList (before now : Option Node) : Type 0 where
     stood : now ≡ before → IsOwnList before now
-    to_come : (paths : List Path) → IsToCome r paths → now ≡ Some (list_file paths) → IsOwnList before now
+    to_come : (paths : List Path) → IsToCome r stored paths → now ≡ Some (list_file paths) → IsOwnList before now
     bare : now ≡ Some (list_file []) → IsOwnList before now
     gone : now ≡ None → IsOwnList before now
 

@@ -1,5 +1,5 @@
 -- What stands behind an unpack that was carried out whole.
-use Rattle.std.proofs.Common.{◌≡◌, ◌≢◌, ◌||◌, inl, inr, not, ℕ, zero, suc, Bool, true, false, cond, List, [], ◌∷◌, None, IsTrue, Contains, length, refl, sym, ap, subst, ◌∙◌, arith}
+use Rattle.std.proofs.Common.{◌≡◌, ◌≢◌, ◌||◌, inl, inr, not, ℕ, zero, suc, Bool, true, false, cond, List, [], ◌∷◌, None, IsTrue, Contains, length, refl, sym, ap, subst, ◌∙◌, arith, ◌++◌}
 use Rattle.std.specs.List.{list_any}
 use Rattle.std.specs.Str.{bytes_eq}
 use Rattle.std.proofs.lemmas.Bool.{false_from_ne_true, true≢false}
@@ -35,7 +35,7 @@ use Rattle.unpack_commit.specs.Takeover.{put_records}
 use Rattle.unpack_moves.proofs.Apart.{list_below, spare_below}
 use Rattle.unpack_moves.proofs.Closings.{below_within}
 use Rattle.unpack_plan.specs.Lists.{entry_paths, old_leaving}
-use Rattle.unpack_plan.specs.Names.{backups, known_conffiles, left_names}
+use Rattle.unpack_plan.specs.Names.{backups, cut_names, known_conffiles, left_names}
 use Rattle.unpack_plan.specs.Planned.{IsPlanned, Planned}
 use Rattle.unpack_plan.specs.Records.{IsFresh, entries_of}
 use Rattle.unpack_rows.specs.declared.rows.Present.{Present}
@@ -132,8 +132,10 @@ module _ (g : Given) (stored : Present) (p : Planned) (plan : IsPlanned (job_of 
   backup_named x there =
       let left = left_names g.entries (unit_name g) g.«package».conffiles (known_conffiles p.found) in
       ap (λ l. is_among l x.backup) plan.names_are.names_are
-      ∙ list_any-append (bytes_eq x.backup) (backups p.works) left
-      ∙ first_or (is_among (backups p.works) x.backup) (is_among left x.backup) (backup_among p.works x there)
+      ∙ list_any-append (bytes_eq x.backup) (backups p.works ++ left) (cut_names p.found p.leaving)
+      ∙ first_or (is_among (backups p.works ++ left) x.backup) (is_among (cut_names p.found p.leaving) x.backup)
+      (list_any-append (bytes_eq x.backup) (backups p.works) left
+      ∙ first_or (is_among (backups p.works) x.backup) (is_among left x.backup) (backup_among p.works x there))
 
   name_out : (x : Work) → IsNamed x → (q : Path) → (Misses x q → ⊥) → is_below_administration q ≡ false
   name_out x named q hits = false_from_ne_true (is_below_administration q) (λ below. name_apart x named q hits q below refl)

@@ -1,10 +1,12 @@
 -- A file that is written at its place stays there: no old path goes from it, and it is no waiting file.
-use Rattle.std.proofs.Common.{◌≡◌, ◌||◌, ◌&&◌, not, inl, ℕ, zero, suc, Bool, true, false, List, [], ◌∷◌, Contains, map, refl, sym, ap, subst, arith}
+use Rattle.std.proofs.Common.{◌≡◌, ◌||◌, ◌&&◌, not, inl, ℕ, zero, suc, Bool, true, false, cond, List, [], ◌∷◌, ◌++◌, Option, Contains, map, refl, sym, ap, subst, ◌∙◌, arith}
 use Rattle.std.specs.List.{list_any}
 use Rattle.std.specs.Str.{bytes_eq}
 use Rattle.std.proofs.lemmas.Bool.{false_from_ne_true, or_from, true≢false}
+use Rattle.std.proofs.lemmas.List.Folds.{list_any-append}
 use Rattle.std.proofs.lemmas.Slice.Eq.{bytes_eq-Decides}
 use Rattle.host_core.specs.Paths.{Path, is_ship_text}
+use Rattle.host_core.specs.Suffixes.{suffix_text}
 use Rattle.host_core.specs.declared.suffix.Suffix.TheVariants.{New}
 use Rattle.host_core.proofs.ShipNames.{plain_other, ships}
 use Rattle.administration.specs.Places.{home_path, is_within}
@@ -12,11 +14,14 @@ use Rattle.diversions.specs.declared.entry.Diversion.{Diversion}
 use Rattle.diversions.specs.Places.{place}
 use Rattle.file_lists.specs.declared.paths.PackageList.{PackageList}
 use Rattle.file_removal.specs.Clearing.{is_among}
+use Rattle.file_removal.specs.declared.leaving.Leaving.{Leaving}
 use Rattle.file_works.specs.declared.work.Work.{Work}
+use Rattle.list_changes.specs.Clearable.{clearable, is_clearable}
 use Rattle.list_changes.specs.Leaving.{has_other_owner, is_place_of, leaving_of, stays}
+use Rattle.status_db.specs.declared.record.Record.{Record}
 use Rattle.unpack_moves.specs.Areas.{is_leaving_place}
 use Rattle.unpack_plan.specs.Lists.{entry_paths}
-use Rattle.unpack_plan.specs.Names.{waiting_name}
+use Rattle.unpack_plan.specs.Names.{cut_names, gone_name, gone_names, waiting_name, was_cut}
 use Rattle.unpack_plan.specs.Records.{entries_of}
 use Rattle.unpack_engine.specs.Units.{Given}
 use Rattle.unpack_laws.specs.InHand.{unit_found, unit_listed, unit_name, unit_works}
@@ -75,6 +80,29 @@ module _ (entries : List Diversion) (name : List ℕ) where
       (false_from_ne_true (bytes_eq q (waiting_name entries name p)) (λ e. plain_other q (place entries name p) New (ships q ship).plain ((bytes_eq-Decides q (waiting_name entries name p)).0 e)))
       (no_waiting q ship paths)
 
+-- nor one that a unit left which was cut
+module _ (q : Path) (ship : is_ship_text q ≡ true) where
+  no_gone_at : (at : Path) (goes : Bool) → is_among (cond goes (clearable ((at ++ suffix_text New) ∷ [])) []) q ≡ false
+  no_gone_at at false = refl
+  no_gone_at at true = by (is_clearable (at ++ suffix_text New))
+    where
+      by : (b : Bool) → is_among (cond b ((at ++ suffix_text New) ∷ []) []) q ≡ false
+      by false = refl
+      by true =
+          or_from (bytes_eq q (at ++ suffix_text New)) false
+          (false_from_ne_true (bytes_eq q (at ++ suffix_text New)) (λ e. plain_other q at New (ships q ship).plain ((bytes_eq-Decides q (at ++ suffix_text New)).0 e))) refl
+
+  no_gone : (leaving : List Leaving) → is_among (gone_names leaving) q ≡ false
+  no_gone [] = refl
+  no_gone (x ∷ xs) = list_any-append (bytes_eq q) (gone_name x) (gone_names xs) ∙ or_from _ _ (no_gone_at x.place x.goes) (no_gone xs)
+
+  no_cut : (found : Option Record) (leaving : List Leaving) → is_among (cut_names found leaving) q ≡ false
+  no_cut found leaving = by (was_cut found)
+    where
+      by : (b : Bool) → is_among (cond b (gone_names leaving) []) q ≡ false
+      by true = no_gone leaving
+      by false = refl
+
 module _ (g : Given) (x : Work) (has : Contains (unit_works g) x) (ship : is_ship_text x.place ≡ true) where
   place_lasts : IsLasting g x.place
   place_lasts =
@@ -83,6 +111,7 @@ module _ (g : Given) (x : Work) (has : Contains (unit_works g) x) (ship : is_shi
         stays = λ fresh paths is after. no_leaving_at g.entries (unit_name g) g.lists paths (entry_paths (entries_of (unit_found g))) x.place
             (subst (λ r. is_place_of g.entries (unit_name g) paths r ≡ true) at.2 (place_among g.entries (unit_name g) paths at.0 ((after.are at.0).1 (inl at.1)))) (unit_listed g);
         uncleared = no_waiting g.entries (unit_name g) x.place ship _;
+        uncut = λ fresh paths is after. no_cut x.place ship (unit_found g) _;
       }
 
   pub target_lasts : x.target ≡ x.place → IsLasting g x.target

@@ -13,6 +13,8 @@ use Rattle.host_core.specs.World.{World, Change, changed}
 use Rattle.host_core.specs.Events.{Event, changes_of}
 use Rattle.host_core.specs.Host.{State}
 use Rattle.host_core.specs.Scripts.{no_change}
+use Rattle.host_core.specs.Suffixes.{suffix_text}
+use Rattle.host_core.specs.declared.suffix.Suffix.TheVariants.{New}
 use Rattle.host_core.specs.declared.node.Node.{Node}
 use Rattle.host_core.specs.declared.node.Node.TheVariants.{File, Dir, Link}
 use Rattle.administration.specs.Places.{home_path, is_within, list_path}
@@ -28,7 +30,8 @@ use Rattle.file_removal.specs.Removal.{GoesBy}
 use Rattle.file_works.specs.declared.work.Work.{Work}
 use Rattle.file_works.specs.Names.{IsNamed}
 use Rattle.file_works.specs.Files.{Each, Misses}
-use Rattle.list_changes.specs.Leaving.{leaving_of}
+use Rattle.list_changes.specs.Clearable.{clearable, is_clearable}
+use Rattle.list_changes.specs.Leaving.{leaving_at, leaving_of}
 use Rattle.status_db.specs.Held.{HasRecords}
 use Rattle.status_db.specs.Records.{put_record, record_in}
 use Rattle.status_db.specs.declared.record.Record.{Record}
@@ -37,7 +40,7 @@ use Rattle.unpack_commit.specs.Commit.{Changes, HasCommitted, MayCommit, renewed
 use Rattle.unpack_commit.specs.Takeover.{losing_records, put_records, taken_places}
 use Rattle.unpack_moves.specs.Closing.{HasReleased, HasRenewed, MayRelease, MayRenew}
 use Rattle.unpack_plan.specs.Lists.{entry_paths}
-use Rattle.unpack_plan.specs.Names.{backups, known_conffiles, left_names}
+use Rattle.unpack_plan.specs.Names.{backups, cut_names, gone_name, gone_names, known_conffiles, left_names, was_cut}
 use Rattle.unpack_plan.specs.Planned.{IsPlanned, Planned}
 use Rattle.unpack_plan.specs.Records.{IsFresh, entries_of}
 use Rattle.unpack_rows.specs.Kinds.{first_kinds, has_prerm, is_upgrade, kinds_of, last_kinds, own_of, state_of}
@@ -101,6 +104,35 @@ goes_place entries lists name to_come conffiles (l ∷ ls) w q (inl later) =
     (more.0, Contains-append_right (l ∷ []) ls more.0 more.1, more.2)
 goes_place entries lists name to_come conffiles (l ∷ ls) w q (inr here) = (l, (zero, omega arith, refl), here.0)
 
+-- where a unit left something that was cut is beside the place of one of its paths
+module _ (entries : List Diversion) (lists : List PackageList) (name : List ℕ) (to_come conffiles : List Path) (q : Path) where
+  gone_beside : (at : Path) (goes : Bool) → is_among (cond goes (clearable ((at ++ suffix_text New) ∷ [])) []) q ≡ true → at ++ suffix_text New ≡ q
+  gone_beside at false is = absurd (true≢false (sym is))
+  gone_beside at true is = by (is_clearable (at ++ suffix_text New)) is
+    where
+      by : (b : Bool) → is_among (cond b ((at ++ suffix_text New) ∷ []) []) q ≡ true → at ++ suffix_text New ≡ q
+      by false none = absurd (true≢false (sym none))
+      by true some = elim (or_cases (bytes_eq q (at ++ suffix_text New)) false some) [ inl e ↦ sym ((bytes_eq-Decides q (at ++ suffix_text New)).0 e) | inr none ↦ absurd (true≢false (sym none)) ]
+
+  gone_place : (listed : List Path) → is_among (gone_names (leaving_of entries lists name to_come conffiles listed)) q ≡ true → (path : Path) × Contains listed path × (place entries name path ++ suffix_text New ≡ q)
+  gone_place [] is = absurd (true≢false (sym is))
+  gone_place (l ∷ ls) is =
+      let x = leaving_at entries lists name to_come conffiles l in
+      let xs = leaving_of entries lists name to_come conffiles ls in
+      elim (or_cases (is_among (gone_name x) q) (is_among (gone_names xs) q) (sym (list_any-append (bytes_eq q) (gone_name x) (gone_names xs)) ∙ is)) [
+        | inl here ↦ (l, (zero, omega arith, refl), gone_beside x.place x.goes here)
+        | inr later ↦ let more = gone_place ls later in (more.0, Contains-append_right (l ∷ []) ls more.0 more.1, more.2)
+      ]
+
+  cut_place : (found : Option Record) (listed : List Path) → is_among (cut_names found (leaving_of entries lists name to_come conffiles listed)) q ≡ true
+      → (was_cut found ≡ true) × (path : Path) × Contains listed path × (place entries name path ++ suffix_text New ≡ q)
+  cut_place found listed is = by (was_cut found) refl is
+    where
+      by : (b : Bool) → was_cut found ≡ b → is_among (cond b (gone_names (leaving_of entries lists name to_come conffiles listed)) []) q ≡ true
+          → (was_cut found ≡ true) × (path : Path) × Contains listed path × (place entries name path ++ suffix_text New ≡ q)
+      by true cut some = (cut, gone_place listed some)
+      by false cut none = absurd (true≢false (sym none))
+
 -- a name that was cleared has what it had, or nothing
 cleared_is : (node : Option Node) → (cleared node ≡ node) ⊎ (cleared node ≡ None)
 cleared_is None = inr refl
@@ -144,13 +176,25 @@ module _ (g : Given) (stored : Present) (p : Planned) (plan : IsPlanned (job_of 
       let at = goes_place g.entries g.lists (unit_name g) p.new_list (entry_paths (entries_of p.found)) p.listed w q (subst (λ xs. GoesBy false w xs q) plan.lists_are.leaving_is goes) in
       (at.0, subst (λ (l : List Path). Contains l at.0) plan.lists_are.listed_is at.1, at.2)
 
-  among_waiting : (q : Path) → Each (λ x. Misses x q) p.works → is_among p.names q ≡ true → is_among waiting q ≡ true
+  -- beside the place of an old path, behind a unit that was cut
+  abbrev IsCutName : Path → Type 0
+  IsCutName q = (was_cut (unit_found g) ≡ true) × (path : Path) × Contains (unit_listed g) path × (place g.entries (unit_name g) path ++ suffix_text New ≡ q)
+
+  cut_at : (q : Path) → is_among (cut_names p.found p.leaving) q ≡ true → IsCutName q
+  cut_at q is =
+      let at = cut_place g.entries g.lists (unit_name g) p.new_list (entry_paths (entries_of p.found)) q p.found p.listed (subst (λ xs. is_among (cut_names p.found xs) q ≡ true) plan.lists_are.leaving_is is) in
+      (subst (λ f. was_cut f ≡ true) plan.records_are.found_is at.0, at.1, subst (λ (l : List Path). Contains l at.1) plan.lists_are.listed_is at.2, at.3)
+
+  among_waiting : (q : Path) → Each (λ x. Misses x q) p.works → is_among p.names q ≡ true → (is_among waiting q ≡ true) ⊎ IsCutName q
   among_waiting q missed is =
-      let names : is_among (backups p.works ++ left_names g.entries (unit_name g) g.«package».conffiles (known_conffiles p.found)) q ≡ true = ap (λ l. is_among l q) (sym plan.names_are.names_are) ∙ is in
-      elim (or_cases (is_among (backups p.works) q) (is_among (left_names g.entries (unit_name g) g.«package».conffiles (known_conffiles p.found)) q)
-      (sym (list_any-append (bytes_eq q) (backups p.works) (left_names g.entries (unit_name g) g.«package».conffiles (known_conffiles p.found))) ∙ names)) [
-        | inl backup ↦ absurd (true≢false (sym backup ∙ no_backup p.works q missed))
-        | inr left ↦ ap (λ f. is_among (left_names g.entries (unit_name g) g.«package».conffiles (known_conffiles f)) q) (sym plan.records_are.found_is) ∙ left
+      let left = left_names g.entries (unit_name g) g.«package».conffiles (known_conffiles p.found) in
+      let names : is_among ((backups p.works ++ left) ++ cut_names p.found p.leaving) q ≡ true = ap (λ l. is_among l q) (sym plan.names_are.names_are) ∙ is in
+      elim (or_cases (is_among (backups p.works ++ left) q) (is_among (cut_names p.found p.leaving) q) (sym (list_any-append (bytes_eq q) (backups p.works ++ left) (cut_names p.found p.leaving)) ∙ names)) [
+        | inl first ↦ elim (or_cases (is_among (backups p.works) q) (is_among left q) (sym (list_any-append (bytes_eq q) (backups p.works) left) ∙ first)) [
+          | inl backup ↦ absurd (true≢false (sym backup ∙ no_backup p.works q missed))
+          | inr waits ↦ inl (ap (λ f. is_among (left_names g.entries (unit_name g) g.«package».conffiles (known_conffiles f)) q) (sym plan.records_are.found_is) ∙ waits)
+        ]
+        | inr cut ↦ inr (cut_at q cut)
       ]
 
   module _ (last : World) (q : Path) where
@@ -159,11 +203,13 @@ module _ (g : Given) (stored : Present) (p : Planned) (plan : IsPlanned (job_of 
       kept : now q ≡ last q → IsLeftAt now
       went : (path : Path) → Contains (unit_listed g) path → place g.entries (unit_name g) path ≡ q → now q ≡ None → IsLeftAt now
       waited : is_among waiting q ≡ true → now q ≡ None → IsLeftAt now
+      cut : IsCutName q → now q ≡ None → IsLeftAt now
 
     left_then : (v w : World) → w q ≡ v q → IsLeftAt v → IsLeftAt w
     left_then v w same (IsLeftAt.kept is) = IsLeftAt.kept (same ∙ is)
     left_then v w same (IsLeftAt.went path has at none) = IsLeftAt.went path has at (same ∙ none)
     left_then v w same (IsLeftAt.waited is none) = IsLeftAt.waited is (same ∙ none)
+    left_then v w same (IsLeftAt.cut is none) = IsLeftAt.cut is (same ∙ none)
 
     left_gone : (w : World) → GoesBy false last p.leaving q → w q ≡ None → IsLeftAt w
     left_gone w goes none = let at = went_at last q goes in IsLeftAt.went at.0 at.1 at.2 none
@@ -172,7 +218,7 @@ module _ (g : Given) (stored : Present) (p : Planned) (plan : IsPlanned (job_of 
       left_cleared : (v w : World) → is_among p.names q ≡ true → w q ≡ cleared (v q) → IsLeftAt v → IsLeftAt w
       left_cleared v w is same left = elim (cleared_is (v q)) [
         | inl keeps ↦ left_then v w (same ∙ keeps) left
-        | inr none ↦ IsLeftAt.waited (among_waiting q missed is) (same ∙ none)
+        | inr none ↦ elim (among_waiting q missed is) [ inl waits ↦ IsLeftAt.waited waits (same ∙ none) | inr cut ↦ IsLeftAt.cut cut (same ∙ none) ]
       ]
 
       left_by : (b : Bool) → is_among p.names q ≡ b → (v w : World) → w q ≡ cond b (cleared (v q)) (v q) → IsLeftAt v → IsLeftAt w
@@ -243,6 +289,7 @@ module _ (g : Given) (stored : Present) (p : Planned) (plan : IsPlanned (job_of 
         missed_at paths q was (IsLeftAt.kept is) = IsAccounted.scripted (is ∙ was)
         missed_at paths q was (IsLeftAt.went path listed at none) = IsAccounted.went path listed at none
         missed_at paths q was (IsLeftAt.waited is none) = IsAccounted.cleared is none
+        missed_at paths q was (IsLeftAt.cut is none) = IsAccounted.cut is.0 is.1 is.2 is.3 none
 
         accounted : (paths : List Path) → HasShipped g stored p plan places paths → (q : Path) → is_within home_path q ≡ false → IsAccounted g old now change paths q
         accounted paths shipped q out = elim (names_or_misses p.works q) [

@@ -102,7 +102,7 @@ module _ (g : Given) (stored : Present) (p : Planned) (plan : IsPlanned (job_of 
     list = (off (list_path own) (list_below own), off (temporary (list_path own)) (spare_below own));
     no_member = λ member is. (off (stored_member_path own member) refl, off (temporary (stored_member_path own member)) refl);
     stays = no_leaving g stored p plan places x.target lasting.stays;
-    uncleared = no_cleared g stored p plan places x.target (no_backups x named p.works plan.works_are.named) lasting.uncleared;
+    uncleared = no_cleared g stored p plan places x.target (no_backups x named p.works plan.works_are.named) lasting.uncleared lasting.uncut;
     unlost = λ works begun stage moved n has. (off (list_path n) (list_below n), off (temporary (list_path n)) (spare_below n));
   }
     where

@@ -1,6 +1,6 @@
 -- The paths that a plan touches, by what is given: those at which the unit does nothing, and the lists of packages that keep
 -- their places.
-use Rattle.std.proofs.Common.{◌≡◌, ◌≢◌, ◌||◌, inl, inr, ℕ, zero, suc, Bool, true, false, cond, not, List, [], ◌∷◌, Option, Some, Contains, map, filter, refl, sym, ap, subst, ◌∙◌, arith}
+use Rattle.std.proofs.Common.{◌≡◌, ◌≢◌, ◌||◌, inl, inr, ℕ, zero, suc, Bool, true, false, cond, not, List, [], ◌∷◌, ◌++◌, Option, Some, Contains, map, filter, refl, sym, ap, subst, ◌∙◌, arith}
 use Rattle.std.specs.List.{list_any}
 use Rattle.std.specs.Str.{bytes_eq}
 use Rattle.std.proofs.lemmas.Bool.{cond-false, false_from_ne_true, or_from, true≢false}
@@ -32,7 +32,7 @@ use Rattle.unpack_commit.proofs.Left.{list_within, member_within}
 use Rattle.unpack_moves.specs.Areas.{is_leaving_place}
 use Rattle.unpack_moves.proofs.Closings.{below_within}
 use Rattle.unpack_plan.specs.Lists.{old_leaving}
-use Rattle.unpack_plan.specs.Names.{backups, known_conffiles, left_names}
+use Rattle.unpack_plan.specs.Names.{backups, cut_names, known_conffiles, left_names}
 use Rattle.unpack_plan.specs.Planned.{IsPlanned, Planned}
 use Rattle.unpack_plan.specs.Records.{IsFresh}
 use Rattle.unpack_rows.specs.Stages.{Stage, Unwritten, Wrote, Restored}
@@ -44,7 +44,7 @@ use Rattle.unpack_run.proofs.Standing.{record_below}
 use Rattle.unpack_engine.specs.Others.{is_other_package, yields_beside}
 use Rattle.unpack_engine.specs.Units.{Given, Ground, ground_of, job_of, package_name, task_from, unit_losers}
 use Rattle.unpack_engine.proofs.Losing.{among_kept, kept_passes}
-use Rattle.unpack_laws.specs.InHand.{IsNoLeaving, IsPassedBy, KeepsPlaces, LosesPlaces, file_places, unit_file_places, unit_found, unit_name, unit_works, unit_yields}
+use Rattle.unpack_laws.specs.InHand.{IsNoCut, IsNoLeaving, IsPassedBy, KeepsPlaces, LosesPlaces, file_places, unit_file_places, unit_found, unit_listed, unit_name, unit_works, unit_yields}
 use Rattle.unpack_laws.proofs.Alone.{IsAlone}
 
 -- what is outside the administration's directory
@@ -195,18 +195,33 @@ module _ (g : Given) (stored : Present) (p : Planned) (plan : IsPlanned (job_of 
 
   -- the old paths that go, and the names that are cleared
 
-  pub no_leaving : (q : Path) → IsNoLeaving g q → is_leaving_place p.leaving q ≡ false
-  no_leaving q stays =
-      ap (λ xs. is_leaving_place xs q) (plan.lists_are.leaving_is
+  leaving_told : p.leaving ≡ old_leaving g.entries g.lists (unit_name g) (unit_found g) p.new_list (unit_listed g)
+  leaving_told =
+      plan.lists_are.leaving_is
       ∙ ap (λ f. old_leaving g.entries g.lists (unit_name g) f p.new_list p.listed) plan.records_are.found_is
-      ∙ ap (λ (l : List Path). old_leaving g.entries g.lists (unit_name g) (unit_found g) p.new_list l) plan.lists_are.listed_is)
-      ∙ stays p.fresh p.new_list (subst (λ f. IsFresh g.«package» f p.fresh) plan.records_are.found_is plan.records_are.fresh_is) plan.lists_are.new_is
+      ∙ ap (λ (l : List Path). old_leaving g.entries g.lists (unit_name g) (unit_found g) p.new_list l) plan.lists_are.listed_is
 
-  pub no_cleared : (q : Path) → is_among (backups p.works) q ≡ false → is_among (left_names g.entries (unit_name g) g.«package».conffiles (known_conffiles (unit_found g))) q ≡ false → is_among p.names q ≡ false
-  no_cleared q kept left =
+  fresh_told : IsFresh g.«package» (unit_found g) p.fresh
+  fresh_told = subst (λ f. IsFresh g.«package» f p.fresh) plan.records_are.found_is plan.records_are.fresh_is
+
+  pub no_leaving : (q : Path) → IsNoLeaving g q → is_leaving_place p.leaving q ≡ false
+  no_leaving q stays = ap (λ xs. is_leaving_place xs q) leaving_told ∙ stays p.fresh p.new_list fresh_told plan.lists_are.new_is
+
+  no_cut_name : (q : Path) → IsNoCut g q → is_among (cut_names p.found p.leaving) q ≡ false
+  no_cut_name q uncut =
+      ap (λ xs. is_among (cut_names p.found xs) q) leaving_told
+      ∙ ap (λ f. is_among (cut_names f (old_leaving g.entries g.lists (unit_name g) (unit_found g) p.new_list (unit_listed g))) q) plan.records_are.found_is
+      ∙ uncut p.fresh p.new_list fresh_told plan.lists_are.new_is
+
+  pub no_cleared : (q : Path) → is_among (backups p.works) q ≡ false → is_among (left_names g.entries (unit_name g) g.«package».conffiles (known_conffiles (unit_found g))) q ≡ false → IsNoCut g q → is_among p.names q ≡ false
+  no_cleared q kept left uncut =
+      let waiting = left_names g.entries (unit_name g) g.«package».conffiles (known_conffiles p.found) in
       ap (λ l. is_among l q) plan.names_are.names_are
-      ∙ list_any-append (bytes_eq q) (backups p.works) (left_names g.entries (unit_name g) g.«package».conffiles (known_conffiles p.found))
-      ∙ or_from (is_among (backups p.works) q) _ kept (ap (λ f. is_among (left_names g.entries (unit_name g) g.«package».conffiles (known_conffiles f)) q) plan.records_are.found_is ∙ left)
+      ∙ list_any-append (bytes_eq q) (backups p.works ++ waiting) (cut_names p.found p.leaving)
+      ∙ or_from (is_among (backups p.works ++ waiting) q) _
+      (list_any-append (bytes_eq q) (backups p.works) waiting
+      ∙ or_from (is_among (backups p.works) q) _ kept (ap (λ f. is_among (left_names g.entries (unit_name g) g.«package».conffiles (known_conffiles f)) q) plan.records_are.found_is ∙ left))
+      (no_cut_name q uncut)
 
   -- a path at which the unit does nothing
   pub passed_alone : (q : Path) → IsPassedBy g q → IsAlone here p q
@@ -219,7 +234,7 @@ module _ (g : Given) (stored : Present) (p : Planned) (plan : IsPlanned (job_of 
           list = outside_list q passed.outside (package_name here p);
           no_member = λ name is. outside_member q passed.outside (package_name here p) name;
           stays = no_leaving q passed.stays;
-          uncleared = no_cleared q (no_backup p.works q missed) passed.uncleared;
+          uncleared = no_cleared q (no_backup p.works q missed) passed.uncleared passed.uncut;
           unlost = λ works begun stage moved n has. outside_list q passed.outside n;
         };
         missed = missed;

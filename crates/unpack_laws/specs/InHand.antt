@@ -15,7 +15,7 @@ use Rattle.unpack_commit.specs.Takeover.{losers, yields_of}
 use Rattle.unpack_engine.specs.Units.{Given}
 use Rattle.unpack_moves.specs.Areas.{is_leaving_place}
 use Rattle.unpack_plan.specs.Lists.{IsAfter, old_leaving}
-use Rattle.unpack_plan.specs.Names.{known_conffiles, left_names}
+use Rattle.unpack_plan.specs.Names.{cut_names, known_conffiles, left_names}
 use Rattle.unpack_plan.specs.Planned.{pairs_of}
 use Rattle.unpack_plan.specs.Records.{IsFresh}
 use Rattle.unpack_run.specs.FileMoves.{places_of}
@@ -64,10 +64,16 @@ module _ (g : Given) where
   IsNoLeaving q = (fresh : Record) (paths : List Path) → IsFresh g.«package» unit_found fresh → IsAfter g.«package».files fresh paths
       → is_leaving_place (old_leaving g.entries g.lists unit_name unit_found paths unit_listed) q ≡ false
 
+  -- nor, behind a unit that was cut, the name beside such a place at which a conffile waited that the cut unit shipped
+  abbrev pub IsNoCut : Path → Type 0
+  IsNoCut q = (fresh : Record) (paths : List Path) → IsFresh g.«package» unit_found fresh → IsAfter g.«package».files fresh paths
+      → is_among (cut_names unit_found (old_leaving g.entries g.lists unit_name unit_found paths unit_listed)) q ≡ false
+
   -- a path outside the administration's directory at which the unit does nothing: nothing is shipped there, and neither does an
-  -- old path go nor the waiting file of an old conffile (Policy 6.6, steps 6 and 11)
+  -- old path go nor the waiting file of an old conffile, or of one of a unit that was cut (Policy 6.6, steps 6 and 11)
   pub record IsPassedBy (q : Path) : Type 0 where
     pub outside : is_within home_path q ≡ false
     pub unshipped : Each (λ x. Misses x q) unit_works
     pub stays : IsNoLeaving q
     pub uncleared : is_among (left_names g.entries unit_name g.«package».conffiles (known_conffiles unit_found)) q ≡ false
+    pub uncut : IsNoCut q

@@ -2,6 +2,8 @@
 -- again, until its last note (Policy 6.6).
 use Rattle.std.specs.Prelude.{◌≡◌, ◌⊎◌, true, false, List, ◌++◌, Some, None, Contains}
 use Rattle.host_core.specs.Paths.{Path, is_named_by}
+use Rattle.host_core.specs.Suffixes.{suffix_text}
+use Rattle.host_core.specs.declared.suffix.Suffix.TheVariants.{New}
 use Rattle.host_core.specs.World.{World, Change, changed}
 use Rattle.host_core.specs.declared.node.Access.{Access}
 use Rattle.host_core.specs.declared.node.Node.{Node}
@@ -16,7 +18,7 @@ use Rattle.status_db.specs.Records.{record_in}
 use Rattle.status_db.specs.declared.record.Record.{Record}
 use Rattle.unpack_engine.specs.Units.{Given}
 use Rattle.unpack_plan.specs.Lists.{IsAfter}
-use Rattle.unpack_plan.specs.Names.{known_conffiles, left_names}
+use Rattle.unpack_plan.specs.Names.{known_conffiles, left_names, was_cut}
 use Rattle.unpack_plan.specs.Records.{IsFresh, IsIncoming}
 use Rattle.unpack_rows.specs.Kinds.{own_of}
 use Rattle.unpack_rows.specs.Notes.{half_installed}
@@ -31,12 +33,13 @@ module _ (g : Given) where
 
   module _ (old now : World) (change : Change) where
     -- What stands at a path while the package is marked: what scripts made of it; what its list names; nothing, where an old
-    -- path went or the waiting file of a conffile that isn't shipped any more.
+    -- path went or the waiting file of a conffile that isn't shipped any more, or that a unit shipped which was cut.
     pub data IsAccounted (paths : List Path) (q : Path) : Type 0 where
       scripted : now q ≡ changed change old q → IsAccounted paths q
       named : IsNamedIn paths q → IsAccounted paths q
       went : (path : Path) → Contains (unit_listed g) path → place g.entries (unit_name g) path ≡ q → now q ≡ None → IsAccounted paths q
       cleared : is_among (left_names g.entries (unit_name g) g.«package».conffiles (known_conffiles (unit_found g))) q ≡ true → now q ≡ None → IsAccounted paths q
+      cut : was_cut (unit_found g) ≡ true → (path : Path) → Contains (unit_listed g) path → place g.entries (unit_name g) path ++ suffix_text New ≡ q → now q ≡ None → IsAccounted paths q
 
     -- the package's list has these paths, and what is changed is accounted for by them
     pub record IsListedSo (paths : List Path) : Type 0 where

@@ -15,7 +15,7 @@ use Rattle.unpack_engine.specs.Units.{Given}
 use Rattle.unpack_plan.specs.Lists.{IsAfter, IsUnion}
 use Rattle.unpack_plan.specs.Names.{known_conffiles, left_names}
 use Rattle.unpack_plan.specs.Records.{IsFresh}
-use Rattle.unpack_laws.specs.InHand.{IsNoLeaving, unit_found, unit_listed, unit_name}
+use Rattle.unpack_laws.specs.InHand.{IsNoCut, IsNoLeaving, unit_found, unit_listed, unit_name}
 
 -- What stands at a target where nothing is written or all is put back, and script calls changed so much since the world of before:
 -- what they made of what stood there; or, where a made directory had to stay, what they made of it since.
@@ -45,10 +45,11 @@ IsWorkAmid old now change x = IsTargetAmid x.target x.backup x.node old now chan
 
 module _ (g : Given) where
   -- what is written there stays: it is no place of an old path that goes, nor the waiting file of a conffile that isn't shipped
-  -- any more (Policy 6.6, steps 6 and 11)
+  -- any more, or that a unit shipped which was cut (Policy 6.6, steps 6 and 11)
   pub record IsLasting (target : Path) : Type 0 where
     pub stays : IsNoLeaving g target
     pub uncleared : is_among (left_names g.entries (unit_name g) g.«package».conffiles (known_conffiles (unit_found g))) target ≡ false
+    pub uncut : IsNoCut g target
 
   -- the list of the package: the one of before, or none where it had no record; the old paths, as they are written again; those
   -- with the shipped ones; or the new list

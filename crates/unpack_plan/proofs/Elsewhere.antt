@@ -1,8 +1,9 @@
 -- Names beside places that a package may have lie outside the administration.
-use Rattle.std.proofs.Common.{◌≡◌, ◌≢◌, Bool, true, false, List, [], ◌∷◌, ◌++◌, None, refl, sym, ap, ◌∙◌, inl, inr}
+use Rattle.std.proofs.Common.{◌≡◌, ◌≢◌, Bool, true, false, cond, List, [], ◌∷◌, ◌++◌, Option, None, refl, sym, ap, ◌∙◌, inl, inr}
 use Rattle.std.specs.Prelude.{◌||◌}
 use Rattle.std.specs.Str.{bytes_eq}
 use Rattle.std.proofs.lemmas.Bool.{true≢false, false_from_ne_true}
+use Rattle.std.proofs.lemmas.List.Folds.{list_any-append}
 use Rattle.std.proofs.lemmas.Slice.Eq.{bytes_eq-Decides}
 use Rattle.host_core.specs.Paths.{Path, is_below_administration, is_ship_text}
 use Rattle.host_core.specs.Suffixes.{suffix_text}
@@ -13,12 +14,16 @@ use Rattle.host_core.proofs.ShipNames.{plain_other}
 use Rattle.administration.specs.Places.{home_path, is_within}
 use Rattle.administration.proofs.Within.{within_is}
 use Rattle.file_removal.specs.Clearing.{is_among}
+use Rattle.file_removal.specs.declared.leaving.Leaving.{Leaving}
 use Rattle.file_works.specs.Files.{Each}
 use Rattle.file_works.specs.Names.{IsNamed}
 use Rattle.file_works.specs.declared.work.Work.{Work}
+use Rattle.list_changes.specs.Clearable.{clearable}
+use Rattle.list_changes.proofs.Outside.{clearable_elsewhere}
+use Rattle.status_db.specs.declared.record.Record.{Record}
 use Rattle.unpack_moves.specs.Concluding.{AreElsewhere}
 use Rattle.unpack_moves.proofs.Apart.{apart, goes_on}
-use Rattle.unpack_plan.specs.Names.{backups}
+use Rattle.unpack_plan.specs.Names.{backups, cut_names, gone_name, gone_names, was_cut}
 
 abbrev work_at : Path → Work
 work_at p = record { path = p; place = p; target = p ++ suffix_text New; backup = p ++ suffix_text Tmp; fresh = p ++ suffix_text Inst; node = Link []; had = None }
@@ -62,3 +67,21 @@ elsewhere_more (m ∷ names) n before one q within =
     second : (a b : Bool) → (a || b) ≡ false → b ≡ false
     second true b e = absurd (true≢false e)
     second false b e = e
+
+pub append_elsewhere : (xs ys : List Path) → AreElsewhere xs → AreElsewhere ys → AreElsewhere (xs ++ ys)
+append_elsewhere xs ys first second q within = list_any-append (bytes_eq q) xs ys ∙ ap (λ b. b || is_among ys q) (first q within) ∙ second q within
+
+gone_elsewhere : (leaving : List Leaving) → AreElsewhere (gone_names leaving)
+gone_elsewhere [] = λ q within. refl
+gone_elsewhere (x ∷ xs) = append_elsewhere (gone_name x) (gone_names xs) (one x.goes) (gone_elsewhere xs)
+  where
+    one : (goes : Bool) → AreElsewhere (cond goes (clearable ((x.place ++ suffix_text New) ∷ [])) [])
+    one true = clearable_elsewhere ((x.place ++ suffix_text New) ∷ [])
+    one false = λ q within. refl
+
+pub cut_elsewhere : (found : Option Record) (leaving : List Leaving) → AreElsewhere (cut_names found leaving)
+cut_elsewhere found leaving = by (was_cut found)
+  where
+    by : (cut : Bool) → AreElsewhere (cond cut (gone_names leaving) [])
+    by true = gone_elsewhere leaving
+    by false = λ q within. refl

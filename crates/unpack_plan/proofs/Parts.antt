@@ -43,8 +43,8 @@ module _ (j : Job) (p : Planned) (found : Option Record) (same : p.found ≡ fou
     spares = spares;
   }
 
-  pub names_planned : p.names ≡ cleared_names j.entries (name_of j) found j.«package».conffiles p.works → AreElsewhere p.names → ArePlannedNames j p
+  pub names_planned : p.names ≡ cleared_names j.entries (name_of j) found j.«package».conffiles p.works p.leaving → AreElsewhere p.names → ArePlannedNames j p
   names_planned names elsewhere = record {
-    names_are = names ∙ ap (λ (f : Option Record). cleared_names j.entries (name_of j) f j.«package».conffiles p.works) (sym same);
+    names_are = names ∙ ap (λ (f : Option Record). cleared_names j.entries (name_of j) f j.«package».conffiles p.works p.leaving) (sym same);
     elsewhere = elsewhere;
   }

@@ -118,7 +118,7 @@ pub record ArePlannedLists (j : Job) (p : Planned) : Type 0 where
 
 -- what is left at names that only the installer writes goes (Policy 6.6, 10.7)
 pub record ArePlannedNames (j : Job) (p : Planned) : Type 0 where
-  pub names_are : p.names ≡ cleared_names j.entries (name_of j) p.found j.«package».conffiles p.works
+  pub names_are : p.names ≡ cleared_names j.entries (name_of j) p.found j.«package».conffiles p.works p.leaving
   pub elsewhere : AreElsewhere p.names
 
 pub record IsPlanned (j : Job) (p : Planned) : Type 0 where

@@ -15,6 +15,7 @@ use crate::names::cleared_names;
 use crate::works::own_works;
 use control_members::Members;
 use diversions::Diversions;
+use file_removal::Leaving;
 use file_works::Work;
 use host_core::RootPath;
 use package_tree::Package;
@@ -35,11 +36,12 @@ pub(crate) fn contents_of(
     diversions: &Diversions,
     tree: Package,
     found: Option<&Record>,
+    leaving: &[Leaving],
 ) -> Result<Contents, AllocError>
     ensures works { IfOk result (λ c. c.works.items ≡ shipped_works diversions.now.entries tree.name tree.conffiles (pairs_of tree.files)) }
     ensures named { IfOk result (λ c. Each IsNamed c.works.items) }
     ensures fitting { IfOk result (λ c. Each IsFitting c.works.items) }
-    ensures names { IfOk result (λ c. c.names.items ≡ names_cleared diversions.now.entries tree.name (option_copied found.entry) tree.conffiles c.works.items) }
+    ensures names { IfOk result (λ c. c.names.items ≡ names_cleared diversions.now.entries tree.name (option_copied found.entry) tree.conffiles c.works.items leaving.now) }
     ensures elsewhere { IfOk result (λ c. AreElsewhere c.names.items) }
     ensures members { IfOk result (λ c. AreMembersOf tree.scripts tree.others c.members) }
 {
@@ -47,7 +49,15 @@ pub(crate) fn contents_of(
     let conffiles = tree.conffiles;
     let works = own_works(alloc, &name, diversions, tree.files, &conffiles)?;
     let kept = conffiles.as_slice();
-    let names = cleared_names(alloc, diversions, &name, found, kept, works.as_slice())?;
+    let names = cleared_names(
+        alloc,
+        diversions,
+        &name,
+        found,
+        kept,
+        works.as_slice(),
+        leaving,
+    )?;
     let members = own_members(alloc, tree.scripts, tree.others)?;
     Ok(Contents {
         works,

@@ -7,14 +7,16 @@ ghost use Rattle.file_works.specs.Files.{Each};
 ghost use Rattle.file_works.specs.Names.{IsNamed};
 ghost use Rattle.host_core.specs.Paths.{Path};
 ghost use Rattle.unpack_moves.specs.Concluding.{AreElsewhere};
-ghost use Rattle.unpack_plan.specs.Names.{backups, cleared_names, left_names};
+ghost use Rattle.unpack_plan.specs.Names.{backups, cleared_names, cut_names, gone_name, left_names, was_cut};
 
 use crate::conffile_paths::known_conffiles;
 use crate::texts_of::texts_of;
 use diversions::Diversions;
+use file_removal::Leaving;
 use file_works::Work;
 use host_core::{RootPath, ShipPath, Suffix};
-use status_db::Record;
+use list_changes::clearable_name;
+use status_db::{Record, State};
 use std::alloc::{AllocError, Global};
 use std::collections::BTreeSet;
 use texts::Text;
@@ -66,8 +68,56 @@ fn add_left(
     Ok(())
 }
 
-/// The backup of each work, and the waiting names of conffiles that aren't shipped as conffiles any
-/// more.
+// Whether a unit of the package was cut behind its first file, which marks it so.
+fn was_cut(found: Option<&Record>) -> bool
+    ensures { result ≡ was_cut (option_copied found.entry) }
+{
+    let Some(found) = found else {
+        return false;
+    };
+    match found.state {
+        State::HalfInstalled => true,
+        State::NotInstalled
+        | State::ConfigFiles
+        | State::Unpacked
+        | State::HalfConfigured
+        | State::Installed => false,
+    }
+}
+
+// Adds where a conffile waited beside the place of an old path, if that goes.
+fn add_gone(alloc: Global, path: &Leaving, names: &mut Vec<RootPath>) -> Result<(), AllocError>
+    ensures { OnOk result (names.new.items ≡ names.old.items ++ gone_name path.now) }
+{
+    if !path.goes {
+        return Ok(());
+    }
+    if let Some(name) = clearable_name(alloc, path.place.as_str(), Suffix::New.text())? {
+        names.push(name)?;
+    }
+    Ok(())
+}
+
+// Adds that of each old path, behind a unit that was cut.
+fn add_cut(
+    alloc: Global,
+    found: Option<&Record>,
+    leaving: &[Leaving],
+    names: &mut Vec<RootPath>,
+) -> Result<(), AllocError>
+    ensures { OnOk result (names.new.items ≡ names.old.items ++ cut_names (option_copied found.entry) leaving.now) }
+{
+    if !was_cut(found) {
+        return Ok(());
+    }
+    for path in leaving {
+        add_gone(alloc, path, names)?;
+    }
+    Ok(())
+}
+
+/// The backup of each work, the waiting names of conffiles that aren't shipped as conffiles any more,
+/// and those that a cut unit left beside old paths that go.
 pub(crate) fn cleared_names(
     alloc: Global,
     diversions: &Diversions,
@@ -75,14 +125,16 @@ pub(crate) fn cleared_names(
     found: Option<&Record>,
     conffiles: &[ShipPath],
     works: &[Work],
+    leaving: &[Leaving],
 ) -> Result<Vec<RootPath>, AllocError>
     requires { Each IsNamed works.now }
-    ensures names { IfOk result (λ names. names.items ≡ cleared_names diversions.now.entries name.now (option_copied found.entry) conffiles.now works.now) }
+    ensures names { IfOk result (λ names. names.items ≡ cleared_names diversions.now.entries name.now (option_copied found.entry) conffiles.now works.now leaving.now) }
     ensures elsewhere { IfOk result (λ names. AreElsewhere names.items) }
 {
     let set = texts_of(alloc, conffiles)?;
     let known = known_conffiles(alloc, found)?;
     let mut names = backups(alloc, works)?;
     add_left(diversions, name, &set, known.as_slice(), &mut names)?;
+    add_cut(alloc, found, leaving, &mut names)?;
     Ok(names)
 }

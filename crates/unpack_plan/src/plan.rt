@@ -71,7 +71,13 @@ pub fn plan_of(
         others,
     )?;
     let changes = own_changes(alloc, lists, diversions, &incoming, found, &records.fresh)?;
-    let contents = contents_of(alloc, diversions, incoming, found)?;
+    let contents = contents_of(
+        alloc,
+        diversions,
+        incoming,
+        found,
+        changes.leaving.as_slice(),
+    )?;
     Ok(Plan {
         found: records.found,
         incoming: records.incoming,

@@ -3,8 +3,8 @@ mod choices;
 
 use super::{Case, Tree, stored};
 use crate::packages::{
-    CONFFILE_ALONE, CONFIG_FILES, HALF_CONFIGURED, HALF_INSTALLED, INSTALLED, NEVER, NO_ALPHA,
-    NO_PATHS, Package, UNPACKED,
+    ABOVE_CONFFILE, CONFFILE_ALONE, CONFIG_FILES, HALF_CONFIGURED, HALF_INSTALLED, INSTALLED,
+    NEVER, NO_ALPHA, NO_PATHS, Package, UNPACKED,
 };
 use crate::tables::{CALLED, CONFIGURED, ENDS, Kind, REFUSALS, ROWS, Row, SCRIPTS};
 use std::alloc::{AllocError, Global};
@@ -348,13 +348,16 @@ impl Prediction {
         package.flag = "ok";
         package.state = HALF_INSTALLED;
         package.removed = true;
-        if package.digest == NEVER {
+        let is_unsettled = package.digest == NEVER;
+        if is_unsettled {
             package.digest = "";
         }
-        package.list = if package.digest.is_empty() {
-            NO_PATHS
-        } else {
+        package.list = if !package.digest.is_empty() {
             CONFFILE_ALONE
+        } else if is_unsettled && self.has(postrm) {
+            ABOVE_CONFFILE
+        } else {
+            NO_PATHS
         };
         package.pending = "";
         package.fresh = "";

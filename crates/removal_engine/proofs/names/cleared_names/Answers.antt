@@ -1,11 +1,10 @@
 use Rattle.std.proofs.Common.{sym, subst}
 use Rattle.unpack_moves.specs.Concluding.{AreElsewhere}
-use Rattle.removal_engine.proofs.Elsewhere.{append_elsewhere, nothing_elsewhere, stopped_elsewhere, waiting_elsewhere}
+use Rattle.removal_engine.proofs.Elsewhere.{append_elsewhere, nothing_elsewhere, stopped_elsewhere}
 use Rattle.removal_engine.proofs.names.cleared_names.Goals as goal
 
 pub returns-clause-elsewhere : goal.returns-clause-elsewhere
 returns-clause-elsewhere c =
     let entries = c.args.diversions.now.entries in
     let name = c.args.entry.now.name in
-    let first = subst AreElsewhere (sym c.in_ok-push_all_stopped.ensures) (append_elsewhere _ _ (subst AreElsewhere (sym c.new-names.ensures.items) nothing_elsewhere) (stopped_elsewhere entries name c.as_slice-2.result.now c.list_of-listed.result.now)) in
-    subst AreElsewhere (sym c.in_ok-push_waiting.ensures) (append_elsewhere _ _ first (waiting_elsewhere entries name c.as_slice-3.result.now))
+    subst AreElsewhere (sym c.in_ok-push_all_stopped.ensures) (append_elsewhere _ _ (subst AreElsewhere (sym c.new-names.ensures.items) nothing_elsewhere) (stopped_elsewhere entries name c.as_slice-2.result.now c.list_of-listed.result.now))

@@ -5,7 +5,8 @@ use Rattle.std.specs.Str.{bytes_eq}
 use Rattle.std.proofs.lemmas.List.{take_all}
 use Rattle.host_core.specs.Paths.{Path}
 use Rattle.diversions.specs.Places.{place}
-use Rattle.removal_engine.specs.Names.{clearable, unpack_names}
+use Rattle.list_changes.specs.Clearable.{clearable}
+use Rattle.removal_engine.specs.Names.{unpack_names}
 use Rattle.removal_engine.proofs.Chosen.{flat_more}
 use Rattle.removal_engine.proofs.names.push_all_stopped.Goals as goal
 

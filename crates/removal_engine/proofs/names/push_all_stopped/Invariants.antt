@@ -2,7 +2,8 @@ use Rattle.std.proofs.Common.{◌≡◌, ◌++◌, [], cond, take}
 use Rattle.std.specs.BTreeSet.{contains_text}
 use Rattle.std.specs.List.{flat_map}
 use Rattle.diversions.specs.Places.{place}
-use Rattle.removal_engine.specs.Names.{clearable, unpack_names}
+use Rattle.list_changes.specs.Clearable.{clearable}
+use Rattle.removal_engine.specs.Names.{unpack_names}
 use Rattle.removal_engine.proofs.names.push_all_stopped.Given as goal
 
 abbrev pub invariant-loop-path : goal.invariant-loop-path

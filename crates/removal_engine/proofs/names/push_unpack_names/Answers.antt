@@ -3,7 +3,7 @@ use Rattle.std.proofs.lemmas.List.{append-nil}
 use Rattle.host_core.specs.Paths.{Path}
 use Rattle.host_core.specs.Suffixes.{suffix_text}
 use Rattle.host_core.specs.declared.suffix.Suffix.TheVariants.{Inst, Tmp}
-use Rattle.removal_engine.specs.Names.{clearable}
+use Rattle.list_changes.specs.Clearable.{clearable}
 use Rattle.removal_engine.proofs.Chosen.{clearable_law, gathered}
 use Rattle.removal_engine.proofs.names.push_unpack_names.Goals as goal
 

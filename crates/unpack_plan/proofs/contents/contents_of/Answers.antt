@@ -12,5 +12,5 @@ pub returns-clause-names : goal.returns-clause-names
 returns-clause-names c =
     let entries = c.args.diversions.now.entries in
     let tree = c.args.tree in
-    c.in_ok-names.ensures.names ∙ ap (λ (l : List Path). cleared_names entries tree.name (option_copied c.args.found) l c.as_slice.result.now) c.as_slice-kept.ensures
-    ∙ ap (λ (xs : List Work). cleared_names entries tree.name (option_copied c.args.found) tree.conffiles xs) c.as_slice.ensures.value
+    c.in_ok-names.ensures.names ∙ ap (λ (l : List Path). cleared_names entries tree.name (option_copied c.args.found) l c.as_slice.result.now c.args.leaving.now) c.as_slice-kept.ensures
+    ∙ ap (λ (xs : List Work). cleared_names entries tree.name (option_copied c.args.found) tree.conffiles xs c.args.leaving.now) c.as_slice.ensures.value

@@ -1,3 +1,7 @@
+use Rattle.std.proofs.Common.{List, ap, ◌∙◌}
+use Rattle.std.specs.Option.{option_copied}
+use Rattle.file_removal.specs.declared.leaving.Leaving.{Leaving}
+use Rattle.unpack_plan.specs.Names.{cleared_names}
 use Rattle.unpack_plan.proofs.Parts.{lists_planned, names_planned, records_planned, rows_planned}
 use Rattle.unpack_plan.proofs.plan.plan_of.Goals as goal
 
@@ -12,7 +16,8 @@ returns c =
       rows_are = rows_planned _ _ _ same c.in_ok-rows.ensures.rows c.in_ok-rows.ensures.kinds c.in_ok-rows.ensures.others;
       works_are = record { works_are = contents.works; named = contents.named; fitting = contents.fitting };
       lists_are = lists_planned _ _ _ same changes.listed changes.listed_paths changes.union changes.new_list changes.leaving changes.spares;
-      names_are = names_planned _ _ _ same contents.names contents.elsewhere;
+      names_are = names_planned _ _ _ same
+          (contents.names ∙ ap (λ (l : List Leaving). cleared_names c.args.diversions.now.entries p.name (option_copied c.get-found.result) p.conffiles _ l) c.as_slice.ensures.value) contents.elsewhere;
       members_are = contents.members;
     }
 

@@ -351,6 +351,71 @@ mine
 ",
 );
 
+const NEVER_SETTLED: &str =
+    "write /var/lib/dpkg/status Package: zulu\nStatus: install ok unpacked\nVersion: 1\nConffiles:\n /etc/d/x.conf newconffile\nNew-Conffiles:\n /etc/d/x.conf 0cc175b9c0f1b6a831c399e269772661\n";
+
+const NEVER_SETTLED_LIST: &str =
+    "write /var/lib/dpkg/info/zulu.list /.\n/etc\n/etc/d\n/etc/d/x.conf\n";
+
+const WAITING: &str = "write /etc/d/x.conf.dpkg-new a";
+
+// Of a package that was never configured no directory above its conffile is left.
+const PURGED_UNSETTLED: RemovalRow = (
+    &[NEVER_SETTLED, NEVER_SETTLED_LIST, WAITING],
+    &[],
+    &["dpkg_cli purge zulu", "read /"],
+    "state zulu none
+done
+||0
+directory: var
+",
+);
+
+// A removal keeps that directory in the list, for the postrm may take away what is left there.
+const REMOVED_UNSETTLED: RemovalRow = (
+    &[NEVER_SETTLED, NEVER_SETTLED_LIST, WAITING, POSTRM],
+    &[],
+    &[
+        "dpkg_cli remove zulu",
+        "read /etc/d",
+        "dpkg_cli listfiles zulu",
+        "dpkg_cli purge zulu",
+        "read /",
+    ],
+    "call old zulu postrm remove: exit 0
+state zulu 1 deinstall ok config-files
+done
+||0
+directory:
+/.
+/etc
+/etc/d
+||0
+call old zulu postrm purge: exit 0
+state zulu none
+done
+||0
+directory: var
+",
+);
+
+// Where another package lists it, it stays.
+const SHARED_UNSETTLED: RemovalRow = (
+    &[
+        "write /var/lib/dpkg/status Package: gamma\nStatus: install ok installed\nVersion: 1\n\nPackage: zulu\nStatus: install ok unpacked\nVersion: 1\nConffiles:\n /etc/d/x.conf newconffile\nNew-Conffiles:\n /etc/d/x.conf 0cc175b9c0f1b6a831c399e269772661\n",
+        "write /var/lib/dpkg/info/gamma.list /.\n/etc\n/etc/d\n",
+        NEVER_SETTLED_LIST,
+        WAITING,
+    ],
+    &[],
+    &["dpkg_cli purge zulu", "read /etc/d"],
+    "state zulu none
+done
+||0
+directory:
+",
+);
+
 const ROWS: &[RemovalRow] = &[
     REMOVED,
     PRERM_FAILS,
@@ -366,6 +431,9 @@ const ROWS: &[RemovalRow] = &[
     CHAIN,
     SHARED,
     DIVERTED,
+    PURGED_UNSETTLED,
+    REMOVED_UNSETTLED,
+    SHARED_UNSETTLED,
 ];
 
 #[test]

@@ -436,6 +436,26 @@ c
 ",
 );
 
+// A unit was cut whose tree ships the conffiles /etc/cut and /etc/kept: what waits beside them goes, unless a directory stands there.
+const CUT: FileRow = (
+    &[
+        "write /var/lib/dpkg/status Package: sigma\nStatus: install reinstreq half-installed\nVersion: 1\n",
+        "write /var/lib/dpkg/info/sigma.list /.\n/a\n/etc\n/etc/cut\n/etc/kept\n/z\n/z/b\n",
+        "write /etc/cut.dpkg-new x",
+        "write /etc/kept.dpkg-new/note x",
+        "write /etc/other.dpkg-new x",
+        "write /z.dpkg-new x",
+    ],
+    &[],
+    &["dpkg_cli unpack sigma", "read /etc", "read /"],
+    "state sigma 1 install ok unpacked
+done
+||0
+directory: kept.dpkg-new other.dpkg-new
+directory: a etc var z z.dpkg-new
+",
+);
+
 const ROWS: &[FileRow] = &[
     FROM_CONFIG_FILES,
     PRERM_FAILS,
@@ -451,6 +471,7 @@ const ROWS: &[FileRow] = &[
     DIVERTED_CONFFILE,
     DIVERTED_HOME,
     CONFFILES,
+    CUT,
 ];
 
 #[test]

@@ -464,3 +464,91 @@ two
 fn a_target_of_a_diversion_is_not_shipped(rt: HostRuntime) -> Result<(), Fail> {
     check(&rt, TARGETS)
 }
+
+// A conffile waits below a directory that nothing else is in.
+const UNSETTLED_TREE: &str = "mkdir -p root
+>started
+tree one zulu 1
+mkdir -p one/etc/d
+echo red >one/etc/d/x.conf
+echo /etc/d/x.conf >one/DEBIAN/conffiles";
+
+const UNPACKED_UNSETTLED: Deed = Deed {
+    before: UNSETTLED_TREE,
+    words: "unpack",
+    tree: "one",
+    calls: "",
+    rest: "state zulu 1 install ok unpacked
+done
+||0
+",
+    look: LOOK,
+    left: "755 ./etc
+755 ./etc/d
+644 ./etc/d/x.conf.dpkg-new
+red
+/.
+/etc
+/etc/d
+/etc/d/x.conf
+",
+};
+
+const UNSETTLED: &[Deed] = &[
+    UNPACKED_UNSETTLED,
+    Deed {
+        before: "",
+        words: "purge zulu",
+        tree: "",
+        calls: "",
+        rest: "state zulu none
+done
+||0
+",
+        look: LOOK,
+        left: "",
+    },
+    Deed {
+        before: "script one postrm 755 '[ $1 != purge ] || rm etc/d/x.conf'",
+        ..UNPACKED_UNSETTLED
+    },
+    // An administrator writes the file before the package is configured: postrm takes it away, and the list has its directory.
+    Deed {
+        before: "echo mine >root/etc/d/x.conf",
+        words: "remove zulu",
+        tree: "",
+        calls: "call old zulu postrm remove: exit 0\n",
+        rest: "state zulu 1 deinstall ok config-files
+done
+||0
+",
+        look: LOOK,
+        left: "postrm remove
+755 ./etc
+755 ./etc/d
+644 ./etc/d/x.conf
+mine
+/.
+/etc
+/etc/d
+",
+    },
+    Deed {
+        before: "",
+        words: "purge zulu",
+        tree: "",
+        calls: "call old zulu postrm purge: exit 0\n",
+        rest: "state zulu none
+done
+||0
+",
+        look: LOOK,
+        left: "postrm purge
+",
+    },
+];
+
+#[test]
+fn no_directory_of_a_conffile_is_left(rt: HostRuntime) -> Result<(), Fail> {
+    check(&rt, UNSETTLED)
+}

@@ -3,8 +3,8 @@ use Rattle.std.specs.Prelude.{◌||◌}
 use Rattle.std.specs.Str.{bytes_eq}
 use Rattle.host_core.specs.Paths.{Path, is_path_text}
 use Rattle.administration.specs.Places.{home_path, is_within}
-use Rattle.removal_engine.proofs.Chosen.{not_both}
-use Rattle.removal_engine.proofs.names.clearable_name.Goals as goal
+use Rattle.list_changes.proofs.Outside.{not_both}
+use Rattle.list_changes.proofs.clearable.clearable_name.Goals as goal
 
 pub returns-then-is_spared : goal.returns-then-is_spared
 returns-then-is_spared c =
