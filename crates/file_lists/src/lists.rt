@@ -108,6 +108,7 @@ impl FileLists {
     ) -> Result<Owners, AllocError>
         ensures { IfOk result (λ o. o ≡ owners_of diversions.now.entries self.now.lists place.now) }
     {
+        self.table.law();
         match &self.index {
             Some(index) => look_up(alloc, diversions, place, self.table.as_slice(), index),
             None => scan(alloc, diversions, place, self.table.as_slice()),
