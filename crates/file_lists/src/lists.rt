@@ -12,11 +12,12 @@ ghost use Rattle.file_lists.specs.Writing.{left_paths, list_file, with_list, wit
 ghost use Rattle.file_lists.specs.declared.list_fault.ListFault.TheVariants.{Closed};
 ghost use Rattle.file_lists.specs.Lists.{HasLists};
 ghost use Rattle.file_lists.specs.Info.{AreSound, IsInfoDamage};
-ghost use Rattle.file_lists.specs.Owners.{AreLists, AreListPaths, paths_of, owners_of, places_in};
+ghost use Rattle.file_lists.specs.Owners.{AreLists, AreListPaths, paths_of, owners_of, has_other_owner, places_in};
 
 use crate::index::Index;
 use crate::info::read_info;
 use crate::list_fault::ListFault;
+use crate::other_owners::{look_up_other, scan_for_other};
 use crate::owners::{Owners, look_up, scan};
 use crate::paths::Paths;
 use crate::table::Table;
@@ -112,6 +113,25 @@ impl FileLists {
         match &self.index {
             Some(index) => look_up(alloc, diversions, place, self.table.as_slice(), index),
             None => scan(alloc, diversions, place, self.table.as_slice()),
+        }
+    }
+
+    /// Whether another package's list has a path of the place.
+    pub fn has_other_owner(
+        &self,
+        alloc: Global,
+        diversions: &Diversions,
+        name: &Text,
+        at: &RootPath,
+    ) -> Result<bool, AllocError>
+        ensures { IfOk result (λ has. has ≡ has_other_owner diversions.now.entries self.now.lists name.now at.now) }
+    {
+        self.table.law();
+        match &self.index {
+            Some(index) => {
+                look_up_other(alloc, diversions, name, at, self.table.as_slice(), index)
+            }
+            None => scan_for_other(alloc, diversions, name, at, self.table.as_slice()),
         }
     }
 

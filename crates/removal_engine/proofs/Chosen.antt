@@ -8,8 +8,8 @@ use Rattle.std.proofs.lemmas.List.Elements.{filter-append}
 use Rattle.administration.proofs.Within.{taken_more}
 use Rattle.host_core.specs.Paths.{Path}
 use Rattle.diversions.specs.declared.entry.Diversion.{Diversion}
+use Rattle.file_lists.specs.Owners.{has_other_owner}
 use Rattle.file_lists.specs.declared.paths.PackageList.{PackageList}
-use Rattle.list_changes.specs.Leaving.{has_other_owner}
 use Rattle.removal_engine.specs.Names.{clearable, is_clearable, ownerless}
 
 pub not_both : (a b : Bool) → b ≡ true → a && not b ≡ false
