@@ -6,6 +6,7 @@ ghost use Rattle.administration.specs.Files.{IsReplaced, IsReplacing};
 ghost use Rattle.administration.specs.Directories.{HasBadName};
 ghost use Rattle.administration.specs.Fault.{CountsAdministration};
 ghost use Rattle.administration.specs.Places.{info_path, list_path};
+ghost use Rattle.file_lists.specs.Beside.{HadPlaces};
 ghost use Rattle.file_lists.specs.Fault.{CountsList};
 ghost use Rattle.file_lists.specs.Taking.{without_all, IsTaking, HasTakenAll};
 ghost use Rattle.file_lists.specs.Writing.{left_paths, list_file, with_list, without_places, IsListReady};
@@ -20,6 +21,7 @@ use crate::list_fault::ListFault;
 use crate::other_owners::{look_up_other, scan_for_other};
 use crate::owners::{Owners, look_up, scan};
 use crate::paths::Paths;
+use crate::renewing::renew_places;
 use crate::table::Table;
 use crate::taking::{take_all, take_paths};
 use crate::writing::replace_list;
@@ -140,6 +142,19 @@ impl FileLists {
         ensures { IfOk result (λ ps. ps ≡ places_in diversions.now.entries self.now.lists) }
     {
         self.table.places(alloc, diversions)
+    }
+
+    /// The same, of the places of lists that are the same but for one package's.
+    pub fn renew_places(
+        &self,
+        alloc: Global,
+        diversions: &Diversions,
+        name: &Text,
+        places: &mut Places,
+    ) -> Result<(), AllocError>
+        ensures { OnOk result (HadPlaces diversions.now.entries name.now self.now.lists places.old → places.new ≡ places_in diversions.now.entries self.now.lists) }
+    {
+        renew_places(alloc, diversions, &self.table, name, places)
     }
 
     /// Writes the list of a package. After an error the value is closed.
