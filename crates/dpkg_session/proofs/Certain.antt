@@ -44,7 +44,10 @@ all_had (line ∷ lines) has = (good_had line (∥∥₁_map has (λ all. all.0)
 
 readable_had : (node : Option Node) → ∥ IsReadable node ∥₁ → IsReadable node
 readable_had None has = tt
-readable_had (Some (File bytes access)) has = all_had (lines_in bytes) has
+readable_had (Some (File bytes access)) has = record {
+  good = all_had (lines_in bytes) (∥∥₁_map has (λ whole. whole.good));
+  ended = ∥∥₁_elim has (hlevel props) (λ whole. whole.ended);
+}
 readable_had (Some (Dir access)) has = ∥∥₁_elim has (hlevel props) (λ no. no)
 readable_had (Some (Link target)) has = ∥∥₁_elim has (hlevel props) (λ no. no)
 

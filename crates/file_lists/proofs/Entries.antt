@@ -21,7 +21,7 @@ use Rattle.administration.specs.declared.fault.AdministrationFault.{Administrati
 use Rattle.administration.specs.declared.fault.AdministrationFault.TheVariants.{Damaged, Device, NoMemory}
 use Rattle.diversions.specs.Lines.{lines_in}
 use Rattle.file_lists.specs.declared.paths.PackageList.{PackageList}
-use Rattle.file_lists.specs.Lists.{IsGood, IsReadable, Lists}
+use Rattle.file_lists.specs.Lists.{IsReadable, IsWhole, Lists}
 use Rattle.file_lists.specs.Info.{entry_path, is_foreign, IsOneOf, IsListOf, IsScriptOf, IsSound, IsFaultyWhole, HasFault}
 use Rattle.file_lists.specs.Owners.{names_of, paths_of}
 use Rattle.file_lists.specs.Table.{IsAt, IsSet}
@@ -82,7 +82,7 @@ sound_link names entry target colon apart_list apart_script = record {
   script = λ of link. apart_script of;
 }
 
-pub sound_file : (names : List (List ℕ)) (entry : Path) (bytes : List ℕ) (access : Access) → is_foreign entry ≡ false → (IsListOf names entry → AllByRecursion IsGood (lines_in bytes)) → IsSound names entry (Some (File bytes access))
+pub sound_file : (names : List (List ℕ)) (entry : Path) (bytes : List ℕ) (access : Access) → is_foreign entry ≡ false → (IsListOf names entry → IsWhole bytes) → IsSound names entry (Some (File bytes access))
 sound_file names entry bytes access colon good = record {
   colon = λ some. colon;
   loose = λ d. absurd (let e : Some (File bytes access) ≡ Some (Dir d.0) = d.1 in cc);
@@ -141,7 +141,7 @@ sound_list names entry (Some (File bytes access)) readable apart = sound_file na
 sound_list names entry (Some (Dir access)) readable apart = absurd readable
 sound_list names entry (Some (Link target)) readable apart = absurd readable
 
-pub lines_fault : (entry : Path) (bytes : List ℕ) (access : Access) (fault : EntryFault) → is_foreign entry ≡ false → IsLinesFault (lines_in bytes) fault → IsListFault entry (Some (File bytes access)) fault
+pub lines_fault : (entry : Path) (bytes : List ℕ) (access : Access) (fault : EntryFault) → is_foreign entry ≡ false → IsLinesFault bytes fault → IsListFault entry (Some (File bytes access)) fault
 lines_fault entry bytes access (kind.Line number) colon is = inr (
   λ bad. elim bad [
     | inl c ↦ true≢false (sym c.1 ∙ colon)

@@ -81,7 +81,7 @@ lies_elsewhere entries at sources name path are none = by (bytes_eq (place entri
     by true e = absurd (false≢true (sym none ∙ contains_any sources path (are name path ((bytes_eq-Decides (place entries name path) at).0 e))))
     by false e = refl
 
-none_passes : (test : Path → Bool) (paths : List Path) → ((q : Path) → Contains paths q → test q ≡ true → ⊥) → filter test paths ≡ []
+pub none_passes : (test : Path → Bool) (paths : List Path) → ((q : Path) → Contains paths q → test q ≡ true → ⊥) → filter test paths ≡ []
 none_passes test [] none = refl
 none_passes test (p ∷ paths) none = by (test p) refl (none_passes test paths (λ q has. none q (suc has.0, omega (arith, has.1), has.2)))
   where

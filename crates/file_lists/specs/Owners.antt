@@ -1,6 +1,6 @@
 -- The lists of the recorded packages, and who owns a place: those whose list has a path of that place.
-use Rattle.std.specs.Prelude.{◌≡◌, ◌↔◌, ℕ, List, [], ◌∷◌, map, filter, cond, true, Contains}
-use Rattle.std.specs.List.{flat_map, AllByRecursion}
+use Rattle.std.specs.Prelude.{◌≡◌, ◌↔◌, not, ℕ, Bool, List, [], ◌∷◌, map, filter, cond, true, Contains}
+use Rattle.std.specs.List.{flat_map, list_any, AllByRecursion}
 use Rattle.std.specs.Str.{bytes_eq}
 use Rattle.host_core.specs.Paths.{Path, is_path, has_room}
 use Rattle.diversions.specs.declared.entry.Diversion.{Diversion}
@@ -42,6 +42,10 @@ owners_in entries at l = map (listed l.name) (filter (λ path. bytes_eq (place e
 -- each listed path that lies at a place, with its package, list after list
 abbrev pub owners_of : List Diversion → List PackageList → Path → List Listed
 owners_of entries lists at = flat_map (owners_in entries at) lists
+
+-- another package's list has a path of this place
+abbrev pub has_other_owner : List Diversion → List PackageList → List ℕ → Path → Bool
+has_other_owner entries lists name at = list_any (λ owner. not (bytes_eq owner.name name)) (owners_of entries lists at)
 
 -- the places of one package's paths
 abbrev pub places_of_list : List Diversion → PackageList → List Path

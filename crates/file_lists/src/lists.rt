@@ -6,19 +6,22 @@ ghost use Rattle.administration.specs.Files.{IsReplaced, IsReplacing};
 ghost use Rattle.administration.specs.Directories.{HasBadName};
 ghost use Rattle.administration.specs.Fault.{CountsAdministration};
 ghost use Rattle.administration.specs.Places.{info_path, list_path};
+ghost use Rattle.file_lists.specs.Beside.{HadPlaces};
 ghost use Rattle.file_lists.specs.Fault.{CountsList};
 ghost use Rattle.file_lists.specs.Taking.{without_all, IsTaking, HasTakenAll};
 ghost use Rattle.file_lists.specs.Writing.{left_paths, list_file, with_list, without_places, IsListReady};
 ghost use Rattle.file_lists.specs.declared.list_fault.ListFault.TheVariants.{Closed};
 ghost use Rattle.file_lists.specs.Lists.{HasLists};
 ghost use Rattle.file_lists.specs.Info.{AreSound, IsInfoDamage};
-ghost use Rattle.file_lists.specs.Owners.{AreLists, AreListPaths, paths_of, owners_of, places_in};
+ghost use Rattle.file_lists.specs.Owners.{AreLists, AreListPaths, paths_of, owners_of, has_other_owner, places_in};
 
 use crate::index::Index;
 use crate::info::read_info;
 use crate::list_fault::ListFault;
+use crate::other_owners::{look_up_other, scan_for_other};
 use crate::owners::{Owners, look_up, scan};
 use crate::paths::Paths;
+use crate::renewing::renew_places;
 use crate::table::Table;
 use crate::taking::{take_all, take_paths};
 use crate::writing::replace_list;
@@ -112,9 +115,30 @@ impl FileLists {
     ) -> Result<Owners, AllocError>
         ensures { IfOk result (λ o. o ≡ owners_of diversions.now.entries self.now.lists place.now) }
     {
+        self.table.law();
         match &self.index {
             Some(index) => look_up(alloc, diversions, place, self.table.as_slice(), index),
             None => scan(alloc, diversions, place, self.table.as_slice()),
+        }
+    }
+
+    /// Whether another package's list has a path of the place.
+    pub fn has_other_owner(
+        &self,
+        alloc: Global,
+        diversions: &Diversions,
+        name: &Text,
+        at: &RootPath,
+    ) -> Result<bool, AllocError>
+        ensures { IfOk result
+            (λ has. has ≡ has_other_owner diversions.now.entries self.now.lists name.now at.now) }
+    {
+        self.table.law();
+        match &self.index {
+            Some(index) => {
+                look_up_other(alloc, diversions, name, at, self.table.as_slice(), index)
+            }
+            None => scan_for_other(alloc, diversions, name, at, self.table.as_slice()),
         }
     }
 
@@ -123,6 +147,21 @@ impl FileLists {
         ensures { IfOk result (λ ps. ps ≡ places_in diversions.now.entries self.now.lists) }
     {
         self.table.places(alloc, diversions)
+    }
+
+    /// The same, of the places of lists that are the same but for one package's.
+    pub fn renew_places(
+        &self,
+        alloc: Global,
+        diversions: &Diversions,
+        name: &Text,
+        places: &mut Places,
+    ) -> Result<(), AllocError>
+        ensures { OnOk result
+            (HadPlaces diversions.now.entries name.now self.now.lists places.old
+            → places.new ≡ places_in diversions.now.entries self.now.lists) }
+    {
+        renew_places(alloc, diversions, &self.table, name, places)
     }
 
     /// Writes the list of a package. After an error the value is closed.

@@ -1,5 +1,5 @@
 // Names and paths in the order of their bytes.
-ghost use Rattle.std.specs.Prelude.{◌≡◌, IfOk, ℕ, List, Contains, ◌↔◌, IsTrue};
+ghost use Rattle.std.specs.Prelude.{◌≡◌, IfOk, ℕ, List, Contains, ◌↔◌, IsTrue, MatchBool};
 ghost use Rattle.std.specs.List.{list_any, AllByRecursion};
 ghost use Rattle.std.specs.Str.{bytes_eq};
 ghost use Rattle.std.specs.BTreeSet.{contains_text};
@@ -42,6 +42,28 @@ fn are_increasing(paths: &[RootPath]) -> bool
         }
     }
     true
+}
+
+/// Whether the path is one of these, which stand in the order of their bytes.
+pub(crate) fn has_path(paths: &[RootPath], path: &RootPath) -> bool
+    requires { AreIncreasing paths.now }
+    ensures { MatchBool result (Contains paths.now path.now) (Contains paths.now path.now → ⊥) }
+{
+    let mut low = 0;
+    let mut high = paths.len();
+    while low < high {
+        let middle = low + (high - low) / 2;
+        match paths[middle]
+            .as_str()
+            .as_bytes()
+            .cmp(path.as_str().as_bytes())
+        {
+            Ordering::Equal => return true,
+            Ordering::Less => low = middle + 1,
+            Ordering::Greater => high = middle,
+        }
+    }
+    false
 }
 
 // The texts of these paths in the order of their bytes.

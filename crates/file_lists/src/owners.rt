@@ -5,10 +5,12 @@ ghost use Rattle.std.specs.Str.{bytes_eq};
 ghost use Rattle.host_core.specs.Paths.{Path};
 ghost use Rattle.diversions.specs.Places.{place};
 ghost use Rattle.file_lists.specs.declared.paths.Listed.{Listed as AListed};
-ghost use Rattle.file_lists.specs.Owners.{listed, owners_in, owners_of};
+ghost use Rattle.file_lists.specs.Owners.{listed, owners_in, owners_of, AreLists};
+ghost use Rattle.file_lists.specs.Increasing.{AreIncreasing};
 ghost use Rattle.file_lists.specs.Index.{row_of, AreSources, IsComplete, HasOwners, owners_of_slot};
 
 use crate::index::Index;
+use crate::ordering::has_path;
 use crate::paths::{Listed, PackageList, Paths};
 use diversions::{Diversion, Diversions};
 use host_core::RootPath;
@@ -41,8 +43,12 @@ fn take_source(at: &RootPath, entry: &Diversion, sources: &mut Paths) -> Result<
     Ok(())
 }
 
-// The place itself, and the paths that are diverted to it.
-fn sources_of(alloc: Global, diversions: &Diversions, at: &RootPath) -> Result<Paths, AllocError>
+/// The place itself, and the paths that are diverted to it.
+pub(crate) fn sources_of(
+    alloc: Global,
+    diversions: &Diversions,
+    at: &RootPath,
+) -> Result<Paths, AllocError>
     ensures { IfOk result (AreSources diversions.now.entries at.now) }
 {
     let mut sources = Paths {
@@ -93,8 +99,8 @@ fn take_owner(
     Ok(())
 }
 
-// Adds the paths of one list that lie at the place.
-fn take_owners(
+// Adds the paths of one list that lie at the place, by going over all.
+fn take_each_owner(
     diversions: &Diversions,
     at: &RootPath,
     sources: &[RootPath],
@@ -111,6 +117,30 @@ fn take_owners(
     Ok(())
 }
 
+// Adds the paths of one list that lie at the place. Where nothing is diverted to it that is one path
+// at most, which is looked up.
+fn take_owners(
+    diversions: &Diversions,
+    at: &RootPath,
+    sources: &[RootPath],
+    list: &PackageList,
+    owners: &mut Owners,
+) -> Result<(), AllocError>
+    requires sources { AreSources diversions.now.entries at.now sources.now }
+    requires order { AreIncreasing list.now.paths }
+    ensures { OnOk result (owners.new ≡ owners.old ++ owners_in diversions.now.entries at.now list.now) }
+{
+    if sources.len() != 1 {
+        return take_each_owner(diversions, at, sources, list, owners);
+    }
+    let source = &sources[0];
+    if !has_path(list.paths.as_slice(), source) {
+        return Ok(());
+    }
+    take_owner(diversions, at, sources, &list.name, source, owners)?;
+    Ok(())
+}
+
 /// The owners of a place, by going over all lists.
 pub(crate) fn scan(
     alloc: Global,
@@ -118,6 +148,7 @@ pub(crate) fn scan(
     at: &RootPath,
     lists: &[PackageList],
 ) -> Result<Owners, AllocError>
+    requires { AreLists lists.now }
     ensures { IfOk result (λ o. o ≡ owners_of diversions.now.entries lists.now at.now) }
 {
     let sources = sources_of(alloc, diversions, at)?;
@@ -168,6 +199,7 @@ fn gather(
     slots: &mut BTreeSet<usize>,
 ) -> Result<Owners, AllocError>
     requires sources { AreSources diversions.now.entries at.now sources.now }
+    requires lists { AreLists lists.now }
     requires slots { HasOwners diversions.now.entries at.now lists.now slots.old.keys }
     ensures { IfOk result (λ o. o ≡ owners_of diversions.now.entries lists.now at.now) }
 {
@@ -189,7 +221,8 @@ fn take_owners_of(
     slot: usize,
     owners: &mut Owners,
 ) -> Result<(), AllocError>
-    requires { AreSources diversions.now.entries at.now sources.now }
+    requires sources { AreSources diversions.now.entries at.now sources.now }
+    requires lists { AreLists lists.now }
     ensures { OnOk result
         (owners.new ≡ owners.old ++ owners_of_slot diversions.now.entries at.now lists.now slot) }
 {
@@ -207,7 +240,8 @@ pub(crate) fn look_up(
     lists: &[PackageList],
     index: &Index,
 ) -> Result<Owners, AllocError>
-    requires { IsComplete index.now lists.now }
+    requires lists { AreLists lists.now }
+    requires complete { IsComplete index.now lists.now }
     ensures { IfOk result (λ o. o ≡ owners_of diversions.now.entries lists.now at.now) }
 {
     let sources = sources_of(alloc, diversions, at)?;

@@ -1,8 +1,9 @@
 // The table of the lists.
-ghost use Rattle.std.specs.Prelude.{◌≡◌, ◌++◌, [], ◌∷◌, List, ℕ, IfOk, OnOk, OnErr, IfSome, IfNone, ◌<◌, length, Contains, ◌↔◌, false, cond};
+ghost use Rattle.std.specs.Prelude.{◌≡◌, ◌++◌, [], ◌∷◌, List, ℕ, IfOk, OnOk, OnErr, IfSome, IfNone, ◌<◌, length, Contains, ◌↔◌, false, cond, map};
 ghost use Rattle.std.specs.Str.{bytes_eq};
 ghost use Rattle.file_lists.specs.declared.paths.PackageList.{PackageList as AList};
-ghost use Rattle.file_lists.specs.Owners.{AreLists, AreListPaths, names_of, paths_of, places_of_list, places_in};
+ghost use Rattle.file_lists.specs.Owners.{AreLists, AreListPaths, names_of, paths_of, places_in};
+ghost use Rattle.diversions.specs.Places.{place};
 ghost use Rattle.std.specs.Ordering.{nat_cmp, is_lt};
 ghost use Rattle.std.specs.Cmp.Lexicographic.{slice_cmp};
 ghost use Rattle.file_lists.specs.Table.{IsAt, IsSet, IsPlaceFor};
@@ -50,7 +51,7 @@ fn find(lists: &[PackageList], name: &[u8]) -> Option<usize>
     None
 }
 
-fn is_before(list: &PackageList, name: &Text) -> bool
+pub(crate) fn is_before(list: &PackageList, name: &Text) -> bool
     ensures { result ≡ is_lt (slice_cmp nat_cmp list.now.name name.now) }
 {
     list.name.as_str().as_bytes().cmp(name.as_str().as_bytes()) == Ordering::Less
@@ -69,17 +70,18 @@ fn place_for(lists: &[PackageList], name: &Text) -> usize
     lists.len()
 }
 
-// Adds the places of one list.
-fn take_places(
+/// Adds the places of a package's paths.
+pub(crate) fn take_places(
     diversions: &Diversions,
-    list: &PackageList,
+    name: &Text,
+    paths: &[RootPath],
     places: &mut Places,
 ) -> Result<(), AllocError>
     ensures { OnOk result
-        (places.new ≡ places.old ++ places_of_list diversions.now.entries list.now) }
+        (places.new ≡ places.old ++ map (place diversions.now.entries name.now) paths.now) }
 {
-    for path in &list.paths.items {
-        places.items.push(diversions.place(&list.name, path)?)?;
+    for path in paths {
+        places.items.push(diversions.place(name, path)?)?;
     }
     Ok(())
 }
@@ -167,7 +169,7 @@ impl Table {
             items: Vec::new(alloc),
         };
         for list in &self.lists {
-            take_places(diversions, list, &mut places)?;
+            take_places(diversions, &list.name, list.paths.as_slice(), &mut places)?;
         }
         Ok(places)
     }

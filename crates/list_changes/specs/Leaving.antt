@@ -7,12 +7,8 @@ use Rattle.administration.specs.Places.{home_path, is_within}
 use Rattle.diversions.specs.declared.entry.Diversion.{Diversion}
 use Rattle.diversions.specs.Places.{place}
 use Rattle.file_lists.specs.declared.paths.PackageList.{PackageList}
-use Rattle.file_lists.specs.Owners.{owners_of}
+use Rattle.file_lists.specs.Owners.{has_other_owner}
 use Rattle.file_removal.specs.declared.leaving.Leaving.{Leaving}
-
--- another package's list has a path of this place
-abbrev pub has_other_owner : List Diversion → List PackageList → List ℕ → Path → Bool
-has_other_owner entries lists name at = list_any (λ owner. not (bytes_eq owner.name name)) (owners_of entries lists at)
 
 -- the list to come has a path of this place
 abbrev pub is_place_of : List Diversion → List ℕ → List Path → Path → Bool

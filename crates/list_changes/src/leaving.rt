@@ -1,14 +1,14 @@
 // Which paths of a package's list go.
-ghost use Rattle.std.specs.Prelude.{◌≡◌, not, List, IfOk};
+ghost use Rattle.std.specs.Prelude.{◌≡◌, List, IfOk};
 ghost use Rattle.std.specs.List.{list_any};
 ghost use Rattle.std.specs.BTreeSet.{contains_text};
 ghost use Rattle.std.specs.Str.{bytes_eq};
 ghost use Rattle.host_core.specs.Paths.{Path};
 ghost use Rattle.administration.specs.Places.{home_path, is_within};
-ghost use Rattle.list_changes.specs.Leaving.{has_other_owner, is_place_of, leaving_at, leaving_of, stays};
+ghost use Rattle.list_changes.specs.Leaving.{is_place_of, leaving_at, leaving_of, stays};
 
 use diversions::Diversions;
-use file_lists::{FileLists, Listed};
+use file_lists::FileLists;
 use file_removal::Leaving;
 use host_core::{RootPath, ShipPath};
 use std::alloc::{AllocError, Global};
@@ -32,26 +32,6 @@ fn places_of(
         places.insert(String::from_str(alloc, place.as_str())?)?;
     }
     Ok(places)
-}
-
-fn is_of_other(owner: &Listed, name: &Text) -> bool
-    ensures { result ≡ not (bytes_eq owner.now.name name.now) }
-{
-    owner.name.as_str() != name.as_str()
-}
-
-fn has_other_owner(
-    alloc: Global,
-    lists: &FileLists,
-    diversions: &Diversions,
-    name: &Text,
-    at: &RootPath,
-) -> Result<bool, AllocError>
-    ensures { IfOk result
-        (λ has. has ≡ has_other_owner diversions.now.entries lists.now.lists name.now at.now) }
-{
-    let owners = lists.owners(alloc, diversions, at)?;
-    Ok(owners.items.iter().any(|owner| is_of_other(owner, name)))
 }
 
 fn is_within_home(at: &str) -> bool
@@ -91,7 +71,7 @@ fn stays(
     if text.is_empty() || is_within_home(text) || to_come.contains(text) {
         return Ok(true);
     }
-    has_other_owner(alloc, lists, diversions, name, at)
+    lists.has_other_owner(alloc, diversions, name, at)
 }
 
 // A listed path with its place, and whether it goes.

@@ -28,7 +28,10 @@ not_whole names entry found sound (inr (inr link)) = elim link.0 [ inl list ↦ 
 
 no_bad_line : (node : Option Node) (line : ℕ) → IsReadable node → HasBadLine node line → ⊥
 no_bad_line None line good bad = bad
-no_bad_line (Some (File bytes access)) line good bad = bad.faulty (all_at _ _ bad.front bad.rest bad.bad bad.is good)
+no_bad_line (Some (File bytes access)) line whole bad = elim bad.faulty [
+  | inl not_good ↦ not_good (all_at _ _ bad.front bad.rest bad.bad bad.is whole.good)
+  | inr cut ↦ true≢false (sym cut.0 ∙ whole.ended)
+]
 no_bad_line (Some (Dir access)) line good bad = bad
 no_bad_line (Some (Link target)) line good bad = bad
 

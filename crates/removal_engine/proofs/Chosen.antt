@@ -8,10 +8,14 @@ use Rattle.std.proofs.lemmas.List.Elements.{filter-append}
 use Rattle.administration.proofs.Within.{taken_more}
 use Rattle.host_core.specs.Paths.{Path}
 use Rattle.diversions.specs.declared.entry.Diversion.{Diversion}
+use Rattle.file_lists.specs.Owners.{has_other_owner}
 use Rattle.file_lists.specs.declared.paths.PackageList.{PackageList}
-use Rattle.list_changes.specs.Leaving.{has_other_owner}
 use Rattle.list_changes.specs.Clearable.{clearable, is_clearable}
 use Rattle.removal_engine.specs.Names.{ownerless}
+
+pub not_both : (a b : Bool) → b ≡ true → a && not b ≡ false
+not_both true b is = ap not is
+not_both false b is = refl
 
 -- one more of what is chosen name by name
 pub gathered : (F : List Path → List Path) → ((xs ys : List Path) → F (xs ++ ys) ≡ F xs ++ F ys) → (done : List Path) (p q : Path) (base mid new : List Path) → mid ≡ base ++ F done → new ≡ mid ++ F (q ∷ []) → q ≡ p → new ≡ base ++ F (done ++ p ∷ [])

@@ -8,9 +8,10 @@ use Rattle.host_core.specs.Paths.{Path}
 use Rattle.administration.specs.Places.{home_path, is_within}
 use Rattle.diversions.specs.Places.{place}
 use Rattle.diversions.specs.declared.entry.Diversion.{Diversion}
+use Rattle.file_lists.specs.Owners.{has_other_owner}
 use Rattle.file_lists.specs.declared.paths.PackageList.{PackageList}
 use Rattle.file_removal.specs.declared.leaving.Leaving.{Leaving}
-use Rattle.list_changes.specs.Leaving.{has_other_owner, is_place_of, leaving_at, leaving_of}
+use Rattle.list_changes.specs.Leaving.{is_place_of, leaving_at, leaving_of}
 use Rattle.unpack_moves.specs.Closing.{SparesAdministration}
 
 none_in : {X : Type 0} (x : X) → Contains [] x → ⊥

@@ -7,10 +7,9 @@ use Rattle.host_core.specs.Suffixes.{suffix_text}
 use Rattle.host_core.specs.declared.suffix.Suffix.TheVariants.{New, Tmp, Inst}
 use Rattle.diversions.specs.Places.{place}
 use Rattle.diversions.specs.declared.entry.Diversion.{Diversion}
-use Rattle.file_lists.specs.Owners.{paths_of}
+use Rattle.file_lists.specs.Owners.{paths_of, has_other_owner}
 use Rattle.file_lists.specs.declared.paths.PackageList.{PackageList}
 use Rattle.list_changes.specs.Clearable.{clearable}
-use Rattle.list_changes.specs.Leaving.{has_other_owner}
 use Rattle.status_db.specs.declared.entries.PendingDigest.{PendingDigest}
 use Rattle.status_db.specs.declared.record.Record.{Record}
 use Rattle.removal_engine.specs.Records.{entry_paths}

@@ -1,40 +1,18 @@
 // Names beside conffiles at which nothing is left behind a purge.
-ghost use Rattle.std.specs.Prelude.{◌≡◌, ◌≢◌, ◌<◌, ◌++◌, ◌∷◌, [], ℕ, not, map, IfOk, MatchOption, OnOk, length, get_or, string_bytes, codes};
-ghost use Rattle.std.specs.Str.{bytes_eq};
+ghost use Rattle.std.specs.Prelude.{◌≡◌, ◌≢◌, ◌<◌, ◌++◌, ◌∷◌, [], ℕ, map, IfOk, MatchOption, OnOk, length, get_or, string_bytes, codes};
 ghost use Rattle.diversions.specs.Places.{place};
 ghost use Rattle.host_core.specs.Paths.{reserved_suffixes};
 ghost use Rattle.host_core.specs.Suffixes.{suffix_text};
-ghost use Rattle.list_changes.specs.Leaving.{has_other_owner};
 ghost use Rattle.unpack_moves.specs.Concluding.{AreElsewhere};
 ghost use Rattle.removal_engine.specs.Names.{ownerless, purged_names, side_names_at, signed};
 
 use diversions::Diversions;
-use file_lists::{FileLists, Listed};
+use file_lists::FileLists;
 use host_core::{RootPath, ShipPath, Suffix};
 use list_changes::{clearable_name, joined};
 use status_db::Record;
 use std::alloc::{AllocError, Global};
 use texts::Text;
-
-fn is_of_other(owner: &Listed, name: &Text) -> bool
-    ensures { result ≡ not (bytes_eq owner.now.name name.now) }
-{
-    owner.name.as_str() != name.as_str()
-}
-
-// Whether another package's list has a path of this place.
-fn has_other_owner(
-    alloc: Global,
-    lists: &FileLists,
-    diversions: &Diversions,
-    name: &Text,
-    at: &RootPath,
-) -> Result<bool, AllocError>
-    ensures { IfOk result (λ has. has ≡ has_other_owner diversions.now.entries lists.now.lists name.now at.now) }
-{
-    let owners = lists.owners(alloc, diversions, at)?;
-    Ok(owners.items.iter().any(|owner| is_of_other(owner, name)))
-}
 
 // Adds a name with an ending, unless another package's list has a path of that place.
 fn push_ownerless(
@@ -51,7 +29,7 @@ fn push_ownerless(
     let Some(beside) = clearable_name(alloc, at, ending)? else {
         return Ok(());
     };
-    if has_other_owner(alloc, lists, diversions, name, &beside)? {
+    if lists.has_other_owner(alloc, diversions, name, &beside)? {
         return Ok(());
     }
     names.push(beside)?;
@@ -141,7 +119,7 @@ fn push_side_names(
 {
     let place = diversions.ship_place(name, path);
     let at = place.at()?;
-    let owned = has_other_owner(alloc, lists, diversions, name, &at)?;
+    let owned = lists.has_other_owner(alloc, diversions, name, &at)?;
     if owned {
         return Ok(());
     }

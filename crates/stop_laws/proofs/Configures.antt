@@ -13,9 +13,8 @@ use Rattle.conffiles.specs.declared.entries.Settled.{Settled}
 use Rattle.control_members.specs.Names.{is_member_name}
 use Rattle.control_members.specs.Stored.{stored_member_path}
 use Rattle.control_members.proofs.Apart.{no_list_temporary}
-use Rattle.file_lists.specs.Owners.{paths_of}
+use Rattle.file_lists.specs.Owners.{paths_of, has_other_owner}
 use Rattle.file_lists.specs.Writing.{list_file}
-use Rattle.list_changes.specs.Leaving.{has_other_owner}
 use Rattle.status_db.specs.Held.{HasRecords, is_record_place}
 use Rattle.status_db.specs.Recorded.{Recorded}
 use Rattle.status_db.specs.Records.{record_in}

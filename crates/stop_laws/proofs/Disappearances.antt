@@ -12,7 +12,6 @@ use Rattle.control_members.specs.Names.{is_member_name}
 use Rattle.control_members.specs.Stored.{stored_member_path}
 use Rattle.control_members.proofs.Apart.{no_list_temporary, same_stored}
 use Rattle.diversions.specs.declared.entry.Diversion.{Diversion}
-use Rattle.list_changes.specs.Leaving.{has_other_owner}
 use Rattle.status_db.specs.Held.{HasRecords}
 use Rattle.status_db.specs.Records.{record_in}
 use Rattle.status_db.specs.declared.record.Record.{Record}
@@ -27,6 +26,7 @@ use Rattle.removal_engine.specs.Stages.{Planned, gone_stage, planned, stage_of}
 use Rattle.disappearance.specs.Stages.{ArePlanned, disappear_row}
 use Rattle.disappearance.specs.Units.{IsAmidOne, IsAmidUnit, IsBehindCall, IsInOrderWith, IsRunningBoth}
 use Rattle.disappearance.specs.declared.losing.Losing.{Losing}
+use Rattle.file_lists.specs.Owners.{has_other_owner}
 use Rattle.stop_laws.specs.Disappearing.{HasRecordsAmid}
 use Rattle.stop_laws.proofs.Avoiding.{own_avoided, own_kept}
 use Rattle.stop_laws.proofs.Configures.{Never, elsewhere_list, elsewhere_spare, elsewhere_unnoted}

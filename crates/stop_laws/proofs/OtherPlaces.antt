@@ -15,11 +15,11 @@ use Rattle.host_core.proofs.ShipNames.{plain_other}
 use Rattle.administration.specs.Places.{home_path, is_within}
 use Rattle.diversions.specs.Places.{place}
 use Rattle.diversions.specs.declared.entry.Diversion.{Diversion}
-use Rattle.file_lists.specs.Owners.{paths_of}
+use Rattle.file_lists.specs.Owners.{paths_of, has_other_owner}
 use Rattle.file_lists.specs.declared.paths.PackageList.{PackageList}
 use Rattle.file_removal.specs.Clearing.{is_among}
 use Rattle.list_changes.specs.Clearable.{clearable, is_clearable}
-use Rattle.list_changes.specs.Leaving.{has_other_owner, is_place_of, leaving_of}
+use Rattle.list_changes.specs.Leaving.{is_place_of, leaving_of}
 use Rattle.status_db.specs.declared.entries.ConffileEntry.{ConffileEntry}
 use Rattle.status_db.specs.declared.entries.PendingDigest.{PendingDigest}
 use Rattle.status_db.specs.declared.record.Record.{Record}

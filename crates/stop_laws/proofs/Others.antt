@@ -15,11 +15,10 @@ use Rattle.host_core.specs.World.{World, Avoids, is_kept}
 use Rattle.host_core.specs.Events.{Event, changes_of}
 use Rattle.diversions.specs.Places.{place}
 use Rattle.diversions.specs.declared.entry.Diversion.{Diversion}
-use Rattle.file_lists.specs.Owners.{listed, owners_of, places_in}
+use Rattle.file_lists.specs.Owners.{listed, owners_of, places_in, has_other_owner}
 use Rattle.file_lists.specs.Writing.{package_list, with_list}
 use Rattle.file_lists.specs.declared.paths.Listed.{Listed}
 use Rattle.file_lists.specs.declared.paths.PackageList.{PackageList}
-use Rattle.list_changes.specs.Leaving.{has_other_owner}
 use Rattle.unit_stages.specs.Holding.{Holding}
 use Rattle.unit_stages.specs.Running.{AreRunning}
 use Rattle.unit_stages.specs.declared.stage.Stage.{Stage}

@@ -8,10 +8,10 @@ ghost use Rattle.administration.specs.Places.{diversions_path, list_path};
 ghost use Rattle.control_members.specs.Names.{is_member_name};
 ghost use Rattle.control_members.specs.Stored.{stored_member_path};
 ghost use Rattle.diversions.specs.declared.entry.Diversion.{Diversion as ADiversion};
-ghost use Rattle.list_changes.specs.Leaving.{has_other_owner};
 ghost use Rattle.unit_stages.specs.Holding.{Holding};
 ghost use Rattle.disappearance.specs.Units.{IsAmidOne, IsAmidUnit, IsInOrderWith};
 ghost use Rattle.disappearance.specs.declared.losing.Losing.{Losing as ALosing};
+ghost use Rattle.file_lists.specs.Owners.{has_other_owner};
 ghost use Rattle.stop_laws.specs.Disappearing.{HasRecordsAmid};
 
 /// At each moment while a package disappears the next opening finds its record as before or gone, and the records of all other packages

@@ -4,10 +4,10 @@ ghost use Rattle.host_core.specs.Events.{Event};
 ghost use Rattle.host_core.specs.Paths.{Path, has_reserved_suffix, is_below_administration};
 ghost use Rattle.host_core.specs.World.{World};
 ghost use Rattle.administration.specs.Places.{home_path, is_within};
-ghost use Rattle.list_changes.specs.Leaving.{has_other_owner};
 ghost use Rattle.status_db.specs.Records.{record_in};
 ghost use Rattle.status_db.specs.declared.record.Record.{Record as ARecord};
 ghost use Rattle.configure_engine.specs.Units.{Given as Configuring, IsAmidUnit as IsAmidConfiguring};
+ghost use Rattle.file_lists.specs.Owners.{has_other_owner};
 ghost use Rattle.removal_engine.specs.Units.{Given as Removing, IsAmidUnit as IsAmidRemoving, IsRemovable};
 ghost use Rattle.stop_laws.specs.Configuring.{is_settling_name};
 

@@ -11,7 +11,10 @@ use Rattle.host_core.specs.Host.{State, Needs, AtEachMomentOf, OnlyScripts}
 use Rattle.host_core.specs.Moments.{since_now}
 use Rattle.host_core.specs.Scripts.{only_kept}
 use Rattle.administration.specs.Places.{home_path, info_path, list_path, status_path, temporary, tmp_path, updates_path}
+use Rattle.file_lists.specs.Beside.{AreSameBeside}
 use Rattle.file_lists.specs.Lists.{HasLists, IsReadable, Lists}
+use Rattle.file_lists.specs.Writing.{with_list}
+use Rattle.file_lists.proofs.SameBeside.{same_then, with_beside}
 use Rattle.file_lists.specs.declared.paths.PackageList.{PackageList}
 use Rattle.status_db.specs.Held.{IsKept, is_record_place}
 use Rattle.status_db.specs.Recorded.{Recorded}
@@ -88,6 +91,19 @@ module _ (places : List Path) (v w : World) (same : SameOn (is_kept places) v w)
 pub order_after : (places : List Path) (d : Recorded) (lists : List PackageList) (a b : State) → Needs a (IsInOrder d lists) → AtEachMomentOf (OnlyScripts (is_kept places)) a b → Needs b (IsInOrder d lists)
 order_after places d lists a b order since = λ h.
     order_kept places a.world b.world (only_kept (is_kept places) a.world b.world since.added (since_now (OnlyScripts (is_kept places) a.world) a b since h)) d lists (order (since.honest h))
+
+-- parts write no list but the package's
+pub parts_beside : (name : List ℕ) (parts : List Part) (ls : List PackageList) → AreSameBeside name ls (parts_lists name parts ls)
+parts_beside name [] ls = record { before = refl; behind = refl }
+parts_beside name (Note r ∷ parts) ls = parts_beside name parts ls
+parts_beside name (Forget ∷ parts) ls = parts_beside name parts ls
+parts_beside name (Settle settled ∷ parts) ls = parts_beside name parts ls
+parts_beside name (Remove leaving ∷ parts) ls = parts_beside name parts ls
+parts_beside name (RemoveDirectories leaving ∷ parts) ls = parts_beside name parts ls
+parts_beside name (Clear names ∷ parts) ls = parts_beside name parts ls
+parts_beside name (Listing paths ∷ parts) ls = same_then name ls (with_list name paths ls) (parts_lists name parts (with_list name paths ls)) (with_beside name paths ls) (parts_beside name parts (with_list name paths ls))
+parts_beside name (DropList ∷ parts) ls = parts_beside name parts ls
+parts_beside name (DropMembers keep_postrm ∷ parts) ls = parts_beside name parts ls
 
 -- parts that write no list leave the lists
 pub unlisted : (name : List ℕ) (parts : List Part) (ls : List PackageList) → list_any is_listing parts ≡ false → parts_lists name parts ls ≡ ls

@@ -3,6 +3,7 @@ ghost use Rattle.std.specs.Prelude.{◌≡◌, false, true, ℕ, List, OnOk};
 ghost use Rattle.std.specs.List.{list_any};
 ghost use Rattle.host_core.specs.Host.{AtEachMoment, Counts, Needs, Silent};
 ghost use Rattle.texts.specs.PackageNames.{is_package_name};
+ghost use Rattle.file_lists.specs.Beside.{HadPlaces};
 ghost use Rattle.file_lists.specs.Owners.{places_in};
 ghost use Rattle.unit_parts.specs.Doing.{AreDoing};
 ghost use Rattle.unit_parts.specs.Fitting.{AreFit, AreSettleable};
@@ -34,20 +35,23 @@ fn have_listing(parts: &[Part]) -> bool
     parts.iter().any(|part| is_listing(part))
 }
 
-// The places of the lists, computed anew where a list was written.
+// The places of the lists where the package's list was written, or none: those of other packages stay.
 fn keep_places(
     alloc: Global,
     lists: &FileLists,
     places: &mut Places,
     diversions: &Diversions,
+    name: &Text,
     written: bool,
 ) -> Result<(), AllocError>
-    requires { written ≡ false → places.old ≡ places_in diversions.now.entries lists.now.lists }
+    requires had { HadPlaces diversions.now.entries name.now lists.now.lists places.old }
+    requires unwritten { written ≡ false → places.old ≡ places_in diversions.now.entries lists.now.lists }
     ensures { OnOk result (places.new ≡ places_in diversions.now.entries lists.now.lists) }
 {
-    if written {
-        *places = lists.places(alloc, diversions)?;
+    if !written {
+        return Ok(());
     }
+    lists.renew_places(alloc, diversions, name, places)?;
     Ok(())
 }
 
@@ -79,8 +83,9 @@ pub(crate) fn do_and_keep<H: Host>(
     ensures silent { Silent (H.state host.old) (H.state host.new) }
     ensures counts { Counts (H.state host.old) (H.state host.new) result }
 {
+    lists.law();
     let written = have_listing(parts.as_slice());
     do_parts(alloc, host, database, lists, name, parts)?;
-    keep_places(alloc, lists, places, diversions, written)?;
+    keep_places(alloc, lists, places, diversions, name, written)?;
     Ok(())
 }

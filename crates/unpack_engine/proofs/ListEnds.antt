@@ -106,13 +106,13 @@ lines_texts (line ∷ lines) good q has = elim (Contains-append_cases (cond (byt
 
 pub node_texts : (node : Option Node) → IsReadable node → (q : Path) → Lists node q → IsUtf8 q
 node_texts None readable q is = absurd is
-node_texts (Some (File bytes access)) readable q is = lines_texts (lines_in bytes) readable q is
+node_texts (Some (File bytes access)) readable q is = lines_texts (lines_in bytes) readable.good q is
 node_texts (Some (Dir access)) readable q is = absurd is
 node_texts (Some (Link target)) readable q is = absurd is
 
 node_can : (node : Option Node) → IsReadable node → (q : Path) → Lists node q → IsListable q
 node_can None readable q is = absurd is
-node_can (Some (File bytes access)) readable q is = all_of IsListable (paths_in (lines_in bytes)) q (listable (lines_in bytes) readable) is
+node_can (Some (File bytes access)) readable q is = all_of IsListable (paths_in (lines_in bytes)) q (listable (lines_in bytes) readable.good) is
 node_can (Some (Dir access)) readable q is = absurd is
 node_can (Some (Link target)) readable q is = absurd is
 

@@ -14,6 +14,7 @@ use Rattle.diversions.proofs.WrittenTables.{line_read}
 use Rattle.file_lists.specs.Lists.{IsGood, IsReadable, Lists, paths_in, root_line}
 use Rattle.file_lists.specs.Owners.{IsListable}
 use Rattle.file_lists.specs.Writing.{line_of, list_file, list_lines, list_text}
+use Rattle.file_lists.proofs.WrittenLists.{list_ended}
 
 -- a path has no newline
 
@@ -147,7 +148,10 @@ all_good (p ∷ ps) can texts = (line_good p can.0 texts.0, all_good ps can.1 te
 -- the file of a list is readable, and lists its paths
 
 pub list_readable : (paths : List Path) → AllByRecursion IsListable paths → AllByRecursion IsUtf8 paths → IsReadable (Some (list_file paths))
-list_readable paths can texts = subst (AllByRecursion IsGood) (sym (lines_back paths can)) (inl refl, all_good paths can texts)
+list_readable paths can texts = record {
+  good = subst (AllByRecursion IsGood) (sym (lines_back paths can)) (inl refl, all_good paths can texts);
+  ended = list_ended paths;
+}
 
 pub list_says : (paths : List Path) → AllByRecursion IsListable paths → (q : Path) → Lists (Some (list_file paths)) q ↔ Contains paths q
 list_says paths can q = (λ is. subst (λ (l : List Path). Contains l q) (read_back paths can) is, λ is. subst (λ (l : List Path). Contains l q) (sym (read_back paths can)) is)

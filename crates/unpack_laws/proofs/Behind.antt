@@ -16,6 +16,7 @@ use Rattle.administration.specs.Places.{home_path, is_within, list_path, tempora
 use Rattle.control_members.specs.Stored.{stored_member_path}
 use Rattle.diversions.specs.Places.{place}
 use Rattle.cleanup_stack.specs.Transcripts.{Committed}
+use Rattle.file_lists.specs.Owners.{has_other_owner}
 use Rattle.file_lists.specs.declared.paths.PackageList.{PackageList}
 use Rattle.file_removal.specs.Clearing.{cleared, is_among}
 use Rattle.file_removal.specs.declared.leaving.Leaving.{Leaving}
@@ -25,7 +26,7 @@ use Rattle.file_works.specs.declared.work.Work.{Work}
 use Rattle.file_works.specs.Files.{Each, HasWritten, Misses, cleared as cleared_name}
 use Rattle.file_works.specs.Names.{IsNamed}
 use Rattle.file_writing.proofs.WorkLists.{each_map, each_of}
-use Rattle.list_changes.specs.Leaving.{has_other_owner, is_place_of, leaving_at, leaving_of, stays}
+use Rattle.list_changes.specs.Leaving.{is_place_of, leaving_at, leaving_of, stays}
 use Rattle.status_db.specs.Held.{is_record_place}
 use Rattle.status_db.specs.Recorded.{Recorded}
 use Rattle.status_db.specs.declared.record.Record.{Record}

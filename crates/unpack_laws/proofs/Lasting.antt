@@ -12,12 +12,13 @@ use Rattle.host_core.proofs.ShipNames.{plain_other, ships}
 use Rattle.administration.specs.Places.{home_path, is_within}
 use Rattle.diversions.specs.declared.entry.Diversion.{Diversion}
 use Rattle.diversions.specs.Places.{place}
+use Rattle.file_lists.specs.Owners.{has_other_owner}
 use Rattle.file_lists.specs.declared.paths.PackageList.{PackageList}
 use Rattle.file_removal.specs.Clearing.{is_among}
 use Rattle.file_removal.specs.declared.leaving.Leaving.{Leaving}
 use Rattle.file_works.specs.declared.work.Work.{Work}
 use Rattle.list_changes.specs.Clearable.{clearable, is_clearable}
-use Rattle.list_changes.specs.Leaving.{has_other_owner, is_place_of, leaving_of, stays}
+use Rattle.list_changes.specs.Leaving.{is_place_of, leaving_of, stays}
 use Rattle.status_db.specs.declared.record.Record.{Record}
 use Rattle.unpack_moves.specs.Areas.{is_leaving_place}
 use Rattle.unpack_plan.specs.Lists.{entry_paths}

@@ -10,7 +10,7 @@ use Rattle.file_lists.proofs.reading.read_list.Goals as goal
 pub in_order-requires : goal.in_order-requires
 in_order-requires c =
     let read = c.in_ok-read_lines.ensures.paths ∙ ap (λ (l : List Path). l ++ paths_in (lines_in c.args.text.now)) c.new.ensures.items in
-    subst (AllByRecursion IsListable) (sym read) (listable (lines_in c.args.text.now) c.in_ok-read_lines.ensures.good)
+    subst (AllByRecursion IsListable) (sym read) (listable (lines_in c.args.text.now) c.in_ok-read_lines.ensures.whole.good)
 
 pub returns-clause-same : goal.returns-clause-same
 returns-clause-same c =

@@ -3,4 +3,4 @@ use Rattle.diversions.specs.Places.{place}
 use Rattle.file_lists.proofs.table.take_places.Given as goal
 
 abbrev pub invariant-loop-path : goal.invariant-loop-path
-invariant-loop-path l = l.places-inside.items.items ≡ l.fn.places ++ map (place l.diversions.entries l.list.name) (take l.path-index l.path-items)
+invariant-loop-path l = l.places-inside.items.items ≡ l.fn.places ++ map (place l.diversions.entries l.name) (take l.path-index l.paths)

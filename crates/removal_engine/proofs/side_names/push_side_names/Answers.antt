@@ -1,7 +1,7 @@
 use Rattle.std.proofs.Common.{[], ◌∷◌, ◌++◌, codes, map, cond, ap, sym, ◌∙◌, append_assoc, List}
 use Rattle.host_core.specs.Paths.{Path, reserved_suffixes}
 use Rattle.diversions.specs.Places.{place}
-use Rattle.list_changes.specs.Leaving.{has_other_owner}
+use Rattle.file_lists.specs.Owners.{has_other_owner}
 use Rattle.removal_engine.specs.Names.{ownerless, side_names, signed}
 use Rattle.removal_engine.proofs.Chosen.{ownerless_law}
 use Rattle.removal_engine.proofs.side_names.push_side_names.Goals as goal

@@ -91,6 +91,38 @@ Version: 1
     check(&rt, &[], &[], DIVERTED, row)
 }
 
+// A list that was cut short is damaged at its last line, unless an earlier line is; an empty one is that of the root.
+#[test]
+fn cut_list_is_damage(rt: HostRuntime) -> Result<(), Fail> {
+    let lines = [
+        "write /var/lib/dpkg/status Package: victor\nStatus: install ok installed\nVersion: 1\n",
+        "write /var/lib/dpkg/info/victor.list /.\n/usr\n/usr/bi",
+        "dpkg_cli list",
+        "write /var/lib/dpkg/info/victor.list /.\nusr\n/usr/bi",
+        "dpkg_cli list",
+        "write /var/lib/dpkg/info/victor.list /.",
+        "dpkg_cli list",
+        "write /var/lib/dpkg/info/victor.list ",
+        "dpkg_cli listfiles victor",
+    ];
+    let row = "|damaged /var/lib/dpkg/info/victor.list 3
+expected: an absolute path, or /. for the root
+|2
+|damaged /var/lib/dpkg/info/victor.list 2
+expected: an absolute path, or /. for the root
+|2
+|damaged /var/lib/dpkg/info/victor.list 1
+expected: an absolute path, or /. for the root
+|2
+/.
+||0
+ victor.list|Package: victor
+Status: install ok installed
+Version: 1
+|||||";
+    check(&rt, &[], &[], &lines, row)
+}
+
 #[test]
 fn damage_is_told_in_place_of_an_answer(rt: HostRuntime) -> Result<(), Fail> {
     let lines = [
