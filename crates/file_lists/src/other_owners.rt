@@ -22,9 +22,9 @@ fn has_at(
     path: &RootPath,
 ) -> Result<bool, AllocError>
     requires { AreIncreasing list.now.paths }
-    ensures { IfOk result
-        (λ has. MatchBool has (HasAt diversions.now.entries at.now list.now path.now) (HasAt diversions.now.entries at.now list.now path.now
-        → ⊥)) }
+    ensures { IfOk result (λ has. MatchBool has
+        (HasAt diversions.now.entries at.now list.now path.now)
+        (HasAt diversions.now.entries at.now list.now path.now → ⊥)) }
 {
     if !has_path(list.paths.as_slice(), path) {
         return Ok(false);
@@ -42,9 +42,9 @@ fn is_other(
 ) -> Result<bool, AllocError>
     requires sources { AreSources diversions.now.entries at.now sources.now }
     requires order { AreIncreasing list.now.paths }
-    ensures { IfOk result
-        (λ is. MatchBool is (IsOther diversions.now.entries at.now name.now list.now) (IsOther diversions.now.entries at.now name.now list.now
-        → ⊥)) }
+    ensures { IfOk result (λ is. MatchBool is
+        (IsOther diversions.now.entries at.now name.now list.now)
+        (IsOther diversions.now.entries at.now name.now list.now → ⊥)) }
 {
     if list.name.as_str() == name.as_str() {
         return Ok(false);
@@ -68,8 +68,9 @@ fn is_other_slot(
 ) -> Result<bool, AllocError>
     requires sources { AreSources diversions.now.entries at.now sources.now }
     requires lists { AreLists lists.now }
-    ensures { IfOk result
-        (λ is. MatchBool is (HasOther diversions.now.entries at.now name.now lists.now) (IsNoOther diversions.now.entries at.now name.now lists.now slot)) }
+    ensures { IfOk result (λ is. MatchBool is
+        (HasOther diversions.now.entries at.now name.now lists.now)
+        (IsNoOther diversions.now.entries at.now name.now lists.now slot)) }
 {
     if slot < lists.len() {
         return is_other(diversions, at, sources, name, &lists[slot]);
@@ -88,8 +89,9 @@ fn has_other_slot(
 ) -> Result<bool, AllocError>
     requires sources { AreSources diversions.now.entries at.now sources.now }
     requires lists { AreLists lists.now }
-    ensures { IfOk result
-        (λ is. MatchBool is (HasOther diversions.now.entries at.now name.now lists.now) (AreNoOthers diversions.now.entries at.now name.now lists.now slots.now)) }
+    ensures { IfOk result (λ is. MatchBool is
+        (HasOther diversions.now.entries at.now name.now lists.now)
+        (AreNoOthers diversions.now.entries at.now name.now lists.now slots.now)) }
 {
     for slot in slots {
         if is_other_slot(diversions, at, sources, name, lists, *slot)? {

@@ -25,10 +25,9 @@ pub fn joined(alloc: Global, front: &str, ending: &str) -> Result<String, AllocE
 
 /// A name with an ending, where that is a path that can be cleared.
 pub fn clearable_name(alloc: Global, at: &str, ending: &str) -> Result<Option<RootPath>, AllocError>
-    ensures { IfOk result
-        (λ o. MatchOption o (is_clearable (at.now ++ ending.now)
-        ≡ false) (λ p. (is_clearable (at.now ++ ending.now) ≡ true) × (p
-        ≡ at.now ++ ending.now))) }
+    ensures { IfOk result (λ o. MatchOption o
+        (is_clearable (at.now ++ ending.now) ≡ false)
+        (λ p. (is_clearable (at.now ++ ending.now) ≡ true) × (p ≡ at.now ++ ending.now))) }
 {
     let text = joined(alloc, at, ending)?;
     let name = text.as_str();
