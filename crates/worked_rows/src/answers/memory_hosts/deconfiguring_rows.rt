@@ -101,6 +101,7 @@ const LEFT_BEHIND: DeconfiguringRow = (
         "read /var/lib/dpkg/info/alpha.list",
     ],
     "call old bravo prerm deconfigure in-favour alpha 2.0: exit 1
+state alpha none
 failed bravo prerm deconfigure in-favour alpha 2.0
 ||1
 directory: alpha.list alpha.postrm bravo.prerm

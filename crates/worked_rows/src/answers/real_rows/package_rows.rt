@@ -309,7 +309,8 @@ printf '/.\n/old\n' >root/var/lib/dpkg/info/alpha.list",
         tree: "one",
         calls: "call old bravo prerm deconfigure in-favour alpha 2: exit 1
 ",
-        rest: "failed bravo prerm deconfigure in-favour alpha 2
+        rest: "state alpha none
+failed bravo prerm deconfigure in-favour alpha 2
 ||1
 ",
         look: LOOK_AT_INFO,
