@@ -17,10 +17,11 @@ use Rattle.file_works.specs.Names.{IsNamed}
 use Rattle.file_writing.specs.Back.{GoesBack}
 use Rattle.file_writing.proofs.WorkLists.{each_map}
 use Rattle.unpack_moves.proofs.Apart.{apart, list_below, spare_below}
+use Rattle.unpack_run.specs.Clearing.{IsBesideOwn}
 use Rattle.unpack_run.specs.Task.{Task, name}
 use Rattle.unpack_run.specs.Trail.{HasFiles, HasGoneBack}
 use Rattle.unpack_run.proofs.Rearranged.{each_rearranged}
-use Rattle.unpack_engine.specs.Units.{Given, IsBesideOwn}
+use Rattle.unpack_engine.specs.Units.{Given}
 use Rattle.unpack_engine.proofs.Apart.{tmp_beside}
 use Rattle.unpack_laws.specs.Marked.{IsNameBack}
 use Rattle.unpack_laws.proofs.Clear.{clear_at, name_clear}

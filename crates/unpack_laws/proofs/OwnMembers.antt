@@ -32,6 +32,7 @@ use Rattle.unpack_engine.specs.Units.{Given, Ground, IsAmidUnit, IsRunning, IsSt
 use Rattle.unpack_engine.proofs.Begun.{dropped_same, may_drop_same}
 use Rattle.unpack_laws.specs.InHand.{unit_name}
 use Rattle.unpack_laws.specs.Info.{IsOwnMember}
+use Rattle.unpack_laws.proofs.Alone.{Based, based_amid}
 use Rattle.unpack_laws.proofs.Scripted.{IsSpared, amid_avoids, amid_there, come_avoids, come_there}
 
 module _ (g : Given) (stored : Present) (p : Planned) (plan : IsPlanned (job_of g stored) p) (places : List Path) (member : Path) (named : is_member_name member ≡ true) where

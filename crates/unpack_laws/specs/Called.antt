@@ -7,8 +7,9 @@ use Rattle.host_core.specs.declared.call.Side.TheVariants.{Old, New}
 use Rattle.administration.specs.Places.{script_path, tmp_script_path}
 use Rattle.administration.specs.Scripts.{file_of, script_of}
 use Rattle.administration.specs.declared.scripts.Scripts.{Scripts}
+use Rattle.control_members.specs.LaidOut.{IsLaying}
 use Rattle.unwind_stack.specs.declared.rows.Row.{Row}
-use Rattle.unpack_engine.specs.Units.{Begins, Given, Ground, IsRunning, MayBeginOne, task_from}
+use Rattle.unpack_engine.specs.Units.{Begins, Given, Ground, IsRunning, task_from}
 use Rattle.unpack_plan.specs.Planned.{Planned}
 use Rattle.unpack_rows.specs.ForwardRows.{others_rows}
 use Rattle.unpack_laws.specs.InHand.{unit_name}
@@ -48,5 +49,5 @@ OthersCallStored g old =
 
 -- the rows of a plan run, and a script was started: with the last of these events at latest
 pub record AreCalling (g : Ground) (p : Planned) (old : World) (so_far : List Event) (now : World) : Type 0 where
-  pub running : IsRunning (Begins g p) (MayBeginOne g p) (task_from g p) old so_far now
+  pub running : IsRunning (Begins g p) IsLaying (task_from g p) old so_far now
   pub started : scripts_of so_far ≢ []

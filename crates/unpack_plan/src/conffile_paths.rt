@@ -20,7 +20,8 @@ fn add_entries(entries: &[ConffileEntry], paths: &mut Vec<ShipPath>) -> Result<(
 }
 
 fn add_pending(pending: &[PendingDigest], paths: &mut Vec<ShipPath>) -> Result<(), AllocError>
-    ensures { OnOk result (paths.new.items ≡ paths.old.items ++ map (λ (d : APendingDigest). d.path) pending.now) }
+    ensures { OnOk result
+        (paths.new.items ≡ paths.old.items ++ map (λ (d : APendingDigest). d.path) pending.now) }
 {
     for digest in pending {
         paths.push(digest.path.copy()?)?;
@@ -33,7 +34,8 @@ pub(crate) fn entry_paths(
     alloc: Global,
     found: Option<&Record>,
 ) -> Result<Vec<ShipPath>, AllocError>
-    ensures { IfOk result (λ paths. paths.items ≡ entry_paths (entries_of (option_copied found.entry))) }
+    ensures { IfOk result
+        (λ paths. paths.items ≡ entry_paths (entries_of (option_copied found.entry))) }
 {
     let mut paths = Vec::new(alloc);
     if let Some(found) = found {

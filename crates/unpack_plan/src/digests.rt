@@ -22,7 +22,9 @@ use std::collections::BTreeSet;
 fn add_digest(path: &ShipPath, node: &Node, pending: &mut PendingDigests) -> Result<(), AllocError>
     requires trimmed { is_trimmed path.now ≡ true }
     requires before { AllByRecursion (λ p. is_before p.path path.now ≡ true) pending.old }
-    ensures { OnOk result (map told_digest pending.new ≡ map told_digest pending.old ++ digest_at path.now node.now) }
+    ensures { OnOk result
+        (map told_digest pending.new
+        ≡ map told_digest pending.old ++ digest_at path.now node.now) }
 {
     match node {
         Node::File { bytes, .. } => {
@@ -43,7 +45,11 @@ fn add_conffile(
 ) -> Result<(), AllocError>
     requires trimmed { contains_text conffiles.now file.now.path ≡ true → is_trimmed file.now.path ≡ true }
     requires before { AllByRecursion (λ p. is_before p.path file.now.path ≡ true) pending.old }
-    ensures { OnOk result ((paths : List Path) → ((q : Path) → contains_text conffiles.now q ≡ is_conffile paths q) → map told_digest pending.new ≡ map told_digest pending.old ++ conffile_digest paths file.now) }
+    ensures { OnOk result
+        ((paths : List Path)
+        → ((q : Path) → contains_text conffiles.now q ≡ is_conffile paths q)
+        → map told_digest pending.new
+        ≡ map told_digest pending.old ++ conffile_digest paths file.now) }
 {
     if conffiles.contains(file.path.as_str()) {
         add_digest(&file.path, &file.node, pending)?;
@@ -60,7 +66,8 @@ pub(crate) fn digests_of(
 ) -> Result<PendingDigests, AllocError>
     requires order { AreInOrder (paths_of files.now) }
     requires trimmed { AreTrimmed conffiles.now }
-    ensures { IfOk result (λ pending. map told_digest pending ≡ shipped_digests conffiles.now files.now) }
+    ensures { IfOk result
+        (λ pending. map told_digest pending ≡ shipped_digests conffiles.now files.now) }
 {
     let set = texts_of(alloc, conffiles)?;
     let mut pending = PendingDigests::new(alloc);

@@ -53,7 +53,8 @@ fn staying_paths(
     entries: &[ConffileEntry],
     shipped: &BTreeSet<String>,
 ) -> Result<Vec<RootPath>, AllocError>
-    ensures paths { IfOk result (λ paths. paths.items ≡ entry_paths (filter (λ e. not (contains_text shipped.now e.path)) entries.now)) }
+    ensures paths { IfOk result (λ paths. paths.items
+        ≡ entry_paths (filter (λ e. not (contains_text shipped.now e.path)) entries.now)) }
     ensures listable { IfOk result (λ paths. AllByRecursion IsListable paths.items) }
 {
     let mut paths = Vec::new(alloc);
@@ -94,7 +95,9 @@ fn old_leaving(
     new_list: &[RootPath],
     listed: &[RootPath],
 ) -> Result<Vec<Leaving>, AllocError>
-    ensures leaving { IfOk result (λ leaving. leaving.items ≡ old_leaving diversions.now.entries lists.now.lists name.now (option_copied found.entry) new_list.now listed.now) }
+    ensures leaving { IfOk result (λ leaving. leaving.items
+        ≡ old_leaving diversions.now.entries lists.now.lists name.now (option_copied found.entry)
+        new_list.now listed.now) }
     ensures spares { IfOk result (λ leaving. SparesAdministration leaving.items) }
 {
     let conffiles = entry_paths(alloc, found)?;
@@ -133,7 +136,9 @@ fn changes_of(
     ensures listed_paths { IfOk result (λ c. AreListPaths c.listed) }
     ensures union { IfOk result (λ c. IsUnion c.listed (paths_of files.now) c.union) }
     ensures new_list { IfOk result (λ c. IsAfter files.now fresh.now c.new_list) }
-    ensures leaving { IfOk result (λ c. c.leaving.items ≡ old_leaving diversions.now.entries lists.now.lists name.now (option_copied found.entry) c.new_list c.listed) }
+    ensures leaving { IfOk result (λ c. c.leaving.items
+        ≡ old_leaving diversions.now.entries lists.now.lists name.now (option_copied found.entry)
+        c.new_list c.listed) }
     ensures spares { IfOk result (λ c. SparesAdministration c.leaving.items) }
 {
     let listed = listed_paths(alloc, lists, name)?;
@@ -170,7 +175,9 @@ pub(crate) fn own_changes(
     ensures listed_paths { IfOk result (λ c. AreListPaths c.listed) }
     ensures union { IfOk result (λ c. IsUnion c.listed (paths_of tree.now.files) c.union) }
     ensures new_list { IfOk result (λ c. IsAfter tree.now.files fresh.now c.new_list) }
-    ensures leaving { IfOk result (λ c. c.leaving.items ≡ old_leaving diversions.now.entries lists.now.lists tree.now.name (option_copied found.entry) c.new_list c.listed) }
+    ensures leaving { IfOk result (λ c. c.leaving.items
+        ≡ old_leaving diversions.now.entries lists.now.lists tree.now.name
+        (option_copied found.entry) c.new_list c.listed) }
     ensures spares { IfOk result (λ c. SparesAdministration c.leaving.items) }
 {
     let files = tree.files.as_slice();

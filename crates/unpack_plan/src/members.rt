@@ -19,7 +19,8 @@ fn member_of(other: OtherFile) -> Member
 }
 
 fn other_members(alloc: Global, others: Vec<OtherFile>) -> Result<Vec<Member>, AllocError>
-    ensures { IfOk result (λ members. map named_member members.items ≡ map named_other others.items) }
+    ensures { IfOk result
+        (λ members. map named_member members.items ≡ map named_other others.items) }
 {
     let mut members = Vec::new(alloc);
     for other in others {

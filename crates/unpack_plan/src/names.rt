@@ -38,7 +38,8 @@ fn waiting_name(
     name: &Text,
     path: &ShipPath,
 ) -> Result<RootPath, AllocError>
-    ensures name { IfOk result (λ q. q ≡ Rattle.unpack_plan.specs.Names.waiting_name diversions.now.entries name.now path.now) }
+    ensures name { IfOk result (λ q. q
+        ≡ Rattle.unpack_plan.specs.Names.waiting_name diversions.now.entries name.now path.now) }
     ensures elsewhere { IfOk result (λ q. AreElsewhere (q ∷ [])) }
 {
     let place = diversions.ship_place(name, path);
@@ -56,7 +57,11 @@ fn add_left(
     names: &mut Vec<RootPath>,
 ) -> Result<(), AllocError>
     requires { AreElsewhere names.old.items }
-    ensures names { OnOk result ((of : List Path) → ((q : Path) → contains_text conffiles.now q ≡ is_conffile of q) → names.new.items ≡ names.old.items ++ left_names diversions.now.entries name.now of paths.now) }
+    ensures names { OnOk result
+        ((of : List Path)
+        → ((q : Path) → contains_text conffiles.now q ≡ is_conffile of q)
+        → names.new.items
+        ≡ names.old.items ++ left_names diversions.now.entries name.now of paths.now) }
     ensures elsewhere { OnOk result (AreElsewhere names.new.items) }
 {
     for path in paths {
@@ -105,7 +110,8 @@ fn add_cut(
     leaving: &[Leaving],
     names: &mut Vec<RootPath>,
 ) -> Result<(), AllocError>
-    ensures { OnOk result (names.new.items ≡ names.old.items ++ cut_names (option_copied found.entry) leaving.now) }
+    ensures { OnOk result
+        (names.new.items ≡ names.old.items ++ cut_names (option_copied found.entry) leaving.now) }
 {
     if !was_cut(found) {
         return Ok(());
@@ -128,7 +134,9 @@ pub(crate) fn cleared_names(
     leaving: &[Leaving],
 ) -> Result<Vec<RootPath>, AllocError>
     requires { Each IsNamed works.now }
-    ensures names { IfOk result (λ names. names.items ≡ cleared_names diversions.now.entries name.now (option_copied found.entry) conffiles.now works.now leaving.now) }
+    ensures names { IfOk result (λ names. names.items
+        ≡ cleared_names diversions.now.entries name.now (option_copied found.entry) conffiles.now
+        works.now leaving.now) }
     ensures elsewhere { IfOk result (λ names. AreElsewhere names.items) }
 {
     let set = texts_of(alloc, conffiles)?;

@@ -58,7 +58,16 @@ pub fn plan_of(
     stored: Present,
     others: Vec<OtherPackage>,
 ) -> Result<Plan, AllocError>
-    ensures { IfOk result (λ p. IsPlanned (record { «package» = incoming; records = database.now.records; lists = lists.now.lists; entries = diversions.now.entries; stored = stored; others = others.items }) (planned p)) }
+    ensures { IfOk result (λ p. IsPlanned
+        (record {
+          «package» = incoming;
+          records = database.now.records;
+          lists = lists.now.lists;
+          entries = diversions.now.entries;
+          stored = stored;
+          others = others.items;
+        })
+        (planned p)) }
 {
     let found = database.get(&incoming.name);
     let records = own_records(alloc, &incoming, found)?;

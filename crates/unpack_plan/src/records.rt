@@ -50,7 +50,9 @@ fn entries_after(
     flagged: &[ShipPath],
     ships: &ShippedPaths,
 ) -> Result<ConffileEntries, AllocError>
-    ensures { IfOk result (λ entries. entries ≡ committed (entries_of (option_copied found.entry)) digests.now flagged.now (contains_text ships.now.texts)) }
+    ensures { IfOk result (λ entries. entries
+        ≡ committed (entries_of (option_copied found.entry)) digests.now flagged.now
+        (contains_text ships.now.texts)) }
 {
     match found {
         Some(found) => committed_entries(alloc, &found.conffiles, digests, flagged, ships),

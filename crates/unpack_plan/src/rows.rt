@@ -50,8 +50,11 @@ pub(crate) fn own_rows(
     scripts: &Scripts,
     others: Vec<OtherPackage>,
 ) -> Result<OwnRows, AllocError>
-    ensures rows { IfOk result (λ r. r.rows.items ≡ forward_rows (option_copied found.entry) incoming.now stored (scripts_in scripts.now) (others_rows others.items)) }
-    ensures kinds { IfOk result (λ r. r.kinds.items ≡ row_kinds (option_copied found.entry) (records_of others.items)) }
+    ensures rows { IfOk result (λ r. r.rows.items
+        ≡ forward_rows (option_copied found.entry) incoming.now stored (scripts_in scripts.now)
+        (others_rows others.items)) }
+    ensures kinds { IfOk result (λ r. r.kinds.items
+        ≡ row_kinds (option_copied found.entry) (records_of others.items)) }
     ensures others { IfOk result (λ r. r.others.items ≡ records_of others.items) }
 {
     let kinds = kinds_of(alloc, found, others.as_slice())?;
