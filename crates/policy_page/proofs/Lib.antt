@@ -1,0 +1,9 @@
+pub mod Rows
+pub mod Undoing
+pub mod Runs
+pub mod Left
+pub mod Deciding
+pub mod Upgrades
+pub mod Unconfigured
+pub mod Installs
+pub mod Pages
