@@ -1,4 +1,39 @@
 //! Carries out what the words of a command line ask for, over any hosts.
+//!
+//! # What is proved
+//!
+//! `run_words`, over any hosts, whatever can be written and whatever the status. There is an answer
+//! to what the words ask for, or memory was wanting before any host was opened (`answered`). For
+//! `unpack` this answer tells how the command ended: by the report of a run of the trees behind the
+//! words, each of them read as its package or its first fault, from the administration that was
+//! opened on the host behind the root's word to the state in which this host was given back; or by
+//! why the administration couldn't be opened, with the state that this left.
+//!
+//! For `install` it is the same with two reports, that of the unpacks and that of what was
+//! configured then, whose lines are told one after the other. For `configure`, `remove` and `purge`
+//! it tells likewise by the report of the units of the named packages. For `divert` and `undivert`
+//! it tells likewise how the one unit ended, of a change as the words ask for it, on the
+//! administration that was opened; a path or target that no package may ship is told on standard
+//! error before the root is opened.
+//!
+//! For a question the answer is its text over the records, lists and diversions of the
+//! administration that was opened. Where another program holds the root, that is told with the
+//! root's word, and no root was opened. For help it is a screen on the topic, on standard output;
+//! where the words ask for nothing a text on standard error ends with the screen of the subcommand
+//! that they name. A fault of the device is told only where one was counted.
+//!
+//! The answer is written whole, or in its place that memory was wanting for it, and its status
+//! returned; or the status is 2 and of one of these two a part was written, standard output first,
+//! and not all of it. The lines of units are written as each is finished (`Prints`): behind lines
+//! that were cut short, or for which memory was wanting, no more are written, and the units go on;
+//! so for commands that have units there is one more case, that the first lines of the answer are
+//! written, and then in place of the others that memory was wanting for them.
+//!
+//! One tree is opened and read at a time, once the unit of the one before it is told
+//! (`AreReadFor`). Only these commands and a question whose path is one open a root (`unopened`),
+//! and only for them, for help and for the names of the subcommands is standard output written to
+//! (`quiet`). What stands behind a word, and in which state it was given back, is what the trait
+//! `Hosts` says of it.
 #![tactic(auto)]
 
 mod answer;

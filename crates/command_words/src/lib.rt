@@ -1,4 +1,13 @@
 //! The words of a command line: what they ask for, and the answer to a comparison of versions.
+//!
+//! # What is proved
+//!
+//! `command_of` gives the command of the words, with its texts and flags, exactly where clap
+//! accepts them and they are no usage fault (`asked`, `usage`): confold with confnew is one; a flag
+//! for help or the version asks for that, whatever else the words are (`flagged`); behind a usage
+//! fault stands the screen of the subcommand that the words name (`screen`); `Comparison::verdict`
+//! is that of the versions' order, with an empty text before or behind all versions as the operator
+//! has it (`order_of`), or the first text that is neither empty nor a version.
 #![tactic(auto)]
 
 mod command;

@@ -1,6 +1,15 @@
-//! What relations between packages forbid and ask for (Policy 6.7, 6.8, 7.2 to 7.6): which packages can be configured
-//! or removed and in which order, why those left over can't, and what an unpack does to other packages or why it is
-//! refused. Packages are named by their numbers in name order.
+//! What relations between packages forbid and ask for (Policy 6.7, 6.8, 7.2 to 7.6): which packages
+//! can be configured or removed and in which order, why those left over can't, and what an unpack
+//! does to other packages or why it is refused. Packages are named by their numbers in name order.
+//!
+//! # What is proved
+//!
+//! Over packages and their relations as read: the four set calls are the union of all sets of
+//! waiting packages whose Depends and Pre-Depends are met by the installed packages and the set,
+//! and the like of removal, with their next members; `first_unmet`, `depended_on_by` and
+//! `broken_by` are the details of the refusals of what is left over; `check_unpack` gives what an
+//! unpack deconfigures and removes (`plan`), or the first reason why it is refused (`fault`):
+//! PreDepends, Conflicts, ConflictEssential, Dependents, Breaks.
 #![tactic(auto)]
 
 mod configure_queue;

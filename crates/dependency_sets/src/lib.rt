@@ -1,4 +1,11 @@
-// Which packages can be configured or removed together, and which is next (Policy 6.7, 6.8, 7.2).
+//! Which packages can be configured or removed together, and which is next (Policy 6.7, 6.8, 7.2).
+//!
+//! # What is proved
+//!
+//! Over numbered packages, `configurable` and `removable` are the largest sets of those waiting
+//! that can be configured or removed together, `next_to_remove` the next member as defined;
+//! `Configuring` and `Leaving` keep these sets while results come in. The law that striking out
+//! until none fails gives the largest set is stated once (specs/Largest).
 #![tactic(auto)]
 
 mod choices;

@@ -1,4 +1,15 @@
-//! Diversions: the file that keeps them, where a diverted path is, and how one is added and taken away.
+//! Diversions: the file that keeps them, where a diverted path is, and how one is added and taken
+//! away.
+//!
+//! # What is proved
+//!
+//! `Diversions::open` reads the file `diversions` as the table that it stands for (`entries`), or
+//! tells its first faulty entry (`damage`); `place` and `truename` are what a diversion does to a
+//! path. `Diversions::add` and `remove` are refused by the first condition that holds, and then
+//! make no step (`answer`, `same`); else they move the node, where `rename` asks for it, and then
+//! write the table (`done`, `any_moment`), and after a fault they are closed (`err`, `closed`,
+//! `shut`). `a_stopped_change_is_finished`: stopped at any moment, the same change asked for again
+//! finishes it. `a_table_is_read_as_written`: a table that is written is read back.
 #![tactic(auto)]
 
 mod changing;

@@ -1,4 +1,12 @@
-//! The program: it reads the words of its command line, carries out what they ask for, and ends with a status.
+//! The program: it reads the words of its command line, carries out what they ask for, and ends
+//! with a status.
+//!
+//! # What is proved
+//!
+//! The program's hosts are generic in the account of the disk (`Directories`); `run` ends, for
+//! every account, with the status of the answer to its words, or of want of memory, or with 2 where
+//! not all of that could be written (`answered`: `IsAnswered`), and `code_of` says that the program
+//! ends with that status; that `main` calls these is read.
 #![tactic(auto)]
 
 ghost use Rattle.std.specs.Prelude.{◌≡◌, ◌≤◌, map, string_bytes};

@@ -1,4 +1,66 @@
 //! A session over one root: commands as lists of units, and questions about what it holds.
+//!
+//! # What is proved
+//!
+//! `Session::open`, `run`, `install`, `configure`, `remove`, `purge`, `into_host` and the
+//! questions. `configure`, `remove` and `purge` have the clauses of `run`, with the units of
+//! configure_run and removal_run in the place of the unpacks; `install` is a run of unpacks and
+//! then a configure of the packages whose unpack was done, each with those that were deconfigured
+//! for it, without those that a later candidate took away, with a report of each. An open session
+//! always knows its administration, records, lists and diversions (`ready`), and keeps the places
+//! of all listed paths (`kept`).
+//!
+//! Where it keeps what the recorded packages state of others, that is what the records state at
+//! each command (`indexed`).
+//!
+//! `run` has the main theorem of this command: the units are a run of the trees that were read, in
+//! order (`run`: `HasRunThrough`, with `whole` and `part`), and these are all trees where no unit
+//! was broken off, else no more than those whose units are told and the one whose unit was broken
+//! off (`all`, `read`); a closed session reads none (`unread`); each unit of the report was told to
+//! the watcher, in order (`watched`); the run is from the records, lists and diversions of before
+//! to those of after; a tree that can't be read, a conffile that is diverted, and relations to the
+//! recorded packages are refused by the first of these that holds, without a call and without a
+//! change; the other trees are unpacked as unpack_engine says, with the rows that other_rows gives
+//! for the packages that are deconfigured or conflict; behind one whose rows all succeeded packages
+//! disappear and are removed as displaced_packages says; the reply, the touched packages and those
+//! that were deconfigured are as defined; after a unit that was broken off, which is that of the
+//! next tree and touches no package, what the earlier ones left stands, and the calls of the broken
+//! unit are the first of those that its tables allow, made once all was ready for them, or none
+//! where it would have been refused, or memory was wanting before it was decided (`part`); no
+//! further one runs and the session is closed (`closes`, `refused`, `same`), and no other session
+//! answers that it is closed (`not_closed`).
+//!
+//! A unit is broken off for a device fault exactly where the device failed, once and as the last
+//! thing done (`counts`). A unit that was carried out, and an opening, are brought to the disk
+//! before they are answered, by the host's barrier as the last thing done (`on_disk`; in a run each
+//! unit only looked or is on the disk, `RunsUnit.answered`).
+//!
+//! A loss of power during an opening or a run leaves, on kept paths that no script of the session
+//! wrote, a world that a stop at some moment of it could have left, apart from the bytes at
+//! temporary names (`loss`, `loss_refused`); a loss after a run began that ended without Broken is
+//! one during it, or one since it answered (`stands`). The calls that a report tells, those of a
+//! unit that was broken off among them, are those by which the host's own list has grown, in order
+//! and count (`told`).
+//!
+//! What holds at each moment of a run is `any_moment`, and of each unit by itself `whole` and
+//! `part`. `divert` and `undivert` change the table of diversions, each by one unit (`whole`): it
+//! is refused by the first rule that holds, with the path, and then world, table and kept places
+//! are as they were, or it is done, the table has changed, the node at the path or the target is
+//! moved where that is asked for, nothing else has changed, and all of it is on the disk before it
+//! is answered (`answered`, `stands`).
+//!
+//! At each moment the file has the table of before or after, and the node stands whole at one of
+//! its two names (`any_moment`), also where power was lost (`loss`). A unit that was broken off
+//! closes the session, tells no call and no package, and is all that is reported (`broken`,
+//! `closes`); no script is called (`silent`, `told`), records and lists stay.
+//!
+//! `history_stands`: after any commands (unpacks, diversions that are added or taken away), with
+//! any change between them at other paths than the program's own, all parts of the administration
+//! can be read, and it stands for the records and diversions that the last of them left, and for
+//! the lists of before. A run that ended without Broken only looked or is on the disk (`answered`).
+//! `list`, `audit`, `status`, `files`, `search`, `truename` and `diversions` give the text that
+//! crate queries defines over the session's records, lists and diversions; a closed session says so
+//! and nothing else, and exactly a package without a record is unknown to `status` and `files`.
 #![tactic(auto)]
 
 mod asked;

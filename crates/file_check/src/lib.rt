@@ -1,5 +1,12 @@
-//! What stands in the way of a package's files, before any of them is written (Policy 6.6, 7.6, 10.1): the first step fault
-//! of the shipped paths, or none.
+//! What stands in the way of a package's files, before any of them is written (Policy 6.6, 7.6,
+//! 10.1): the first step fault of the shipped paths, or none.
+//!
+//! # What is proved
+//!
+//! `check` gives the first step fault of shipped paths, in path order and of each path the first of
+//! LinkParent, NoParent, DirInWay, Clash and DiversionTarget, over the lists and diversions
+//! (`fault`), or tells that there is none and what the writing needs (`sound`, `free`, `homed`),
+//! and only looks.
 #![tactic(auto)]
 
 mod above;

@@ -1,4 +1,11 @@
 //! How listed paths of a package and names that only the installer writes are taken away.
+//!
+//! # What is proved
+//!
+//! `remove_owned` takes the listed paths away that may go, the last first, a directory where
+//! nothing is left below it (`removed`), `remove_directories` directories alone, `clear_names` what
+//! stands at reserved names; at each moment each path is as before or gone (`any_moment`), and the
+//! same removal finishes one that was stopped (`what_a_removal_leaves`).
 #![tactic(auto)]
 
 mod bare;

@@ -1,4 +1,23 @@
 //! A root directory of the real file system, whose scripts are started as child processes.
+//!
+//! # What is proved
+//!
+//! `FilesHost<D: Disk>` meets the trait `Host` for every account `D` of what the directory holds
+//! (see "Of real files" above).
+//!
+//! Each method's calls of the system are kept in a trace, and each answer is shown by it: which
+//! calls a step makes, with which paths under the root, in which order (`IsStepBy`, specs/Shown),
+//! that a script's command has the program, arguments, directory and variables that it is to have
+//! (`command_of`), that a fault is counted and what a person is told of it is kept (`failure`),
+//! that what is missing is never told as a fault, that names are sorted, that a file has at most 1
+//! GiB, and that a barrier syncs the directories in which names changed.
+//!
+//! What it doesn't look at again is tied to the record of its calls: the directory that it
+//! remembers is known by them (`IsKnown`: seen, or above what was seen or made, and no script,
+//! fault or step at it since), the file that it takes for the last one written is that (`IsNew`),
+//! and what a step moves or syncs was seen in that call or is that file (`IsSure`). In each account
+//! that fits the answers such a directory is one and such a file stands
+//! (`what_is_remembered_stands`).
 #![tactic(auto)]
 
 mod changed;

@@ -1,5 +1,15 @@
 //! Opening an administration: its directories are made where missing, its files are read, and what
 //! a unit left behind that was broken off is removed.
+//!
+//! # What is proved
+//!
+//! `open_administration` reads the administration part by part: the records, lists and diversions
+//! of an administration all of whose parts can be read (`opened`), or the fault of the first part
+//! that can't (`opens`), and there is none where all can (`what_is_fine_has_no_fault`); at each
+//! moment of it, whatever the answer, nothing has changed but that missing directories of the
+//! administration were made and that some of what was left in `tmp.ci` is gone (`any_moment`),
+//! which stays where damage is told; the directories that were made have mode 755 in the end unless
+//! the device failed (`opens`).
 #![tactic(auto)]
 
 mod laws;

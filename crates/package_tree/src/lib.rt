@@ -1,4 +1,24 @@
 //! Package trees given as directories: their control file and scripts.
+//!
+//! # What is proved
+//!
+//! `read_tree` gives the package that a tree stands for, or its first fault (`read`, `fault`): its
+//! control file and scripts (these and the other kept files of `DEBIAN` with user and group 0,
+//! `scripts`, `AreOthers`), each path that it ships with what stands there (`AreFiles`, a file's
+//! bytes are read once and handed on), its conffiles, plain and flagged `remove-on-upgrade`, the
+//! other files of `DEBIAN` that are kept, and what its six relation fields state, as read
+//! (`relations`).
+//!
+//! Its faults come in one order: the control file, a bad path, a reserved one, a conffile that
+//! isn't shipped, one that is flagged and shipped, an odd line, a file above 64 MiB or more than
+//! 65,536 paths; by line or in path order within each.
+//!
+//! A device fault is told exactly where the device failed, once and last (`counts`); nothing is
+//! changed (`reads`); what a package's type promises holds whatever the host told (`AreFitting`:
+//! each conffile is a shipped file); `copy` gives an equal package; `give_to_root` gives what it
+//! ships to user and group 0 and changes nothing else (`owned_by_root`); a tree that reads as a
+//! package is that of one package, with the relations that its control file states (`relations`),
+//! and has no fault (`trees_are_of_one_package`).
 #![tactic(auto)]
 
 mod collecting;

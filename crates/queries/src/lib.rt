@@ -1,4 +1,14 @@
 //! The texts that questions about an administration are answered with.
+//!
+//! # What is proved
+//!
+//! The texts that questions are answered with, each a definition over the open records, lists and
+//! diversions (specs/Records, Files, Places), no part of which they change. `list_text` and
+//! `audit_text` go by the names of the packages, in whatever order the status file has them;
+//! `status_text` is the record as status_db writes it, and there is none exactly where the package
+//! has no record, as of `files_text`, the paths that a package lists; `search_text` has each listed
+//! path that lies at a place, whatever diversions there are; `truename_text` and `diversions_text`
+//! tell of the diversions.
 #![tactic(auto)]
 
 mod files;

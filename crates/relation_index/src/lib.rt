@@ -1,5 +1,11 @@
-//! Packages and the relations that they state, which packages meet a clause, and the clauses of Depends and
-//! Pre-Depends as numbers (Policy 7.1, 7.2, 7.5).
+//! Packages and the relations that they state, which packages meet a clause, and the clauses of
+//! Depends and Pre-Depends as numbers (Policy 7.1, 7.2, 7.5).
+//!
+//! # What is proved
+//!
+//! `Packages::of` takes packages in the order of their names; `meeters` finds by an index of names
+//! what a look through all packages finds, `clauses` are the clauses of Depends and Pre-Depends;
+//! `put` and `remove` change one package, and what is found by names is as with an index made anew.
 #![tactic(auto)]
 
 mod clauses;

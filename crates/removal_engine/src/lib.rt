@@ -1,4 +1,11 @@
 //! The units that remove and purge a package (Policy 6.8).
+//!
+//! # What is proved
+//!
+//! `remove`, the unit of a removal or a purge, likewise (`unit`: `HasRemoved`, `end`): prerm, the
+//! files, postrm, the control files, and for a purge the names beside conffiles, postrm again,
+//! directories, and the record. A removal in favour of a package that conflicts with it (`Extent`)
+//! begins with the files.
 #![tactic(auto)]
 
 mod extent;

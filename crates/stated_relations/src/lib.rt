@@ -1,4 +1,14 @@
-//! What a package's fields state of other packages (Policy 7.1), and whether it is essential (Policy 3.8).
+//! What a package's fields state of other packages (Policy 7.1), and whether it is essential
+//! (Policy 3.8).
+//!
+//! # What is proved
+//!
+//! What the relation fields of a paragraph state, each as it is read, and whether it says that the
+//! package is essential (`stated_relations`: `States`). **recorded_packages** (Policy 7.1):
+//! `packages_of`, the records as packages with the relations that their fields state; `renew`
+//! brings packages up to date where the records of these names may have changed: whatever table
+//! they were the packages of before, if it has the same records of all other names they are those
+//! of the records now. **unit_reports**: the types of reports, and what units tell.
 #![tactic(auto)]
 
 mod relations;

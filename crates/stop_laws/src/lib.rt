@@ -1,5 +1,11 @@
-//! What a stop at any moment leaves of a unit that configures, removes or purges a package, or lets one disappear, path by path (Policy
-//! 6.6 to 6.8): laws of what the engines promise of each moment. Nothing here runs.
+//! What a stop at any moment leaves of a unit that configures, removes or purges a package, or lets
+//! one disappear, path by path (Policy 6.6 to 6.8): laws of what the engines promise of each
+//! moment. Nothing here runs.
+//!
+//! # What is proved
+//!
+//! What `any_moment` of configuring, a removal, a purge and a disappearance says path by path, as
+//! the tables above list it; laws alone, nothing runs.
 #![tactic(auto)]
 
 mod configure_records;

@@ -1,4 +1,12 @@
-//! A unit as a list of stages: what is done, then one script call, and what undoes it (Policy 6.7, 6.8).
+//! A unit as a list of stages: what is done, then one script call, and what undoes it (Policy 6.7,
+//! 6.8).
+//!
+//! # What is proved
+//!
+//! `run_stages` runs stages, each of parts and one script call, up to a call that failed, whose
+//! undo is called and whose restoring parts are done where the undo didn't fail (`ran`: `HaveRun`);
+//! its calls, whatever its answer, are the first of those that are legal for the stages (`told`);
+//! at each moment `AreRunning` (`any_moment`).
 #![tactic(auto)]
 
 mod calls;

@@ -1,5 +1,13 @@
-//! What an unpack does once all its rows have succeeded: the package's list, control files and record become the new ones,
-//! and places that it took over leave other packages (Policy 6.6).
+//! What an unpack does once all its rows have succeeded: the package's list, control files and
+//! record become the new ones, and places that it took over leave other packages (Policy 6.6).
+//!
+//! # What is proved
+//!
+//! `commit`, what follows where all rows succeeded, by the worlds between its parts in Policy's
+//! order (`committed`), and at each moment (`any_moment`); `takeover_of` and `yields_of`: what
+//! leaves packages of which only conffiles are left. Laws: all else is as before
+//! (`what_a_commit_leaves`), no directory comes into `info/` (`a_commit_leaves_info_loose`), the
+//! next opening reads the records at each moment (`a_commit_can_be_opened_amid`).
 #![tactic(auto)]
 
 mod change;

@@ -1,4 +1,24 @@
 //! The unit of an unpack: rows, notes, lists and files, in Policy's order (Policy 6.6).
+//!
+//! # What is proved
+//!
+//! `unpack`, the unit.
+//!
+//! For every honest host and every outcome of each call: the plan is that of the tree, of what the
+//! administration says and of the rows of other packages that are given, the calls are the host's
+//! own list and legal for all these rows, and it is carried out: what a name without a record left
+//! in `info/` goes, the control files are laid out, the rows run, and the commit follows, or
+//! nothing but the end of a list whose package has no record any more (`unit`: `HasUnpacked`); the
+//! failure that is told is that of the failed row (`cause`); the packages that are told are the one
+//! that was named and each other whose record differs (`touched`); in the end the administration is
+//! in order, and lists are read back as they are held (`order`).
+//!
+//! Where it is broken off, its calls are the first of some that are legal for the plan's rows
+//! (`told`). At each moment the next opening finds the records at its stage: while it begins those
+//! of before, while rows run these with the notes up to their place, and then those with the first
+//! records of the commit, none of which is noted before all else in it is done; and nothing is in
+//! its way; all else is as the parts say (`any_moment`: `IsAmidUnit`). A device fault is told
+//! exactly where the device failed, once and last (`counts`).
 #![tactic(auto)]
 
 mod committed;

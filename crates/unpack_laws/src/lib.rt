@@ -1,5 +1,10 @@
-//! What a stop at any moment of an unpack leaves, path by path (Policy 6.6), and what the next unpack leaves of that: laws of what the
-//! engine promises. Nothing here runs.
+//! What a stop at any moment of an unpack leaves, path by path (Policy 6.6), and what the next
+//! unpack leaves of that: laws of what the engine promises. Nothing here runs.
+//!
+//! # What is proved
+//!
+//! What `any_moment` of an unpack says path by path, as the table above lists it; laws alone,
+//! nothing runs.
 #![tactic(auto)]
 
 mod called;

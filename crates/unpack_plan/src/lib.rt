@@ -1,5 +1,12 @@
-//! What an unpack is going to do, told before anything is done and without the host: the rows of its calls, what is written and
-//! listed, which old paths go, and the record that it ends with (Policy 6.6).
+//! What an unpack is going to do, told before anything is done and without the host: the rows of
+//! its calls, what is written and listed, which old paths go, and the record that it ends with
+//! (Policy 6.6).
+//!
+//! # What is proved
+//!
+//! `plan_of`, what an unpack is going to do, each part by its definition over the tree, records,
+//! lists and diversions (`IsPlanned`): rows, works, the three lists, old paths that go, names that
+//! are cleared, control files, and the record of the unpacked package.
 #![tactic(auto)]
 
 mod conffile_paths;

@@ -1,5 +1,15 @@
 //! The rows of an unpack with all that is done beside their calls: the notes in the records, the
 //! package's list and its files. A row that fails is undone with those before it (Policy 6.6).
+//!
+//! # What is proved
+//!
+//! `run_unpack_rows` runs the rows of an unpack with its notes, the list and the files. Where it
+//! ends, the records are those of before with the notes up to there, and the world came about by
+//! the script calls, notes and the file row alone, which lists old and new paths before it writes
+//! the first file, in the world at that moment, and puts files back before the old list (`there`:
+//! `At`). At each moment the next opening finds the records of before with the first of the notes,
+//! and while files are written, stand or go back the package is half-installed reinstreq
+//! (`any_moment`: `Stops`).
 #![tactic(auto)]
 
 mod around;
