@@ -115,11 +115,4 @@ impl Stack {
             Err(fault) => Err(fault),
         }
     }
-
-    /// Drops all rows.
-    pub fn settle(&mut self)
-        ensures { self.new ≡ [] }
-    {
-        self.rows.clear();
-    }
 }

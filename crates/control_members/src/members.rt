@@ -141,13 +141,6 @@ impl Members {
         }
     }
 
-    /// Whether the package has a script.
-    pub fn has_script(&self, script: Script) -> bool
-        ensures { result ≡ is_some (member_node self.now (script_name script)) }
-    {
-        find(self.items.as_slice(), script.name().as_bytes()).is_some()
-    }
-
     /// Their names, in order.
     pub fn names(&self, alloc: Global) -> Result<Texts, AllocError>
         ensures { IfOk result (λ names. names ≡ names_of self.now) }

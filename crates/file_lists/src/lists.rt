@@ -199,61 +199,8 @@ impl FileLists {
         }
     }
 
-    /// Takes the paths that lie at these places out of the list of a package, which is written anew.
-    /// After an error the value is closed.
-    pub fn take_from<H: Host>(
-        &mut self,
-        alloc: Global,
-        host: &mut H,
-        diversions: &Diversions,
-        places: &[RootPath],
-        name: &Text,
-    ) -> Result<(), ListFault>
-        requires named { is_package_name name.now ≡ true }
-        requires ready { Needs (H.state host.old) (IsListReady name.now) }
-        ensures lists { OnOk result
-            (self.new
-            ≡ record self.old
-            { lists = without_places diversions.now.entries places.now name.now self.old.lists }) }
-        ensures err { OnErr result (self.new ≡ record self.old { closed = true }) }
-        ensures closed { IsErrOf result Closed ↔ (self.old.closed ≡ true) }
-        ensures shut { self.old.closed ≡ true → H.state host.new ≡ H.state host.old }
-        ensures replaced { Leaves result
-            (IsReplaced (list_path name.now)
-            (list_file
-            (left_paths diversions.now.entries places.now name.now
-            (paths_of self.old.lists name.now))))
-            (H.state host.old) (H.state host.new) }
-        ensures any_moment { AtEachMoment
-            (IsReplacing (list_path name.now)
-            (list_file
-            (left_paths diversions.now.entries places.now name.now
-            (paths_of self.old.lists name.now))))
-            (H.state host.old) (H.state host.new) }
-        ensures silent { Silent (H.state host.old) (H.state host.new) }
-        ensures counts { CountsList (H.state host.old) (H.state host.new) result }
-    {
-        if self.closed {
-            return Err(ListFault::Closed);
-        }
-        match take_paths(
-            alloc,
-            host,
-            &mut self.table,
-            &mut self.index,
-            diversions,
-            places,
-            name,
-        ) {
-            Ok(()) => Ok(()),
-            Err(fault) => {
-                self.closed = true;
-                Err(ListFault::from(fault))
-            }
-        }
-    }
-
-    /// The same of each of these packages, in this order. After an error the value is closed.
+    /// Takes the paths that lie at these places out of the lists of these packages, in this order; each
+    /// list is written anew. After an error the value is closed.
     pub fn take<H: Host>(
         &mut self,
         alloc: Global,

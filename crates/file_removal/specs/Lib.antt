@@ -1,4 +1,3 @@
 pub mod Removal
 pub mod Visits
 pub mod Clearing
-pub mod Committing

@@ -5,7 +5,6 @@ ghost use Rattle.host_core.specs.World.{World, IsBare, IsDirectory, IsLoose};
 ghost use Rattle.file_removal.specs.declared.leaving.Leaving.{Leaving};
 ghost use Rattle.file_removal.specs.Removal.{RemovedBy, IsRemovingBy, Removed, RemovedDirectories, IsSpared, AllAboveFirst, AreInOrder};
 ghost use Rattle.file_removal.specs.Clearing.{cleared, is_among, Cleared, IsClearing};
-ghost use Rattle.file_removal.specs.Committing.{Committed, IsCommitting, IsEither};
 
 /// A path that isn't the place of a listed path that may go is as before, as is each file or link where directories alone are
 /// taken; a listed file or link that may go is gone. Nothing is made, and the old world decides what is left. Where a directory is
@@ -31,12 +30,4 @@ pub fn what_a_clearing_leaves()
     ensures gone { (names : List Path) (old new : World) (q : Path) → Cleared names old new → is_among names q ≡ true → (IsDirectory (old q) → ⊥) → new q ≡ None }
     ensures finished { (names : List Path) (old now new : World) → IsClearing names old now → Cleared names now new → Cleared names old new }
     ensures again { (names : List Path) (old new newer : World) (q : Path) → Cleared names old new → Cleared names new newer → newer q ≡ new q }
-{}
-
-/// At each moment of a commit a path is as before, or it goes and is gone, or it is one of the names and cleared; and so it is in
-/// the end. What is none of the places that may go, and none of the names, is as before.
-pub fn what_a_commit_leaves()
-    ensures moment { (leaving : List Leaving) (names : List Path) (old now : World) (p : Path) → IsCommitting leaving names old now → IsEither leaving names old now p }
-    ensures committed { (leaving : List Leaving) (names : List Path) (old new : World) (p : Path) → Committed leaving names old new → IsEither leaving names old new p }
-    ensures spared { (leaving : List Leaving) (names : List Path) (old new : World) (q : Path) → Committed leaving names old new → IsSpared leaving q → is_among names q ≡ false → new q ≡ old q }
 {}

@@ -31,13 +31,6 @@ pub struct PendingDigest {
     pub ghost digested: { ∥ IsDigest digest ∥₁ },
 }
 
-/// Whether a path can be that of a conffile in a record: it ends in no blank.
-pub fn is_trimmed(path: &ShipPath) -> bool
-    ensures { result ≡ is_trimmed path.now }
-{
-    trim_end(path.as_str().as_bytes()) == path.as_str().as_bytes()
-}
-
 // What holds of each such path, and of each digest.
 fn path_law(path: &ShipPath)
     ensures { is_ship_path path.now ≡ true }

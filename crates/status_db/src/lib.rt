@@ -54,7 +54,7 @@ mod writing;
 
 pub use committed::{Ships, committed_entries};
 pub use conffile_lists::{ConffileEntries, PendingDigests};
-pub use entries::{ConffileEntry, PendingDigest, is_trimmed};
+pub use entries::{ConffileEntry, PendingDigest};
 pub use laws::{records_are_a_table, records_stand_at_their_places};
 pub use noted_database::NotedDatabase;
 pub use record::Record;

@@ -1,7 +1,4 @@
 // What stands beside an unpack.
-ghost use Rattle.std.specs.Prelude.{◌≡◌, []};
-
-use std::alloc::Global;
 use texts::Texts;
 use unpack_rows::OtherPackage;
 
@@ -13,17 +10,4 @@ pub struct Others {
     /// their rows.
     pub packages: Vec<OtherPackage>,
     pub yields: Texts,
-}
-
-impl Others {
-    /// No other package.
-    pub fn none(alloc: Global) -> Others
-        ensures packages { result.packages.items ≡ [] }
-        ensures yields { result.yields ≡ [] }
-    {
-        Others {
-            packages: Vec::new(alloc),
-            yields: Texts::new(alloc),
-        }
-    }
 }
