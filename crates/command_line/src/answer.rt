@@ -147,7 +147,8 @@ fn done_status(done: &Done) -> u8
 
 // The lines of the unit that was broken off.
 fn last_text(alloc: Global, last: &Option<Unit>) -> Result<String, AllocError>
-    ensures { IfOk result (λ text. string_bytes text ≡ flat_map unit_lines (option_to_list last.now)) }
+    ensures { IfOk result (λ text. string_bytes text ≡ flat_map unit_lines
+        (option_to_list last.now)) }
 {
     match last {
         Some(unit) => unit_text(alloc, unit),
@@ -162,7 +163,8 @@ fn units_left(
     last: &Option<Unit>,
     status: u8,
 ) -> Result<Left, AllocError>
-    ensures left { (lines : List ℕ) (old new : Option (List ℕ)) → HasPrinted lines flow old new → IsLeft (units_answer lines last.now status) old new result }
+    ensures left { (lines : List ℕ) (old new : Option (List ℕ)) → HasPrinted lines flow old new
+        → IsLeft (units_answer lines last.now status) old new result }
     ensures bound { status ≤ 2 → IfOk result (λ left. status_left left ≤ 2) }
 {
     match flow {
@@ -177,9 +179,12 @@ fn units_left(
 
 // An answer of which nothing is written.
 fn whole(answer: Result<Answer, AllocError>) -> Result<Left, AllocError>
-    ensures left { (wanted : AnAnswer) (held : Option (List ℕ)) → IfOk answer (λ told. told ≡ wanted) → IsLeft wanted held held result }
-    ensures bound { IfOk answer (λ told. told.status ≤ 2) → IfOk result (λ left. status_left left ≤ 2) }
-    ensures output { IfOk result (λ left. (told : AnAnswer) × (answer ≡ Ok told) × (output_left left ≡ told.output)) }
+    ensures left { (wanted : AnAnswer) (held : Option (List ℕ)) → IfOk
+        answer (λ told. told ≡ wanted) → IsLeft wanted held held result }
+    ensures bound { IfOk answer (λ told. told.status ≤ 2) → IfOk
+        result (λ left. status_left left ≤ 2) }
+    ensures output { IfOk result (λ left. (told : AnAnswer) × (answer ≡ Ok told)
+        × (output_left left ≡ told.output)) }
 {
     match answer {
         Ok(answer) => Ok(Left::Rest(answer)),
@@ -220,9 +225,15 @@ fn unpack_telling<S: Hosts, O: Write>(
     printer: &mut Printer<'_, O>,
 ) -> Result<Done, NotOpened>
     ensures same_output { printer.new.out.ghost_name ≡ printer.old.out.ghost_name }
-    ensures done { IfOk result (HasUnpacked (around (S.root hosts.old) (S.tree hosts.old) (S.left hosts.new) (S.seen hosts.new) (S.faults hosts.old < S.faults hosts.new) (S.unopened hosts.old hosts.new) (S.locked hosts.old)) policy unpacking.now) }
-    ensures refused { IfErr result (IsRootFault (around (S.root hosts.old) (S.tree hosts.old) (S.left hosts.new) (S.seen hosts.new) (S.faults hosts.old < S.faults hosts.new) (S.unopened hosts.old hosts.new) (S.locked hosts.old)) unpacking.now.root) }
-    ensures told { printer.old.flow ≡ Whole → IfOk result (λ done. HasPrinted (flat_map unit_lines (units_of done)) printer.new.flow (O.contents printer.old.out.now) (O.contents printer.new.out.now)) }
+    ensures done { IfOk result (HasUnpacked (around (S.root hosts.old) (S.tree hosts.old)
+        (S.left hosts.new) (S.seen hosts.new) (S.faults hosts.old < S.faults hosts.new)
+        (S.unopened hosts.old hosts.new) (S.locked hosts.old)) policy unpacking.now) }
+    ensures refused { IfErr result (IsRootFault (around (S.root hosts.old) (S.tree hosts.old)
+        (S.left hosts.new) (S.seen hosts.new) (S.faults hosts.old < S.faults hosts.new)
+        (S.unopened hosts.old hosts.new) (S.locked hosts.old)) unpacking.now.root) }
+    ensures told { printer.old.flow ≡ Whole → IfOk
+        result (λ done. HasPrinted (flat_map unit_lines (units_of done)) printer.new.flow
+        (O.contents printer.old.out.now) (O.contents printer.new.out.now)) }
     ensures untold { OnErr result (printer.new ≡ printer.old) }
 {
     unpack(alloc, hosts, unpacking, policy, printer)
@@ -236,8 +247,11 @@ fn unpacked<S: Hosts, O: Write>(
     out: &mut O,
 ) -> Result<Left, AllocError>
     ensures ended { (ended : Result ADone ANotOpened)
-        × HasEndedAs (around (S.root hosts.old) (S.tree hosts.old) (S.left hosts.new) (S.seen hosts.new) (S.faults hosts.old < S.faults hosts.new) (S.unopened hosts.old hosts.new) (S.locked hosts.old)) policy unpacking.now ended
-        × IsLeft (trees_answer unpacking.now.root ended) (O.contents out.old) (O.contents out.new) result }
+        × HasEndedAs (around (S.root hosts.old) (S.tree hosts.old) (S.left hosts.new)
+        (S.seen hosts.new) (S.faults hosts.old < S.faults hosts.new)
+        (S.unopened hosts.old hosts.new) (S.locked hosts.old)) policy unpacking.now ended
+        × IsLeft (trees_answer unpacking.now.root ended) (O.contents out.old) (O.contents out.new)
+        result }
     ensures bound { IfOk result (λ left. status_left left ≤ 2) }
 {
     let mut printer = Printer {
@@ -260,8 +274,10 @@ fn changed<S: Hosts>(
     asked: &Change,
 ) -> Result<Answer, AllocError>
     ensures ended { (ended : Result AReport ANotOpened)
-        × HasEndedChange (around (S.root hosts.old) (S.tree hosts.old) (S.left hosts.new) (S.seen hosts.new) (S.faults hosts.old < S.faults hosts.new) (S.unopened hosts.old hosts.new) (S.locked hosts.old)) root.now asked.now ended
-        × IfOk result (λ answer. answer ≡ ended_answer root.now ended) }
+        × HasEndedChange (around (S.root hosts.old) (S.tree hosts.old) (S.left hosts.new)
+        (S.seen hosts.new) (S.faults hosts.old < S.faults hosts.new)
+        (S.unopened hosts.old hosts.new) (S.locked hosts.old)) root.now asked.now ended × IfOk
+        result (λ answer. answer ≡ ended_answer root.now ended) }
     ensures bound { IfOk result (λ answer. answer.status ≤ 2) }
 {
     match change_under(alloc, hosts, root, asked) {
@@ -280,9 +296,15 @@ fn work_telling<S: Hosts, O: Write>(
     printer: &mut Printer<'_, O>,
 ) -> Result<Report, NotOpened>
     ensures same_output { printer.new.out.ghost_name ≡ printer.old.out.ghost_name }
-    ensures done { IfOk result (HasWorkedUnder (around (S.root hosts.old) (S.tree hosts.old) (S.left hosts.new) (S.seen hosts.new) (S.faults hosts.old < S.faults hosts.new) (S.unopened hosts.old hosts.new) (S.locked hosts.old)) root.now asked.now) }
-    ensures refused { IfErr result (IsRootFault (around (S.root hosts.old) (S.tree hosts.old) (S.left hosts.new) (S.seen hosts.new) (S.faults hosts.old < S.faults hosts.new) (S.unopened hosts.old hosts.new) (S.locked hosts.old)) root.now) }
-    ensures told { printer.old.flow ≡ Whole → IfOk result (λ done. HasPrinted (flat_map unit_lines done.units.items) printer.new.flow (O.contents printer.old.out.now) (O.contents printer.new.out.now)) }
+    ensures done { IfOk result (HasWorkedUnder (around (S.root hosts.old) (S.tree hosts.old)
+        (S.left hosts.new) (S.seen hosts.new) (S.faults hosts.old < S.faults hosts.new)
+        (S.unopened hosts.old hosts.new) (S.locked hosts.old)) root.now asked.now) }
+    ensures refused { IfErr result (IsRootFault (around (S.root hosts.old) (S.tree hosts.old)
+        (S.left hosts.new) (S.seen hosts.new) (S.faults hosts.old < S.faults hosts.new)
+        (S.unopened hosts.old hosts.new) (S.locked hosts.old)) root.now) }
+    ensures told { printer.old.flow ≡ Whole → IfOk
+        result (λ done. HasPrinted (flat_map unit_lines done.units.items) printer.new.flow
+        (O.contents printer.old.out.now) (O.contents printer.new.out.now)) }
     ensures untold { OnErr result (printer.new ≡ printer.old) }
 {
     work_under(alloc, hosts, root, streams, asked, printer)
@@ -297,7 +319,9 @@ fn worked<S: Hosts, O: Write>(
     out: &mut O,
 ) -> Result<Left, AllocError>
     ensures ended { (ended : Result AReport ANotOpened)
-        × HasEndedWork (around (S.root hosts.old) (S.tree hosts.old) (S.left hosts.new) (S.seen hosts.new) (S.faults hosts.old < S.faults hosts.new) (S.unopened hosts.old hosts.new) (S.locked hosts.old)) root.now asked.now ended
+        × HasEndedWork (around (S.root hosts.old) (S.tree hosts.old) (S.left hosts.new)
+        (S.seen hosts.new) (S.faults hosts.old < S.faults hosts.new)
+        (S.unopened hosts.old hosts.new) (S.locked hosts.old)) root.now asked.now ended
         × IsLeft (ended_answer root.now ended) (O.contents out.old) (O.contents out.new) result }
     ensures bound { IfOk result (λ left. status_left left ≤ 2) }
 {
@@ -321,7 +345,9 @@ fn configured<S: Hosts, O: Write>(
     out: &mut O,
 ) -> Result<Left, AllocError>
     ensures ended { (ended : Result AReport ANotOpened)
-        × HasEndedWork (around (S.root hosts.old) (S.tree hosts.old) (S.left hosts.new) (S.seen hosts.new) (S.faults hosts.old < S.faults hosts.new) (S.unopened hosts.old hosts.new) (S.locked hosts.old)) asked.root (work_of asked) ended
+        × HasEndedWork (around (S.root hosts.old) (S.tree hosts.old) (S.left hosts.new)
+        (S.seen hosts.new) (S.faults hosts.old < S.faults hosts.new)
+        (S.unopened hosts.old hosts.new) (S.locked hosts.old)) asked.root (work_of asked) ended
         × IsLeft (ended_answer asked.root ended) (O.contents out.old) (O.contents out.new) result }
     ensures bound { IfOk result (λ left. status_left left ≤ 2) }
 {
@@ -342,8 +368,11 @@ fn removed<S: Hosts, O: Write>(
     out: &mut O,
 ) -> Result<Left, AllocError>
     ensures ended { (ended : Result AReport ANotOpened)
-        × HasEndedWork (around (S.root hosts.old) (S.tree hosts.old) (S.left hosts.new) (S.seen hosts.new) (S.faults hosts.old < S.faults hosts.new) (S.unopened hosts.old hosts.new) (S.locked hosts.old)) asked.root (Work.Remove asked.names) ended
-        × IsLeft (ended_answer asked.root ended) (O.contents out.old) (O.contents out.new) result }
+        × HasEndedWork (around (S.root hosts.old) (S.tree hosts.old) (S.left hosts.new)
+        (S.seen hosts.new) (S.faults hosts.old < S.faults hosts.new)
+        (S.unopened hosts.old hosts.new) (S.locked hosts.old)) asked.root (Work.Remove asked.names)
+        ended × IsLeft (ended_answer asked.root ended) (O.contents out.old) (O.contents out.new)
+        result }
     ensures bound { IfOk result (λ left. status_left left ≤ 2) }
 {
     let Removing {
@@ -362,8 +391,11 @@ fn purged<S: Hosts, O: Write>(
     out: &mut O,
 ) -> Result<Left, AllocError>
     ensures ended { (ended : Result AReport ANotOpened)
-        × HasEndedWork (around (S.root hosts.old) (S.tree hosts.old) (S.left hosts.new) (S.seen hosts.new) (S.faults hosts.old < S.faults hosts.new) (S.unopened hosts.old hosts.new) (S.locked hosts.old)) asked.root (Work.Purge asked.names) ended
-        × IsLeft (ended_answer asked.root ended) (O.contents out.old) (O.contents out.new) result }
+        × HasEndedWork (around (S.root hosts.old) (S.tree hosts.old) (S.left hosts.new)
+        (S.seen hosts.new) (S.faults hosts.old < S.faults hosts.new)
+        (S.unopened hosts.old hosts.new) (S.locked hosts.old)) asked.root (Work.Purge asked.names)
+        ended × IsLeft (ended_answer asked.root ended) (O.contents out.old) (O.contents out.new)
+        result }
     ensures bound { IfOk result (λ left. status_left left ≤ 2) }
 {
     let Removing {
@@ -378,10 +410,14 @@ fn purged<S: Hosts, O: Write>(
 fn diverted<S: Hosts>(alloc: Global, hosts: &mut S, asked: &Diverting) -> Result<Answer, AllocError>
     requires { is_owner (owner_in asked.now.owner) ≡ true }
     ensures answered { (answer : AnAnswer)
-        × (IsReadChange (around (S.root hosts.old) (S.tree hosts.old) (S.left hosts.new) (S.seen hosts.new) (S.faults hosts.old < S.faults hosts.new) (S.unopened hosts.old hosts.new) (S.locked hosts.old)) asked.now.root (bad_of_divert asked.now) (IsDivertOf asked.now) answer ⊎ ((answer ≡ memory_answer) × (hosts.new ≡ hosts.old)))
-        × IfOk result (λ told. told ≡ answer) }
+        × (IsReadChange (around (S.root hosts.old) (S.tree hosts.old) (S.left hosts.new)
+        (S.seen hosts.new) (S.faults hosts.old < S.faults hosts.new)
+        (S.unopened hosts.old hosts.new) (S.locked hosts.old)) asked.now.root
+        (bad_of_divert asked.now) (IsDivertOf asked.now) answer ⊎ ((answer ≡ memory_answer)
+        × (hosts.new ≡ hosts.old))) × IfOk result (λ told. told ≡ answer) }
     ensures bound { IfOk result (λ answer. answer.status ≤ 2) }
-    ensures quiet { IfOk result (λ answer. (answer.output ≡ []) ⊎ (is_good (bad_of_divert asked.now) ≡ true)) }
+    ensures quiet { IfOk result (λ answer. (answer.output ≡ [])
+        ⊎ (is_good (bad_of_divert asked.now) ≡ true)) }
     ensures unopened { (hosts.new ≡ hosts.old) ⊎ (is_good (bad_of_divert asked.now) ≡ true) }
 {
     match diverting_in(alloc, asked) {
@@ -397,10 +433,14 @@ fn undiverted<S: Hosts>(
     asked: &Undiverting,
 ) -> Result<Answer, AllocError>
     ensures answered { (answer : AnAnswer)
-        × (IsReadChange (around (S.root hosts.old) (S.tree hosts.old) (S.left hosts.new) (S.seen hosts.new) (S.faults hosts.old < S.faults hosts.new) (S.unopened hosts.old hosts.new) (S.locked hosts.old)) asked.now.root (bad_of_undivert asked.now) (IsUndivertOf asked.now) answer ⊎ ((answer ≡ memory_answer) × (hosts.new ≡ hosts.old)))
-        × IfOk result (λ told. told ≡ answer) }
+        × (IsReadChange (around (S.root hosts.old) (S.tree hosts.old) (S.left hosts.new)
+        (S.seen hosts.new) (S.faults hosts.old < S.faults hosts.new)
+        (S.unopened hosts.old hosts.new) (S.locked hosts.old)) asked.now.root
+        (bad_of_undivert asked.now) (IsUndivertOf asked.now) answer ⊎ ((answer ≡ memory_answer)
+        × (hosts.new ≡ hosts.old))) × IfOk result (λ told. told ≡ answer) }
     ensures bound { IfOk result (λ answer. answer.status ≤ 2) }
-    ensures quiet { IfOk result (λ answer. (answer.output ≡ []) ⊎ (is_good (bad_of_undivert asked.now) ≡ true)) }
+    ensures quiet { IfOk result (λ answer. (answer.output ≡ [])
+        ⊎ (is_good (bad_of_undivert asked.now) ≡ true)) }
     ensures unopened { (hosts.new ≡ hosts.old) ⊎ (is_good (bad_of_undivert asked.now) ≡ true) }
 {
     match undiverting_in(alloc, asked) {
@@ -417,8 +457,10 @@ fn inquired<S: Hosts>(
     asked: &Inquiry,
 ) -> Result<Answer, AllocError>
     ensures answered { (answer : AnAnswer)
-        × IsInquired (around (S.root hosts.old) (S.tree hosts.old) (S.left hosts.new) (S.seen hosts.new) (S.faults hosts.old < S.faults hosts.new) (S.unopened hosts.old hosts.new) (S.locked hosts.old)) root.now asked.now answer
-        × IfOk result (λ told. told ≡ answer) }
+        × IsInquired (around (S.root hosts.old) (S.tree hosts.old) (S.left hosts.new)
+        (S.seen hosts.new) (S.faults hosts.old < S.faults hosts.new)
+        (S.unopened hosts.old hosts.new) (S.locked hosts.old)) root.now asked.now answer × IfOk
+        result (λ told. told ≡ answer) }
     ensures bound { IfOk result (λ answer. answer.status ≤ 2) }
 {
     match inquire_under(alloc, hosts, root, asked) {
@@ -429,10 +471,14 @@ fn inquired<S: Hosts>(
 
 fn queried<S: Hosts>(alloc: Global, hosts: &mut S, query: Query) -> Result<Answer, AllocError>
     ensures answered { (answer : AnAnswer)
-        × (IsQueryAnswer (around (S.root hosts.old) (S.tree hosts.old) (S.left hosts.new) (S.seen hosts.new) (S.faults hosts.old < S.faults hosts.new) (S.unopened hosts.old hosts.new) (S.locked hosts.old)) query answer ⊎ ((answer ≡ memory_answer) × (hosts.new ≡ hosts.old)))
-        × IfOk result (λ told. told ≡ answer) }
+        × (IsQueryAnswer (around (S.root hosts.old) (S.tree hosts.old) (S.left hosts.new)
+        (S.seen hosts.new) (S.faults hosts.old < S.faults hosts.new)
+        (S.unopened hosts.old hosts.new) (S.locked hosts.old)) query answer
+        ⊎ ((answer ≡ memory_answer) × (hosts.new ≡ hosts.old))) × IfOk
+        result (λ told. told ≡ answer) }
     ensures bound { IfOk result (λ answer. answer.status ≤ 2) }
-    ensures quiet { IfOk result (λ answer. (answer.output ≡ []) ⊎ (is_ok (inquiry_of query.question) ≡ true)) }
+    ensures quiet { IfOk result (λ answer. (answer.output ≡ [])
+        ⊎ (is_ok (inquiry_of query.question) ≡ true)) }
     ensures unopened { (hosts.new ≡ hosts.old) ⊎ (is_ok (inquiry_of query.question) ≡ true) }
 {
     let Query { root, question } = query;
@@ -452,12 +498,19 @@ pub(crate) fn answer_to<S: Hosts, O: Write>(
     out: &mut O,
 ) -> Result<Left, AllocError>
     ensures answered { (answer : AnAnswer)
-        × (IsAnswerOf (around (S.root hosts.old) (S.tree hosts.old) (S.left hosts.new) (S.seen hosts.new) (S.faults hosts.old < S.faults hosts.new) (S.unopened hosts.old hosts.new) (S.locked hosts.old)) (named_in (map string_bytes words.now)) (asked_of (map string_bytes words.now)) answer ⊎ ((answer ≡ memory_answer) × (hosts.new ≡ hosts.old)))
-        × IsLeft answer (O.contents out.old) (O.contents out.new) result }
+        × (IsAnswerOf (around (S.root hosts.old) (S.tree hosts.old) (S.left hosts.new)
+        (S.seen hosts.new) (S.faults hosts.old < S.faults hosts.new)
+        (S.unopened hosts.old hosts.new) (S.locked hosts.old))
+        (named_in (map string_bytes words.now)) (asked_of (map string_bytes words.now)) answer
+        ⊎ ((answer ≡ memory_answer) × (hosts.new ≡ hosts.old))) × IsLeft answer (O.contents out.old)
+        (O.contents out.new) result }
     ensures bound { IfOk result (λ left. status_left left ≤ 2) }
-    ensures quiet { IfOk result (λ left. (output_left left ≡ []) ⊎ (prints (asked_of (map string_bytes words.now)) ≡ true)) }
-    ensures unprinted { (out.new ≡ out.old) ⊎ (has_units (asked_of (map string_bytes words.now)) ≡ true) }
-    ensures unopened { (hosts.new ≡ hosts.old) ⊎ (opens_root (asked_of (map string_bytes words.now)) ≡ true) }
+    ensures quiet { IfOk result (λ left. (output_left left ≡ [])
+        ⊎ (prints (asked_of (map string_bytes words.now)) ≡ true)) }
+    ensures unprinted { (out.new ≡ out.old) ⊎ (has_units (asked_of (map string_bytes words.now))
+        ≡ true) }
+    ensures unopened { (hosts.new ≡ hosts.old) ⊎ (opens_root (asked_of (map string_bytes words.now))
+        ≡ true) }
 {
     match command_of(alloc, words) {
         Ok(Asked::Names) => whole(names(alloc)),

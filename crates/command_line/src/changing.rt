@@ -88,7 +88,8 @@ pub(crate) fn undiverting_in(
 // The report of an open session.
 fn carry_out<H: Host>(session: &mut Session<H>, asked: &Change) -> Report
     requires { session.old.closed ≡ false }
-    ensures { HasChanged asked.now result session.old.database.records session.old.lists.lists session.old.diversions.entries (H.state session.old.host) (H.state session.new.host) }
+    ensures { HasChanged asked.now result session.old.database.records session.old.lists.lists
+        session.old.diversions.entries (H.state session.old.host) (H.state session.new.host) }
 {
     match asked {
         Change::Divert(asked) => session.divert(asked),
@@ -104,7 +105,8 @@ fn change_on<S: Hosts>(
     asked: &Change,
 ) -> Result<Report, AdministrationFault>
     ensures done { IfOk result (IsChangedOn (S.left hosts.new) (S.Opened.state host) asked.now) }
-    ensures refused { IfErr result (λ fault. IsRefusedOn (S.left hosts.new) (S.Opened.state host) fault ⊎ ((fault ≡ NoMemory) × IsStoppedOn (S.left hosts.new) (S.Opened.state host))) }
+    ensures refused { IfErr result (λ fault. IsRefusedOn (S.left hosts.new) (S.Opened.state host)
+        fault ⊎ ((fault ≡ NoMemory) × IsStoppedOn (S.left hosts.new) (S.Opened.state host))) }
     ensures faults { S.faults hosts.old ≤ S.faults hosts.new }
 {
     match Session::open(alloc, host) {
@@ -127,8 +129,12 @@ pub(crate) fn change_under<S: Hosts>(
     root: &Text,
     asked: &Change,
 ) -> Result<Report, NotOpened>
-    ensures done { IfOk result (HasChangedUnder (around (S.root hosts.old) (S.tree hosts.old) (S.left hosts.new) (S.seen hosts.new) (S.faults hosts.old < S.faults hosts.new) (S.unopened hosts.old hosts.new) (S.locked hosts.old)) root.now asked.now) }
-    ensures refused { IfErr result (IsRootFault (around (S.root hosts.old) (S.tree hosts.old) (S.left hosts.new) (S.seen hosts.new) (S.faults hosts.old < S.faults hosts.new) (S.unopened hosts.old hosts.new) (S.locked hosts.old)) root.now) }
+    ensures done { IfOk result (HasChangedUnder (around (S.root hosts.old) (S.tree hosts.old)
+        (S.left hosts.new) (S.seen hosts.new) (S.faults hosts.old < S.faults hosts.new)
+        (S.unopened hosts.old hosts.new) (S.locked hosts.old)) root.now asked.now) }
+    ensures refused { IfErr result (IsRootFault (around (S.root hosts.old) (S.tree hosts.old)
+        (S.left hosts.new) (S.seen hosts.new) (S.faults hosts.old < S.faults hosts.new)
+        (S.unopened hosts.old hosts.new) (S.locked hosts.old)) root.now) }
 {
     match hosts.open_root(root.as_str(), ScriptStreams::Own) {
         Ok(host) => match change_on(alloc, hosts, host, asked) {

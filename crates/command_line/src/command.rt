@@ -22,12 +22,20 @@ pub fn run_words<S: Hosts, O: Write, E: Write>(
 ) -> u8
     ensures bound { result ≤ 2 }
     ensures answered { (answer : Answer)
-        × (IsAnswerOf (around (S.root hosts.old) (S.tree hosts.old) (S.left hosts.new) (S.seen hosts.new) (S.faults hosts.old < S.faults hosts.new) (S.unopened hosts.old hosts.new) (S.locked hosts.old)) (named_in (map string_bytes words.now)) (asked_of (map string_bytes words.now)) answer ⊎ ((answer ≡ memory_answer) × (hosts.new ≡ hosts.old)))
-        × (IsGiven answer (O.contents out.old) (O.contents out.new) (E.contents err.old) (E.contents err.new) result
-        ⊎ (IsGiven memory_answer (O.contents out.old) (O.contents out.new) (E.contents err.old) (E.contents err.new) result
-        ⊎ ((has_units (asked_of (map string_bytes words.now)) ≡ true) × IsGivenInPart answer (O.contents out.old) (O.contents out.new) (E.contents err.old) (E.contents err.new) result))) }
+        × (IsAnswerOf (around (S.root hosts.old) (S.tree hosts.old) (S.left hosts.new)
+        (S.seen hosts.new) (S.faults hosts.old < S.faults hosts.new)
+        (S.unopened hosts.old hosts.new) (S.locked hosts.old))
+        (named_in (map string_bytes words.now)) (asked_of (map string_bytes words.now)) answer
+        ⊎ ((answer ≡ memory_answer) × (hosts.new ≡ hosts.old)))
+        × (IsGiven answer (O.contents out.old) (O.contents out.new) (E.contents err.old)
+        (E.contents err.new) result
+        ⊎ (IsGiven memory_answer (O.contents out.old) (O.contents out.new) (E.contents err.old)
+        (E.contents err.new) result ⊎ ((has_units (asked_of (map string_bytes words.now)) ≡ true)
+        × IsGivenInPart answer (O.contents out.old) (O.contents out.new) (E.contents err.old)
+        (E.contents err.new) result))) }
     ensures quiet { (out.new ≡ out.old) ⊎ (prints (asked_of (map string_bytes words.now)) ≡ true) }
-    ensures unopened { (hosts.new ≡ hosts.old) ⊎ (opens_root (asked_of (map string_bytes words.now)) ≡ true) }
+    ensures unopened { (hosts.new ≡ hosts.old) ⊎ (opens_root (asked_of (map string_bytes words.now))
+        ≡ true) }
 {
     match answer_to(alloc, hosts, words, out) {
         Ok(Left::Rest(answer)) => give(&answer, out, err),

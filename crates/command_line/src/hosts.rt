@@ -40,7 +40,8 @@ pub trait Hosts {
         directory: &str,
         streams: ScriptStreams,
     ) -> Result<Self::Opened, RootFault>
-        ensures opened { IfOk result (λ host. root self.old directory.now (Self.Opened.state host)) }
+        ensures opened { IfOk result (λ host. root self.old directory.now
+            (Self.Opened.state host)) }
         ensures unopened { OnErr result (unopened self.old self.new) }
         ensures trees { (word : List ℕ) (s : State) → tree self.new word s → tree self.old word s }
         ensures seen { (s : State) → seen self.old s → seen self.new s }
@@ -50,7 +51,8 @@ pub trait Hosts {
 
     /// The host for a TREE as it was given. It shows the tree's own owners, whatever they become.
     fn open_tree(&mut self, directory: &str, owners: TreeOwners) -> Result<Self::Opened, HostFault>
-        ensures opened { IfOk result (λ host. tree self.old directory.now (Self.Opened.state host)) }
+        ensures opened { IfOk result (λ host. tree self.old directory.now
+            (Self.Opened.state host)) }
         ensures trees { (word : List ℕ) (s : State) → tree self.new word s → tree self.old word s }
         ensures seen { (s : State) → seen self.old s → seen self.new s }
         ensures faults { faults self.old ≤ faults self.new }

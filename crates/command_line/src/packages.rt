@@ -72,9 +72,12 @@ fn carry_out<H: Host, W: Watcher>(
     watcher: &mut W,
 ) -> Result<Report, AllocError>
     requires { session.old.closed ≡ false }
-    ensures done { IfOk result (λ done. HasWorked asked.now done (held session.old.database session.old.lists session.old.diversions) (H.state session.old.host) (H.state session.new.host)) }
+    ensures done { IfOk result (λ done. HasWorked asked.now done (held session.old.database
+        session.old.lists session.old.diversions) (H.state session.old.host)
+        (H.state session.new.host)) }
     ensures unmoved { OnErr result (H.state session.new.host ≡ H.state session.old.host) }
-    ensures watched { IfOk result (λ done. IsTold W.tells watcher.old done.units.items watcher.new) }
+    ensures watched { IfOk result (λ done. IsTold W.tells watcher.old done.units.items
+        watcher.new) }
     ensures unwatched { OnErr result (watcher.new ≡ watcher.old) }
 {
     match asked {
@@ -102,9 +105,11 @@ fn work_on<S: Hosts, W: Watcher>(
     watcher: &mut W,
 ) -> Result<Report, AdministrationFault>
     ensures done { IfOk result (IsWorkedOn (S.left hosts.new) (S.Opened.state host) asked.now) }
-    ensures refused { IfErr result (λ fault. IsRefusedOn (S.left hosts.new) (S.Opened.state host) fault ⊎ ((fault ≡ NoMemory) × IsStoppedOn (S.left hosts.new) (S.Opened.state host))) }
+    ensures refused { IfErr result (λ fault. IsRefusedOn (S.left hosts.new) (S.Opened.state host)
+        fault ⊎ ((fault ≡ NoMemory) × IsStoppedOn (S.left hosts.new) (S.Opened.state host))) }
     ensures faults { S.faults hosts.old ≤ S.faults hosts.new }
-    ensures watched { IfOk result (λ done. IsTold W.tells watcher.old done.units.items watcher.new) }
+    ensures watched { IfOk result (λ done. IsTold W.tells watcher.old done.units.items
+        watcher.new) }
     ensures unwatched { OnErr result (watcher.new ≡ watcher.old) }
 {
     match Session::open(alloc, host) {
@@ -130,9 +135,14 @@ pub(crate) fn work_under<S: Hosts, W: Watcher>(
     asked: &Work,
     watcher: &mut W,
 ) -> Result<Report, NotOpened>
-    ensures done { IfOk result (HasWorkedUnder (around (S.root hosts.old) (S.tree hosts.old) (S.left hosts.new) (S.seen hosts.new) (S.faults hosts.old < S.faults hosts.new) (S.unopened hosts.old hosts.new) (S.locked hosts.old)) root.now asked.now) }
-    ensures refused { IfErr result (IsRootFault (around (S.root hosts.old) (S.tree hosts.old) (S.left hosts.new) (S.seen hosts.new) (S.faults hosts.old < S.faults hosts.new) (S.unopened hosts.old hosts.new) (S.locked hosts.old)) root.now) }
-    ensures watched { IfOk result (λ done. IsTold W.tells watcher.old done.units.items watcher.new) }
+    ensures done { IfOk result (HasWorkedUnder (around (S.root hosts.old) (S.tree hosts.old)
+        (S.left hosts.new) (S.seen hosts.new) (S.faults hosts.old < S.faults hosts.new)
+        (S.unopened hosts.old hosts.new) (S.locked hosts.old)) root.now asked.now) }
+    ensures refused { IfErr result (IsRootFault (around (S.root hosts.old) (S.tree hosts.old)
+        (S.left hosts.new) (S.seen hosts.new) (S.faults hosts.old < S.faults hosts.new)
+        (S.unopened hosts.old hosts.new) (S.locked hosts.old)) root.now) }
+    ensures watched { IfOk result (λ done. IsTold W.tells watcher.old done.units.items
+        watcher.new) }
     ensures unwatched { OnErr result (watcher.new ≡ watcher.old) }
 {
     match hosts.open_root(root.as_str(), streams) {

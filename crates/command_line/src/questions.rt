@@ -83,7 +83,8 @@ pub(crate) fn bad_path(alloc: Global, text: &Text) -> Result<Answer, AllocError>
 }
 
 fn text_answer(alloc: Global, text: Result<Bytes, QueryFault>) -> Result<Answer, AllocError>
-    ensures { (wanted : List ℕ) → IsAnswer false wanted text → IfOk result (λ answer. answer ≡ text_answer wanted) }
+    ensures { (wanted : List ℕ) → IsAnswer false wanted text → IfOk
+        result (λ answer. answer ≡ text_answer wanted) }
 {
     match text {
         Ok(text) => Ok(told(alloc, text, 0)),
@@ -96,7 +97,8 @@ fn package_answer(
     name: &Text,
     text: Result<Bytes, QueryFault>,
 ) -> Result<Answer, AllocError>
-    ensures { (wanted : Option (List ℕ)) → IsAnswerAbout false wanted text → IfOk result (λ answer. answer ≡ package_answer name.now wanted) }
+    ensures { (wanted : Option (List ℕ)) → IsAnswerAbout false wanted text → IfOk
+        result (λ answer. answer ≡ package_answer name.now wanted) }
 {
     match text {
         Ok(text) => Ok(told(alloc, text, 0)),
@@ -110,7 +112,8 @@ fn package_answer(
 }
 
 fn search_answer(alloc: Global, text: Result<Bytes, QueryFault>) -> Result<Answer, AllocError>
-    ensures { (wanted : List ℕ) → IsAnswer false wanted text → IfOk result (λ answer. answer ≡ search_answer wanted) }
+    ensures { (wanted : List ℕ) → IsAnswer false wanted text → IfOk
+        result (λ answer. answer ≡ search_answer wanted) }
 {
     match text {
         Ok(text) => {
@@ -128,7 +131,8 @@ fn inquire<H: Host>(
     asked: &Inquiry,
 ) -> Result<Answer, AllocError>
     requires { session.now.closed ≡ false }
-    ensures { IfOk result (λ answer. answer ≡ inquiry_answer asked.now session.now.database.records session.now.lists.lists session.now.diversions.entries) }
+    ensures { IfOk result (λ answer. answer ≡ inquiry_answer asked.now session.now.database.records
+        session.now.lists.lists session.now.diversions.entries) }
 {
     match asked {
         Inquiry::Audit => text_answer(alloc, session.audit()),
@@ -151,7 +155,8 @@ fn inquire_on<S: Hosts>(
     asked: &Inquiry,
 ) -> Result<Answer, AdministrationFault>
     ensures answer { IfOk result (IsInquiredOn (S.left hosts.new) (S.Opened.state host) asked.now) }
-    ensures refused { IfErr result (λ fault. IsRefusedOn (S.left hosts.new) (S.Opened.state host) fault ⊎ ((fault ≡ NoMemory) × IsStoppedOn (S.left hosts.new) (S.Opened.state host))) }
+    ensures refused { IfErr result (λ fault. IsRefusedOn (S.left hosts.new) (S.Opened.state host)
+        fault ⊎ ((fault ≡ NoMemory) × IsStoppedOn (S.left hosts.new) (S.Opened.state host))) }
     ensures faults { S.faults hosts.old ≤ S.faults hosts.new }
 {
     match Session::open(alloc, host) {
@@ -175,8 +180,12 @@ pub(crate) fn inquire_under<S: Hosts>(
     root: &Text,
     asked: &Inquiry,
 ) -> Result<Answer, NotOpened>
-    ensures answer { IfOk result (HasInquired (around (S.root hosts.old) (S.tree hosts.old) (S.left hosts.new) (S.seen hosts.new) (S.faults hosts.old < S.faults hosts.new) (S.unopened hosts.old hosts.new) (S.locked hosts.old)) root.now asked.now) }
-    ensures refused { IfErr result (IsRootFault (around (S.root hosts.old) (S.tree hosts.old) (S.left hosts.new) (S.seen hosts.new) (S.faults hosts.old < S.faults hosts.new) (S.unopened hosts.old hosts.new) (S.locked hosts.old)) root.now) }
+    ensures answer { IfOk result (HasInquired (around (S.root hosts.old) (S.tree hosts.old)
+        (S.left hosts.new) (S.seen hosts.new) (S.faults hosts.old < S.faults hosts.new)
+        (S.unopened hosts.old hosts.new) (S.locked hosts.old)) root.now asked.now) }
+    ensures refused { IfErr result (IsRootFault (around (S.root hosts.old) (S.tree hosts.old)
+        (S.left hosts.new) (S.seen hosts.new) (S.faults hosts.old < S.faults hosts.new)
+        (S.unopened hosts.old hosts.new) (S.locked hosts.old)) root.now) }
 {
     match hosts.open_root(root.as_str(), ScriptStreams::Own) {
         Ok(host) => match inquire_on(alloc, hosts, host, asked) {

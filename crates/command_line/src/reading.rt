@@ -94,8 +94,11 @@ fn read_once<S: Hosts>(
     earlier: &[Text],
     tree: &str,
 ) -> Result<Package, TreeFault>
-    ensures read { IsReadOnce (around (S.root hosts.old) (S.tree hosts.old) (S.left hosts.new) (S.seen hosts.new) (S.faults hosts.old < S.faults hosts.new) (S.unopened hosts.old hosts.new) (S.locked hosts.old)) owners earlier.now tree.now result }
-    ensures on { HaveGoneOn (S.tree hosts.old) (S.tree hosts.new) (S.seen hosts.old) (S.seen hosts.new) (S.faults hosts.old) (S.faults hosts.new) }
+    ensures read { IsReadOnce (around (S.root hosts.old) (S.tree hosts.old) (S.left hosts.new)
+        (S.seen hosts.new) (S.faults hosts.old < S.faults hosts.new)
+        (S.unopened hosts.old hosts.new) (S.locked hosts.old)) owners earlier.now tree.now result }
+    ensures on { HaveGoneOn (S.tree hosts.old) (S.tree hosts.new) (S.seen hosts.old)
+        (S.seen hosts.new) (S.faults hosts.old) (S.faults hosts.new) }
 {
     if is_among(earlier, tree) {
         return Err(TreeFault::Twice);
@@ -110,8 +113,11 @@ fn read_package<S: Hosts>(
     owners: TreeOwners,
     tree: &str,
 ) -> Result<Package, TreeFault>
-    ensures read { IsReadFor (around (S.root hosts.old) (S.tree hosts.old) (S.left hosts.new) (S.seen hosts.new) (S.faults hosts.old < S.faults hosts.new) (S.unopened hosts.old hosts.new) (S.locked hosts.old)) owners tree.now result }
-    ensures on { HaveGoneOn (S.tree hosts.old) (S.tree hosts.new) (S.seen hosts.old) (S.seen hosts.new) (S.faults hosts.old) (S.faults hosts.new) }
+    ensures read { IsReadFor (around (S.root hosts.old) (S.tree hosts.old) (S.left hosts.new)
+        (S.seen hosts.new) (S.faults hosts.old < S.faults hosts.new)
+        (S.unopened hosts.old hosts.new) (S.locked hosts.old)) owners tree.now result }
+    ensures on { HaveGoneOn (S.tree hosts.old) (S.tree hosts.new) (S.seen hosts.old)
+        (S.seen hosts.new) (S.faults hosts.old) (S.faults hosts.new) }
 {
     match hosts.open_tree(tree, owners) {
         Ok(mut host) => {
@@ -127,7 +133,8 @@ fn read_package<S: Hosts>(
 
 // What the tree gives on which a host was opened.
 fn read_as<H: Host>(alloc: Global, host: &mut H, owners: TreeOwners) -> Result<Package, TreeFault>
-    ensures read { IsTrue (H.state host.new).honest → IsReadAs owners (H.state host.old).world result }
+    ensures read { IsTrue (H.state host.new).honest → IsReadAs owners (H.state host.old).world
+        result }
     ensures reads { Reads (H.state host.old) (H.state host.new) }
     ensures silent { Silent (H.state host.old) (H.state host.new) }
     ensures counts { CountsTree (H.state host.old) (H.state host.new) result }

@@ -9,7 +9,9 @@ use std::io::{ErrorKind, Write};
 
 // What is left of a text after one write, unless the writer takes nothing more.
 fn write_some<'a, W: Write>(writer: &mut W, text: &'a [u8]) -> Option<&'a [u8]>
-    ensures { MatchOption result (Keeps (W.contents writer.old) (W.contents writer.new)) (λ rest. (front : List ℕ) × (text.now ≡ front ++ rest.now) × Appends (W.contents writer.old) (W.contents writer.new) front) }
+    ensures { MatchOption result (Keeps (W.contents writer.old) (W.contents writer.new))
+        (λ rest. (front : List ℕ) × (text.now ≡ front ++ rest.now) × Appends (W.contents writer.old)
+        (W.contents writer.new) front) }
 {
     match writer.write(text) {
         Ok(0) => None,
@@ -22,7 +24,8 @@ fn write_some<'a, W: Write>(writer: &mut W, text: &'a [u8]) -> Option<&'a [u8]>
 /// Whether all of a text could be written. Each turn writes a byte or more, but for a write that was
 /// interrupted: the bound on the turns is there for a writer that is interrupted for ever.
 pub(crate) fn write_whole<W: Write>(writer: &mut W, text: &[u8]) -> bool
-    ensures written { MatchBool result (Appends (W.contents writer.old) (W.contents writer.new) text.now) (AppendsPart (W.contents writer.old) (W.contents writer.new) text.now) }
+    ensures written { MatchBool result (Appends (W.contents writer.old) (W.contents writer.new)
+        text.now) (AppendsPart (W.contents writer.old) (W.contents writer.new) text.now) }
     ensures idle { text.now ≡ [] → writer.new ≡ writer.old }
 {
     let mut left = text;
@@ -40,7 +43,10 @@ pub(crate) fn write_whole<W: Write>(writer: &mut W, text: &[u8]) -> bool
 
 // Whether all of an answer could be written.
 fn write_answer<O: Write, E: Write>(answer: &Answer, out: &mut O, err: &mut E) -> bool
-    ensures written { MatchBool result (Appends (O.contents out.old) (O.contents out.new) answer.now.output × Appends (E.contents err.old) (E.contents err.new) answer.now.error) (IsCut answer.now (O.contents out.old) (O.contents out.new) (E.contents err.old) (E.contents err.new)) }
+    ensures written { MatchBool result (Appends (O.contents out.old) (O.contents out.new)
+        answer.now.output × Appends (E.contents err.old) (E.contents err.new) answer.now.error)
+        (IsCut answer.now (O.contents out.old) (O.contents out.new) (E.contents err.old)
+        (E.contents err.new)) }
     ensures quiet { answer.now.output ≡ [] → out.new ≡ out.old }
 {
     if !write_whole(out, answer.output.as_slice()) {
@@ -51,7 +57,8 @@ fn write_answer<O: Write, E: Write>(answer: &Answer, out: &mut O, err: &mut E) -
 
 /// Writes an answer and gives its status. A failed write ends with status 2.
 pub(crate) fn give<O: Write, E: Write>(answer: &Answer, out: &mut O, err: &mut E) -> u8
-    ensures given { IsGiven answer.now (O.contents out.old) (O.contents out.new) (E.contents err.old) (E.contents err.new) result }
+    ensures given { IsGiven answer.now (O.contents out.old) (O.contents out.new)
+        (E.contents err.old) (E.contents err.new) result }
     ensures quiet { answer.now.output ≡ [] → out.new ≡ out.old }
     ensures bound { answer.now.status ≤ 2 → result ≤ 2 }
 {
@@ -63,7 +70,8 @@ pub(crate) fn give<O: Write, E: Write>(answer: &Answer, out: &mut O, err: &mut E
 
 /// Writes to standard error that memory was wanting for the answer, of which the first lines may be written, and gives status 2.
 pub(crate) fn give_want_of_memory<E: Write>(err: &mut E) -> u8
-    ensures given { (front : List ℕ) (old new : Option (List ℕ)) → Appends old new front → IsGiven (wanting_answer front) old new (E.contents err.old) (E.contents err.new) result }
+    ensures given { (front : List ℕ) (old new : Option (List ℕ)) → Appends old new front
+        → IsGiven (wanting_answer front) old new (E.contents err.old) (E.contents err.new) result }
     ensures status { result ≡ 2 }
 {
     let _ = write_whole(err, b"broken memory\n");

@@ -68,8 +68,10 @@ fn flag<'a>(alloc: Global, name: &'a str) -> Arg<'a>
 // Adds an argument that is not global.
 fn with_arg<'a>(command: Command<'a>, arg: Arg<'a>) -> Result<Command<'a>, AllocError>
     requires { (rule_of arg).is_simple ≡ true }
-    ensures app { IfOk result (λ c. app_of c ≡ with_rule (app_of command.entry) (rule_of arg.entry)) }
-    ensures local { IfOk result (λ c. (fields_of c).has_globals ≡ (fields_of command.entry).has_globals) }
+    ensures app { IfOk result (λ c. app_of c ≡ with_rule (app_of command.entry)
+        (rule_of arg.entry)) }
+    ensures local { IfOk result (λ c. (fields_of c).has_globals
+        ≡ (fields_of command.entry).has_globals) }
 {
     command.arg(arg)
 }
@@ -117,7 +119,8 @@ fn truename_command<'a>(alloc: Global) -> Result<Command<'a>, AllocError>
 // Whose diversion it is.
 fn with_owner<'a>(alloc: Global, command: Command<'a>) -> Result<Command<'a>, AllocError>
     ensures app { IfOk result (λ c. app_of c ≡ with_owner (app_of command.entry)) }
-    ensures local { IfOk result (λ c. (fields_of c).has_globals ≡ (fields_of command.entry).has_globals) }
+    ensures local { IfOk result (λ c. (fields_of c).has_globals
+        ≡ (fields_of command.entry).has_globals) }
 {
     with_arg(
         with_arg(command, option(alloc, "package"))?,
@@ -128,7 +131,8 @@ fn with_owner<'a>(alloc: Global, command: Command<'a>) -> Result<Command<'a>, Al
 // The path of a diversion, and whether what stands there is renamed.
 fn with_diverted<'a>(alloc: Global, command: Command<'a>) -> Result<Command<'a>, AllocError>
     ensures app { IfOk result (λ c. app_of c ≡ with_diverted (app_of command.entry)) }
-    ensures local { IfOk result (λ c. (fields_of c).has_globals ≡ (fields_of command.entry).has_globals) }
+    ensures local { IfOk result (λ c. (fields_of c).has_globals
+        ≡ (fields_of command.entry).has_globals) }
 {
     with_arg(
         with_arg(command, flag(alloc, "rename"))?,
@@ -156,7 +160,8 @@ fn undivert_command<'a>(alloc: Global) -> Result<Command<'a>, AllocError>
 // What is forced of conffiles.
 fn with_forced<'a>(alloc: Global, command: Command<'a>) -> Result<Command<'a>, AllocError>
     ensures app { IfOk result (λ c. app_of c ≡ with_forced (app_of command.entry)) }
-    ensures local { IfOk result (λ c. (fields_of c).has_globals ≡ (fields_of command.entry).has_globals) }
+    ensures local { IfOk result (λ c. (fields_of c).has_globals
+        ≡ (fields_of command.entry).has_globals) }
 {
     let command = with_arg(command, flag(alloc, "force-confold"))?;
     let command = with_arg(command, flag(alloc, "force-confnew"))?;
@@ -209,7 +214,8 @@ fn without_help<'a>(command: Command<'a>) -> Command<'a>
 
 fn with<'a>(whole: Command<'a>, subcommand: Command<'a>) -> Result<Command<'a>, AllocError>
     requires { (fields_of subcommand).has_globals ≡ false }
-    ensures { IfOk result (λ c. app_of c ≡ with_subcommand (app_of whole.entry) (app_of subcommand.entry).top) }
+    ensures { IfOk result (λ c. app_of c ≡ with_subcommand (app_of whole.entry)
+        (app_of subcommand.entry).top) }
 {
     whole.subcommand(subcommand)
 }

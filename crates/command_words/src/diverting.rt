@@ -34,7 +34,8 @@ fn owner_from(
     package: Option<&str>,
     local: bool,
 ) -> Result<Option<Option<Text>>, AllocError>
-    ensures { IfOk result (λ owner. owner ≡ owner_from (option_map (λ s. s.now) «package».entry) local) }
+    ensures { IfOk result (λ owner. owner ≡ owner_from (option_map (λ s. s.now) «package».entry)
+        local) }
 {
     let Some(name) = package else {
         return Ok(if local { Some(None) } else { None });
@@ -59,7 +60,8 @@ fn undiverting_from(
     rename: bool,
     path: Option<&str>,
 ) -> Result<Option<Undiverting>, AllocError>
-    ensures { IfOk result (λ asked. asked ≡ undiverting_from (option_map (λ s. s.now) root.entry) owner rename (option_map (λ s. s.now) path.entry)) }
+    ensures { IfOk result (λ asked. asked ≡ undiverting_from (option_map (λ s. s.now) root.entry)
+        owner rename (option_map (λ s. s.now) path.entry)) }
 {
     let (Some(root), Some(owner), Some(path)) = (root, owner, path) else {
         return Ok(None);

@@ -14,7 +14,8 @@ pub(crate) fn text_of<'a>(found: &ArgMatches<'a>, id: &str) -> Option<&'a str>
 }
 
 pub(crate) fn all_texts_of<'a>(found: &'a ArgMatches<'_>, id: &str) -> Option<&'a [&'a str]>
-    ensures { option_map (λ s. map (λ t. t.now) s.now) result ≡ all_of id.now (rows_of (found_of found.now)) }
+    ensures { option_map (λ s. map (λ t. t.now) s.now) result ≡ all_of id.now
+        (rows_of (found_of found.now)) }
 {
     found.get_strs(id)
 }

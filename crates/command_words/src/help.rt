@@ -321,7 +321,8 @@ pub(crate) fn named_in(words: &[String]) -> Topic
 }
 
 fn screen_text(alloc: Global, usage: &str, about: &str) -> Result<String, AllocError>
-    ensures { IfOk result (λ text. string_bytes text ≡ codes "Usage: coizkerra " ++ (usage.now ++ (codes "\n\n" ++ about.now))) }
+    ensures { IfOk result (λ text. string_bytes text ≡ codes "Usage: coizkerra "
+        ++ (usage.now ++ (codes "\n\n" ++ about.now))) }
 {
     format!(in alloc; "Usage: coizkerra {usage}\n\n{about}")
 }

@@ -85,7 +85,8 @@ fn removing_from(
     names: Option<Texts>,
     streams: ScriptStreams,
 ) -> Result<Option<Removing>, AllocError>
-    ensures { IfOk result (λ asked. asked ≡ removing_from (option_map (λ s. s.now) root.entry) names streams) }
+    ensures { IfOk result (λ asked. asked ≡ removing_from (option_map (λ s. s.now) root.entry) names
+        streams) }
 {
     let (Some(root), Some(names)) = (root, names) else {
         return Ok(None);

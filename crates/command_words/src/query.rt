@@ -37,7 +37,8 @@ fn truename_from(
     package: Option<&str>,
     path: Option<&str>,
 ) -> Result<Option<Question>, AllocError>
-    ensures { IfOk result (λ question. question ≡ truename_from (option_map (λ s. s.now) «package».entry) (option_map (λ s. s.now) path.entry)) }
+    ensures { IfOk result (λ question. question ≡ truename_from
+        (option_map (λ s. s.now) «package».entry) (option_map (λ s. s.now) path.entry)) }
 {
     let Some(path) = path else {
         return Ok(None);
@@ -56,7 +57,8 @@ fn question_of(
     name: &str,
     found: &ArgMatches<'_>,
 ) -> Result<Option<Question>, AllocError>
-    ensures { IfOk result (λ question. question ≡ question_of name.now (rows_of (found_of found.now))) }
+    ensures { IfOk result (λ question. question ≡ question_of name.now
+        (rows_of (found_of found.now))) }
 {
     match name {
         "audit" => Ok(Some(Question::Audit)),
@@ -75,7 +77,8 @@ fn query_from(
     root: Option<&str>,
     question: Option<Question>,
 ) -> Result<Option<Query>, AllocError>
-    ensures { IfOk result (λ query. query ≡ query_from (option_map (λ s. s.now) root.entry) question) }
+    ensures { IfOk result (λ query. query ≡ query_from (option_map (λ s. s.now) root.entry)
+        question) }
 {
     let (Some(root), Some(question)) = (root, question) else {
         return Ok(None);

@@ -111,7 +111,8 @@ fn owned_comparison(
     operator: Operator,
     second: &str,
 ) -> Result<Comparison, AllocError>
-    ensures { IfOk result (λ c. (c.first ≡ first.now) × (c.operator ≡ operator) × (c.second ≡ second.now)) }
+    ensures { IfOk result (λ c. (c.first ≡ first.now) × (c.operator ≡ operator)
+        × (c.second ≡ second.now)) }
 {
     let first = Text::from_str(alloc, first)?;
     let second = Text::from_str(alloc, second)?;
@@ -135,8 +136,9 @@ fn read_comparison<'a>(
     word: Option<&'a str>,
     second: Option<&'a str>,
 ) -> Option<Compared<'a>>
-    ensures { option_map comparison_in result
-        ≡ comparison_from (option_map (λ s. s.now) first.entry) (option_map (λ s. s.now) word.entry) (option_map (λ s. s.now) second.entry) }
+    ensures { option_map comparison_in result ≡ comparison_from
+        (option_map (λ s. s.now) first.entry) (option_map (λ s. s.now) word.entry)
+        (option_map (λ s. s.now) second.entry) }
 {
     let (Some(first), Some(word), Some(second)) = (first, word, second) else {
         return None;
@@ -193,8 +195,10 @@ fn asked_by(alloc: Global, name: &str, found: &ArgMatches<'_>) -> Result<Option<
 
 // What a subcommand asks for, or the mistake in its words.
 fn asked_or_mistake(alloc: Global, name: &str, found: &ArgMatches<'_>) -> Result<Asked, WordsFault>
-    ensures asked { IfOk result (λ asked. asked_by name.now (rows_of (found_of found.now)) ≡ Some asked) }
-    ensures usage { IfErr result (λ fault. (fault ≡ NoMemory) ⊎ (asked_by name.now (rows_of (found_of found.now)) ≡ None)) }
+    ensures asked { IfOk result (λ asked. asked_by name.now (rows_of (found_of found.now))
+        ≡ Some asked) }
+    ensures usage { IfErr result (λ fault. (fault ≡ NoMemory)
+        ⊎ (asked_by name.now (rows_of (found_of found.now)) ≡ None)) }
 {
     match asked_by(alloc, name, found)? {
         Some(asked) => Ok(asked),
@@ -204,7 +208,8 @@ fn asked_or_mistake(alloc: Global, name: &str, found: &ArgMatches<'_>) -> Result
 
 fn asked_in(alloc: Global, matches: &ArgMatches<'_>) -> Result<Asked, WordsFault>
     ensures asked { IfOk result (λ asked. asked_in (subcommand_rows_of matches.now) ≡ Some asked) }
-    ensures usage { IfErr result (λ fault. (fault ≡ NoMemory) ⊎ (asked_in (subcommand_rows_of matches.now) ≡ None)) }
+    ensures usage { IfErr result (λ fault. (fault ≡ NoMemory)
+        ⊎ (asked_in (subcommand_rows_of matches.now) ≡ None)) }
 {
     match matches.subcommand() {
         Some((name, found)) => asked_or_mistake(alloc, name, found),
@@ -240,7 +245,8 @@ fn flagged(words: &[String]) -> Option<Asked>
 // What words without such a flag ask for, or why they ask for nothing.
 fn parsed(alloc: Global, words: &[String]) -> Result<Asked, WordsFault>
     ensures asked { IfOk result (λ asked. parsed_of (map string_bytes words.now) ≡ Some asked) }
-    ensures usage { IfErr result (λ fault. (fault ≡ NoMemory) ⊎ (parsed_of (map string_bytes words.now) ≡ None)) }
+    ensures usage { IfErr result (λ fault. (fault ≡ NoMemory)
+        ⊎ (parsed_of (map string_bytes words.now) ≡ None)) }
 {
     match whole_command(alloc)?.try_get_matches_from(words) {
         Ok(matches) => asked_in(alloc, &matches),
@@ -251,7 +257,8 @@ fn parsed(alloc: Global, words: &[String]) -> Result<Asked, WordsFault>
 // What the words ask for, or why they ask for nothing.
 fn read_words(alloc: Global, words: &[String]) -> Result<Asked, WordsFault>
     ensures asked { IfOk result (λ asked. asked_of (map string_bytes words.now) ≡ Some asked) }
-    ensures usage { IfErr result (λ fault. (fault ≡ NoMemory) ⊎ (asked_of (map string_bytes words.now) ≡ None)) }
+    ensures usage { IfErr result (λ fault. (fault ≡ NoMemory)
+        ⊎ (asked_of (map string_bytes words.now) ≡ None)) }
 {
     if words.len() <= 1 {
         return Ok(Asked::Names);
@@ -279,7 +286,8 @@ fn with_screen(alloc: Global, fault: WordsFault, topic: Topic) -> WordsFault
 /// What the words ask for, the first of which is the program's name. A text of usage ends with a newline.
 pub fn command_of(alloc: Global, words: &[String]) -> Result<Asked, WordsFault>
     ensures asked { IfOk result (λ asked. asked_of (map string_bytes words.now) ≡ Some asked) }
-    ensures usage { IfErr result (λ fault. (fault ≡ NoMemory) ⊎ (asked_of (map string_bytes words.now) ≡ None)) }
+    ensures usage { IfErr result (λ fault. (fault ≡ NoMemory)
+        ⊎ (asked_of (map string_bytes words.now) ≡ None)) }
     ensures screen { IfErr result (IsToldOf (named_in (map string_bytes words.now))) }
 {
     match read_words(alloc, words) {

@@ -99,5 +99,6 @@ pub fn decide(
 
 /// Each case falls in exactly one row of the table.
 pub fn each_case_has_one_row()
-    ensures { (recorded current shipped : Option (List ℕ)) → (row : Row) × IsOnlyRow row recorded current shipped }
+    ensures { (recorded current shipped : Option (List ℕ)) → (row : Row) × IsOnlyRow row recorded
+        current shipped }
 {}

@@ -18,7 +18,8 @@ fn is_other(kind: Option<Kind>) -> bool
 
 // The name, where something else than a file stands there.
 fn look_at<H: Host>(host: &mut H, name: RootPath) -> Result<Option<RootPath>, HostFault>
-    ensures found { Tells result (λ found w. found ≡ obstacle_of w (name ∷ [])) (H.state host.old) (H.state host.new) }
+    ensures found { Tells result (λ found w. found ≡ obstacle_of w (name ∷ [])) (H.state host.old)
+        (H.state host.new) }
     ensures reads { Reads (H.state host.old) (H.state host.new) }
     ensures silent { Silent (H.state host.old) (H.state host.new) }
     ensures counts { Counts (H.state host.old) (H.state host.new) result }
@@ -31,7 +32,8 @@ fn look_at<H: Host>(host: &mut H, name: RootPath) -> Result<Option<RootPath>, Ho
 
 #[tactic(auto, using(host_core::proofs::Moments::reads_then))]
 fn look_at_old<H: Host>(host: &mut H, path: &ShipPath) -> Result<Option<RootPath>, HostFault>
-    ensures found { Tells result (λ found w. found ≡ obstacle_of w (shipped_name path.now ∷ backup_name path.now ∷ [])) (H.state host.old) (H.state host.new) }
+    ensures found { Tells result (λ found w. found ≡ obstacle_of w (shipped_name path.now
+        ∷ backup_name path.now ∷ [])) (H.state host.old) (H.state host.new) }
     ensures reads { Reads (H.state host.old) (H.state host.new) }
     ensures silent { Silent (H.state host.old) (H.state host.new) }
     ensures counts { Counts (H.state host.old) (H.state host.new) result }
@@ -46,7 +48,9 @@ fn look_at_old<H: Host>(host: &mut H, path: &ShipPath) -> Result<Option<RootPath
 
 #[tactic(auto, using(host_core::proofs::Moments::reads_then))]
 fn look_beside<H: Host>(host: &mut H, path: &ShipPath) -> Result<Option<RootPath>, HostFault>
-    ensures found { Tells result (λ found w. found ≡ obstacle_of w (dist_name path.now ∷ spare_name path.now ∷ shipped_name path.now ∷ backup_name path.now ∷ [])) (H.state host.old) (H.state host.new) }
+    ensures found { Tells result (λ found w. found ≡ obstacle_of w (dist_name path.now ∷ spare_name
+        path.now ∷ shipped_name path.now ∷ backup_name path.now ∷ [])) (H.state host.old)
+        (H.state host.new) }
     ensures reads { Reads (H.state host.old) (H.state host.new) }
     ensures silent { Silent (H.state host.old) (H.state host.new) }
     ensures counts { Counts (H.state host.old) (H.state host.new) result }
@@ -64,7 +68,8 @@ fn look_beside<H: Host>(host: &mut H, path: &ShipPath) -> Result<Option<RootPath
 
 #[tactic(auto, using(host_core::proofs::Moments::reads_then))]
 fn look_at_all<H: Host>(host: &mut H, path: &ShipPath) -> Result<Option<RootPath>, HostFault>
-    ensures found { Tells result (λ found w. found ≡ obstacle_of w (ordered_names path.now)) (H.state host.old) (H.state host.new) }
+    ensures found { Tells result (λ found w. found ≡ obstacle_of w (ordered_names path.now))
+        (H.state host.old) (H.state host.new) }
     ensures reads { Reads (H.state host.old) (H.state host.new) }
     ensures silent { Silent (H.state host.old) (H.state host.new) }
     ensures counts { Counts (H.state host.old) (H.state host.new) result }
@@ -79,8 +84,10 @@ fn look_at_all<H: Host>(host: &mut H, path: &ShipPath) -> Result<Option<RootPath
 /// Of a conffile's path and the names beside it the first, in the order of their bytes, at which
 /// something else than a file stands: then it can't be settled.
 pub fn find_obstacle<H: Host>(host: &mut H, path: &ShipPath) -> Result<Option<RootPath>, HostFault>
-    ensures found { Tells result (λ found w. found ≡ obstacle_of w (ordered_names path.now)) (H.state host.old) (H.state host.new) }
-    ensures clear { Tells result (λ found w. found ≡ None → CanSettle path.now w) (H.state host.old) (H.state host.new) }
+    ensures found { Tells result (λ found w. found ≡ obstacle_of w (ordered_names path.now))
+        (H.state host.old) (H.state host.new) }
+    ensures clear { Tells result (λ found w. found ≡ None → CanSettle path.now w) (H.state host.old)
+        (H.state host.new) }
     ensures reads { Reads (H.state host.old) (H.state host.new) }
     ensures silent { Silent (H.state host.old) (H.state host.new) }
     ensures counts { Counts (H.state host.old) (H.state host.new) result }

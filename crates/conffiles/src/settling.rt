@@ -64,7 +64,8 @@ fn only_file(node: Option<Node>) -> Option<Node>
 // The file at a path, where one is there.
 fn file_at<H: Host>(host: &mut H, path: &RootPath) -> Result<Option<Node>, HostFault>
     ensures file { IfOk result (λ found. IfSome found IsFile) }
-    ensures found { Tells result (λ found w. IsFileOrNone (w path.now) → found ≡ w path.now) (H.state host.old) (H.state host.new) }
+    ensures found { Tells result (λ found w. IsFileOrNone (w path.now) → found ≡ w path.now)
+        (H.state host.old) (H.state host.new) }
     ensures reads { Reads (H.state host.old) (H.state host.new) }
     ensures silent { Silent (H.state host.old) (H.state host.new) }
     ensures counts { Counts (H.state host.old) (H.state host.new) result }
@@ -75,7 +76,8 @@ fn file_at<H: Host>(host: &mut H, path: &RootPath) -> Result<Option<Node>, HostF
 
 // The access of the file at a path, where one is there.
 fn look_at_access<H: Host>(host: &mut H, path: &RootPath) -> Result<Option<Access>, HostFault>
-    ensures found { Tells result (λ access w. access ≡ access_at (w path.now)) (H.state host.old) (H.state host.new) }
+    ensures found { Tells result (λ access w. access ≡ access_at (w path.now)) (H.state host.old)
+        (H.state host.new) }
     ensures reads { Reads (H.state host.old) (H.state host.new) }
     ensures silent { Silent (H.state host.old) (H.state host.new) }
     ensures counts { Counts (H.state host.old) (H.state host.new) result }
@@ -90,8 +92,10 @@ fn move_file<H: Host>(host: &mut H, from: &RootPath, to: &RootPath) -> Result<()
     requires from { Needs (H.state host.old) (λ w. NoDirectory (w from.now)) }
     requires to { Needs (H.state host.old) (λ w. NoDirectory (w to.now)) }
     requires parent { Needs (H.state host.old) (λ w. IsSome (w from.now) → HasParent w to.now) }
-    ensures moved { Leaves result (IsMovedIfThere from.now to.now) (H.state host.old) (H.state host.new) }
-    ensures any_moment { AtEachMoment (λ old now. (now ≡ old) ⊎ IsMovedIfThere from.now to.now old now) (H.state host.old) (H.state host.new) }
+    ensures moved { Leaves result (IsMovedIfThere from.now to.now) (H.state host.old)
+        (H.state host.new) }
+    ensures any_moment { AtEachMoment (λ old now. (now ≡ old) ⊎ IsMovedIfThere from.now to.now old
+        now) (H.state host.old) (H.state host.new) }
     ensures silent { Silent (H.state host.old) (H.state host.new) }
     ensures counts { Counts (H.state host.old) (H.state host.new) result }
 {
@@ -104,8 +108,10 @@ fn move_file<H: Host>(host: &mut H, from: &RootPath, to: &RootPath) -> Result<()
 
 fn drop_new<H: Host>(host: &mut H, path: &ShipPath) -> Result<(), HostFault>
     requires { Needs (H.state host.old) (CanSettle path.now) }
-    ensures settled { Leaves result (HasChanged (settled_files DropNew) path.now) (H.state host.old) (H.state host.new) }
-    ensures any_moment { AtEachMoment (IsChanging (settled_files DropNew) path.now) (H.state host.old) (H.state host.new) }
+    ensures settled { Leaves result (HasChanged (settled_files DropNew) path.now) (H.state host.old)
+        (H.state host.new) }
+    ensures any_moment { AtEachMoment (IsChanging (settled_files DropNew) path.now)
+        (H.state host.old) (H.state host.new) }
     ensures silent { Silent (H.state host.old) (H.state host.new) }
     ensures counts { Counts (H.state host.old) (H.state host.new) result }
 {
@@ -115,8 +121,10 @@ fn drop_new<H: Host>(host: &mut H, path: &ShipPath) -> Result<(), HostFault>
 
 fn delete<H: Host>(host: &mut H, path: &ShipPath) -> Result<(), HostFault>
     requires { Needs (H.state host.old) (CanSettle path.now) }
-    ensures settled { Leaves result (HasChanged (settled_files Delete) path.now) (H.state host.old) (H.state host.new) }
-    ensures any_moment { AtEachMoment (IsChanging (settled_files Delete) path.now) (H.state host.old) (H.state host.new) }
+    ensures settled { Leaves result (HasChanged (settled_files Delete) path.now) (H.state host.old)
+        (H.state host.new) }
+    ensures any_moment { AtEachMoment (IsChanging (settled_files Delete) path.now)
+        (H.state host.old) (H.state host.new) }
     ensures silent { Silent (H.state host.old) (H.state host.new) }
     ensures counts { Counts (H.state host.old) (H.state host.new) result }
 {
@@ -126,8 +134,10 @@ fn delete<H: Host>(host: &mut H, path: &ShipPath) -> Result<(), HostFault>
 
 fn rename_home<H: Host>(host: &mut H, path: &ShipPath) -> Result<(), HostFault>
     requires { Needs (H.state host.old) (CanSettle path.now) }
-    ensures settled { Leaves result (HasChanged (settled_files Rename) path.now) (H.state host.old) (H.state host.new) }
-    ensures any_moment { AtEachMoment (IsChanging (settled_files Rename) path.now) (H.state host.old) (H.state host.new) }
+    ensures settled { Leaves result (HasChanged (settled_files Rename) path.now) (H.state host.old)
+        (H.state host.new) }
+    ensures any_moment { AtEachMoment (IsChanging (settled_files Rename) path.now)
+        (H.state host.old) (H.state host.new) }
     ensures silent { Silent (H.state host.old) (H.state host.new) }
     ensures counts { Counts (H.state host.old) (H.state host.new) result }
 {
@@ -139,8 +149,10 @@ fn rename_home<H: Host>(host: &mut H, path: &ShipPath) -> Result<(), HostFault>
 
 fn new_to_dist<H: Host>(host: &mut H, path: &ShipPath) -> Result<(), HostFault>
     requires { Needs (H.state host.old) (CanSettle path.now) }
-    ensures settled { Leaves result (HasChanged (settled_files NewToDist) path.now) (H.state host.old) (H.state host.new) }
-    ensures any_moment { AtEachMoment (IsChanging (settled_files NewToDist) path.now) (H.state host.old) (H.state host.new) }
+    ensures settled { Leaves result (HasChanged (settled_files NewToDist) path.now)
+        (H.state host.old) (H.state host.new) }
+    ensures any_moment { AtEachMoment (IsChanging (settled_files NewToDist) path.now)
+        (H.state host.old) (H.state host.new) }
     ensures silent { Silent (H.state host.old) (H.state host.new) }
     ensures counts { Counts (H.state host.old) (H.state host.new) result }
 {
@@ -169,9 +181,12 @@ fn other_access(shipped: &Node, had: Option<Access>) -> Option<Access>
 fn take_home<H: Host>(host: &mut H, path: &ShipPath) -> Result<(), HostFault>
     requires can { Needs (H.state host.old) (CanSettle path.now) }
     requires there { Needs (H.state host.old) (λ w. IsSome (w (shipped_name path.now))) }
-    requires same { Needs (H.state host.old) (λ w. renewed (w path.now) (w (shipped_name path.now)) ≡ w (shipped_name path.now)) }
-    ensures settled { Leaves result (HasChanged (settled_files TakeNew) path.now) (H.state host.old) (H.state host.new) }
-    ensures any_moment { AtEachMoment (IsChanging (settled_files TakeNew) path.now) (H.state host.old) (H.state host.new) }
+    requires same { Needs (H.state host.old) (λ w. renewed (w path.now) (w (shipped_name path.now))
+        ≡ w (shipped_name path.now)) }
+    ensures settled { Leaves result (HasChanged (settled_files TakeNew) path.now) (H.state host.old)
+        (H.state host.new) }
+    ensures any_moment { AtEachMoment (IsChanging (settled_files TakeNew) path.now)
+        (H.state host.old) (H.state host.new) }
     ensures silent { Silent (H.state host.old) (H.state host.new) }
     ensures counts { Counts (H.state host.old) (H.state host.new) result }
 {
@@ -186,9 +201,12 @@ fn renew<H: Host>(host: &mut H, path: &ShipPath, node: &Node) -> Result<(), Host
     requires file { IsFile node.now }
     requires can { Needs (H.state host.old) (CanSettle path.now) }
     requires there { Needs (H.state host.old) (λ w. IsSome (w (shipped_name path.now))) }
-    requires renewed { Needs (H.state host.old) (λ w. renewed (w path.now) (w (shipped_name path.now)) ≡ Some node.now) }
-    ensures settled { Leaves result (HasChanged (settled_files TakeNew) path.now) (H.state host.old) (H.state host.new) }
-    ensures any_moment { AtEachMoment (IsChanging (settled_files TakeNew) path.now) (H.state host.old) (H.state host.new) }
+    requires renewed { Needs (H.state host.old) (λ w. renewed (w path.now)
+        (w (shipped_name path.now)) ≡ Some node.now) }
+    ensures settled { Leaves result (HasChanged (settled_files TakeNew) path.now) (H.state host.old)
+        (H.state host.new) }
+    ensures any_moment { AtEachMoment (IsChanging (settled_files TakeNew) path.now)
+        (H.state host.old) (H.state host.new) }
     ensures silent { Silent (H.state host.old) (H.state host.new) }
     ensures counts { Counts (H.state host.old) (H.state host.new) result }
 {
@@ -202,9 +220,12 @@ fn renew<H: Host>(host: &mut H, path: &ShipPath, node: &Node) -> Result<(), Host
 fn install<H: Host>(host: &mut H, path: &ShipPath, shipped: &Node) -> Result<(), HostFault>
     requires file { IsFile shipped.now }
     requires can { Needs (H.state host.old) (CanSettle path.now) }
-    requires shipped { Needs (H.state host.old) (λ w. w (shipped_name path.now) ≡ Some shipped.now) }
-    ensures settled { Leaves result (HasChanged (settled_files TakeNew) path.now) (H.state host.old) (H.state host.new) }
-    ensures any_moment { AtEachMoment (IsChanging (settled_files TakeNew) path.now) (H.state host.old) (H.state host.new) }
+    requires shipped { Needs (H.state host.old) (λ w. w (shipped_name path.now)
+        ≡ Some shipped.now) }
+    ensures settled { Leaves result (HasChanged (settled_files TakeNew) path.now) (H.state host.old)
+        (H.state host.new) }
+    ensures any_moment { AtEachMoment (IsChanging (settled_files TakeNew) path.now)
+        (H.state host.old) (H.state host.new) }
     ensures silent { Silent (H.state host.old) (H.state host.new) }
     ensures counts { Counts (H.state host.old) (H.state host.new) result }
 {
@@ -223,8 +244,10 @@ fn install<H: Host>(host: &mut H, path: &ShipPath, shipped: &Node) -> Result<(),
 
 fn take_new<H: Host>(host: &mut H, path: &ShipPath) -> Result<(), HostFault>
     requires { Needs (H.state host.old) (CanSettle path.now) }
-    ensures settled { Leaves result (HasChanged (settled_files TakeNew) path.now) (H.state host.old) (H.state host.new) }
-    ensures any_moment { AtEachMoment (IsChanging (settled_files TakeNew) path.now) (H.state host.old) (H.state host.new) }
+    ensures settled { Leaves result (HasChanged (settled_files TakeNew) path.now) (H.state host.old)
+        (H.state host.new) }
+    ensures any_moment { AtEachMoment (IsChanging (settled_files TakeNew) path.now)
+        (H.state host.old) (H.state host.new) }
     ensures silent { Silent (H.state host.old) (H.state host.new) }
     ensures counts { Counts (H.state host.old) (H.state host.new) result }
 {
@@ -245,8 +268,10 @@ fn keep_copy<H: Host>(host: &mut H, path: &ShipPath, had: &Node) -> Result<(), H
     requires file { IsFile had.now }
     requires can { Needs (H.state host.old) (CanSettle path.now) }
     requires home { Needs (H.state host.old) (λ w. w path.now ≡ Some had.now) }
-    ensures copied { Leaves result (HasChanged backed_up path.now) (H.state host.old) (H.state host.new) }
-    ensures any_moment { AtEachMoment (IsChanging backed_up path.now) (H.state host.old) (H.state host.new) }
+    ensures copied { Leaves result (HasChanged backed_up path.now) (H.state host.old)
+        (H.state host.new) }
+    ensures any_moment { AtEachMoment (IsChanging backed_up path.now) (H.state host.old)
+        (H.state host.new) }
     ensures silent { Silent (H.state host.old) (H.state host.new) }
     ensures counts { Counts (H.state host.old) (H.state host.new) result }
 {
@@ -259,8 +284,10 @@ fn keep_copy<H: Host>(host: &mut H, path: &ShipPath, had: &Node) -> Result<(), H
 
 fn back_up<H: Host>(host: &mut H, path: &ShipPath) -> Result<(), HostFault>
     requires { Needs (H.state host.old) (CanSettle path.now) }
-    ensures copied { Leaves result (HasChanged backed_up path.now) (H.state host.old) (H.state host.new) }
-    ensures any_moment { AtEachMoment (IsChanging backed_up path.now) (H.state host.old) (H.state host.new) }
+    ensures copied { Leaves result (HasChanged backed_up path.now) (H.state host.old)
+        (H.state host.new) }
+    ensures any_moment { AtEachMoment (IsChanging backed_up path.now) (H.state host.old)
+        (H.state host.new) }
     ensures silent { Silent (H.state host.old) (H.state host.new) }
     ensures counts { Counts (H.state host.old) (H.state host.new) result }
 {
@@ -278,8 +305,10 @@ fn back_up<H: Host>(host: &mut H, path: &ShipPath) -> Result<(), HostFault>
 
 fn back_up_old<H: Host>(host: &mut H, path: &ShipPath) -> Result<(), HostFault>
     requires { Needs (H.state host.old) (CanSettle path.now) }
-    ensures settled { Leaves result (HasChanged (settled_files BackupOld) path.now) (H.state host.old) (H.state host.new) }
-    ensures any_moment { AtEachMoment (IsChanging (settled_files BackupOld) path.now) (H.state host.old) (H.state host.new) }
+    ensures settled { Leaves result (HasChanged (settled_files BackupOld) path.now)
+        (H.state host.old) (H.state host.new) }
+    ensures any_moment { AtEachMoment (IsChanging (settled_files BackupOld) path.now)
+        (H.state host.old) (H.state host.new) }
     ensures silent { Silent (H.state host.old) (H.state host.new) }
     ensures counts { Counts (H.state host.old) (H.state host.new) result }
 {
@@ -294,8 +323,10 @@ fn back_up_old<H: Host>(host: &mut H, path: &ShipPath) -> Result<(), HostFault>
 
 fn settle<H: Host>(host: &mut H, entry: &Settled) -> Result<(), HostFault>
     requires { Needs (H.state host.old) (CanSettle entry.now.path) }
-    ensures settled { Leaves result (HasChanged (settled_files entry.now.decision) entry.now.path) (H.state host.old) (H.state host.new) }
-    ensures any_moment { AtEachMoment (IsChanging (settled_files entry.now.decision) entry.now.path) (H.state host.old) (H.state host.new) }
+    ensures settled { Leaves result (HasChanged (settled_files entry.now.decision) entry.now.path)
+        (H.state host.old) (H.state host.new) }
+    ensures any_moment { AtEachMoment (IsChanging (settled_files entry.now.decision) entry.now.path)
+        (H.state host.old) (H.state host.new) }
     ensures silent { Silent (H.state host.old) (H.state host.new) }
     ensures counts { Counts (H.state host.old) (H.state host.new) result }
 {

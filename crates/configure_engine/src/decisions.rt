@@ -49,7 +49,8 @@ fn digest_of(node: &Option<Node>) -> Option<Digest>
 // The digest of the file that is there now.
 #[tactic(auto, using(host_core::proofs::Moments::reads_then))]
 fn digest_now<H: Host>(host: &mut H, path: &ShipPath) -> Result<Option<Digest>, HostFault>
-    ensures found { Tells result (λ digest w. digest ≡ digest_at (w path.now)) (H.state host.old) (H.state host.new) }
+    ensures found { Tells result (λ digest w. digest ≡ digest_at (w path.now)) (H.state host.old)
+        (H.state host.new) }
     ensures reads { Reads (H.state host.old) (H.state host.new) }
     ensures silent { Silent (H.state host.old) (H.state host.new) }
     ensures counts { Counts (H.state host.old) (H.state host.new) result }
@@ -67,7 +68,8 @@ fn decide_one<H: Host>(
     path: &ShipPath,
 ) -> Result<Settled, HostFault>
     ensures path { IfOk result (λ e. e.path ≡ path.now) }
-    ensures decided { Tells result (λ e w. IsDecidedOf entry.now policy w e) (H.state host.old) (H.state host.new) }
+    ensures decided { Tells result (λ e w. IsDecidedOf entry.now policy w e) (H.state host.old)
+        (H.state host.new) }
     ensures reads { Reads (H.state host.old) (H.state host.new) }
     ensures silent { Silent (H.state host.old) (H.state host.new) }
     ensures counts { Counts (H.state host.old) (H.state host.new) result }
@@ -89,7 +91,8 @@ fn decide_each<H: Host>(
 ) -> Result<(), HostFault>
     requires { list.old.items ≡ [] }
     ensures paths { OnOk result (decided_paths list.new.items ≡ paths.now) }
-    ensures decided { Tells result (λ done w. All (IsDecidedOf entry.now policy w) list.new.items) (H.state host.old) (H.state host.new) }
+    ensures decided { Tells result (λ done w. All (IsDecidedOf entry.now policy w) list.new.items)
+        (H.state host.old) (H.state host.new) }
     ensures reads { Reads (H.state host.old) (H.state host.new) }
     ensures silent { Silent (H.state host.old) (H.state host.new) }
     ensures counts { Counts (H.state host.old) (H.state host.new) result }
@@ -108,7 +111,8 @@ pub(crate) fn decisions<H: Host>(
     policy: ConfPolicy,
 ) -> Result<Vec<Settled>, HostFault>
     ensures paths { IfOk result (λ list. decided_paths list.items ≡ settling_paths entry.now) }
-    ensures decided { Tells result (λ list w. AreDecided entry.now policy w list.items) (H.state host.old) (H.state host.new) }
+    ensures decided { Tells result (λ list w. AreDecided entry.now policy w list.items)
+        (H.state host.old) (H.state host.new) }
     ensures reads { Reads (H.state host.old) (H.state host.new) }
     ensures silent { Silent (H.state host.old) (H.state host.new) }
     ensures counts { Counts (H.state host.old) (H.state host.new) result }

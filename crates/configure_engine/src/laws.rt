@@ -10,8 +10,14 @@ ghost use Rattle.configure_engine.specs.Waiting.{is_going, pending_digest, settl
 /// A shipped digest is then the recorded one of its path, no digest is recorded of a flagged path that the package doesn't ship, those of
 /// all other paths are as before, and nothing is left to be settled.
 pub fn what_a_settled_record_tells()
-    ensures shipped { (r : ARecord) (path : Path) (digest : List ℕ) → AreInOrder (map (λ p. p.path) r.pending) → pending_digest r.pending path ≡ Some digest → recorded_digest (settled r).conffiles path ≡ Some digest }
-    ensures gone { (r : ARecord) (path : Path) → AreInOrder (map (λ e. e.path) r.conffiles) → AreInOrder (map (λ p. p.path) r.pending) → is_going r path ≡ true → recorded_digest (settled r).conffiles path ≡ None }
-    ensures others { (r : ARecord) (path : Path) → AreInOrder (map (λ p. p.path) r.pending) → has_pending r.pending path ≡ false → is_going r path ≡ false → recorded_digest (settled r).conffiles path ≡ recorded_digest r.conffiles path }
+    ensures shipped { (r : ARecord) (path : Path) (digest : List ℕ)
+        → AreInOrder (map (λ p. p.path) r.pending) → pending_digest r.pending path ≡ Some digest
+        → recorded_digest (settled r).conffiles path ≡ Some digest }
+    ensures gone { (r : ARecord) (path : Path) → AreInOrder (map (λ e. e.path) r.conffiles)
+        → AreInOrder (map (λ p. p.path) r.pending) → is_going r path ≡ true
+        → recorded_digest (settled r).conffiles path ≡ None }
+    ensures others { (r : ARecord) (path : Path) → AreInOrder (map (λ p. p.path) r.pending)
+        → has_pending r.pending path ≡ false → is_going r path ≡ false
+        → recorded_digest (settled r).conffiles path ≡ recorded_digest r.conffiles path }
     ensures nothing_left { (r : ARecord) → settling_paths (settled r) ≡ [] }
 {}

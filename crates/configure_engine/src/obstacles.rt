@@ -38,8 +38,10 @@ fn look_at_each<H: Host>(
     least: &mut Option<RootPath>,
 ) -> Result<(), HostFault>
     requires { least.old ≡ None }
-    ensures found { Tells result (λ done w. IsObstacle w (names_of_all paths.now) least.new) (H.state host.old) (H.state host.new) }
-    ensures clear { Tells result (λ done w. least.new ≡ None → All (λ x. CanSettle x w) paths.now) (H.state host.old) (H.state host.new) }
+    ensures found { Tells result (λ done w. IsObstacle w (names_of_all paths.now) least.new)
+        (H.state host.old) (H.state host.new) }
+    ensures clear { Tells result (λ done w. least.new ≡ None → All (λ x. CanSettle x w) paths.now)
+        (H.state host.old) (H.state host.new) }
     ensures reads { Reads (H.state host.old) (H.state host.new) }
     ensures silent { Silent (H.state host.old) (H.state host.new) }
     ensures counts { Counts (H.state host.old) (H.state host.new) result }
@@ -59,8 +61,11 @@ pub fn obstacle<H: Host>(
     host: &mut H,
     entry: &Record,
 ) -> Result<Option<RootPath>, HostFault>
-    ensures found { Tells result (λ found w. IsObstacle w (names_of_all (settling_paths entry.now)) found) (H.state host.old) (H.state host.new) }
-    ensures clear { Tells result (λ found w. found ≡ None → All (λ x. CanSettle x w) (settling_paths entry.now)) (H.state host.old) (H.state host.new) }
+    ensures found { Tells result (λ found w. IsObstacle w (names_of_all (settling_paths entry.now))
+        found) (H.state host.old) (H.state host.new) }
+    ensures clear { Tells result (λ found w. found ≡ None
+        → All (λ x. CanSettle x w) (settling_paths entry.now)) (H.state host.old)
+        (H.state host.new) }
     ensures reads { Reads (H.state host.old) (H.state host.new) }
     ensures silent { Silent (H.state host.old) (H.state host.new) }
     ensures counts { Counts (H.state host.old) (H.state host.new) result }

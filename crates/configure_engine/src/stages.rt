@@ -38,7 +38,8 @@ fn last_text(alloc: Global, entry: &Record) -> Result<Text, AllocError>
 }
 
 fn configure_args(alloc: Global, entry: &Record) -> Result<Texts, AllocError>
-    ensures { IfOk result (λ args. args ≡ codes "configure" ∷ last_text (last_configured entry.now) ∷ []) }
+    ensures { IfOk result (λ args. args ≡ codes "configure" ∷ last_text (last_configured entry.now)
+        ∷ []) }
 {
     let mut args = Texts::new(alloc);
     args.push(Text::from_str(alloc, "configure")?)?;
@@ -146,7 +147,8 @@ fn first_parts(
 }
 
 fn last_parts(alloc: Global, entry: &Record) -> Result<Vec<Part>, AllocError>
-    ensures { IfOk result (λ parts. parts.items ≡ Note (configured (settled_record entry.now)) ∷ []) }
+    ensures { IfOk result (λ parts. parts.items ≡ Note (configured (settled_record entry.now))
+        ∷ []) }
 {
     let mut parts = Vec::new(alloc);
     let settled = settled(alloc, entry)?;
@@ -164,7 +166,8 @@ pub(crate) fn stages_of(
     stored: bool,
 ) -> Result<Vec<Stage>, AllocError>
     requires { is_package_name entry.now.name ≡ true }
-    ensures { IfOk result (λ stages. AreConfigureStages entry.now listed.now list.items stored stages.items) }
+    ensures { IfOk result (λ stages. AreConfigureStages entry.now listed.now list.items stored
+        stages.items) }
 {
     let mut stages = Vec::new(alloc);
     stages.push(Stage {

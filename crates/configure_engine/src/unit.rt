@@ -27,7 +27,8 @@ use unwind_stack::Called;
 #[tactic(auto, using(host_core::proofs::Moments::reads_then))]
 fn has_postinst<H: Host>(alloc: Global, host: &mut H, name: &Text) -> Result<bool, HostFault>
     requires named { is_package_name name.now ≡ true }
-    ensures found { Tells result (λ is w. is ≡ is_some (w (stored_path name.now Postinst))) (H.state host.old) (H.state host.new) }
+    ensures found { Tells result (λ is w. is ≡ is_some (w (stored_path name.now Postinst)))
+        (H.state host.old) (H.state host.new) }
     ensures reads { Reads (H.state host.old) (H.state host.new) }
     ensures silent { Silent (H.state host.old) (H.state host.new) }
     ensures counts { Counts (H.state host.old) (H.state host.new) result }
@@ -53,7 +54,8 @@ fn plan<H: Host>(
     listed: &[RootPath],
 ) -> Result<Vec<Stage>, HostFault>
     requires named { is_package_name entry.now.name ≡ true }
-    ensures planned { IfOk result (λ stages. IsPlanFor entry.now policy listed.now (H.state host.old).world (H.state host.new).honest stages.items) }
+    ensures planned { IfOk result (λ stages. IsPlanFor entry.now policy listed.now
+        (H.state host.old).world (H.state host.new).honest stages.items) }
     ensures reads { Reads (H.state host.old) (H.state host.new) }
     ensures silent { Silent (H.state host.old) (H.state host.new) }
     ensures counts { Counts (H.state host.old) (H.state host.new) result }
@@ -84,14 +86,22 @@ pub fn configure<H: Host>(
     requires kept { places.old ≡ places_in diversions.now.entries lists.old.lists }
     requires order { Needs (H.state host.old) (IsInOrder database.old lists.old.lists) }
     requires clear { Needs (H.state host.old) (CanConfigure database.old.records name.now) }
-    ensures unit { IfOk result (λ failed. HasConfigured (given name.now policy diversions.now.entries (holding database.old lists.old)) failed (holding database.new lists.new) (H.state host.old) (H.state host.new) told.old.items told.new.items) }
-    ensures end { IfOk result (λ failed. HasEnded name.now failed database.old.records database.new.records) }
-    ensures order { IfOk result (λ failed. Needs (H.state host.new) (IsInOrder database.new lists.new.lists)) }
+    ensures unit { IfOk result
+        (λ failed. HasConfigured (given name.now policy diversions.now.entries
+        (holding database.old lists.old)) failed (holding database.new lists.new) (H.state host.old)
+        (H.state host.new) told.old.items told.new.items) }
+    ensures end { IfOk result (λ failed. HasEnded name.now failed database.old.records
+        database.new.records) }
+    ensures order { IfOk result (λ failed. Needs (H.state host.new)
+        (IsInOrder database.new lists.new.lists)) }
     ensures kept { OnOk result (places.new ≡ places_in diversions.now.entries lists.new.lists) }
     ensures noting { OnOk result (database.new.closed ≡ false) }
     ensures listing { OnOk result (lists.new.closed ≡ false) }
-    ensures told { HasCalled (given name.now policy diversions.now.entries (holding database.old lists.old)) (H.state host.old) (H.state host.new) told.old.items told.new.items }
-    ensures any_moment { AtEachMomentOf (IsAmidUnit (given name.now policy diversions.now.entries (holding database.old lists.old))) (H.state host.old) (H.state host.new) }
+    ensures told { HasCalled (given name.now policy diversions.now.entries
+        (holding database.old lists.old)) (H.state host.old) (H.state host.new) told.old.items
+        told.new.items }
+    ensures any_moment { AtEachMomentOf (IsAmidUnit (given name.now policy diversions.now.entries
+        (holding database.old lists.old))) (H.state host.old) (H.state host.new) }
     ensures counts { Counts (H.state host.old) (H.state host.new) result }
 {
     lists.law();

@@ -63,7 +63,8 @@ pub(crate) fn can_wait(entry: &Record) -> bool
 }
 
 fn push_waiting(names: &mut Vec<Text>, entry: &Record) -> Result<(), AllocError>
-    ensures { OnOk result (names.new.items ≡ cond (can_wait entry.now) (names.old.items ++ entry.now.name ∷ []) names.old.items) }
+    ensures { OnOk result (names.new.items ≡ cond (can_wait entry.now)
+        (names.old.items ++ entry.now.name ∷ []) names.old.items) }
 {
     if can_wait(entry) {
         names.push(entry.name.copy()?)?;

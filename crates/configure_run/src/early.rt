@@ -44,7 +44,8 @@ fn push_refusal<W: Watcher>(
     units: &mut Vec<Unit>,
     watcher: &mut W,
 ) -> Result<(), AllocError>
-    ensures ok { OnOk result (HasRefused (refusal_by name.now rule) units.old.items units.new.items) }
+    ensures ok { OnOk result (HasRefused (refusal_by name.now rule) units.old.items
+        units.new.items) }
     ensures err { OnErr result (units.new.items ≡ units.old.items) }
     ensures watched { AddsTold W.tells units.old.items units.new.items watcher.old watcher.new }
 {
@@ -66,8 +67,10 @@ pub(crate) fn refuse_early<W: Watcher>(
     watcher: &mut W,
 ) -> Result<(), AllocError>
     requires none { units.old.items ≡ [] }
-    ensures ok { OnOk result (AreRefused (early_refusals database.now.records names.now) units.new.items) }
-    ensures err { OnErr result (AreSomeRefused (early_refusals database.now.records names.now) units.new.items) }
+    ensures ok { OnOk result (AreRefused (early_refusals database.now.records names.now)
+        units.new.items) }
+    ensures err { OnErr result (AreSomeRefused (early_refusals database.now.records names.now)
+        units.new.items) }
     ensures watched { AddsTold W.tells units.old.items units.new.items watcher.old watcher.new }
 {
     what_is_told_in_turn::<W>();

@@ -62,7 +62,8 @@ fn refuse_numbers<W: Watcher>(
     requires wait { (x : ℕ) → Contains numbers.now x → IsTrue (has turns.now.waiting x) }
     requires none_left { (x : ℕ) → IsConfigurableNow turns.now x → ⊥ }
     ensures ok { OnOk result (AddLeftOver turns.now numbers.now units.old.items units.new.items) }
-    ensures err { OnErr result (AddSomeLeftOver turns.now numbers.now units.old.items units.new.items) }
+    ensures err { OnErr result (AddSomeLeftOver turns.now numbers.now units.old.items
+        units.new.items) }
     ensures watched { AddsTold W.tells units.old.items units.new.items watcher.old watcher.new }
 {
     what_is_told_in_turn::<W>();

@@ -44,8 +44,10 @@ fn refuse_first<W: Watcher>(
     watcher: &mut W,
 ) -> Result<(), AllocError>
     requires none { units.old.items ≡ [] }
-    ensures ok { OnOk result (AreRefused (early_refusals database.now.records (each_once names.now)) units.new.items) }
-    ensures err { OnErr result (AreSomeRefused (early_refusals database.now.records (each_once names.now)) units.new.items) }
+    ensures ok { OnOk result (AreRefused (early_refusals database.now.records (each_once names.now))
+        units.new.items) }
+    ensures err { OnErr result (AreSomeRefused (early_refusals database.now.records
+        (each_once names.now)) units.new.items) }
     ensures watched { AddsTold W.tells units.old.items units.new.items watcher.old watcher.new }
 {
     let list = each_once(alloc, names)?;
@@ -63,7 +65,8 @@ fn begun<H: Host>(
 ) -> Result<(Turns, Vec<bool>), HostFault>
     requires indexed { ArePackagesOf database.now.records packages.old }
     ensures begun { IfOk result (λ both. IsBegun names.now database.now.records both.0) }
-    ensures seen { Tells result (λ both w. AreSilent w both.0 (has both.1.items)) (H.state host.old) (H.state host.new) }
+    ensures seen { Tells result (λ both w. AreSilent w both.0 (has both.1.items)) (H.state host.old)
+        (H.state host.new) }
     ensures reads { Reads (H.state host.old) (H.state host.new) }
     ensures silent { Silent (H.state host.old) (H.state host.new) }
     ensures counts { Counts (H.state host.old) (H.state host.new) result }
@@ -98,19 +101,29 @@ fn run_and_renew<H: Host, W: Watcher>(
     requires begun { IsBegun names.now database.old.records turns }
     requires kept { places.old ≡ places_in diversions.now.entries lists.old.lists }
     requires order { Needs (H.state host.old) (IsInOrder database.old lists.old.lists) }
-    ensures ok { OnOk result (EndTurns policy (has silent.now) turns (held database.old lists.old diversions.now) (H.state host.old) units.old.items units.new.items (held database.new lists.new diversions.now) (H.state host.new)) }
+    ensures ok { OnOk result (EndTurns policy (has silent.now) turns (held database.old lists.old
+        diversions.now) (H.state host.old) units.old.items units.new.items
+        (held database.new lists.new diversions.now) (H.state host.new)) }
     ensures indexed { OnOk result (ArePackagesOf database.new.records packages.new) }
     ensures answered { OnOk result (IsAnswered (H.state host.old) (H.state host.new)) }
-    ensures order { OnOk result (Needs (H.state host.new) (IsInOrder database.new lists.new.lists)) }
+    ensures order { OnOk result
+        (Needs (H.state host.new) (IsInOrder database.new lists.new.lists)) }
     ensures noting { OnOk result (database.new.closed ≡ false) }
     ensures listing { OnOk result (lists.new.closed ≡ false) }
     ensures kept { OnOk result (places.new ≡ places_in diversions.now.entries lists.new.lists) }
-    ensures err { IfErr result (λ unit. StopTurns policy (has silent.now) turns (held database.old lists.old diversions.now) (H.state host.old) units.old.items units.new.items (Some unit) (H.state host.new)) }
-    ensures told { OnOk result (TellsAll (H.state host.old) (H.state host.new) (calls_of units.old.items) (calls_of units.new.items)) }
-    ensures told_broken { IfErr result (λ unit. TellsAll (H.state host.old) (H.state host.new) (calls_of units.old.items) (calls_of units.new.items ++ unit.calls.items)) }
-    ensures any_moment { Since (IsAmidTurns policy (has silent.now) turns (held database.old lists.old diversions.now) (H.state host.old)) (H.state host.old) (H.state host.new) }
+    ensures err { IfErr result (λ unit. StopTurns policy (has silent.now) turns
+        (held database.old lists.old diversions.now) (H.state host.old) units.old.items
+        units.new.items (Some unit) (H.state host.new)) }
+    ensures told { OnOk result (TellsAll (H.state host.old) (H.state host.new)
+        (calls_of units.old.items) (calls_of units.new.items)) }
+    ensures told_broken { IfErr result (λ unit. TellsAll (H.state host.old) (H.state host.new)
+        (calls_of units.old.items) (calls_of units.new.items ++ unit.calls.items)) }
+    ensures any_moment { Since (IsAmidTurns policy (has silent.now) turns
+        (held database.old lists.old diversions.now) (H.state host.old)) (H.state host.old)
+        (H.state host.new) }
     ensures no_fault { OnOk result (faults (H.state host.new) ≡ faults (H.state host.old)) }
-    ensures counts { IfErr result (λ unit. CountsReply (H.state host.old) (H.state host.new) unit.reply) }
+    ensures counts { IfErr result (λ unit. CountsReply (H.state host.old) (H.state host.new)
+        unit.reply) }
     ensures not_closed { IfErr result (λ unit. IsBrokenBy Closed unit.reply → ⊥) }
     ensures watched { AddsTold W.tells units.old.items units.new.items watcher.old watcher.new }
 {
@@ -149,19 +162,27 @@ fn run_all<H: Host, W: Watcher>(
     requires listing { lists.old.closed ≡ false }
     requires kept { places.old ≡ places_in diversions.now.entries lists.old.lists }
     requires order { Needs (H.state host.old) (IsInOrder database.old lists.old.lists) }
-    ensures ok { OnOk result (IsConfigureRun names.now policy units.new.items (held database.old lists.old diversions.now) (held database.new lists.new diversions.now) (H.state host.old) (H.state host.new)) }
+    ensures ok { OnOk result (IsConfigureRun names.now policy units.new.items
+        (held database.old lists.old diversions.now) (held database.new lists.new diversions.now)
+        (H.state host.old) (H.state host.new)) }
     ensures indexed { OnOk result (ArePackagesOf database.new.records packages.new) }
-    ensures err { IfErr result (λ unit. HasRun names.now policy units.new.items (Some unit) (held database.old lists.old diversions.now) (H.state host.old) (H.state host.new)) }
+    ensures err { IfErr result (λ unit. HasRun names.now policy units.new.items (Some unit)
+        (held database.old lists.old diversions.now) (H.state host.old) (H.state host.new)) }
     ensures answered { OnOk result (IsAnswered (H.state host.old) (H.state host.new)) }
-    ensures order { OnOk result (Needs (H.state host.new) (IsInOrder database.new lists.new.lists)) }
+    ensures order { OnOk result
+        (Needs (H.state host.new) (IsInOrder database.new lists.new.lists)) }
     ensures noting { OnOk result (database.new.closed ≡ false) }
     ensures listing { OnOk result (lists.new.closed ≡ false) }
     ensures kept { OnOk result (places.new ≡ places_in diversions.now.entries lists.new.lists) }
-    ensures told { OnOk result (TellsAll (H.state host.old) (H.state host.new) [] (calls_of units.new.items)) }
-    ensures told_broken { IfErr result (λ unit. TellsAll (H.state host.old) (H.state host.new) [] (calls_of units.new.items ++ unit.calls.items)) }
-    ensures any_moment { Since (IsAmidRun names.now policy (held database.old lists.old diversions.now) (H.state host.old)) (H.state host.old) (H.state host.new) }
+    ensures told { OnOk result (TellsAll (H.state host.old) (H.state host.new) []
+        (calls_of units.new.items)) }
+    ensures told_broken { IfErr result (λ unit. TellsAll (H.state host.old) (H.state host.new) []
+        (calls_of units.new.items ++ unit.calls.items)) }
+    ensures any_moment { Since (IsAmidRun names.now policy (held database.old lists.old
+        diversions.now) (H.state host.old)) (H.state host.old) (H.state host.new) }
     ensures no_fault { OnOk result (faults (H.state host.new) ≡ faults (H.state host.old)) }
-    ensures counts { IfErr result (λ unit. CountsReply (H.state host.old) (H.state host.new) unit.reply) }
+    ensures counts { IfErr result (λ unit. CountsReply (H.state host.old) (H.state host.new)
+        unit.reply) }
     ensures not_closed { IfErr result (λ unit. IsBrokenBy Closed unit.reply → ⊥) }
     ensures watched { AddsTold W.tells units.old.items units.new.items watcher.old watcher.new }
 {
@@ -212,15 +233,21 @@ pub fn configure_packages<H: Host, W: Watcher>(
     requires listing { lists.old.closed ≡ false }
     requires kept { places.old ≡ places_in diversions.now.entries lists.old.lists }
     requires order { Needs (H.state host.old) (IsInOrder database.old lists.old.lists) }
-    ensures whole { IsNone result.last → IsConfigureRun names.items policy result.units.items (held database.old lists.old diversions.now) (held database.new lists.new diversions.now) (H.state host.old) (H.state host.new) }
-    ensures part { HasRun names.items policy result.units.items result.last (held database.old lists.old diversions.now) (H.state host.old) (H.state host.new) }
+    ensures whole { IsNone result.last → IsConfigureRun names.items policy result.units.items
+        (held database.old lists.old diversions.now) (held database.new lists.new diversions.now)
+        (H.state host.old) (H.state host.new) }
+    ensures part { HasRun names.items policy result.units.items result.last
+        (held database.old lists.old diversions.now) (H.state host.old) (H.state host.new) }
     ensures told { TellsCalls (H.state host.old) (H.state host.new) result }
-    ensures any_moment { Since (IsAmidRun names.items policy (held database.old lists.old diversions.now) (H.state host.old)) (H.state host.old) (H.state host.new) }
+    ensures any_moment { Since (IsAmidRun names.items policy (held database.old lists.old
+        diversions.now) (H.state host.old)) (H.state host.old) (H.state host.new) }
     ensures answered { IsNone result.last → IsAnswered (H.state host.old) (H.state host.new) }
-    ensures order { IsNone result.last → Needs (H.state host.new) (IsInOrder database.new lists.new.lists) }
+    ensures order { IsNone result.last
+        → Needs (H.state host.new) (IsInOrder database.new lists.new.lists) }
     ensures noting { IsNone result.last → database.new.closed ≡ false }
     ensures listing { IsNone result.last → lists.new.closed ≡ false }
-    ensures kept { IsNone result.last → places.new ≡ places_in diversions.now.entries lists.new.lists }
+    ensures kept { IsNone result.last → places.new ≡ places_in diversions.now.entries
+        lists.new.lists }
     ensures indexed { IsNone result.last → ArePackagesOf database.new.records packages.new }
     ensures counts { CountsLast (H.state host.old) (H.state host.new) result.last }
     ensures not_closed { IfSome result.last (λ unit. IsBrokenBy Closed unit.reply → ⊥) }

@@ -47,7 +47,8 @@ pub(crate) fn waiting_of(
 #[tactic(auto, using(host_core::proofs::Moments::reads_then))]
 fn is_silent<H: Host>(alloc: Global, host: &mut H, name: &Text) -> Result<bool, HostFault>
     requires named { is_package_name name.now ≡ true }
-    ensures found { Tells result (λ is w. is ≡ is_silent w name.now) (H.state host.old) (H.state host.new) }
+    ensures found { Tells result (λ is w. is ≡ is_silent w name.now) (H.state host.old)
+        (H.state host.new) }
     ensures reads { Reads (H.state host.old) (H.state host.new) }
     ensures silent { Silent (H.state host.old) (H.state host.new) }
     ensures counts { Counts (H.state host.old) (H.state host.new) result }
@@ -63,7 +64,8 @@ fn is_silent_at<H: Host>(
     names: &[Text],
     entry: &Record,
 ) -> Result<bool, HostFault>
-    ensures found { Tells result (λ is w. waits names.now entry.now ≡ true → is ≡ is_silent w entry.now.name) (H.state host.old) (H.state host.new) }
+    ensures found { Tells result (λ is w. waits names.now entry.now ≡ true
+        → is ≡ is_silent w entry.now.name) (H.state host.old) (H.state host.new) }
     ensures reads { Reads (H.state host.old) (H.state host.new) }
     ensures silent { Silent (H.state host.old) (H.state host.new) }
     ensures counts { Counts (H.state host.old) (H.state host.new) result }
@@ -81,7 +83,8 @@ pub(crate) fn silent_of<H: Host>(
     names: &[Text],
     records: &[Record],
 ) -> Result<Vec<bool>, HostFault>
-    ensures found { Tells result (λ set w. AreSilentOf w names.now records.now set.items) (H.state host.old) (H.state host.new) }
+    ensures found { Tells result (λ set w. AreSilentOf w names.now records.now set.items)
+        (H.state host.old) (H.state host.new) }
     ensures reads { Reads (H.state host.old) (H.state host.new) }
     ensures silent { Silent (H.state host.old) (H.state host.new) }
     ensures counts { Counts (H.state host.old) (H.state host.new) result }

@@ -47,19 +47,28 @@ fn take_turn<H: Host, W: Watcher>(
     requires kept { places.old ≡ places_in diversions.now.entries lists.old.lists }
     requires order { Needs (H.state host.old) (IsInOrder database.old lists.old.lists) }
     requires member { IsConfigurableNow turns.now number }
-    ensures ok { IfOk result (λ done. TakesTurn policy turns.now number done (held database.old lists.old diversions.now) (held database.new lists.new diversions.now) (H.state host.old) (H.state host.new) units.old.items units.new.items) }
-    ensures wait { IfOk result (λ done. AreWaiting (after_turn done number turns.now) database.new.records) }
-    ensures order { OnOk result (Needs (H.state host.new) (IsInOrder database.new lists.new.lists)) }
+    ensures ok { IfOk result (λ done. TakesTurn policy turns.now number done
+        (held database.old lists.old diversions.now) (held database.new lists.new diversions.now)
+        (H.state host.old) (H.state host.new) units.old.items units.new.items) }
+    ensures wait { IfOk result (λ done. AreWaiting (after_turn done number turns.now)
+        database.new.records) }
+    ensures order { OnOk result
+        (Needs (H.state host.new) (IsInOrder database.new lists.new.lists)) }
     ensures noting { OnOk result (database.new.closed ≡ false) }
     ensures listing { OnOk result (lists.new.closed ≡ false) }
     ensures kept { OnOk result (places.new ≡ places_in diversions.now.entries lists.new.lists) }
     ensures err { OnErr result (units.new.items ≡ units.old.items) }
-    ensures broken_off { IfErr result (IsBrokenAt policy turns.now number (held database.old lists.old diversions.now) (H.state host.old) (H.state host.new)) }
-    ensures told { OnOk result (TellsAll (H.state host.old) (H.state host.new) (calls_of units.old.items) (calls_of units.new.items)) }
-    ensures told_broken { IfErr result (λ unit. TellsAll (H.state host.old) (H.state host.new) [] unit.calls.items) }
-    ensures any_moment { AtEachMomentOf (IsAmidTurn policy turns.now number (held database.old lists.old diversions.now)) (H.state host.old) (H.state host.new) }
+    ensures broken_off { IfErr result (IsBrokenAt policy turns.now number
+        (held database.old lists.old diversions.now) (H.state host.old) (H.state host.new)) }
+    ensures told { OnOk result (TellsAll (H.state host.old) (H.state host.new)
+        (calls_of units.old.items) (calls_of units.new.items)) }
+    ensures told_broken { IfErr result (λ unit. TellsAll (H.state host.old) (H.state host.new) []
+        unit.calls.items) }
+    ensures any_moment { AtEachMomentOf (IsAmidTurn policy turns.now number
+        (held database.old lists.old diversions.now)) (H.state host.old) (H.state host.new) }
     ensures no_fault { OnOk result (faults (H.state host.new) ≡ faults (H.state host.old)) }
-    ensures counts { IfErr result (λ unit. CountsReply (H.state host.old) (H.state host.new) unit.reply) }
+    ensures counts { IfErr result (λ unit. CountsReply (H.state host.old) (H.state host.new)
+        unit.reply) }
     ensures not_closed { IfErr result (λ unit. IsBrokenBy Closed unit.reply → ⊥) }
     ensures watched { AddsTold W.tells units.old.items units.new.items watcher.old watcher.new }
 {
@@ -100,22 +109,33 @@ fn take_next<H: Host, W: Watcher>(
     requires wait { AreWaiting turns.now database.old.records }
     requires kept { places.old ≡ places_in diversions.now.entries lists.old.lists }
     requires order { Needs (H.state host.old) (IsInOrder database.old lists.old.lists) }
-    ensures ok { IfOk result (λ next. TakesNext policy (has silent.now) turns.now next (held database.old lists.old diversions.now) (held database.new lists.new diversions.now) (H.state host.old) (H.state host.new) units.old.items units.new.items) }
+    ensures ok { IfOk result (λ next. TakesNext policy (has silent.now) turns.now next
+        (held database.old lists.old diversions.now) (held database.new lists.new diversions.now)
+        (H.state host.old) (H.state host.new) units.old.items units.new.items) }
     ensures member { IfOk result (λ next. IfSome next (λ n. IsConfigurableNow turns.now n.0)) }
-    ensures none_left { IfOk result (λ next. next ≡ None → (x : ℕ) → IsConfigurableNow turns.now x → ⊥) }
-    ensures wait { IfOk result (λ next. IfSome next (λ n. AreWaiting (after_turn n.1 n.0 turns.now) database.new.records)) }
-    ensures others { OnOk result (AreSameButWaiting turns.now database.old.records database.new.records) }
-    ensures order { OnOk result (Needs (H.state host.new) (IsInOrder database.new lists.new.lists)) }
+    ensures none_left { IfOk result (λ next. next ≡ None → (x : ℕ) → IsConfigurableNow turns.now x
+        → ⊥) }
+    ensures wait { IfOk result (λ next. IfSome next (λ n. AreWaiting (after_turn n.1 n.0 turns.now)
+        database.new.records)) }
+    ensures others { OnOk result (AreSameButWaiting turns.now database.old.records
+        database.new.records) }
+    ensures order { OnOk result
+        (Needs (H.state host.new) (IsInOrder database.new lists.new.lists)) }
     ensures noting { OnOk result (database.new.closed ≡ false) }
     ensures listing { OnOk result (lists.new.closed ≡ false) }
     ensures kept { OnOk result (places.new ≡ places_in diversions.now.entries lists.new.lists) }
     ensures err { OnErr result (units.new.items ≡ units.old.items) }
-    ensures broken_off { IfErr result (IsBrokenOff policy (has silent.now) turns.now (held database.old lists.old diversions.now) (H.state host.old) (H.state host.new)) }
-    ensures told { OnOk result (TellsAll (H.state host.old) (H.state host.new) (calls_of units.old.items) (calls_of units.new.items)) }
-    ensures told_broken { IfErr result (λ unit. TellsAll (H.state host.old) (H.state host.new) [] unit.calls.items) }
-    ensures any_moment { AtEachMomentOf (IsAmidNext policy (has silent.now) turns.now (held database.old lists.old diversions.now)) (H.state host.old) (H.state host.new) }
+    ensures broken_off { IfErr result (IsBrokenOff policy (has silent.now) turns.now
+        (held database.old lists.old diversions.now) (H.state host.old) (H.state host.new)) }
+    ensures told { OnOk result (TellsAll (H.state host.old) (H.state host.new)
+        (calls_of units.old.items) (calls_of units.new.items)) }
+    ensures told_broken { IfErr result (λ unit. TellsAll (H.state host.old) (H.state host.new) []
+        unit.calls.items) }
+    ensures any_moment { AtEachMomentOf (IsAmidNext policy (has silent.now) turns.now
+        (held database.old lists.old diversions.now)) (H.state host.old) (H.state host.new) }
     ensures no_fault { OnOk result (faults (H.state host.new) ≡ faults (H.state host.old)) }
-    ensures counts { IfErr result (λ unit. CountsReply (H.state host.old) (H.state host.new) unit.reply) }
+    ensures counts { IfErr result (λ unit. CountsReply (H.state host.old) (H.state host.new)
+        unit.reply) }
     ensures not_closed { IfErr result (λ unit. IsBrokenBy Closed unit.reply → ⊥) }
     ensures watched { AddsTold W.tells units.old.items units.new.items watcher.old watcher.new }
 {
@@ -150,22 +170,33 @@ fn take_turns<H: Host, W: Watcher>(
     requires wait { AreWaiting turns database.old.records }
     requires kept { places.old ≡ places_in diversions.now.entries lists.old.lists }
     requires order { Needs (H.state host.old) (IsInOrder database.old lists.old.lists) }
-    ensures ok { IfOk result (λ left. HaveTurned policy (has silent.now) turns (held database.old lists.old diversions.now) (H.state host.old) units.old.items units.new.items left (held database.new lists.new diversions.now) (H.state host.new)) }
+    ensures ok { IfOk result (λ left. HaveTurned policy (has silent.now) turns
+        (held database.old lists.old diversions.now) (H.state host.old) units.old.items
+        units.new.items left (held database.new lists.new diversions.now) (H.state host.new)) }
     ensures ended { IfOk result (λ left. IsNextOfConfigurable left (has silent.now) None) }
     ensures none_left { IfOk result (λ left. (x : ℕ) → IsConfigurableNow left x → ⊥) }
     ensures packages { IfOk result (λ left. left.packages ≡ turns.packages) }
-    ensures others { OnOk result (AreSameButWaiting turns database.old.records database.new.records) }
+    ensures others { OnOk result (AreSameButWaiting turns database.old.records
+        database.new.records) }
     ensures answered { OnOk result (IsAnswered (H.state host.old) (H.state host.new)) }
-    ensures order { OnOk result (Needs (H.state host.new) (IsInOrder database.new lists.new.lists)) }
+    ensures order { OnOk result
+        (Needs (H.state host.new) (IsInOrder database.new lists.new.lists)) }
     ensures noting { OnOk result (database.new.closed ≡ false) }
     ensures listing { OnOk result (lists.new.closed ≡ false) }
     ensures kept { OnOk result (places.new ≡ places_in diversions.now.entries lists.new.lists) }
-    ensures err { IfErr result (λ unit. StopTurns policy (has silent.now) turns (held database.old lists.old diversions.now) (H.state host.old) units.old.items units.new.items (Some unit) (H.state host.new)) }
-    ensures told { OnOk result (TellsAll (H.state host.old) (H.state host.new) (calls_of units.old.items) (calls_of units.new.items)) }
-    ensures told_broken { IfErr result (λ unit. TellsAll (H.state host.old) (H.state host.new) (calls_of units.old.items) (calls_of units.new.items ++ unit.calls.items)) }
-    ensures any_moment { Since (IsAmidTurns policy (has silent.now) turns (held database.old lists.old diversions.now) (H.state host.old)) (H.state host.old) (H.state host.new) }
+    ensures err { IfErr result (λ unit. StopTurns policy (has silent.now) turns
+        (held database.old lists.old diversions.now) (H.state host.old) units.old.items
+        units.new.items (Some unit) (H.state host.new)) }
+    ensures told { OnOk result (TellsAll (H.state host.old) (H.state host.new)
+        (calls_of units.old.items) (calls_of units.new.items)) }
+    ensures told_broken { IfErr result (λ unit. TellsAll (H.state host.old) (H.state host.new)
+        (calls_of units.old.items) (calls_of units.new.items ++ unit.calls.items)) }
+    ensures any_moment { Since (IsAmidTurns policy (has silent.now) turns
+        (held database.old lists.old diversions.now) (H.state host.old)) (H.state host.old)
+        (H.state host.new) }
     ensures no_fault { OnOk result (faults (H.state host.new) ≡ faults (H.state host.old)) }
-    ensures counts { IfErr result (λ unit. CountsReply (H.state host.old) (H.state host.new) unit.reply) }
+    ensures counts { IfErr result (λ unit. CountsReply (H.state host.old) (H.state host.new)
+        unit.reply) }
     ensures not_closed { IfErr result (λ unit. IsBrokenBy Closed unit.reply → ⊥) }
     ensures watched { AddsTold W.tells units.old.items units.new.items watcher.old watcher.new }
 {
@@ -206,20 +237,31 @@ pub(crate) fn run_turns<H: Host, W: Watcher>(
     requires wait { AreWaiting turns database.old.records }
     requires kept { places.old ≡ places_in diversions.now.entries lists.old.lists }
     requires order { Needs (H.state host.old) (IsInOrder database.old lists.old.lists) }
-    ensures ok { OnOk result (EndTurns policy (has silent.now) turns (held database.old lists.old diversions.now) (H.state host.old) units.old.items units.new.items (held database.new lists.new diversions.now) (H.state host.new)) }
+    ensures ok { OnOk result (EndTurns policy (has silent.now) turns (held database.old lists.old
+        diversions.now) (H.state host.old) units.old.items units.new.items
+        (held database.new lists.new diversions.now) (H.state host.new)) }
     ensures packages { IfOk result (λ packages. packages ≡ turns.packages) }
-    ensures others { OnOk result (AreSameButWaiting turns database.old.records database.new.records) }
+    ensures others { OnOk result (AreSameButWaiting turns database.old.records
+        database.new.records) }
     ensures answered { OnOk result (IsAnswered (H.state host.old) (H.state host.new)) }
-    ensures order { OnOk result (Needs (H.state host.new) (IsInOrder database.new lists.new.lists)) }
+    ensures order { OnOk result
+        (Needs (H.state host.new) (IsInOrder database.new lists.new.lists)) }
     ensures noting { OnOk result (database.new.closed ≡ false) }
     ensures listing { OnOk result (lists.new.closed ≡ false) }
     ensures kept { OnOk result (places.new ≡ places_in diversions.now.entries lists.new.lists) }
-    ensures err { IfErr result (λ unit. StopTurns policy (has silent.now) turns (held database.old lists.old diversions.now) (H.state host.old) units.old.items units.new.items (Some unit) (H.state host.new)) }
-    ensures told { OnOk result (TellsAll (H.state host.old) (H.state host.new) (calls_of units.old.items) (calls_of units.new.items)) }
-    ensures told_broken { IfErr result (λ unit. TellsAll (H.state host.old) (H.state host.new) (calls_of units.old.items) (calls_of units.new.items ++ unit.calls.items)) }
-    ensures any_moment { Since (IsAmidTurns policy (has silent.now) turns (held database.old lists.old diversions.now) (H.state host.old)) (H.state host.old) (H.state host.new) }
+    ensures err { IfErr result (λ unit. StopTurns policy (has silent.now) turns
+        (held database.old lists.old diversions.now) (H.state host.old) units.old.items
+        units.new.items (Some unit) (H.state host.new)) }
+    ensures told { OnOk result (TellsAll (H.state host.old) (H.state host.new)
+        (calls_of units.old.items) (calls_of units.new.items)) }
+    ensures told_broken { IfErr result (λ unit. TellsAll (H.state host.old) (H.state host.new)
+        (calls_of units.old.items) (calls_of units.new.items ++ unit.calls.items)) }
+    ensures any_moment { Since (IsAmidTurns policy (has silent.now) turns
+        (held database.old lists.old diversions.now) (H.state host.old)) (H.state host.old)
+        (H.state host.new) }
     ensures no_fault { OnOk result (faults (H.state host.new) ≡ faults (H.state host.old)) }
-    ensures counts { IfErr result (λ unit. CountsReply (H.state host.old) (H.state host.new) unit.reply) }
+    ensures counts { IfErr result (λ unit. CountsReply (H.state host.old) (H.state host.new)
+        unit.reply) }
     ensures not_closed { IfErr result (λ unit. IsBrokenBy Closed unit.reply → ⊥) }
     ensures watched { AddsTold W.tells units.old.items units.new.items watcher.old watcher.new }
 {

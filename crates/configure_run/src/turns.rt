@@ -102,7 +102,8 @@ impl Turns {
     pub(crate) fn next(&self, alloc: Global, silent: &[bool]) -> Result<Option<usize>, AllocError>
         ensures next { IfOk result (IsNextOfConfigurable self.now (has silent.now)) }
         ensures member { IfOk result (λ next. IfSome next (IsConfigurableNow self.now)) }
-        ensures none_left { IfOk result (λ next. next ≡ None → (x : ℕ) → IsConfigurableNow self.now x → ⊥) }
+        ensures none_left { IfOk result (λ next. next ≡ None → (x : ℕ)
+            → IsConfigurableNow self.now x → ⊥) }
     {
         let _ = self.queue.members();
         let next = self.queue.next(alloc, silent)?;

@@ -58,8 +58,10 @@ fn obstacle_of<H: Host>(
     name: &Text,
 ) -> Result<Option<RootPath>, HostFault>
     requires waits { IsWaiting database.now.records name.now }
-    ensures found { Tells result (λ found w. HasObstacle database.now.records name.now w found) (H.state host.old) (H.state host.new) }
-    ensures clear { Tells result (λ found w. found ≡ None → CanConfigure database.now.records name.now w) (H.state host.old) (H.state host.new) }
+    ensures found { Tells result (λ found w. HasObstacle database.now.records name.now w found)
+        (H.state host.old) (H.state host.new) }
+    ensures clear { Tells result (λ found w. found ≡ None → CanConfigure database.now.records
+        name.now w) (H.state host.old) (H.state host.new) }
     ensures reads { Reads (H.state host.old) (H.state host.new) }
     ensures silent { Silent (H.state host.old) (H.state host.new) }
     ensures counts { Counts (H.state host.old) (H.state host.new) result }
@@ -76,7 +78,8 @@ fn touched_alone(
     database: &NotedDatabase,
     name: &Text,
 ) -> Result<Vec<Touched>, AllocError>
-    ensures { IfOk result (λ touched. touched.items ≡ reports.touched_at database.now.records name.now ∷ []) }
+    ensures { IfOk result (λ touched. touched.items ≡ reports.touched_at database.now.records
+        name.now ∷ []) }
 {
     let mut touched = Vec::new(alloc);
     touched.push(touched_at(database, name)?)?;
@@ -103,7 +106,8 @@ fn told_of(
     name: &Text,
     failed: Option<Call>,
 ) -> Result<(Vec<Touched>, Reply), AllocError>
-    ensures touched { IfOk result (λ told. told.0.items ≡ reports.touched_at database.now.records name.now ∷ []) }
+    ensures touched { IfOk result (λ told. told.0.items ≡ reports.touched_at database.now.records
+        name.now ∷ []) }
     ensures reply { IfOk result (λ told. told.1 ≡ reply_to name.now failed) }
 {
     let touched = touched_alone(alloc, database, name)?;
@@ -119,7 +123,8 @@ fn answered(
     failed: Option<Call>,
     calls: Vec<Called>,
 ) -> Unit
-    ensures answer { IsBrokenBy NoMemory result.reply ⊎ Answers name.now database.now.records failed result }
+    ensures answer { IsBrokenBy NoMemory result.reply ⊎ Answers name.now database.now.records failed
+        result }
     ensures told { result.calls.items ≡ calls.items }
     ensures untouched { IsBroken result.reply → TellsNoPackage result }
 {
@@ -164,15 +169,23 @@ fn configure_to_disk<H: Host>(
     requires kept { places.old ≡ places_in diversions.now.entries lists.old.lists }
     requires order { Needs (H.state host.old) (IsInOrder database.old lists.old.lists) }
     requires clear { Needs (H.state host.old) (CanConfigure database.old.records name.now) }
-    ensures unit { IfOk result (λ failed. ConfiguresToDisk (given_by policy name.now (held database.old lists.old diversions.now)) failed (holding_of (held database.new lists.new diversions.now)) (H.state host.old) (H.state host.new) told.old.items told.new.items) }
-    ensures end { IfOk result (λ failed. HasEnded name.now failed database.old.records database.new.records) }
-    ensures order { IfOk result (λ failed. Needs (H.state host.new) (IsInOrder database.new lists.new.lists)) }
+    ensures unit { IfOk result (λ failed. ConfiguresToDisk
+        (given_by policy name.now (held database.old lists.old diversions.now)) failed
+        (holding_of (held database.new lists.new diversions.now)) (H.state host.old)
+        (H.state host.new) told.old.items told.new.items) }
+    ensures end { IfOk result (λ failed. HasEnded name.now failed database.old.records
+        database.new.records) }
+    ensures order { IfOk result (λ failed. Needs (H.state host.new)
+        (IsInOrder database.new lists.new.lists)) }
     ensures kept { OnOk result (places.new ≡ places_in diversions.now.entries lists.new.lists) }
     ensures noting { OnOk result (database.new.closed ≡ false) }
     ensures listing { OnOk result (lists.new.closed ≡ false) }
     ensures on_disk { OnOk result (IsOnDisk (H.state host.new).events) }
-    ensures told { HasCalledToDisk (given_by policy name.now (held database.old lists.old diversions.now)) (H.state host.old) (H.state host.new) told.old.items told.new.items }
-    ensures any_moment { AtEachMomentOf (λ old. IsBeside (IsAmidConfiguring (given_by policy name.now (held database.old lists.old diversions.now)) old)) (H.state host.old) (H.state host.new) }
+    ensures told { HasCalledToDisk (given_by policy name.now (held database.old lists.old
+        diversions.now)) (H.state host.old) (H.state host.new) told.old.items told.new.items }
+    ensures any_moment { AtEachMomentOf (λ old. IsBeside
+        (IsAmidConfiguring (given_by policy name.now (held database.old lists.old diversions.now))
+        old)) (H.state host.old) (H.state host.new) }
     ensures counts { Counts (H.state host.old) (H.state host.new) result }
 {
     match configure(
@@ -203,14 +216,20 @@ fn configured_unit<H: Host>(
     requires kept { places.old ≡ places_in diversions.now.entries lists.old.lists }
     requires order { Needs (H.state host.old) (IsInOrder database.old lists.old.lists) }
     requires clear { Needs (H.state host.old) (CanConfigure database.old.records name.now) }
-    ensures unit { IsBroken result.reply ⊎ IsConfigured policy name.now (held database.old lists.old diversions.now) (held database.new lists.new diversions.now) result (H.state host.old) (H.state host.new) }
+    ensures unit { IsBroken result.reply ⊎ IsConfigured policy name.now (held database.old lists.old
+        diversions.now) (held database.new lists.new diversions.now) result (H.state host.old)
+        (H.state host.new) }
     ensures noting { IsBroken result.reply ⊎ (database.new.closed ≡ false) }
     ensures listing { IsBroken result.reply ⊎ (lists.new.closed ≡ false) }
-    ensures kept { IsBroken result.reply ⊎ (places.new ≡ places_in diversions.now.entries lists.new.lists) }
+    ensures kept { IsBroken result.reply
+        ⊎ (places.new ≡ places_in diversions.now.entries lists.new.lists) }
     ensures on_disk { IsBroken result.reply ⊎ IsOnDisk (H.state host.new).events }
     ensures untouched { IsBroken result.reply → TellsNoPackage result }
-    ensures told { HasCalledToDisk (given_by policy name.now (held database.old lists.old diversions.now)) (H.state host.old) (H.state host.new) [] result.calls.items }
-    ensures any_moment { AtEachMomentOf (λ old. IsBeside (IsAmidConfiguring (given_by policy name.now (held database.old lists.old diversions.now)) old)) (H.state host.old) (H.state host.new) }
+    ensures told { HasCalledToDisk (given_by policy name.now (held database.old lists.old
+        diversions.now)) (H.state host.old) (H.state host.new) [] result.calls.items }
+    ensures any_moment { AtEachMomentOf (λ old. IsBeside
+        (IsAmidConfiguring (given_by policy name.now (held database.old lists.old diversions.now))
+        old)) (H.state host.old) (H.state host.new) }
     ensures counts { CountsReply (H.state host.old) (H.state host.new) result.reply }
     ensures not_closed { IsBrokenBy Closed result.reply → ⊥ }
 {
@@ -239,15 +258,21 @@ fn unit_for<H: Host>(
     requires waits { IsWaiting database.old.records name.now }
     requires kept { places.old ≡ places_in diversions.now.entries lists.old.lists }
     requires order { Needs (H.state host.old) (IsInOrder database.old lists.old.lists) }
-    ensures unit { IsBroken result.reply ⊎ IsUnitFor policy name.now (held database.old lists.old diversions.now) (held database.new lists.new diversions.now) result (H.state host.old) (H.state host.new) }
-    ensures order { IsBroken result.reply ⊎ Needs (H.state host.new) (IsInOrder database.new lists.new.lists) }
+    ensures unit { IsBroken result.reply ⊎ IsUnitFor policy name.now (held database.old lists.old
+        diversions.now) (held database.new lists.new diversions.now) result (H.state host.old)
+        (H.state host.new) }
+    ensures order { IsBroken result.reply ⊎ Needs (H.state host.new)
+        (IsInOrder database.new lists.new.lists) }
     ensures noting { IsBroken result.reply ⊎ (database.new.closed ≡ false) }
     ensures listing { IsBroken result.reply ⊎ (lists.new.closed ≡ false) }
-    ensures kept { IsBroken result.reply ⊎ (places.new ≡ places_in diversions.now.entries lists.new.lists) }
+    ensures kept { IsBroken result.reply
+        ⊎ (places.new ≡ places_in diversions.now.entries lists.new.lists) }
     ensures answered { IsBroken result.reply ⊎ IsAnswered (H.state host.old) (H.state host.new) }
     ensures untouched { IsBroken result.reply → TellsNoPackage result }
-    ensures told { HasCalledFor policy name.now (held database.old lists.old diversions.now) result (H.state host.old) (H.state host.new) }
-    ensures any_moment { AtEachMomentOf (IsAmidUnit policy name.now (held database.old lists.old diversions.now)) (H.state host.old) (H.state host.new) }
+    ensures told { HasCalledFor policy name.now (held database.old lists.old diversions.now) result
+        (H.state host.old) (H.state host.new) }
+    ensures any_moment { AtEachMomentOf (IsAmidUnit policy name.now (held database.old lists.old
+        diversions.now)) (H.state host.old) (H.state host.new) }
     ensures counts { CountsReply (H.state host.old) (H.state host.new) result.reply }
     ensures not_closed { IsBrokenBy Closed result.reply → ⊥ }
 {
@@ -263,7 +288,8 @@ fn unit_for<H: Host>(
 // The refused unit of a package that the one of this number breaks.
 fn refused_for(alloc: Global, packages: &[Package], breaking: usize, name: &Text) -> Unit
     requires { breaking < length packages.now }
-    ensures unit { IsBrokenBy NoMemory result.reply ⊎ IsRefusedUnit (BrokenBy (name_at packages.now breaking)) name.now result }
+    ensures unit { IsBrokenBy NoMemory result.reply
+        ⊎ IsRefusedUnit (BrokenBy (name_at packages.now breaking)) name.now result }
     ensures told { result.calls.items ≡ [] }
     ensures touched { TellsNoPackage result }
 {
@@ -290,15 +316,21 @@ pub(crate) fn unit_of<H: Host>(
     requires waits { IsWaiting database.old.records of.now.name }
     requires kept { places.old ≡ places_in diversions.now.entries lists.old.lists }
     requires order { Needs (H.state host.old) (IsInOrder database.old lists.old.lists) }
-    ensures unit { IsBroken result.reply ⊎ IsUnit policy packages.now of.now (held database.old lists.old diversions.now) (held database.new lists.new diversions.now) result (H.state host.old) (H.state host.new) }
-    ensures order { IsBroken result.reply ⊎ Needs (H.state host.new) (IsInOrder database.new lists.new.lists) }
+    ensures unit { IsBroken result.reply ⊎ IsUnit policy packages.now of.now
+        (held database.old lists.old diversions.now) (held database.new lists.new diversions.now)
+        result (H.state host.old) (H.state host.new) }
+    ensures order { IsBroken result.reply ⊎ Needs (H.state host.new)
+        (IsInOrder database.new lists.new.lists) }
     ensures noting { IsBroken result.reply ⊎ (database.new.closed ≡ false) }
     ensures listing { IsBroken result.reply ⊎ (lists.new.closed ≡ false) }
-    ensures kept { IsBroken result.reply ⊎ (places.new ≡ places_in diversions.now.entries lists.new.lists) }
+    ensures kept { IsBroken result.reply
+        ⊎ (places.new ≡ places_in diversions.now.entries lists.new.lists) }
     ensures answered { IsBroken result.reply ⊎ IsAnswered (H.state host.old) (H.state host.new) }
     ensures untouched { IsBroken result.reply → TellsNoPackage result }
-    ensures told { HasCalledFor policy of.now.name (held database.old lists.old diversions.now) result (H.state host.old) (H.state host.new) }
-    ensures any_moment { AtEachMomentOf (IsAmidUnit policy of.now.name (held database.old lists.old diversions.now)) (H.state host.old) (H.state host.new) }
+    ensures told { HasCalledFor policy of.now.name (held database.old lists.old diversions.now)
+        result (H.state host.old) (H.state host.new) }
+    ensures any_moment { AtEachMomentOf (IsAmidUnit policy of.now.name (held database.old lists.old
+        diversions.now)) (H.state host.old) (H.state host.new) }
     ensures counts { CountsReply (H.state host.old) (H.state host.new) result.reply }
     ensures not_closed { IsBrokenBy Closed result.reply → ⊥ }
 {

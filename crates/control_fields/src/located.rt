@@ -46,7 +46,8 @@ impl Located {
     // Adds the field that stands on this line.
     pub(crate) fn push(&mut self, number: u64, field: Field) -> Result<(), AllocError>
         requires { stands field.name self.old.paragraph ≡ false }
-        ensures line { OnOk result (self.new.line ≡ begin_line self.old.paragraph self.old.line number) }
+        ensures line { OnOk result (self.new.line ≡ begin_line self.old.paragraph self.old.line
+            number) }
         ensures paragraph { OnOk result (self.new.paragraph ≡ self.old.paragraph ++ field ∷ []) }
         ensures err { OnErr result (self.new ≡ self.old) }
     {

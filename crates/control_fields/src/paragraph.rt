@@ -39,7 +39,8 @@ fn add(fields: &mut IndexMap<Vec<u8>, Field>, key: Vec<u8>, field: Field) -> Res
     requires key { key.items ≡ lower field.name }
     requires new { stands field.name (fields_of fields.old.entries) ≡ false }
     ensures keyed { IsKeyed (λ k. k.items) fields.new.entries }
-    ensures ok { OnOk result (fields_of fields.new.entries ≡ fields_of fields.old.entries ++ field ∷ []) }
+    ensures ok { OnOk result (fields_of fields.new.entries ≡ fields_of fields.old.entries ++ field
+        ∷ []) }
     ensures err { OnErr result (fields_of fields.new.entries ≡ fields_of fields.old.entries) }
 {
     fields.insert(key, field)?;
@@ -103,7 +104,8 @@ impl Paragraph {
 
     /// Goes on with the last field.
     pub(crate) fn push_line(&mut self, text: Bytes) -> Result<(), AllocError>
-        ensures ok { OnOk result ((front : List AField) (last : AField) → self.old ≡ front ++ last ∷ [] → self.new ≡ front ++ with_line last text ∷ []) }
+        ensures ok { OnOk result ((front : List AField) (last : AField)
+            → self.old ≡ front ++ last ∷ [] → self.new ≡ front ++ with_line last text ∷ []) }
         ensures err { OnErr result (self.new ≡ self.old) }
     {
         let Some(last) = self.fields.last_mut() else {

@@ -62,7 +62,8 @@ impl<T: Drop> From<AllocFailed<T>> for LineFault {
 
 // What stands before and after the first such byte.
 fn cut(bytes: &[u8], mark: u8) -> Option<(&[u8], &[u8])>
-    ensures some { IfSome result (λ parts. (bytes.now ≡ parts.0.now ++ mark ∷ parts.1.now) × Lacks parts.0.now mark) }
+    ensures some { IfSome result (λ parts. (bytes.now ≡ parts.0.now ++ mark ∷ parts.1.now)
+        × Lacks parts.0.now mark) }
     ensures none { IfNone result (Lacks bytes.now mark) }
 {
     for (i, b) in bytes.iter().enumerate() {
@@ -134,7 +135,9 @@ fn close(alloc: Global, done: &mut Vec<Located>, begun: &mut Located) -> Result<
 // The last field goes on.
 fn add_line(alloc: Global, text: &[u8], begun: &mut Located) -> Result<(), AllocError>
     ensures line { OnOk result (begun.new.line ≡ begun.old.line) }
-    ensures paragraph { OnOk result ((front : List AField) (last : AField) → begun.old.paragraph ≡ front ++ last ∷ [] → begun.new.paragraph ≡ front ++ with_line last text.now ∷ []) }
+    ensures paragraph { OnOk result ((front : List AField) (last : AField)
+        → begun.old.paragraph ≡ front ++ last ∷ [] → begun.new.paragraph ≡ front ++ with_line last
+        text.now ∷ []) }
 {
     begun.paragraph.push_line(Bytes::from_slice(alloc, text)?)
 }
@@ -148,8 +151,10 @@ fn add_field(
     begun: &mut Located,
 ) -> Result<(), AllocError>
     requires { stands name.now begun.old.paragraph ≡ false }
-    ensures line { OnOk result (begun.new.line ≡ begin_line begun.old.paragraph begun.old.line number) }
-    ensures paragraph { OnOk result (begun.new.paragraph ≡ begun.old.paragraph ++ field_of name.now value.now ∷ []) }
+    ensures line { OnOk result (begun.new.line ≡ begin_line begun.old.paragraph begun.old.line
+        number) }
+    ensures paragraph { OnOk result (begun.new.paragraph ≡ begun.old.paragraph ++ field_of name.now
+        value.now ∷ []) }
 {
     begun.push(number, Field::one_line(alloc, name, trim_start(value))?)
 }
@@ -161,8 +166,15 @@ fn take_line(
     done: &mut Vec<Located>,
     begun: &mut Located,
 ) -> Result<(), LineFault>
-    ensures takes { OnOk result (Takes number line.now (record { done = done.old.items; begun = begun.old }) (record { done = done.new.items; begun = begun.new })) }
-    ensures fault { IfErr result (λ fault. IsLineFault fault line.now (record { done = done.old.items; begun = begun.old }) (record { done = done.new.items; begun = begun.new })) }
+    ensures takes { OnOk result (Takes number line.now (record {
+      done = done.old.items;
+      begun = begun.old;
+    }) (record { done = done.new.items; begun = begun.new })) }
+    ensures fault { IfErr result (λ fault. IsLineFault fault line.now
+        (record { done = done.old.items; begun = begun.old }) (record {
+          done = done.new.items;
+          begun = begun.new;
+        })) }
 {
     if std::str::from_utf8(line).is_err() {
         return Err(LineFault::Faulty(Kind::NotUtf8));
@@ -215,9 +227,16 @@ fn take_at(
     done: &mut Vec<Located>,
     begun: &mut Located,
 ) -> Result<(), ControlFault>
-    ensures takes { OnOk result (Takes number line.now (record { done = done.old.items; begun = begun.old }) (record { done = done.new.items; begun = begun.new })) }
+    ensures takes { OnOk result (Takes number line.now (record {
+      done = done.old.items;
+      begun = begun.old;
+    }) (record { done = done.new.items; begun = begun.new })) }
     ensures one { OnOk result (IsTrue single → length (with_last done.new.items begun.new) ≤ 1) }
-    ensures fault { IfErr result (λ fault. IsFaultHere single fault number line.now (record { done = done.old.items; begun = begun.old }) (record { done = done.new.items; begun = begun.new })) }
+    ensures fault { IfErr result (λ fault. IsFaultHere single fault number line.now
+        (record { done = done.old.items; begun = begun.old }) (record {
+          done = done.new.items;
+          begun = begun.new;
+        })) }
 {
     match take_line(alloc, line, number, done, begun) {
         Ok(()) => {}
@@ -240,9 +259,13 @@ fn read_lines(
 ) -> Result<(), ControlFault>
     requires done { done.old.items ≡ [] }
     requires begun { begun.old ≡ nothing }
-    ensures run { OnOk result (Run 1 (lines_of bytes.now) start (record { done = done.new.items; begun = begun.new })) }
+    ensures run { OnOk result (Run 1 (lines_of bytes.now) start (record {
+      done = done.new.items;
+      begun = begun.new;
+    })) }
     ensures one { OnOk result (IsTrue single → length (with_last done.new.items begun.new) ≤ 1) }
-    ensures fault { IfErr result (λ fault. StopsAt single (lines_of bytes.now) fault (record { done = done.new.items; begun = begun.new })) }
+    ensures fault { IfErr result (λ fault. StopsAt single (lines_of bytes.now) fault
+        (record { done = done.new.items; begun = begun.new })) }
 {
     let mut rest = bytes;
     let mut number: u64 = 1;
@@ -267,7 +290,8 @@ fn read_text(
     requires begun { begun.old ≡ nothing }
     ensures read { OnOk result (IsReadTo (lines_of bytes.now) done.new.items begun.new None) }
     ensures one { OnOk result (IsTrue single → length done.new.items ≤ 1) }
-    ensures fault { IfErr result (λ fault. StopsAt single (lines_of bytes.now) fault (record { done = done.new.items; begun = begun.new })) }
+    ensures fault { IfErr result (λ fault. StopsAt single (lines_of bytes.now) fault
+        (record { done = done.new.items; begun = begun.new })) }
 {
     read_lines(alloc, bytes, single, done, begun)?;
     close(alloc, done, begun)?;
@@ -276,7 +300,8 @@ fn read_text(
 
 /// The paragraphs of a control text, as far as it can be read.
 pub fn read_located(alloc: Global, bytes: &[u8]) -> Result<ControlText, AllocError>
-    ensures { IfOk result (λ text. IsReadTo (lines_of bytes.now) text.paragraphs.items text.begun text.fault) }
+    ensures { IfOk result (λ text. IsReadTo (lines_of bytes.now) text.paragraphs.items text.begun
+        text.fault) }
 {
     let mut paragraphs = Vec::new(alloc);
     let mut begun = Located::new(alloc);
@@ -305,7 +330,8 @@ fn read_all(
     requires { done.old.items ≡ [] }
     ensures reads { OnOk result (Reads (lines_of bytes.now) (paragraphs_of done.new.items)) }
     ensures one { OnOk result (IsTrue single → length done.new.items ≤ 1) }
-    ensures fault { IfErr result (λ fault. (state : Reading) × StopsAt single (lines_of bytes.now) fault state) }
+    ensures fault { IfErr result (λ fault. (state : Reading) × StopsAt single (lines_of bytes.now)
+        fault state) }
 {
     let mut begun = Located::new(alloc);
     read_text(alloc, bytes, single, done, &mut begun)

@@ -43,7 +43,8 @@ fn path_of(alloc: Global, name: &Text) -> Result<RootPath, AllocError>
 fn put_incoming<H: Host>(alloc: Global, host: &mut H, member: &Member) -> Result<(), HostFault>
     requires there { Needs (H.state host.old) (λ w. IsDirectory (w tmp_place)) }
     requires incoming { Needs (H.state host.old) IsIncoming }
-    ensures put { Leaves result (IsReplaced (laid_path member.now.name) member.now.node) (H.state host.old) (H.state host.new) }
+    ensures put { Leaves result (IsReplaced (laid_path member.now.name) member.now.node)
+        (H.state host.old) (H.state host.new) }
     ensures any_moment { AtEachMoment IsLaying (H.state host.old) (H.state host.new) }
     ensures silent { Silent (H.state host.old) (H.state host.new) }
     ensures counts { Counts (H.state host.old) (H.state host.new) result }
@@ -56,7 +57,8 @@ fn put_all<H: Host>(alloc: Global, host: &mut H, members: &[Member]) -> Result<(
     requires order { AreInOrder (names_of members.now) }
     requires there { Needs (H.state host.old) (λ w. IsDirectory (w tmp_place)) }
     requires bare { Needs (H.state host.old) (λ w. IsBare w tmp_place) }
-    ensures laid { Leaves result (λ old new. AreLaidOut members.now new) (H.state host.old) (H.state host.new) }
+    ensures laid { Leaves result (λ old new. AreLaidOut members.now new) (H.state host.old)
+        (H.state host.new) }
     ensures any_moment { AtEachMoment IsLaying (H.state host.old) (H.state host.new) }
     ensures silent { Silent (H.state host.old) (H.state host.new) }
     ensures counts { Counts (H.state host.old) (H.state host.new) result }
@@ -71,7 +73,8 @@ fn put_all<H: Host>(alloc: Global, host: &mut H, members: &[Member]) -> Result<(
 pub fn lay_out<H: Host>(alloc: Global, host: &mut H, members: &Members) -> Result<(), HostFault>
     requires home { Needs (H.state host.old) (λ w. IsDirectory (w home_path)) }
     requires absent { Needs (H.state host.old) (λ w. w tmp_place ≡ None) }
-    ensures laid { Leaves result (λ old new. AreLaidOut members.now new) (H.state host.old) (H.state host.new) }
+    ensures laid { Leaves result (λ old new. AreLaidOut members.now new) (H.state host.old)
+        (H.state host.new) }
     ensures any_moment { AtEachMoment IsLaying (H.state host.old) (H.state host.new) }
     ensures silent { Silent (H.state host.old) (H.state host.new) }
     ensures counts { Counts (H.state host.old) (H.state host.new) result }

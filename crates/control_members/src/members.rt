@@ -94,7 +94,8 @@ impl Members {
 
     /// Adds one, where none has its name yet.
     pub fn add(&mut self, member: Member) -> Result<(), AllocError>
-        ensures ok { OnOk result ((name : List ℕ) → member_of self.new name ≡ member_of (self.old ++ member ∷ []) name) }
+        ensures ok { OnOk result ((name : List ℕ) → member_of self.new name ≡ member_of
+            (self.old ++ member ∷ []) name) }
         ensures err { OnErr result (self.new ≡ self.old) }
     {
         let at = place_for(self.items.as_slice(), &member.name);
@@ -107,8 +108,10 @@ impl Members {
 
     /// The package's scripts, and other files of its `DEBIAN/`; of two with one name the first, and none with a script's name.
     pub fn of(alloc: Global, scripts: Scripts, others: Vec<Member>) -> Result<Members, AllocError>
-        ensures scripts { IfOk result (λ ms. (script : AScript) → member_node ms (script_name script) ≡ file_of (script_of scripts script)) }
-        ensures others { IfOk result (λ ms. (name : List ℕ) → is_script_name name ≡ false → member_node ms name ≡ member_node others.items name) }
+        ensures scripts { IfOk result (λ ms. (script : AScript)
+            → member_node ms (script_name script) ≡ file_of (script_of scripts script)) }
+        ensures others { IfOk result (λ ms. (name : List ℕ) → is_script_name name ≡ false
+            → member_node ms name ≡ member_node others.items name) }
     {
         let mut members = of_others(alloc, others)?;
         add_script(alloc, &mut members, Script::Preinst, scripts.preinst)?;
@@ -165,7 +168,8 @@ impl Members {
 
 // Those that haven't a script's name.
 fn of_others(alloc: Global, others: Vec<Member>) -> Result<Members, AllocError>
-    ensures { IfOk result (λ ms. (name : List ℕ) → member_of ms name ≡ cond (is_script_name name) None (member_of others.items name)) }
+    ensures { IfOk result (λ ms. (name : List ℕ) → member_of ms name ≡ cond (is_script_name name)
+        None (member_of others.items name)) }
 {
     let mut members = Members::new(alloc);
     for member in others {
@@ -184,7 +188,9 @@ fn add_script(
     script: Script,
     file: Option<ScriptFile>,
 ) -> Result<(), AllocError>
-    ensures { OnOk result ((name : List ℕ) → member_node members.new name ≡ over (member_node members.old name) (cond (bytes_eq (script_name script) name) (file_of file) None)) }
+    ensures { OnOk result ((name : List ℕ) → member_node members.new name
+        ≡ over (member_node members.old name) (cond (bytes_eq (script_name script) name)
+        (file_of file) None)) }
 {
     let Some(file) = file else {
         return Ok(());

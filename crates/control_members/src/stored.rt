@@ -23,8 +23,10 @@ use texts::{Text, Texts};
 
 // Which control file of a package an entry of `info/` is.
 fn member_in<'a>(owner: &Text, entry: &'a Text) -> Option<&'a str>
-    ensures some { IfSome result (λ name. (entry.entry.now ≡ owner.now ++ 46 ∷ name.now) × (is_member_name name.now ≡ true)) }
-    ensures none { IfNone result ((name : List ℕ) → is_member_name name ≡ true → entry.entry.now ≡ owner.now ++ 46 ∷ name → ⊥) }
+    ensures some { IfSome result (λ name. (entry.entry.now ≡ owner.now ++ 46 ∷ name.now)
+        × (is_member_name name.now ≡ true)) }
+    ensures none { IfNone result ((name : List ℕ) → is_member_name name ≡ true
+        → entry.entry.now ≡ owner.now ++ 46 ∷ name → ⊥) }
 {
     let Some(rest) = entry.as_str().strip_prefix(owner.as_str()) else {
         return None;
@@ -43,7 +45,8 @@ fn sorted_among(
     owner: &Text,
     entries: &[Text],
 ) -> Result<BTreeSet<String>, AllocError>
-    ensures { IfOk result (λ set. (name : List ℕ) → contains_text set name ≡ (is_member_name name && is_among entries.now (owner.now ++ 46 ∷ name))) }
+    ensures { IfOk result (λ set. (name : List ℕ) → contains_text set name
+        ≡ (is_member_name name && is_among entries.now (owner.now ++ 46 ∷ name))) }
 {
     let mut set = BTreeSet::new(alloc);
     for entry in entries {
@@ -57,7 +60,8 @@ fn sorted_among(
 // The control files of a package among the entries of `info/`.
 fn names_among(alloc: Global, owner: &Text, entries: &[Text]) -> Result<Texts, AllocError>
     ensures order { IfOk result AreInOrder }
-    ensures exact { IfOk result (λ names. (name : List ℕ) → Contains names name ↔ ((is_member_name name && is_among entries.now (owner.now ++ 46 ∷ name)) ≡ true)) }
+    ensures exact { IfOk result (λ names. (name : List ℕ) → Contains names name
+        ↔ ((is_member_name name && is_among entries.now (owner.now ++ 46 ∷ name)) ≡ true)) }
 {
     let mut set = sorted_among(alloc, owner, entries)?;
     let mut names = Texts::new(alloc);
@@ -70,7 +74,8 @@ fn names_among(alloc: Global, owner: &Text, entries: &[Text]) -> Result<Texts, A
 /// The names of the control files that are stored with a package, in order.
 pub fn stored_names<H: Host>(alloc: Global, host: &mut H, owner: &Text) -> Result<Texts, HostFault>
     requires named { is_package_name owner.now ≡ true }
-    ensures stored { Tells result (λ names w. AreStoredNames w owner.now names) (H.state host.old) (H.state host.new) }
+    ensures stored { Tells result (λ names w. AreStoredNames w owner.now names) (H.state host.old)
+        (H.state host.new) }
     ensures members { IfOk result AreMemberNames }
     ensures reads { Reads (H.state host.old) (H.state host.new) }
     ensures silent { Silent (H.state host.old) (H.state host.new) }
@@ -102,8 +107,10 @@ fn put_member<H: Host>(
 ) -> Result<(), HostFault>
     requires named { is_package_name owner.now ≡ true }
     requires ready { Needs (H.state host.old) (IsMembersReady owner.now) }
-    ensures put { Leaves result (IsReplaced (stored_member_path owner.now member.now.name) member.now.node) (H.state host.old) (H.state host.new) }
-    ensures any_moment { AtEachMoment (IsReplacing (stored_member_path owner.now member.now.name) member.now.node) (H.state host.old) (H.state host.new) }
+    ensures put { Leaves result (IsReplaced (stored_member_path owner.now member.now.name)
+        member.now.node) (H.state host.old) (H.state host.new) }
+    ensures any_moment { AtEachMoment (IsReplacing (stored_member_path owner.now member.now.name)
+        member.now.node) (H.state host.old) (H.state host.new) }
     ensures silent { Silent (H.state host.old) (H.state host.new) }
     ensures counts { Counts (H.state host.old) (H.state host.new) result }
 {
@@ -121,8 +128,10 @@ fn put_members<H: Host>(
     requires named { is_package_name owner.now ≡ true }
     requires order { AreInOrder (names_of members.now) }
     requires ready { Needs (H.state host.old) (IsMembersReady owner.now) }
-    ensures put { Leaves result (AreWritten owner.now members.now) (H.state host.old) (H.state host.new) }
-    ensures any_moment { AtEachMoment (AreWriting owner.now members.now) (H.state host.old) (H.state host.new) }
+    ensures put { Leaves result (AreWritten owner.now members.now) (H.state host.old)
+        (H.state host.new) }
+    ensures any_moment { AtEachMoment (AreWriting owner.now members.now) (H.state host.old)
+        (H.state host.new) }
     ensures silent { Silent (H.state host.old) (H.state host.new) }
     ensures counts { Counts (H.state host.old) (H.state host.new) result }
 {
@@ -141,8 +150,10 @@ fn discard_member<H: Host>(
     requires named { is_package_name owner.now ≡ true }
     requires member { is_member_name name.now ≡ true }
     requires ready { Needs (H.state host.old) (IsMembersReady owner.now) }
-    ensures dropped { Leaves result (IsDropped (stored_member_path owner.now name.now)) (H.state host.old) (H.state host.new) }
-    ensures any_moment { AtEachMoment (IsDropping (stored_member_path owner.now name.now)) (H.state host.old) (H.state host.new) }
+    ensures dropped { Leaves result (IsDropped (stored_member_path owner.now name.now))
+        (H.state host.old) (H.state host.new) }
+    ensures any_moment { AtEachMoment (IsDropping (stored_member_path owner.now name.now))
+        (H.state host.old) (H.state host.new) }
     ensures silent { Silent (H.state host.old) (H.state host.new) }
     ensures counts { Counts (H.state host.old) (H.state host.new) result }
 {
@@ -161,8 +172,10 @@ fn discard_lacking<H: Host>(
     requires named { is_package_name owner.now ≡ true }
     requires members { AreMemberNames old.now }
     requires ready { Needs (H.state host.old) (IsMembersReady owner.now) }
-    ensures taken { Leaves result (AreTaken owner.now (λ name. is_among old.now name && not (is_some (member_node new.now name)))) (H.state host.old) (H.state host.new) }
-    ensures any_moment { AtEachMoment (AreTaking owner.now (λ name. is_among old.now name && not (is_some (member_node new.now name)))) (H.state host.old) (H.state host.new) }
+    ensures taken { Leaves result (AreTaken owner.now (λ name. is_among old.now name
+        && not (is_some (member_node new.now name)))) (H.state host.old) (H.state host.new) }
+    ensures any_moment { AtEachMoment (AreTaking owner.now (λ name. is_among old.now name
+        && not (is_some (member_node new.now name)))) (H.state host.old) (H.state host.new) }
     ensures silent { Silent (H.state host.old) (H.state host.new) }
     ensures counts { Counts (H.state host.old) (H.state host.new) result }
 {
@@ -187,8 +200,10 @@ pub fn replace_members<H: Host>(
     requires named { is_package_name owner.now ≡ true }
     requires members { AreMemberNames old.now }
     requires ready { Needs (H.state host.old) (IsMembersReady owner.now) }
-    ensures replaced { Leaves result (AreReplaced owner.now new.now old.now) (H.state host.old) (H.state host.new) }
-    ensures any_moment { AtEachMoment (AreReplacing owner.now new.now old.now) (H.state host.old) (H.state host.new) }
+    ensures replaced { Leaves result (AreReplaced owner.now new.now old.now) (H.state host.old)
+        (H.state host.new) }
+    ensures any_moment { AtEachMoment (AreReplacing owner.now new.now old.now) (H.state host.old)
+        (H.state host.new) }
     ensures silent { Silent (H.state host.old) (H.state host.new) }
     ensures counts { Counts (H.state host.old) (H.state host.new) result }
 {
@@ -215,8 +230,10 @@ pub fn discard_members<H: Host>(
     requires named { is_package_name owner.now ≡ true }
     requires members { AreMemberNames names.now }
     requires ready { Needs (H.state host.old) (IsMembersReady owner.now) }
-    ensures taken { Leaves result (AreTaken owner.now (goes names.now keep_postrm)) (H.state host.old) (H.state host.new) }
-    ensures any_moment { AtEachMoment (AreTaking owner.now (goes names.now keep_postrm)) (H.state host.old) (H.state host.new) }
+    ensures taken { Leaves result (AreTaken owner.now (goes names.now keep_postrm))
+        (H.state host.old) (H.state host.new) }
+    ensures any_moment { AtEachMoment (AreTaking owner.now (goes names.now keep_postrm))
+        (H.state host.old) (H.state host.new) }
     ensures silent { Silent (H.state host.old) (H.state host.new) }
     ensures counts { Counts (H.state host.old) (H.state host.new) result }
 {

@@ -34,7 +34,11 @@ impl ConfigureQueue {
         installed: &[bool],
         waiting: &[bool],
     ) -> Result<ConfigureQueue, AllocError>
-        ensures { IfOk result (λ q. q ≡ record { packages = packages; installed = installed.now; waiting = waiting.now }) }
+        ensures { IfOk result (λ q. q ≡ record {
+          packages = packages;
+          installed = installed.now;
+          waiting = waiting.now;
+        }) }
     {
         let clauses = packages.clauses(alloc)?;
         let configuring = Configuring::of(alloc, clauses, installed, waiting)?;

@@ -39,7 +39,8 @@ fn departure_of(
 
 // Whether one that goes meets the clause and the incoming package doesn't. That is quickly told for most clauses.
 fn may_be_lost(packages: &[Package], incoming: &Package, clause: &Clause, going: &[usize]) -> bool
-    ensures { result ≡ (not (meets clause.now incoming.now) && list_any (those (meets clause.now) packages.now) going.now) }
+    ensures { result ≡ (not (meets clause.now incoming.now) && list_any
+        (those (meets clause.now) packages.now) going.now) }
 {
     !incoming.meets(clause) && is_met_by_one(packages, clause, going)
 }
@@ -76,7 +77,8 @@ fn loses_this_by(
     number: usize,
 ) -> Result<bool, AllocError>
     requires { IsDeparture packages.now incoming.now departure.now }
-    ensures { IfOk result (λ lost. IsTrue lost ↔ (Meets clause.now packages.now number × IsLost packages.now incoming.now clause.now)) }
+    ensures { IfOk result (λ lost. IsTrue lost ↔ (Meets clause.now packages.now number
+        × IsLost packages.now incoming.now clause.now)) }
 {
     if !is_met_by_number(packages.as_slice(), clause, number) {
         return Ok(false);
@@ -94,7 +96,8 @@ fn loses_one_by(
     number: usize,
 ) -> Result<bool, AllocError>
     requires { IsDeparture packages.now incoming.now departure.now }
-    ensures { IfOk result (λ lost. IsTrue lost ↔ LosesBy packages.now incoming.now clauses.now number) }
+    ensures { IfOk result (λ lost. IsTrue lost ↔ LosesBy packages.now incoming.now clauses.now
+        number) }
 {
     for clause in clauses {
         let lost = loses_this_by(alloc, packages, incoming, departure, clause, number)?;
@@ -114,7 +117,8 @@ fn loses_need_by(
     number: usize,
 ) -> Result<bool, AllocError>
     requires { IsDeparture packages.now incoming.now departure.now }
-    ensures { IfOk result (λ lost. IsTrue lost ↔ LosesBy packages.now incoming.now (needs of.now) number) }
+    ensures { IfOk result (λ lost. IsTrue lost ↔ LosesBy packages.now incoming.now (needs of.now)
+        number) }
 {
     let first = of.pre_depends.clauses();
     let before = loses_one_by(alloc, packages, incoming, departure, first, number)?;
@@ -136,8 +140,11 @@ fn removed_for(
     of: &Package,
 ) -> Result<Option<usize>, AllocError>
     requires departure { IsDeparture packages.now incoming.now departure.now }
-    requires conflicting { IsListing (λ x. IsTrue (of_role Conflicting incoming.now packages.now x)) conflicting.now }
-    ensures { IfOk result (λ found. MatchOption found ((clause : List Alternative) → Contains (needs of.now) clause → IsLost packages.now incoming.now clause → ⊥) (IsRemovedFor packages.now incoming.now (needs of.now))) }
+    requires conflicting { IsListing (λ x. IsTrue (of_role Conflicting incoming.now packages.now x))
+        conflicting.now }
+    ensures { IfOk result (λ found. MatchOption found ((clause : List Alternative)
+        → Contains (needs of.now) clause → IsLost packages.now incoming.now clause
+        → ⊥) (IsRemovedFor packages.now incoming.now (needs of.now))) }
 {
     for number in conflicting {
         let loses = loses_need_by(alloc, packages, incoming, departure, of, *number)?;
@@ -149,7 +156,10 @@ fn removed_for(
 }
 
 fn named_for(number: usize, removing: Option<usize>) -> Option<Dependent>
-    ensures { MatchOption removing (result ≡ None) (λ r. result ≡ Some (record { number = number; removing = r })) }
+    ensures { MatchOption removing (result ≡ None) (λ r. result ≡ Some (record {
+      number = number;
+      removing = r;
+    })) }
 {
     match removing {
         Some(removing) => Some(Dependent { number, removing }),
@@ -169,8 +179,11 @@ fn dependent_at(
     requires within { number < length packages.now }
     requires at { slice_index_or packages.now number of.now ≡ of.now }
     requires departure { IsDeparture packages.now incoming.now departure.now }
-    requires conflicting { IsListing (λ x. IsTrue (of_role Conflicting incoming.now packages.now x)) conflicting.now }
-    ensures { IfOk result (λ found. MatchOption found (IsDependent packages.now incoming.now number → ⊥) (λ d. (d.number ≡ number) × IsDependent packages.now incoming.now number × IsNamedFor packages.now incoming.now d)) }
+    requires conflicting { IsListing (λ x. IsTrue (of_role Conflicting incoming.now packages.now x))
+        conflicting.now }
+    ensures { IfOk result (λ found. MatchOption found (IsDependent packages.now incoming.now number
+        → ⊥) (λ d. (d.number ≡ number) × IsDependent packages.now incoming.now number
+        × IsNamedFor packages.now incoming.now d)) }
 {
     if !plays(Role::Dependable, incoming, of) {
         return Ok(None);
@@ -181,7 +194,8 @@ fn dependent_at(
 
 fn push_found(list: &mut Vec<Dependent>, found: Option<Dependent>) -> Result<(), AllocError>
     ensures none { OnOk result (found ≡ None → list.new.items ≡ list.old.items) }
-    ensures some { OnOk result ((d : ADependent) → found ≡ Some d → list.new.items ≡ list.old.items ++ d ∷ []) }
+    ensures some { OnOk result ((d : ADependent) → found ≡ Some d → list.new.items ≡ list.old.items
+        ++ d ∷ []) }
 {
     if let Some(dependent) = found {
         list.push(dependent)?;
@@ -196,7 +210,8 @@ pub(crate) fn dependents(
     incoming: &Package,
     conflicting: &[usize],
 ) -> Result<Vec<Dependent>, AllocError>
-    requires { IsListing (λ x. IsTrue (of_role Conflicting incoming.now packages.now x)) conflicting.now }
+    requires { IsListing (λ x. IsTrue (of_role Conflicting incoming.now packages.now x))
+        conflicting.now }
     ensures { IfOk result (λ list. AreDependents packages.now incoming.now list.items) }
 {
     let slice = packages.as_slice();

@@ -28,7 +28,8 @@ fn first_unmet_of(
     clauses: &[Clause],
     set: &[bool],
 ) -> Result<Option<usize>, AllocError>
-    ensures { IfOk result (λ found. MatchOption found (AreAllMet packages.now clauses.now (has set.now)) (IsFirst (IsUnmetAt packages.now clauses.now (has set.now)))) }
+    ensures { IfOk result (λ found. MatchOption found (AreAllMet packages.now clauses.now
+        (has set.now)) (IsFirst (IsUnmetAt packages.now clauses.now (has set.now)))) }
 {
     for place in 0..clauses.len() {
         let met = is_met_by(alloc, packages, &clauses[place], set)?;
@@ -47,7 +48,9 @@ pub fn first_unmet(
     of: &Package,
     installed: &[bool],
 ) -> Result<Option<UnmetClause>, AllocError>
-    ensures { IfOk result (λ found. MatchOption found (AreAllMet packages.now of.now.pre_depends (has installed.now) × AreAllMet packages.now of.now.depends (has installed.now)) (IsFirstUnmet packages.now of.now (has installed.now))) }
+    ensures { IfOk result (λ found. MatchOption found (AreAllMet packages.now of.now.pre_depends
+        (has installed.now) × AreAllMet packages.now of.now.depends (has installed.now))
+        (IsFirstUnmet packages.now of.now (has installed.now))) }
 {
     let before = of.pre_depends.clauses();
     let found_before = first_unmet_of(alloc, packages, before, installed)?;
@@ -64,7 +67,8 @@ pub fn first_unmet(
 
 /// The first other package that is at least half-installed and admits this one in Breaks.
 pub fn broken_by(packages: &Packages, of: &Package) -> Option<usize>
-    ensures { MatchOption result ((x : ℕ) → IsTrue (of_role Breaking of.now packages.now x) → ⊥) (IsFirst (λ x. IsTrue (of_role Breaking of.now packages.now x))) }
+    ensures { MatchOption result ((x : ℕ) → IsTrue (of_role Breaking of.now packages.now x)
+        → ⊥) (IsFirst (λ x. IsTrue (of_role Breaking of.now packages.now x))) }
 {
     first_of_role(packages.as_slice(), of, Role::Breaking)
 }
@@ -77,7 +81,8 @@ fn stays(installed: &[bool], left: &[bool], number: usize) -> bool
 
 // The installed packages that aren't left over.
 fn staying(alloc: Global, installed: &[bool], left: &[bool]) -> Result<Vec<bool>, AllocError>
-    ensures { IfOk result (λ set. (x : ℕ) → has set.items x ≡ stays (has installed.now) (has left.now) x) }
+    ensures { IfOk result (λ set. (x : ℕ) → has set.items x ≡ stays (has installed.now)
+        (has left.now) x) }
 {
     let mut set = Vec::new(alloc);
     for number in 0..installed.len() {
@@ -94,7 +99,8 @@ fn is_met_alone(
     staying: &[bool],
     number: usize,
 ) -> Result<bool, AllocError>
-    ensures { IfOk result (λ alone. IsTrue alone ↔ (Meets clause.now packages.now number × (IsMetBy packages.now clause.now (has staying.now) → ⊥))) }
+    ensures { IfOk result (λ alone. IsTrue alone ↔ (Meets clause.now packages.now number
+        × (IsMetBy packages.now clause.now (has staying.now) → ⊥))) }
 {
     if !is_met_by_number(packages.as_slice(), clause, number) {
         return Ok(false);
@@ -110,7 +116,8 @@ fn has_one_left(
     staying: &[bool],
     number: usize,
 ) -> Result<bool, AllocError>
-    ensures { IfOk result (λ found. IsTrue found ↔ HasOneLeft packages.now clauses.now (has staying.now) number) }
+    ensures { IfOk result (λ found. IsTrue found ↔ HasOneLeft packages.now clauses.now
+        (has staying.now) number) }
 {
     for clause in clauses {
         let alone = is_met_alone(alloc, packages, clause, staying, number)?;
@@ -128,7 +135,8 @@ fn has_need_left(
     staying: &[bool],
     number: usize,
 ) -> Result<bool, AllocError>
-    ensures { IfOk result (λ found. IsTrue found ↔ HasOneLeft packages.now (needs of.now) (has staying.now) number) }
+    ensures { IfOk result (λ found. IsTrue found ↔ HasOneLeft packages.now (needs of.now)
+        (has staying.now) number) }
 {
     let first = of.pre_depends.clauses();
     let before = has_one_left(alloc, packages, first, staying, number)?;
@@ -148,7 +156,8 @@ fn depends_beside(
     number: usize,
     other: usize,
 ) -> Result<bool, AllocError>
-    ensures { IfOk result (λ found. IsTrue found ↔ DependsBeside packages.now (has installed.now) (has staying.now) number other) }
+    ensures { IfOk result (λ found. IsTrue found ↔ DependsBeside packages.now (has installed.now)
+        (has staying.now) number other) }
 {
     if other == number {
         return Ok(false);
@@ -170,7 +179,9 @@ fn first_beside(
     staying: &[bool],
     number: usize,
 ) -> Result<Option<usize>, AllocError>
-    ensures { IfOk result (λ found. MatchOption found ((y : ℕ) → DependsBeside packages.now (has installed.now) (has staying.now) number y → ⊥) (IsFirst (DependsBeside packages.now (has installed.now) (has staying.now) number))) }
+    ensures { IfOk result (λ found. MatchOption found ((y : ℕ)
+        → DependsBeside packages.now (has installed.now) (has staying.now) number y
+        → ⊥) (IsFirst (DependsBeside packages.now (has installed.now) (has staying.now) number))) }
 {
     for other in 0..installed.len() {
         let depends = depends_beside(alloc, packages, installed, staying, number, other)?;
@@ -190,7 +201,9 @@ pub fn depended_on_by(
     left: &[bool],
     number: usize,
 ) -> Result<Option<usize>, AllocError>
-    ensures { IfOk result (λ found. MatchOption found ((y : ℕ) → DependsOnLeft packages.now (has installed.now) (has left.now) number y → ⊥) (IsFirst (DependsOnLeft packages.now (has installed.now) (has left.now) number))) }
+    ensures { IfOk result (λ found. MatchOption found ((y : ℕ)
+        → DependsOnLeft packages.now (has installed.now) (has left.now) number y
+        → ⊥) (IsFirst (DependsOnLeft packages.now (has installed.now) (has left.now) number))) }
 {
     let kept = staying(alloc, installed, left)?;
     let first = first_beside(alloc, packages, installed, kept.as_slice(), number)?;

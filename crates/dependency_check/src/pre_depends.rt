@@ -66,7 +66,8 @@ pub(crate) fn first_unmet_beforehand(
     packages: &Packages,
     clauses: &[Clause],
 ) -> Result<Option<usize>, AllocError>
-    ensures { IfOk result (λ found. MatchOption found ((k : ℕ) → IsUnmetBeforehand packages.now clauses.now k → ⊥) (IsFirst (IsUnmetBeforehand packages.now clauses.now))) }
+    ensures { IfOk result (λ found. MatchOption found ((k : ℕ) → IsUnmetBeforehand packages.now
+        clauses.now k → ⊥) (IsFirst (IsUnmetBeforehand packages.now clauses.now))) }
 {
     for place in 0..clauses.len() {
         let met = is_met_beforehand(alloc, packages, &clauses[place])?;

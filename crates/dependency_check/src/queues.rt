@@ -14,7 +14,8 @@ pub fn configurable(
     installed: &[bool],
     waiting: &[bool],
 ) -> Result<Vec<bool>, AllocError>
-    ensures { IfOk result (λ members. (x : ℕ) → IsTrue (has members.items x) ↔ CanBeConfigured packages.now (has installed.now) (has waiting.now) x) }
+    ensures { IfOk result (λ members. (x : ℕ) → IsTrue (has members.items x)
+        ↔ CanBeConfigured packages.now (has installed.now) (has waiting.now) x) }
 {
     let clauses = packages.clauses(alloc)?;
     let list = clauses.as_slice();
@@ -30,7 +31,9 @@ pub fn next_to_configure(
     members: &[bool],
     silent: &[bool],
 ) -> Result<Option<usize>, AllocError>
-    ensures { IfOk result (λ next. MatchOption next ((x : ℕ) → IsTrue (has members.now x) → ⊥) (IsConfiguredNext packages.now (has installed.now) (has members.now) (has silent.now))) }
+    ensures { IfOk result (λ next. MatchOption next ((x : ℕ) → IsTrue (has members.now x)
+        → ⊥) (IsConfiguredNext packages.now (has installed.now) (has members.now)
+        (has silent.now))) }
 {
     let clauses = packages.clauses(alloc)?;
     let list = clauses.as_slice();
@@ -46,7 +49,8 @@ pub fn removable(
     installed: &[bool],
     waiting: &[bool],
 ) -> Result<Vec<bool>, AllocError>
-    ensures { IfOk result (λ members. (x : ℕ) → IsTrue (has members.items x) ↔ CanBeRemoved packages.now (has installed.now) (has waiting.now) x) }
+    ensures { IfOk result (λ members. (x : ℕ) → IsTrue (has members.items x)
+        ↔ CanBeRemoved packages.now (has installed.now) (has waiting.now) x) }
 {
     let clauses = packages.clauses(alloc)?;
     let list = clauses.as_slice();
@@ -61,7 +65,8 @@ pub fn next_to_remove(
     installed: &[bool],
     members: &[bool],
 ) -> Result<Option<usize>, AllocError>
-    ensures { IfOk result (λ next. MatchOption next ((x : ℕ) → IsTrue (has members.now x) → ⊥) (IsRemovedNext packages.now (has installed.now) (has members.now))) }
+    ensures { IfOk result (λ next. MatchOption next ((x : ℕ) → IsTrue (has members.now x)
+        → ⊥) (IsRemovedNext packages.now (has installed.now) (has members.now))) }
 {
     let clauses = packages.clauses(alloc)?;
     let list = clauses.as_slice();

@@ -34,7 +34,11 @@ impl RemoveQueue {
         installed: &[bool],
         waiting: &[bool],
     ) -> Result<RemoveQueue, AllocError>
-        ensures { IfOk result (λ q. q ≡ record { packages = packages; installed = installed.now; waiting = waiting.now }) }
+        ensures { IfOk result (λ q. q ≡ record {
+          packages = packages;
+          installed = installed.now;
+          waiting = waiting.now;
+        }) }
     {
         let clauses = packages.clauses(alloc)?;
         let leaving = Leaving::of(alloc, clauses, installed, waiting)?;

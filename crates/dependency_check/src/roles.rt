@@ -137,7 +137,8 @@ pub(crate) fn list_of_role(
 
 /// The first package that plays a role.
 pub(crate) fn first_of_role(packages: &[Package], incoming: &Package, role: Role) -> Option<usize>
-    ensures { MatchOption result ((x : ℕ) → IsTrue (of_role role incoming.now packages.now x) → ⊥) (IsFirst (λ x. IsTrue (of_role role incoming.now packages.now x))) }
+    ensures { MatchOption result ((x : ℕ) → IsTrue (of_role role incoming.now packages.now x)
+        → ⊥) (IsFirst (λ x. IsTrue (of_role role incoming.now packages.now x))) }
 {
     for number in 0..packages.len() {
         if plays(role, incoming, &packages[number]) {

@@ -37,7 +37,8 @@ impl From<AllocError> for CheckFault {
 
 // Which conflicting package refuses the unpack.
 fn refused_conflict(packages: &[Package], incoming: &Package) -> Option<UnpackRefusal>
-    ensures { MatchOption result (DoAllYield packages.now incoming.now × IsNoneEssential packages.now incoming.now) (IsRefusedConflict packages.now incoming.now) }
+    ensures { MatchOption result (DoAllYield packages.now incoming.now
+        × IsNoneEssential packages.now incoming.now) (IsRefusedConflict packages.now incoming.now) }
 {
     let unyielding = first_of_role(packages, incoming, Role::Unyielding);
     if let Some(number) = unyielding {
@@ -56,7 +57,8 @@ fn always_refused(
     packages: &Packages,
     incoming: &Package,
 ) -> Result<Option<UnpackRefusal>, AllocError>
-    ensures { IfOk result (λ found. MatchOption found (MayBeUnpacked packages.now incoming.now) (IsAlwaysRefused packages.now incoming.now)) }
+    ensures { IfOk result (λ found. MatchOption found (MayBeUnpacked packages.now incoming.now)
+        (IsAlwaysRefused packages.now incoming.now)) }
 {
     let before = incoming.pre_depends.clauses();
     let unmet = first_unmet_beforehand(alloc, packages, before)?;
@@ -83,7 +85,8 @@ fn refused_undeconfigured(
     plan: &Plan,
 ) -> Option<UnpackRefusal>
     requires { IsPlan packages.now incoming.now plan.now }
-    ensures { MatchOption result (NeedsNoDeconfiguring packages.now incoming.now) (IsRefusedUndeconfigured packages.now incoming.now) }
+    ensures { MatchOption result (NeedsNoDeconfiguring packages.now incoming.now)
+        (IsRefusedUndeconfigured packages.now incoming.now) }
 {
     let dependent = first_number(plan.dependents.as_slice());
     if let Some(number) = dependent {

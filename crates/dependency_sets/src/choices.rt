@@ -15,7 +15,8 @@ fn has_both(one: &[bool], other: &[bool], package_number: usize) -> bool
 
 /// The first package that is in both sets.
 pub fn first_of_both(one: &[bool], other: &[bool]) -> Option<usize>
-    ensures { MatchOption result ((x : ℕ) → IsTrue (has one.now x && has other.now x) → ⊥) (IsFirst (λ x. IsTrue (has one.now x && has other.now x))) }
+    ensures { MatchOption result ((x : ℕ) → IsTrue (has one.now x && has other.now x)
+        → ⊥) (IsFirst (λ x. IsTrue (has one.now x && has other.now x))) }
 {
     for i in 0..one.len() {
         if has_both(one, other, i) {
@@ -26,7 +27,8 @@ pub fn first_of_both(one: &[bool], other: &[bool]) -> Option<usize>
 }
 
 fn push_if_marked(list: &mut Numbers, set: &[bool], number: usize) -> Result<(), AllocError>
-    ensures { OnOk result (list.new ≡ (if has set.now number then list.old ++ number ∷ [] else list.old)) }
+    ensures { OnOk result (list.new ≡ (if has set.now number then list.old ++ number
+        ∷ [] else list.old)) }
 {
     if has(set, number) {
         list.push(number)?;

@@ -46,7 +46,11 @@ impl Configuring {
         supply: &[bool],
         waiting: &[bool],
     ) -> Result<Configuring, AllocError>
-        ensures { IfOk result (λ c. c ≡ record { clauses = clauses.items; installed = supply.now; waiting = waiting.now }) }
+        ensures { IfOk result (λ c. c ≡ record {
+          clauses = clauses.items;
+          installed = supply.now;
+          waiting = waiting.now;
+        }) }
     {
         let list = clauses.as_slice();
         let rows = clauses_met(alloc, list, waiting.len())?;
@@ -79,7 +83,8 @@ impl Configuring {
 
     /// The configurable set, as if computed afresh from what is installed and waits now.
     pub fn members(&self) -> &[bool]
-        ensures { (x : ℕ) → IsTrue (has result.now x) ↔ IsConfigurable self.now.clauses (has self.now.installed) (has self.now.waiting) x }
+        ensures { (x : ℕ) → IsTrue (has result.now x) ↔ IsConfigurable self.now.clauses
+            (has self.now.installed) (has self.now.waiting) x }
     {
         self.striking.members.as_slice()
     }
@@ -87,7 +92,8 @@ impl Configuring {
     /// A member was configured: it is installed and waits no longer.
     pub fn installed(&mut self, number: usize)
         requires room { number < length self.old.installed }
-        requires member { IsConfigurable self.old.clauses (has self.old.installed) (has self.old.waiting) number }
+        requires member { IsConfigurable self.old.clauses (has self.old.installed)
+            (has self.old.waiting) number }
         ensures { self.new ≡ has_configured number self.old }
     {
         self.supply[number] = true;

@@ -36,7 +36,11 @@ impl Leaving {
         installed: &[bool],
         waiting: &[bool],
     ) -> Result<Leaving, AllocError>
-        ensures { IfOk result (λ l. l ≡ record { clauses = clauses.items; installed = installed.now; waiting = waiting.now }) }
+        ensures { IfOk result (λ l. l ≡ record {
+          clauses = clauses.items;
+          installed = installed.now;
+          waiting = waiting.now;
+        }) }
     {
         let list = reliances(alloc, clauses.as_slice(), installed, waiting)?;
         let none = vec![in alloc; false; installed.len()]?;
@@ -64,7 +68,8 @@ impl Leaving {
 
     /// The removable set, as if computed afresh from what is installed and waits now.
     pub fn members(&self) -> &[bool]
-        ensures { (x : ℕ) → IsTrue (has result.now x) ↔ IsRemovable self.now.clauses (has self.now.installed) (has self.now.waiting) x }
+        ensures { (x : ℕ) → IsTrue (has result.now x) ↔ IsRemovable self.now.clauses
+            (has self.now.installed) (has self.now.waiting) x }
     {
         self.kept.members()
     }
@@ -73,7 +78,8 @@ impl Leaving {
     /// clauses, for it waits no longer.
     pub fn removed(&mut self, number: usize)
         requires room { number < length self.old.installed }
-        requires member { IsRemovable self.old.clauses (has self.old.installed) (has self.old.waiting) number }
+        requires member { IsRemovable self.old.clauses (has self.old.installed)
+            (has self.old.waiting) number }
         ensures { self.new ≡ has_removed number self.old }
     {
         self.kept.installed(number);

@@ -84,15 +84,22 @@ fn remove_conflicting<H: Host>(
     requires listing { lists.old.closed ≡ false }
     requires kept { places.old ≡ places_in diversions.now.entries lists.old.lists }
     requires indexed { ArePackagesOf database.old.records packages.old }
-    ensures removed { IfOk result (λ failed. HaveBeenRemoved diversions.now.entries conflicting.now failed (holding database.old lists.old) (holding database.new lists.new) (H.state host.old) (H.state host.new) told.old.items told.new.items) }
-    ensures others { OnOk result ((q : List ℕ) → (Contains conflicting.now q → ⊥) → record_in database.new.records q ≡ record_in database.old.records q) }
-    ensures order { OnOk result (Needs (H.state host.new) (IsInOrder database.new lists.new.lists)) }
+    ensures removed { IfOk result (λ failed. HaveBeenRemoved diversions.now.entries conflicting.now
+        failed (holding database.old lists.old) (holding database.new lists.new) (H.state host.old)
+        (H.state host.new) told.old.items told.new.items) }
+    ensures others { OnOk result ((q : List ℕ) → (Contains conflicting.now q → ⊥)
+        → record_in database.new.records q ≡ record_in database.old.records q) }
+    ensures order { OnOk result
+        (Needs (H.state host.new) (IsInOrder database.new lists.new.lists)) }
     ensures kept { OnOk result (places.new ≡ places_in diversions.now.entries lists.new.lists) }
     ensures noting { OnOk result (database.new.closed ≡ false) }
     ensures listing { OnOk result (lists.new.closed ≡ false) }
     ensures indexed { OnOk result (ArePackagesOf database.new.records packages.new) }
-    ensures told { HaveCalledRemoving diversions.now.entries conflicting.now (holding database.old lists.old) (H.state host.old) (H.state host.new) told.old.items told.new.items }
-    ensures any_moment { Since (IsAmidRemovals diversions.now.entries conflicting.now (holding database.old lists.old) (H.state host.old)) (H.state host.old) (H.state host.new) }
+    ensures told { HaveCalledRemoving diversions.now.entries conflicting.now
+        (holding database.old lists.old) (H.state host.old) (H.state host.new) told.old.items
+        told.new.items }
+    ensures any_moment { Since (IsAmidRemovals diversions.now.entries conflicting.now
+        (holding database.old lists.old) (H.state host.old)) (H.state host.old) (H.state host.new) }
     ensures counts { Counts (H.state host.old) (H.state host.new) result }
 {
     database.law();
@@ -128,15 +135,23 @@ fn remove_behind<H: Host>(
     requires listing { lists.old.closed ≡ false }
     requires kept { places.old ≡ places_in diversions.now.entries lists.old.lists }
     requires indexed { ArePackagesOf database.old.records packages.old }
-    ensures removed { IfOk result (λ d. HaveBeenRemovedBehind diversions.now.entries conflicting.now disappeared.names disappeared.failed d.names d.failed (holding database.old lists.old) (holding database.new lists.new) (H.state host.old) (H.state host.new) told.old.items told.new.items) }
-    ensures others { OnOk result ((q : List ℕ) → (Contains conflicting.now q → ⊥) → record_in database.new.records q ≡ record_in database.old.records q) }
-    ensures order { OnOk result (Needs (H.state host.new) (IsInOrder database.new lists.new.lists)) }
+    ensures removed { IfOk result (λ d. HaveBeenRemovedBehind diversions.now.entries conflicting.now
+        disappeared.names disappeared.failed d.names d.failed (holding database.old lists.old)
+        (holding database.new lists.new) (H.state host.old) (H.state host.new) told.old.items
+        told.new.items) }
+    ensures others { OnOk result ((q : List ℕ) → (Contains conflicting.now q → ⊥)
+        → record_in database.new.records q ≡ record_in database.old.records q) }
+    ensures order { OnOk result
+        (Needs (H.state host.new) (IsInOrder database.new lists.new.lists)) }
     ensures kept { OnOk result (places.new ≡ places_in diversions.now.entries lists.new.lists) }
     ensures noting { OnOk result (database.new.closed ≡ false) }
     ensures listing { OnOk result (lists.new.closed ≡ false) }
     ensures indexed { OnOk result (ArePackagesOf database.new.records packages.new) }
-    ensures told { HaveCalledRemoving diversions.now.entries conflicting.now (holding database.old lists.old) (H.state host.old) (H.state host.new) told.old.items told.new.items }
-    ensures any_moment { Since (IsAmidRemovals diversions.now.entries conflicting.now (holding database.old lists.old) (H.state host.old)) (H.state host.old) (H.state host.new) }
+    ensures told { HaveCalledRemoving diversions.now.entries conflicting.now
+        (holding database.old lists.old) (H.state host.old) (H.state host.new) told.old.items
+        told.new.items }
+    ensures any_moment { Since (IsAmidRemovals diversions.now.entries conflicting.now
+        (holding database.old lists.old) (H.state host.old)) (H.state host.old) (H.state host.new) }
     ensures counts { Counts (H.state host.old) (H.state host.new) result }
 {
     match remove_conflicting(
@@ -178,15 +193,24 @@ fn displace_all<H: Host>(
     requires listing { lists.old.closed ≡ false }
     requires kept { places.old ≡ places_in diversions.now.entries lists.old.lists }
     requires indexed { ArePackagesOf database.old.records packages.old }
-    ensures gone { IfOk result (λ d. HaveGone incoming.now version.now diversions.now.entries losing.now conflicting.now d.names d.failed (holding database.old lists.old) (holding database.new lists.new) (H.state host.old) (H.state host.new) told.old.items told.new.items) }
-    ensures others { IfOk result (λ d. (q : List ℕ) → (Contains d.names q → ⊥) → record_in database.new.records q ≡ record_in database.old.records q) }
-    ensures order { OnOk result (Needs (H.state host.new) (IsInOrder database.new lists.new.lists)) }
+    ensures gone { IfOk result (λ d. HaveGone incoming.now version.now diversions.now.entries
+        losing.now conflicting.now d.names d.failed (holding database.old lists.old)
+        (holding database.new lists.new) (H.state host.old) (H.state host.new) told.old.items
+        told.new.items) }
+    ensures others { IfOk result (λ d. (q : List ℕ) → (Contains d.names q → ⊥)
+        → record_in database.new.records q ≡ record_in database.old.records q) }
+    ensures order { OnOk result
+        (Needs (H.state host.new) (IsInOrder database.new lists.new.lists)) }
     ensures kept { OnOk result (places.new ≡ places_in diversions.now.entries lists.new.lists) }
     ensures noting { OnOk result (database.new.closed ≡ false) }
     ensures listing { OnOk result (lists.new.closed ≡ false) }
     ensures indexed { OnOk result (ArePackagesOf database.new.records packages.new) }
-    ensures told { HasCalledFirst incoming.now version.now diversions.now.entries losing.now conflicting.now (holding database.old lists.old) (H.state host.old) (H.state host.new) told.old.items told.new.items }
-    ensures any_moment { Since (AreGoing incoming.now version.now diversions.now.entries losing.now conflicting.now (holding database.old lists.old) (H.state host.old)) (H.state host.old) (H.state host.new) }
+    ensures told { HasCalledFirst incoming.now version.now diversions.now.entries losing.now
+        conflicting.now (holding database.old lists.old) (H.state host.old) (H.state host.new)
+        told.old.items told.new.items }
+    ensures any_moment { Since (AreGoing incoming.now version.now diversions.now.entries losing.now
+        conflicting.now (holding database.old lists.old) (H.state host.old)) (H.state host.old)
+        (H.state host.new) }
     ensures counts { Counts (H.state host.old) (H.state host.new) result }
 {
     match disappear_packages(
@@ -220,8 +244,10 @@ fn bring_to_disk<H: Host>(
     losing: &[Losing],
     conflicting: &[Text],
 ) -> Result<(), HostFault>
-    ensures disk { OnOk result (IsBroughtToDisk losing.now conflicting.now (H.state host.old) (H.state host.new)) }
-    ensures does { (H.state host.new ≡ H.state host.old) ⊎ Does Barrier (H.state host.old) (H.state host.new) result }
+    ensures disk { OnOk result (IsBroughtToDisk losing.now conflicting.now (H.state host.old)
+        (H.state host.new)) }
+    ensures does { (H.state host.new ≡ H.state host.old) ⊎ Does Barrier (H.state host.old)
+        (H.state host.new) result }
     ensures silent { Silent (H.state host.old) (H.state host.new) }
     ensures counts { Counts (H.state host.old) (H.state host.new) result }
 {
@@ -253,16 +279,25 @@ pub fn displace<H: Host>(
     requires listing { lists.old.closed ≡ false }
     requires kept { places.old ≡ places_in diversions.now.entries lists.old.lists }
     requires indexed { ArePackagesOf database.old.records packages.old }
-    ensures displaced { IfOk result (λ d. HaveBeenDisplaced incoming.now version.now diversions.now.entries losing.now conflicting.now d.names d.failed (holding database.old lists.old) (holding database.new lists.new) (H.state host.old) (H.state host.new) told.old.items told.new.items) }
-    ensures others { IfOk result (λ d. (q : List ℕ) → (Contains d.names q → ⊥) → record_in database.new.records q ≡ record_in database.old.records q) }
-    ensures order { OnOk result (Needs (H.state host.new) (IsInOrder database.new lists.new.lists)) }
+    ensures displaced { IfOk result (λ d. HaveBeenDisplaced incoming.now version.now
+        diversions.now.entries losing.now conflicting.now d.names d.failed
+        (holding database.old lists.old) (holding database.new lists.new) (H.state host.old)
+        (H.state host.new) told.old.items told.new.items) }
+    ensures others { IfOk result (λ d. (q : List ℕ) → (Contains d.names q → ⊥)
+        → record_in database.new.records q ≡ record_in database.old.records q) }
+    ensures order { OnOk result
+        (Needs (H.state host.new) (IsInOrder database.new lists.new.lists)) }
     ensures kept { OnOk result (places.new ≡ places_in diversions.now.entries lists.new.lists) }
     ensures noting { OnOk result (database.new.closed ≡ false) }
     ensures listing { OnOk result (lists.new.closed ≡ false) }
     ensures indexed { OnOk result (ArePackagesOf database.new.records packages.new) }
     ensures answered { OnOk result (IsAnswered (H.state host.old) (H.state host.new)) }
-    ensures told { HasCalled incoming.now version.now diversions.now.entries losing.now conflicting.now (holding database.old lists.old) (H.state host.old) (H.state host.new) told.old.items told.new.items }
-    ensures any_moment { Since (IsAmidDisplacing incoming.now version.now diversions.now.entries losing.now conflicting.now (holding database.old lists.old) (H.state host.old)) (H.state host.old) (H.state host.new) }
+    ensures told { HasCalled incoming.now version.now diversions.now.entries losing.now
+        conflicting.now (holding database.old lists.old) (H.state host.old) (H.state host.new)
+        told.old.items told.new.items }
+    ensures any_moment { Since (IsAmidDisplacing incoming.now version.now diversions.now.entries
+        losing.now conflicting.now (holding database.old lists.old) (H.state host.old))
+        (H.state host.old) (H.state host.new) }
     ensures counts { Counts (H.state host.old) (H.state host.new) result }
 {
     match displace_all(

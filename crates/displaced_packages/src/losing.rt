@@ -35,7 +35,8 @@ fn push_losing(
     conflicting: &[Text],
     name: &Text,
 ) -> Result<(), AllocError>
-    ensures { OnOk result (losing.new.items ≡ cond (is_spared conflicting.now name.now) (losing.old.items ++ losing_of lists.now.lists name.now ∷ []) losing.old.items) }
+    ensures { OnOk result (losing.new.items ≡ cond (is_spared conflicting.now name.now)
+        (losing.old.items ++ losing_of lists.now.lists name.now ∷ []) losing.old.items) }
 {
     if is_spared(conflicting, name) {
         losing.push(losing_of(lists, name)?)?;
@@ -50,7 +51,8 @@ fn losing_among(
     conflicting: &[Text],
     replaced: &[Text],
 ) -> Result<Vec<Losing>, AllocError>
-    ensures { IfOk result (λ losing. losing.items ≡ map (losing_of lists.now.lists) (filter (is_spared conflicting.now) replaced.now)) }
+    ensures { IfOk result (λ losing. losing.items ≡ map (losing_of lists.now.lists)
+        (filter (is_spared conflicting.now) replaced.now)) }
 {
     let mut losing = Vec::new(alloc);
     for name in replaced {

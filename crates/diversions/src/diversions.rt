@@ -200,10 +200,9 @@ impl Diversions {
             ≡ add_answer w self.old.entries (diversion_of path.now target.now owner.now) rename
             seen)
             (H.state host.old) (H.state host.new) }
-        ensures table { OnDone result
-            (self.new
-            ≡ record self.old
-            { entries = with_entry self.old.entries (diversion_of path.now target.now owner.now) }) }
+        ensures table { OnDone result (self.new ≡ record self.old {
+          entries = with_entry self.old.entries (diversion_of path.now target.now owner.now);
+        }) }
         ensures refused { OnRefused result (self.new ≡ self.old) }
         ensures err { OnErr result (self.new ≡ record self.old { closed = true }) }
         ensures closed { IsErrOf result Closed ↔ (self.old.closed ≡ true) }

@@ -104,8 +104,10 @@ fn owner_of(alloc: Global, line: &[u8]) -> Result<Option<Owner>, AllocError>
 
 // The entry of three lines, if they are one.
 fn entry_of(alloc: Global, lines: &EntryLines<'_>) -> Result<Option<Diversion>, AllocError>
-    ensures { IfOk result (λ o. MatchOption o ((d : ADiversion) → IsEntry d → entry_lines d ≢ lines.now.path.now ∷ lines.now.target.now ∷ lines.now.owner.now ∷ [])
-        (λ d. IsEntry d × (entry_lines d ≡ lines.now.path.now ∷ lines.now.target.now ∷ lines.now.owner.now ∷ []))) }
+    ensures { IfOk result (λ o. MatchOption o ((d : ADiversion) → IsEntry d
+        → entry_lines d ≢ lines.now.path.now ∷ lines.now.target.now ∷ lines.now.owner.now ∷ [])
+        (λ d. IsEntry d × (entry_lines d ≡ lines.now.path.now ∷ lines.now.target.now
+        ∷ lines.now.owner.now ∷ []))) }
 {
     let Some(path) = ship_path(alloc, lines.path)? else {
         return Ok(None);

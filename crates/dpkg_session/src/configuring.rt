@@ -33,7 +33,8 @@ fn names_asked(
     database: &NotedDatabase,
     names: Option<Vec<Text>>,
 ) -> Result<Vec<Text>, AllocError>
-    ensures { IfOk result (λ asked. asked.items ≡ names_asked (option_map (λ list. list.items) names) database.now.records) }
+    ensures { IfOk result (λ asked. asked.items ≡ names_asked (option_map (λ list. list.items)
+        names) database.now.records) }
 {
     match names {
         Some(names) => Ok(names),
@@ -59,18 +60,25 @@ pub(crate) fn configure_named<H: Host, W: Watcher>(
     requires listing { lists.old.closed ≡ false }
     requires kept { places.old ≡ places_in diversions.now.entries lists.old.lists }
     requires indexed { IfSome packages.old (ArePackagesOf database.old.records) }
-    ensures whole { IsNone result.last → IsConfigureRun names.items policy result.units.items (held database.old lists.old diversions.now) (held database.new lists.new diversions.now) (H.state host.old) (H.state host.new) }
-    ensures part { HasRun names.items policy result.units.items result.last (held database.old lists.old diversions.now) (H.state host.old) (H.state host.new) }
+    ensures whole { IsNone result.last → IsConfigureRun names.items policy result.units.items
+        (held database.old lists.old diversions.now) (held database.new lists.new diversions.now)
+        (H.state host.old) (H.state host.new) }
+    ensures part { HasRun names.items policy result.units.items result.last
+        (held database.old lists.old diversions.now) (H.state host.old) (H.state host.new) }
     ensures told { TellsCalls (H.state host.old) (H.state host.new) result }
-    ensures any_moment { Since (IsAmidRun names.items policy (held database.old lists.old diversions.now) (H.state host.old)) (H.state host.old) (H.state host.new) }
+    ensures any_moment { Since (IsAmidRun names.items policy (held database.old lists.old
+        diversions.now) (H.state host.old)) (H.state host.old) (H.state host.new) }
     ensures answered { IsNone result.last → IsAnswered (H.state host.old) (H.state host.new) }
     ensures counts { CountsLast (H.state host.old) (H.state host.new) result.last }
     ensures not_closed { IfSome result.last (λ unit. IsBrokenBy Closed unit.reply → ⊥) }
-    ensures order { IsNone result.last → Needs (H.state host.new) (IsInOrder database.new lists.new.lists) }
+    ensures order { IsNone result.last
+        → Needs (H.state host.new) (IsInOrder database.new lists.new.lists) }
     ensures noting { IsNone result.last → database.new.closed ≡ false }
     ensures listing { IsNone result.last → lists.new.closed ≡ false }
-    ensures kept { IsNone result.last → places.new ≡ places_in diversions.now.entries lists.new.lists }
-    ensures indexed { IsNone result.last → IfSome packages.new (ArePackagesOf database.new.records) }
+    ensures kept { IsNone result.last → places.new ≡ places_in diversions.now.entries
+        lists.new.lists }
+    ensures indexed { IsNone result.last
+        → IfSome packages.new (ArePackagesOf database.new.records) }
     ensures watched { IsTold W.tells watcher.old result.units.items watcher.new }
 {
     match take_packages(alloc, packages, database) {
@@ -104,18 +112,28 @@ fn configure_on<H: Host, W: Watcher>(
     requires listing { lists.old.closed ≡ false }
     requires kept { places.old ≡ places_in diversions.now.entries lists.old.lists }
     requires indexed { IfSome packages.old (ArePackagesOf database.old.records) }
-    ensures whole { IsNone result.last → IsConfigureRun (names_asked (option_map (λ list. list.items) names) database.old.records) policy result.units.items (held database.old lists.old diversions.now) (held database.new lists.new diversions.now) (H.state host.old) (H.state host.new) }
-    ensures part { HasRun (names_asked (option_map (λ list. list.items) names) database.old.records) policy result.units.items result.last (held database.old lists.old diversions.now) (H.state host.old) (H.state host.new) }
+    ensures whole { IsNone result.last
+        → IsConfigureRun (names_asked (option_map (λ list. list.items) names) database.old.records)
+        policy result.units.items (held database.old lists.old diversions.now)
+        (held database.new lists.new diversions.now) (H.state host.old) (H.state host.new) }
+    ensures part { HasRun (names_asked (option_map (λ list. list.items) names) database.old.records)
+        policy result.units.items result.last (held database.old lists.old diversions.now)
+        (H.state host.old) (H.state host.new) }
     ensures told { TellsCalls (H.state host.old) (H.state host.new) result }
-    ensures any_moment { Since (IsAmidRun (names_asked (option_map (λ list. list.items) names) database.old.records) policy (held database.old lists.old diversions.now) (H.state host.old)) (H.state host.old) (H.state host.new) }
+    ensures any_moment { Since (IsAmidRun (names_asked (option_map (λ list. list.items) names)
+        database.old.records) policy (held database.old lists.old diversions.now)
+        (H.state host.old)) (H.state host.old) (H.state host.new) }
     ensures answered { IsNone result.last → IsAnswered (H.state host.old) (H.state host.new) }
     ensures counts { CountsLast (H.state host.old) (H.state host.new) result.last }
     ensures not_closed { IfSome result.last (λ unit. IsBrokenBy Closed unit.reply → ⊥) }
-    ensures order { IsNone result.last → Needs (H.state host.new) (IsInOrder database.new lists.new.lists) }
+    ensures order { IsNone result.last
+        → Needs (H.state host.new) (IsInOrder database.new lists.new.lists) }
     ensures noting { IsNone result.last → database.new.closed ≡ false }
     ensures listing { IsNone result.last → lists.new.closed ≡ false }
-    ensures kept { IsNone result.last → places.new ≡ places_in diversions.now.entries lists.new.lists }
-    ensures indexed { IsNone result.last → IfSome packages.new (ArePackagesOf database.new.records) }
+    ensures kept { IsNone result.last → places.new ≡ places_in diversions.now.entries
+        lists.new.lists }
+    ensures indexed { IsNone result.last
+        → IfSome packages.new (ArePackagesOf database.new.records) }
     ensures watched { IsTold W.tells watcher.old result.units.items watcher.new }
 {
     match names_asked(alloc, database, names) {
@@ -139,21 +157,42 @@ impl<H: Host> Session<H> {
         policy: ConfPolicy,
         watcher: &mut W,
     ) -> Report
-        ensures whole { self.old.closed ≡ false → IsNone result.last → IsConfigureRun (names_asked (option_map (λ list. list.items) names) self.old.database.records) policy result.units.items (held self.old.database self.old.lists self.old.diversions) (held self.new.database self.new.lists self.new.diversions) (H.state self.old.host) (H.state self.new.host) }
-        ensures part { self.old.closed ≡ false → HasRun (names_asked (option_map (λ list. list.items) names) self.old.database.records) policy result.units.items result.last (held self.old.database self.old.lists self.old.diversions) (H.state self.old.host) (H.state self.new.host) }
+        ensures whole { self.old.closed ≡ false → IsNone result.last
+            → IsConfigureRun (names_asked (option_map (λ list. list.items) names)
+            self.old.database.records) policy result.units.items
+            (held self.old.database self.old.lists self.old.diversions)
+            (held self.new.database self.new.lists self.new.diversions) (H.state self.old.host)
+            (H.state self.new.host) }
+        ensures part { self.old.closed ≡ false
+            → HasRun (names_asked (option_map (λ list. list.items) names) self.old.database.records)
+            policy result.units.items result.last (held self.old.database self.old.lists
+            self.old.diversions) (H.state self.old.host) (H.state self.new.host) }
         ensures told { TellsCalls (H.state self.old.host) (H.state self.new.host) result }
-        ensures any_moment { self.old.closed ≡ false → Since (IsAmidRun (names_asked (option_map (λ list. list.items) names) self.old.database.records) policy (held self.old.database self.old.lists self.old.diversions) (H.state self.old.host)) (H.state self.old.host) (H.state self.new.host) }
-        ensures loss { self.old.closed ≡ false → LosesLikeAStop (IsAmidRun (names_asked (option_map (λ list. list.items) names) self.old.database.records) policy (held self.old.database self.old.lists self.old.diversions) (H.state self.old.host)) (H.state self.old.host) (H.state self.new.host) }
-        ensures stands { self.old.closed ≡ false → IsNone result.last → StandsOnceAnswered (H.state self.old.host) (H.state self.new.host) }
+        ensures any_moment { self.old.closed ≡ false
+            → Since (IsAmidRun (names_asked (option_map (λ list. list.items) names)
+            self.old.database.records) policy (held self.old.database self.old.lists
+            self.old.diversions) (H.state self.old.host)) (H.state self.old.host)
+            (H.state self.new.host) }
+        ensures loss { self.old.closed ≡ false
+            → LosesLikeAStop (IsAmidRun (names_asked (option_map (λ list. list.items) names)
+            self.old.database.records) policy (held self.old.database self.old.lists
+            self.old.diversions) (H.state self.old.host)) (H.state self.old.host)
+            (H.state self.new.host) }
+        ensures stands { self.old.closed ≡ false → IsNone result.last
+            → StandsOnceAnswered (H.state self.old.host) (H.state self.new.host) }
         ensures closes { self.new.closed ≡ is_some result.last }
         ensures refused { self.old.closed ≡ true → IsClosedReport result }
         ensures same { self.old.closed ≡ true → H.state self.new.host ≡ H.state self.old.host }
-        ensures same_held { self.old.closed ≡ true → held self.new.database self.new.lists self.new.diversions ≡ held self.old.database self.old.lists self.old.diversions }
-        ensures answered { self.old.closed ≡ false → IsNone result.last → IsAnswered (H.state self.old.host) (H.state self.new.host) }
+        ensures same_held { self.old.closed ≡ true → held self.new.database self.new.lists
+            self.new.diversions ≡ held self.old.database self.old.lists self.old.diversions }
+        ensures answered { self.old.closed ≡ false → IsNone result.last
+            → IsAnswered (H.state self.old.host) (H.state self.new.host) }
         ensures diversions { self.new.diversions ≡ self.old.diversions }
         ensures honest { Falls (H.state self.old.host) (H.state self.new.host) }
-        ensures counts { self.old.closed ≡ false → CountsLast (H.state self.old.host) (H.state self.new.host) result.last }
-        ensures not_closed { self.old.closed ≡ false → IfSome result.last (λ unit. IsBrokenBy Closed unit.reply → ⊥) }
+        ensures counts { self.old.closed ≡ false → CountsLast (H.state self.old.host)
+            (H.state self.new.host) result.last }
+        ensures not_closed { self.old.closed ≡ false
+            → IfSome result.last (λ unit. IsBrokenBy Closed unit.reply → ⊥) }
         ensures watched { IsTold W.tells watcher.old result.units.items watcher.new }
     {
         if self.closed {

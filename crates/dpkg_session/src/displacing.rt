@@ -53,7 +53,8 @@ fn yielding_of(
     database: &NotedDatabase,
     beside: &Beside,
 ) -> Result<Vec<Touched>, AllocError>
-    ensures { IfOk result (λ copies. copies.items ≡ map (touched_at database.now.records) (yielding beside.now)) }
+    ensures { IfOk result (λ copies. copies.items ≡ map (touched_at database.now.records)
+        (yielding beside.now)) }
 {
     let names = yields_beside(alloc, beside)?;
     let copies = touched_of(alloc, database, names.as_slice())?;
@@ -113,7 +114,9 @@ fn bring_up_to_date(
     touched: &[Text],
 ) -> Result<(), AllocError>
     ensures places { OnOk result (places.new ≡ places_in diversions.now.entries lists.now.lists) }
-    ensures packages { OnOk result ((before : List Record) → AreInOrder before → ArePackagesOf before packages.old → AreSameBut touched.now before database.now.records → ArePackagesOf database.now.records packages.new) }
+    ensures packages { OnOk result ((before : List Record) → AreInOrder before
+        → ArePackagesOf before packages.old → AreSameBut touched.now before database.now.records
+        → ArePackagesOf database.now.records packages.new) }
 {
     refresh(alloc, lists, diversions, places)?;
     renew(alloc, packages, database, touched)?;
@@ -138,16 +141,23 @@ fn unpack_refreshed<H: Host>(
     requires noting { database.old.closed ≡ false }
     requires listing { lists.old.closed ≡ false }
     requires indexed { ArePackagesOf database.old.records packages.old }
-    ensures unit { IfOk result (λ u. HasUnpackedBeside incoming beside.now (held database.old lists.old diversions.now) places.old u.unwinding database.new lists.new.lists (H.state host.old) (H.state host.new) told.old.items told.new.items) }
-    ensures touched { IfOk result (λ u. IsTouched incoming.name database.old.records database.new.records u.touched) }
-    ensures order { IfOk result (λ u. Needs (H.state host.new) (IsInOrder database.new lists.new.lists)) }
+    ensures unit { IfOk result (λ u. HasUnpackedBeside incoming beside.now
+        (held database.old lists.old diversions.now) places.old u.unwinding database.new
+        lists.new.lists (H.state host.old) (H.state host.new) told.old.items told.new.items) }
+    ensures touched { IfOk result (λ u. IsTouched incoming.name database.old.records
+        database.new.records u.touched) }
+    ensures order { IfOk result (λ u. Needs (H.state host.new)
+        (IsInOrder database.new lists.new.lists)) }
     ensures noting { OnOk result (database.new.closed ≡ false) }
     ensures listing { OnOk result (lists.new.closed ≡ false) }
     ensures kept { OnOk result (places.new ≡ places_in diversions.now.entries lists.new.lists) }
     ensures indexed { OnOk result (ArePackagesOf database.new.records packages.new) }
     ensures on_disk { OnOk result (IsOnDisk (H.state host.new).events) }
-    ensures told { HasCalledBeside incoming beside.now (held database.old lists.old diversions.now) (H.state host.old) (H.state host.new) told.old.items told.new.items }
-    ensures any_moment { AtEachMomentOf (IsAmidBeside incoming beside.now (held database.old lists.old diversions.now) places.old) (H.state host.old) (H.state host.new) }
+    ensures told { HasCalledBeside incoming beside.now (held database.old lists.old diversions.now)
+        (H.state host.old) (H.state host.new) told.old.items told.new.items }
+    ensures any_moment { AtEachMomentOf (IsAmidBeside incoming beside.now
+        (held database.old lists.old diversions.now) places.old) (H.state host.old)
+        (H.state host.new) }
     ensures counts { Counts (H.state host.old) (H.state host.new) result }
 {
     database.law();
@@ -192,16 +202,26 @@ pub(crate) fn unpack_whole<H: Host>(
     requires kept { places.old ≡ places_in diversions.now.entries lists.old.lists }
     requires indexed { ArePackagesOf database.old.records packages.old }
     requires untold { told.old.items ≡ [] }
-    ensures unit { IfOk result (λ e. HasUnpackedWhole incoming beside.now (held database.old lists.old diversions.now) e.unpacked.unwinding e.displaced.names e.displaced.failed (held database.new lists.new diversions.now) (H.state host.old) (H.state host.new) told.old.items told.new.items) }
-    ensures touched { IfOk result (λ e. (names unchanged : List (List ℕ)) → AreOfBoth e.unpacked.touched e.displaced.names names → AreUnchanged database.old.records database.new.records (yielding beside.now) unchanged → IsTouchedBeside incoming.name database.old.records database.new.records (told_among incoming.name unchanged names)) }
-    ensures order { OnOk result (Needs (H.state host.new) (IsInOrder database.new lists.new.lists)) }
+    ensures unit { IfOk result (λ e. HasUnpackedWhole incoming beside.now
+        (held database.old lists.old diversions.now) e.unpacked.unwinding e.displaced.names
+        e.displaced.failed (held database.new lists.new diversions.now) (H.state host.old)
+        (H.state host.new) told.old.items told.new.items) }
+    ensures touched { IfOk result (λ e. (names unchanged : List (List ℕ))
+        → AreOfBoth e.unpacked.touched e.displaced.names names → AreUnchanged database.old.records
+        database.new.records (yielding beside.now) unchanged
+        → IsTouchedBeside incoming.name database.old.records database.new.records
+        (told_among incoming.name unchanged names)) }
+    ensures order { OnOk result
+        (Needs (H.state host.new) (IsInOrder database.new lists.new.lists)) }
     ensures noting { OnOk result (database.new.closed ≡ false) }
     ensures listing { OnOk result (lists.new.closed ≡ false) }
     ensures kept { OnOk result (places.new ≡ places_in diversions.now.entries lists.new.lists) }
     ensures indexed { OnOk result (ArePackagesOf database.new.records packages.new) }
     ensures on_disk { OnOk result (IsOnDisk (H.state host.new).events) }
-    ensures told { HasCalledWhole incoming beside.now (held database.old lists.old diversions.now) (H.state host.old) (H.state host.new) told.old.items told.new.items }
-    ensures any_moment { AtEachMomentOf (IsAmidUnpack incoming beside.now (held database.old lists.old diversions.now)) (H.state host.old) (H.state host.new) }
+    ensures told { HasCalledWhole incoming beside.now (held database.old lists.old diversions.now)
+        (H.state host.old) (H.state host.new) told.old.items told.new.items }
+    ensures any_moment { AtEachMomentOf (IsAmidUnpack incoming beside.now
+        (held database.old lists.old diversions.now)) (H.state host.old) (H.state host.new) }
     ensures counts { Counts (H.state host.old) (H.state host.new) result }
 {
     match unpack_refreshed(

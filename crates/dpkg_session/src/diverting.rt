@@ -60,11 +60,18 @@ fn add_to_disk<H: Host>(
 ) -> Result<Answer, DiversionFault>
     requires ready { Needs (H.state host.old) IsTableReady }
     requires writable { diversions.old.closed ≡ false }
-    ensures answer { Tells result (λ answer w. answer ≡ add_answer w diversions.old.entries (asked_entry asked.now) asked.now.rename seen) (H.state host.old) (H.state host.new) }
-    ensures table { IfOk result (λ answer. diversions.new ≡ record diversions.old { entries = by_answer answer diversions.old.entries (with_entry diversions.old.entries (asked_entry asked.now)) }) }
-    ensures left { Gives result (λ answer. LeavesAnswer answer (HasAdded diversions.old.entries (asked_entry asked.now) asked.now.rename seen)) (H.state host.old) (H.state host.new) }
-    ensures flushed { IfOk result (λ answer. IsFlushed answer (H.state host.old) (H.state host.new)) }
-    ensures any_moment { AtEachMoment (IsAdding diversions.old.entries (asked_entry asked.now) asked.now.rename seen) (H.state host.old) (H.state host.new) }
+    ensures answer { Tells result (λ answer w. answer ≡ add_answer w diversions.old.entries
+        (asked_entry asked.now) asked.now.rename seen) (H.state host.old) (H.state host.new) }
+    ensures table { IfOk result (λ answer. diversions.new ≡ record diversions.old {
+      entries = by_answer answer diversions.old.entries (with_entry diversions.old.entries
+          (asked_entry asked.now));
+    }) }
+    ensures left { Gives result (λ answer. LeavesAnswer answer (HasAdded diversions.old.entries
+        (asked_entry asked.now) asked.now.rename seen)) (H.state host.old) (H.state host.new) }
+    ensures flushed { IfOk result (λ answer. IsFlushed answer (H.state host.old)
+        (H.state host.new)) }
+    ensures any_moment { AtEachMoment (IsAdding diversions.old.entries (asked_entry asked.now)
+        asked.now.rename seen) (H.state host.old) (H.state host.new) }
     ensures silent { Silent (H.state host.old) (H.state host.new) }
     ensures counts { CountsDiversion (H.state host.old) (H.state host.new) result }
     ensures not_closed { IsErrOf result fault.Closed → ⊥ }
@@ -95,12 +102,15 @@ fn add_unit<H: Host>(
     requires ready { Needs (H.state host.old) IsTableReady }
     requires writable { diversions.old.closed ≡ false }
     requires kept { places.old ≡ places_in diversions.old.entries lists.now.lists }
-    ensures unit { IsBroken result.reply ⊎ IsDiverted asked.now seen diversions.old.entries diversions.new.entries result (H.state host.old) (H.state host.new) }
+    ensures unit { IsBroken result.reply ⊎ IsDiverted asked.now seen diversions.old.entries
+        diversions.new.entries result (H.state host.old) (H.state host.new) }
     ensures writable { IsBroken result.reply ⊎ (diversions.new.closed ≡ false) }
-    ensures kept { IsBroken result.reply ⊎ (places.new ≡ places_in diversions.new.entries lists.now.lists) }
+    ensures kept { IsBroken result.reply
+        ⊎ (places.new ≡ places_in diversions.new.entries lists.now.lists) }
     ensures calls { result.calls.items ≡ [] }
     ensures touched { TellsNoPackage result }
-    ensures any_moment { AtEachMoment (IsAdding diversions.old.entries (asked_entry asked.now) asked.now.rename seen) (H.state host.old) (H.state host.new) }
+    ensures any_moment { AtEachMoment (IsAdding diversions.old.entries (asked_entry asked.now)
+        asked.now.rename seen) (H.state host.old) (H.state host.new) }
     ensures silent { Silent (H.state host.old) (H.state host.new) }
     ensures counts { CountsReply (H.state host.old) (H.state host.new) result.reply }
     ensures not_closed { IsBrokenBy Closed result.reply → ⊥ }
@@ -126,12 +136,18 @@ fn divert_on<H: Host>(
     requires ready { Needs (H.state host.old) IsTableReady }
     requires writable { diversions.old.closed ≡ false }
     requires kept { places.old ≡ places_in diversions.old.entries lists.now.lists }
-    ensures whole { IsNone result.last → IsOneUnit (λ u. IsDiverted asked.now (seen_of database.now.records lists.now.lists asked.now.owner asked.now.path) diversions.old.entries diversions.new.entries u (H.state host.old) (H.state host.new)) result.units.items }
+    ensures whole { IsNone result.last
+        → IsOneUnit (λ u. IsDiverted asked.now (seen_of database.now.records lists.now.lists
+        asked.now.owner asked.now.path) diversions.old.entries diversions.new.entries u
+        (H.state host.old) (H.state host.new)) result.units.items }
     ensures broken { HasBroken result }
     ensures calls { calls_told result ≡ [] }
     ensures writable { IsNone result.last → diversions.new.closed ≡ false }
-    ensures kept { IsNone result.last → places.new ≡ places_in diversions.new.entries lists.now.lists }
-    ensures any_moment { AtEachMoment (IsAdding diversions.old.entries (asked_entry asked.now) asked.now.rename (seen_of database.now.records lists.now.lists asked.now.owner asked.now.path)) (H.state host.old) (H.state host.new) }
+    ensures kept { IsNone result.last → places.new ≡ places_in diversions.new.entries
+        lists.now.lists }
+    ensures any_moment { AtEachMoment (IsAdding diversions.old.entries (asked_entry asked.now)
+        asked.now.rename (seen_of database.now.records lists.now.lists asked.now.owner
+        asked.now.path)) (H.state host.old) (H.state host.new) }
     ensures silent { Silent (H.state host.old) (H.state host.new) }
     ensures counts { CountsLast (H.state host.old) (H.state host.new) result.last }
     ensures not_closed { IfSome result.last (λ unit. IsBrokenBy Closed unit.reply → ⊥) }
@@ -148,13 +164,26 @@ fn divert_on<H: Host>(
 impl<H: Host> Session<H> {
     /// Adds a diversion: one unit. One that is broken off closes the session.
     pub fn divert(&mut self, asked: &Diverting) -> Report
-        ensures whole { self.old.closed ≡ false → IsNone result.last → IsOneUnit (λ u. IsDiverted asked.now (seen_of self.old.database.records self.old.lists.lists asked.now.owner asked.now.path) self.old.diversions.entries self.new.diversions.entries u (H.state self.old.host) (H.state self.new.host)) result.units.items }
+        ensures whole { self.old.closed ≡ false → IsNone result.last
+            → IsOneUnit (λ u. IsDiverted asked.now (seen_of self.old.database.records
+            self.old.lists.lists asked.now.owner asked.now.path) self.old.diversions.entries
+            self.new.diversions.entries u (H.state self.old.host) (H.state self.new.host))
+            result.units.items }
         ensures broken { HasBroken result }
         ensures told { TellsCalls (H.state self.old.host) (H.state self.new.host) result }
-        ensures any_moment { self.old.closed ≡ false → AtEachMoment (IsAdding self.old.diversions.entries (asked_entry asked.now) asked.now.rename (seen_of self.old.database.records self.old.lists.lists asked.now.owner asked.now.path)) (H.state self.old.host) (H.state self.new.host) }
-        ensures loss { self.old.closed ≡ false → LosesLikeAStop (λ so_far. IsAdding self.old.diversions.entries (asked_entry asked.now) asked.now.rename (seen_of self.old.database.records self.old.lists.lists asked.now.owner asked.now.path) (H.state self.old.host).world) (H.state self.old.host) (H.state self.new.host) }
-        ensures stands { self.old.closed ≡ false → IsNone result.last → StandsOnceAnswered (H.state self.old.host) (H.state self.new.host) }
-        ensures answered { self.old.closed ≡ false → IsNone result.last → IsAnswered (H.state self.old.host) (H.state self.new.host) }
+        ensures any_moment { self.old.closed ≡ false
+            → AtEachMoment (IsAdding self.old.diversions.entries (asked_entry asked.now)
+            asked.now.rename (seen_of self.old.database.records self.old.lists.lists asked.now.owner
+            asked.now.path)) (H.state self.old.host) (H.state self.new.host) }
+        ensures loss { self.old.closed ≡ false
+            → LosesLikeAStop (λ so_far. IsAdding self.old.diversions.entries (asked_entry asked.now)
+            asked.now.rename (seen_of self.old.database.records self.old.lists.lists asked.now.owner
+            asked.now.path) (H.state self.old.host).world) (H.state self.old.host)
+            (H.state self.new.host) }
+        ensures stands { self.old.closed ≡ false → IsNone result.last
+            → StandsOnceAnswered (H.state self.old.host) (H.state self.new.host) }
+        ensures answered { self.old.closed ≡ false → IsNone result.last
+            → IsAnswered (H.state self.old.host) (H.state self.new.host) }
         ensures closes { self.new.closed ≡ is_some result.last }
         ensures refused { self.old.closed ≡ true → IsClosedReport result }
         ensures same { self.old.closed ≡ true → H.state self.new.host ≡ H.state self.old.host }
@@ -162,8 +191,10 @@ impl<H: Host> Session<H> {
         ensures database { self.new.database ≡ self.old.database }
         ensures lists { self.new.lists ≡ self.old.lists }
         ensures silent { Silent (H.state self.old.host) (H.state self.new.host) }
-        ensures counts { self.old.closed ≡ false → CountsLast (H.state self.old.host) (H.state self.new.host) result.last }
-        ensures not_closed { self.old.closed ≡ false → IfSome result.last (λ unit. IsBrokenBy Closed unit.reply → ⊥) }
+        ensures counts { self.old.closed ≡ false → CountsLast (H.state self.old.host)
+            (H.state self.new.host) result.last }
+        ensures not_closed { self.old.closed ≡ false
+            → IfSome result.last (λ unit. IsBrokenBy Closed unit.reply → ⊥) }
     {
         if self.closed {
             return closed_report(self.alloc);

@@ -89,7 +89,8 @@ fn push_staying(
     units: &[Unit],
     more: &[Text],
 ) -> Result<(), AllocError>
-    ensures { OnOk result (names.new.items ≡ names.old.items ++ filter (stays labels.now units.now) more.now) }
+    ensures { OnOk result (names.new.items ≡ names.old.items ++ filter (stays labels.now units.now)
+        more.now) }
 {
     for name in more {
         if stays(labels, units, name) {
@@ -125,7 +126,8 @@ fn push_done(
     labels: &[Text],
     units: &[Unit],
 ) -> Result<(), AllocError>
-    ensures { OnOk result (names.new.items ≡ names.old.items ++ filter (stays labels.now units.now) (done_with label.now unit.now)) }
+    ensures { OnOk result (names.new.items ≡ names.old.items ++ filter (stays labels.now units.now)
+        (done_with label.now unit.now)) }
 {
     let done = done_with(alloc, label, unit)?;
     push_staying(names, labels, units, done.as_slice())

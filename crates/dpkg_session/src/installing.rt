@@ -75,18 +75,27 @@ fn configure_done<H: Host, W: Watcher>(
     requires listing { lists.old.closed ≡ false }
     requires kept { places.old ≡ places_in diversions.now.entries lists.old.lists }
     requires indexed { IfSome packages.old (ArePackagesOf database.old.records) }
-    ensures whole { IsNone result.last → IsConfigureRun (names_done labels.now units.now) policy result.units.items (held database.old lists.old diversions.now) (held database.new lists.new diversions.now) (H.state host.old) (H.state host.new) }
-    ensures part { HasConfigured (names_done labels.now units.now) policy result.units.items result.last (held database.old lists.old diversions.now) (H.state host.old) (H.state host.new) }
+    ensures whole { IsNone result.last → IsConfigureRun (names_done labels.now units.now) policy
+        result.units.items (held database.old lists.old diversions.now) (held database.new lists.new
+        diversions.now) (H.state host.old) (H.state host.new) }
+    ensures part { HasConfigured (names_done labels.now units.now) policy result.units.items
+        result.last (held database.old lists.old diversions.now) (H.state host.old)
+        (H.state host.new) }
     ensures told { TellsCalls (H.state host.old) (H.state host.new) result }
-    ensures any_moment { Since (IsAmidConfigure (names_done labels.now units.now) policy (held database.old lists.old diversions.now) (H.state host.old)) (H.state host.old) (H.state host.new) }
+    ensures any_moment { Since (IsAmidConfigure (names_done labels.now units.now) policy
+        (held database.old lists.old diversions.now) (H.state host.old)) (H.state host.old)
+        (H.state host.new) }
     ensures answered { IsNone result.last → IsAnswered (H.state host.old) (H.state host.new) }
     ensures counts { CountsLast (H.state host.old) (H.state host.new) result.last }
     ensures not_closed { IfSome result.last (λ unit. IsBrokenBy Closed unit.reply → ⊥) }
-    ensures order { IsNone result.last → Needs (H.state host.new) (IsInOrder database.new lists.new.lists) }
+    ensures order { IsNone result.last
+        → Needs (H.state host.new) (IsInOrder database.new lists.new.lists) }
     ensures noting { IsNone result.last → database.new.closed ≡ false }
     ensures listing { IsNone result.last → lists.new.closed ≡ false }
-    ensures kept { IsNone result.last → places.new ≡ places_in diversions.now.entries lists.new.lists }
-    ensures indexed { IsNone result.last → IfSome packages.new (ArePackagesOf database.new.records) }
+    ensures kept { IsNone result.last → places.new ≡ places_in diversions.now.entries
+        lists.new.lists }
+    ensures indexed { IsNone result.last
+        → IfSome packages.new (ArePackagesOf database.new.records) }
     ensures watched { IsTold W.tells watcher.old result.units.items watcher.new }
 {
     match names_done(alloc, labels, units) {
@@ -120,17 +129,30 @@ fn unpack_and_configure<H: Host, T: Trees, W: Watcher>(
     requires listing { lists.old.closed ≡ false }
     requires kept { places.old ≡ places_in diversions.now.entries lists.old.lists }
     requires indexed { IfSome packages.old (ArePackagesOf database.old.records) }
-    ensures run { (cs : List ACandidate) × AreRead T.reads trees.old cs trees.new × HasInstalledThrough auto_deconfigure cs (T.words trees.new) policy result.unpacked result.configured (held database.old lists.old diversions.now) (held database.new lists.new diversions.now) (H.state host.old) (H.state host.new) }
-    ensures told { TellsBoth (H.state host.old) (H.state host.new) result.unpacked result.configured }
-    ensures answered { IsNone (last_of result.unpacked.last result.configured.last) → IsAnswered (H.state host.old) (H.state host.new) }
-    ensures counts { CountsLast (H.state host.old) (H.state host.new) (last_of result.unpacked.last result.configured.last) }
-    ensures not_closed { IfSome (last_of result.unpacked.last result.configured.last) (λ unit. IsBrokenBy Closed unit.reply → ⊥) }
-    ensures order { IsNone (last_of result.unpacked.last result.configured.last) → Needs (H.state host.new) (IsInOrder database.new lists.new.lists) }
-    ensures noting { IsNone (last_of result.unpacked.last result.configured.last) → database.new.closed ≡ false }
-    ensures listing { IsNone (last_of result.unpacked.last result.configured.last) → lists.new.closed ≡ false }
-    ensures kept { IsNone (last_of result.unpacked.last result.configured.last) → places.new ≡ places_in diversions.now.entries lists.new.lists }
-    ensures indexed { IsNone (last_of result.unpacked.last result.configured.last) → IfSome packages.new (ArePackagesOf database.new.records) }
-    ensures watched { IsTold W.tells watcher.old (result.unpacked.units.items ++ result.configured.units.items) watcher.new }
+    ensures run { (cs : List ACandidate) × AreRead T.reads trees.old cs trees.new
+        × HasInstalledThrough auto_deconfigure cs (T.words trees.new) policy result.unpacked
+        result.configured (held database.old lists.old diversions.now) (held database.new lists.new
+        diversions.now) (H.state host.old) (H.state host.new) }
+    ensures told { TellsBoth (H.state host.old) (H.state host.new) result.unpacked
+        result.configured }
+    ensures answered { IsNone (last_of result.unpacked.last result.configured.last)
+        → IsAnswered (H.state host.old) (H.state host.new) }
+    ensures counts { CountsLast (H.state host.old) (H.state host.new) (last_of result.unpacked.last
+        result.configured.last) }
+    ensures not_closed { IfSome (last_of result.unpacked.last result.configured.last)
+        (λ unit. IsBrokenBy Closed unit.reply → ⊥) }
+    ensures order { IsNone (last_of result.unpacked.last result.configured.last)
+        → Needs (H.state host.new) (IsInOrder database.new lists.new.lists) }
+    ensures noting { IsNone (last_of result.unpacked.last result.configured.last)
+        → database.new.closed ≡ false }
+    ensures listing { IsNone (last_of result.unpacked.last result.configured.last)
+        → lists.new.closed ≡ false }
+    ensures kept { IsNone (last_of result.unpacked.last result.configured.last)
+        → places.new ≡ places_in diversions.now.entries lists.new.lists }
+    ensures indexed { IsNone (last_of result.unpacked.last result.configured.last)
+        → IfSome packages.new (ArePackagesOf database.new.records) }
+    ensures watched { IsTold W.tells watcher.old (result.unpacked.units.items
+        ++ result.configured.units.items) watcher.new }
 {
     what_is_told_in_turn::<W>();
     let mut labels = Texts::new(alloc);
@@ -183,20 +205,36 @@ impl<H: Host> Session<H> {
         policy: ConfPolicy,
         watcher: &mut W,
     ) -> Installed
-        ensures run { self.old.closed ≡ false → (cs : List ACandidate) × AreRead T.reads trees.old cs trees.new × HasInstalledThrough auto_deconfigure cs (T.words trees.new) policy result.unpacked result.configured (held self.old.database self.old.lists self.old.diversions) (held self.new.database self.new.lists self.new.diversions) (H.state self.old.host) (H.state self.new.host) }
-        ensures told { TellsBoth (H.state self.old.host) (H.state self.new.host) result.unpacked result.configured }
-        ensures watched { IsTold W.tells watcher.old (result.unpacked.units.items ++ result.configured.units.items) watcher.new }
-        ensures stands { self.old.closed ≡ false → IsNone (last_of result.unpacked.last result.configured.last) → StandsOnceAnswered (H.state self.old.host) (H.state self.new.host) }
-        ensures closes { self.new.closed ≡ is_some (last_of result.unpacked.last result.configured.last) }
-        ensures refused { self.old.closed ≡ true → IsClosedReport result.unpacked × IsEmptyReport result.configured }
+        ensures run { self.old.closed ≡ false → (cs : List ACandidate) × AreRead T.reads trees.old
+            cs trees.new × HasInstalledThrough auto_deconfigure cs (T.words trees.new) policy
+            result.unpacked result.configured (held self.old.database self.old.lists
+            self.old.diversions) (held self.new.database self.new.lists self.new.diversions)
+            (H.state self.old.host) (H.state self.new.host) }
+        ensures told { TellsBoth (H.state self.old.host) (H.state self.new.host) result.unpacked
+            result.configured }
+        ensures watched { IsTold W.tells watcher.old (result.unpacked.units.items
+            ++ result.configured.units.items) watcher.new }
+        ensures stands { self.old.closed ≡ false
+            → IsNone (last_of result.unpacked.last result.configured.last)
+            → StandsOnceAnswered (H.state self.old.host) (H.state self.new.host) }
+        ensures closes { self.new.closed ≡ is_some (last_of result.unpacked.last
+            result.configured.last) }
+        ensures refused { self.old.closed ≡ true → IsClosedReport result.unpacked
+            × IsEmptyReport result.configured }
         ensures unread { self.old.closed ≡ true → trees.new ≡ trees.old }
         ensures same { self.old.closed ≡ true → H.state self.new.host ≡ H.state self.old.host }
-        ensures same_held { self.old.closed ≡ true → held self.new.database self.new.lists self.new.diversions ≡ held self.old.database self.old.lists self.old.diversions }
-        ensures answered { self.old.closed ≡ false → IsNone (last_of result.unpacked.last result.configured.last) → IsAnswered (H.state self.old.host) (H.state self.new.host) }
+        ensures same_held { self.old.closed ≡ true → held self.new.database self.new.lists
+            self.new.diversions ≡ held self.old.database self.old.lists self.old.diversions }
+        ensures answered { self.old.closed ≡ false
+            → IsNone (last_of result.unpacked.last result.configured.last)
+            → IsAnswered (H.state self.old.host) (H.state self.new.host) }
         ensures diversions { self.new.diversions ≡ self.old.diversions }
         ensures honest { Falls (H.state self.old.host) (H.state self.new.host) }
-        ensures counts { self.old.closed ≡ false → CountsLast (H.state self.old.host) (H.state self.new.host) (last_of result.unpacked.last result.configured.last) }
-        ensures not_closed { self.old.closed ≡ false → IfSome (last_of result.unpacked.last result.configured.last) (λ unit. IsBrokenBy Closed unit.reply → ⊥) }
+        ensures counts { self.old.closed ≡ false → CountsLast (H.state self.old.host)
+            (H.state self.new.host) (last_of result.unpacked.last result.configured.last) }
+        ensures not_closed { self.old.closed ≡ false
+            → IfSome (last_of result.unpacked.last result.configured.last)
+            (λ unit. IsBrokenBy Closed unit.reply → ⊥) }
     {
         if self.closed {
             return Installed {

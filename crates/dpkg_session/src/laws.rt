@@ -10,6 +10,8 @@ ghost use Rattle.dpkg_session.specs.History.{IsHistory, Ran, Stands};
 /// the last of them left, so that a further command finds them, whatever has changed at other paths
 /// than the program's own.
 pub fn history_stands()
-    ensures outside { (h : Held) (old new : World) → SameOn is_own old new → Stands h old → Stands h new }
-    ensures history { (commands : List Ran) (before after : Held) (old new : World) → IsHistory commands before after old new → Stands before old → Stands after new }
+    ensures outside { (h : Held) (old new : World) → SameOn is_own old new → Stands h old
+        → Stands h new }
+    ensures history { (commands : List Ran) (before after : Held) (old new : World)
+        → IsHistory commands before after old new → Stands before old → Stands after new }
 {}

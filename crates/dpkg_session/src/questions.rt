@@ -62,7 +62,9 @@ impl<H: Host> Session<H> {
         name: &Text,
         text: Result<Option<Bytes>, AllocError>,
     ) -> Result<Bytes, QueryFault>
-        ensures { (asked : Option (List ℕ)) → is_some asked ≡ is_some (record_in self.now.database.records name.now) → IfOk text (λ t. t ≡ asked) → IsAnswerAbout false asked result }
+        ensures { (asked : Option (List ℕ))
+            → is_some asked ≡ is_some (record_in self.now.database.records name.now) → IfOk
+            text (λ t. t ≡ asked) → IsAnswerAbout false asked result }
     {
         if self.database.get(name).is_none() {
             return Err(QueryFault::Unknown);
@@ -75,7 +77,8 @@ impl<H: Host> Session<H> {
 
     /// The record of a package as the status file has it.
     pub fn status(&self, name: &Text) -> Result<Bytes, QueryFault>
-        ensures { IsAnswerAbout self.now.closed (status_text self.now.database.records name.now) result }
+        ensures { IsAnswerAbout self.now.closed (status_text self.now.database.records name.now)
+            result }
     {
         if self.is_closed() {
             return Err(QueryFault::Closed);
@@ -85,7 +88,8 @@ impl<H: Host> Session<H> {
 
     /// The list of a package.
     pub fn files(&self, name: &Text) -> Result<Bytes, QueryFault>
-        ensures { IsAnswerAbout self.now.closed (files_text self.now.database.records self.now.lists.lists name.now) result }
+        ensures { IsAnswerAbout self.now.closed (files_text self.now.database.records
+            self.now.lists.lists name.now) result }
     {
         if self.is_closed() {
             return Err(QueryFault::Closed);
@@ -98,7 +102,8 @@ impl<H: Host> Session<H> {
 
     /// Who lists a path that lies at a place.
     pub fn search(&self, place: &RootPath) -> Result<Bytes, QueryFault>
-        ensures { IsAnswer self.now.closed (search_text self.now.diversions.entries self.now.lists.lists place.now) result }
+        ensures { IsAnswer self.now.closed (search_text self.now.diversions.entries
+            self.now.lists.lists place.now) result }
     {
         if self.is_closed() {
             return Err(QueryFault::Closed);
@@ -111,7 +116,8 @@ impl<H: Host> Session<H> {
 
     /// Where a path is: for a package, or without one for all but the owner of its diversion.
     pub fn truename(&self, user: Option<&Text>, path: &RootPath) -> Result<Bytes, QueryFault>
-        ensures { IsAnswer self.now.closed (truename_text self.now.diversions.entries (option_copied user.entry) path.now) result }
+        ensures { IsAnswer self.now.closed (truename_text self.now.diversions.entries
+            (option_copied user.entry) path.now) result }
     {
         if self.is_closed() {
             return Err(QueryFault::Closed);

@@ -33,7 +33,8 @@ fn first_away<'a>(
 
 // The one that is before the other in path order.
 fn first_of<'a>(one: Option<&'a ShipPath>, other: Option<&'a ShipPath>) -> Option<&'a ShipPath>
-    ensures { option_copied result ≡ first_of (option_copied one.entry) (option_copied other.entry) }
+    ensures { option_copied result ≡ first_of (option_copied one.entry)
+        (option_copied other.entry) }
 {
     let (Some(a), Some(b)) = (one, other) else {
         return one.or(other);
@@ -62,8 +63,11 @@ pub(crate) fn decision_of(
     diversions: &Diversions,
     auto_deconfigure: bool,
 ) -> Result<Checked, AllocError>
-    ensures decided { IfOk result (λ checked. (records : List Record) → ArePackagesOf records packages.now → IsDecisionOf incoming.now auto_deconfigure records diversions.now.entries checked) }
-    ensures apart { IfOk result (λ checked. (records : List Record) → ArePackagesOf records packages.now → AreBesideApart incoming.now.name records checked) }
+    ensures decided { IfOk result (λ checked. (records : List Record)
+        → ArePackagesOf records packages.now → IsDecisionOf incoming.now auto_deconfigure records
+        diversions.now.entries checked) }
+    ensures apart { IfOk result (λ checked. (records : List Record)
+        → ArePackagesOf records packages.now → AreBesideApart incoming.now.name records checked) }
 {
     if let Some(path) = conffile_away(diversions, incoming) {
         return Ok(Checked::Refused(Rule::ConffileDiverted(path.copy()?)));

@@ -43,17 +43,24 @@ fn remove_named<H: Host, W: Watcher>(
     requires listing { lists.old.closed ≡ false }
     requires kept { places.old ≡ places_in diversions.now.entries lists.old.lists }
     requires indexed { IfSome packages.old (ArePackagesOf database.old.records) }
-    ensures whole { IsNone result.last → IsRemovalRun names.items purge result.units.items (held database.old lists.old diversions.now) (held database.new lists.new diversions.now) (H.state host.old) (H.state host.new) }
-    ensures part { HasRun names.items purge result.units.items result.last (held database.old lists.old diversions.now) (H.state host.old) (H.state host.new) }
+    ensures whole { IsNone result.last → IsRemovalRun names.items purge result.units.items
+        (held database.old lists.old diversions.now) (held database.new lists.new diversions.now)
+        (H.state host.old) (H.state host.new) }
+    ensures part { HasRun names.items purge result.units.items result.last
+        (held database.old lists.old diversions.now) (H.state host.old) (H.state host.new) }
     ensures told { TellsCalls (H.state host.old) (H.state host.new) result }
-    ensures any_moment { Since (IsAmidRun names.items purge (held database.old lists.old diversions.now) (H.state host.old)) (H.state host.old) (H.state host.new) }
+    ensures any_moment { Since (IsAmidRun names.items purge (held database.old lists.old
+        diversions.now) (H.state host.old)) (H.state host.old) (H.state host.new) }
     ensures counts { CountsLast (H.state host.old) (H.state host.new) result.last }
     ensures not_closed { IfSome result.last (λ unit. IsBrokenBy Closed unit.reply → ⊥) }
-    ensures order { IsNone result.last → Needs (H.state host.new) (IsInOrder database.new lists.new.lists) }
+    ensures order { IsNone result.last
+        → Needs (H.state host.new) (IsInOrder database.new lists.new.lists) }
     ensures noting { IsNone result.last → database.new.closed ≡ false }
     ensures listing { IsNone result.last → lists.new.closed ≡ false }
-    ensures kept { IsNone result.last → places.new ≡ places_in diversions.now.entries lists.new.lists }
-    ensures indexed { IsNone result.last → IfSome packages.new (ArePackagesOf database.new.records) }
+    ensures kept { IsNone result.last → places.new ≡ places_in diversions.now.entries
+        lists.new.lists }
+    ensures indexed { IsNone result.last
+        → IfSome packages.new (ArePackagesOf database.new.records) }
     ensures answered { IsNone result.last → IsAnswered (H.state host.old) (H.state host.new) }
     ensures watched { IsTold W.tells watcher.old result.units.items watcher.new }
 {
@@ -72,21 +79,38 @@ fn remove_named<H: Host, W: Watcher>(
 impl<H: Host> Session<H> {
     // Removes packages, or purges them.
     fn take<W: Watcher>(&mut self, names: Vec<Text>, purge: bool, watcher: &mut W) -> Report
-        ensures whole { self.old.closed ≡ false → IsNone result.last → IsRemovalRun names.items purge result.units.items (held self.old.database self.old.lists self.old.diversions) (held self.new.database self.new.lists self.new.diversions) (H.state self.old.host) (H.state self.new.host) }
-        ensures part { self.old.closed ≡ false → HasRun names.items purge result.units.items result.last (held self.old.database self.old.lists self.old.diversions) (H.state self.old.host) (H.state self.new.host) }
+        ensures whole { self.old.closed ≡ false → IsNone result.last
+            → IsRemovalRun names.items purge result.units.items
+            (held self.old.database self.old.lists self.old.diversions)
+            (held self.new.database self.new.lists self.new.diversions) (H.state self.old.host)
+            (H.state self.new.host) }
+        ensures part { self.old.closed ≡ false → HasRun names.items purge result.units.items
+            result.last (held self.old.database self.old.lists self.old.diversions)
+            (H.state self.old.host) (H.state self.new.host) }
         ensures told { TellsCalls (H.state self.old.host) (H.state self.new.host) result }
-        ensures any_moment { self.old.closed ≡ false → Since (IsAmidRun names.items purge (held self.old.database self.old.lists self.old.diversions) (H.state self.old.host)) (H.state self.old.host) (H.state self.new.host) }
-        ensures loss { self.old.closed ≡ false → LosesLikeAStop (IsAmidRun names.items purge (held self.old.database self.old.lists self.old.diversions) (H.state self.old.host)) (H.state self.old.host) (H.state self.new.host) }
-        ensures stands { self.old.closed ≡ false → IsNone result.last → StandsOnceAnswered (H.state self.old.host) (H.state self.new.host) }
+        ensures any_moment { self.old.closed ≡ false
+            → Since (IsAmidRun names.items purge (held self.old.database self.old.lists
+            self.old.diversions) (H.state self.old.host)) (H.state self.old.host)
+            (H.state self.new.host) }
+        ensures loss { self.old.closed ≡ false
+            → LosesLikeAStop (IsAmidRun names.items purge (held self.old.database self.old.lists
+            self.old.diversions) (H.state self.old.host)) (H.state self.old.host)
+            (H.state self.new.host) }
+        ensures stands { self.old.closed ≡ false → IsNone result.last
+            → StandsOnceAnswered (H.state self.old.host) (H.state self.new.host) }
         ensures closes { self.new.closed ≡ is_some result.last }
         ensures refused { self.old.closed ≡ true → IsClosedReport result }
         ensures same { self.old.closed ≡ true → H.state self.new.host ≡ H.state self.old.host }
-        ensures same_held { self.old.closed ≡ true → held self.new.database self.new.lists self.new.diversions ≡ held self.old.database self.old.lists self.old.diversions }
-        ensures answered { self.old.closed ≡ false → IsNone result.last → IsAnswered (H.state self.old.host) (H.state self.new.host) }
+        ensures same_held { self.old.closed ≡ true → held self.new.database self.new.lists
+            self.new.diversions ≡ held self.old.database self.old.lists self.old.diversions }
+        ensures answered { self.old.closed ≡ false → IsNone result.last
+            → IsAnswered (H.state self.old.host) (H.state self.new.host) }
         ensures diversions { self.new.diversions ≡ self.old.diversions }
         ensures honest { Falls (H.state self.old.host) (H.state self.new.host) }
-        ensures counts { self.old.closed ≡ false → CountsLast (H.state self.old.host) (H.state self.new.host) result.last }
-        ensures not_closed { self.old.closed ≡ false → IfSome result.last (λ unit. IsBrokenBy Closed unit.reply → ⊥) }
+        ensures counts { self.old.closed ≡ false → CountsLast (H.state self.old.host)
+            (H.state self.new.host) result.last }
+        ensures not_closed { self.old.closed ≡ false
+            → IfSome result.last (λ unit. IsBrokenBy Closed unit.reply → ⊥) }
         ensures watched { IsTold W.tells watcher.old result.units.items watcher.new }
     {
         if self.closed {
@@ -111,21 +135,38 @@ impl<H: Host> Session<H> {
     /// Removes packages: all but their configuration files and postrm. Its units are in the order that their relations
     /// ask for, and each is told as it is finished; one that is broken off closes the session.
     pub fn remove<W: Watcher>(&mut self, names: Vec<Text>, watcher: &mut W) -> Report
-        ensures whole { self.old.closed ≡ false → IsNone result.last → IsRemovalRun names.items false result.units.items (held self.old.database self.old.lists self.old.diversions) (held self.new.database self.new.lists self.new.diversions) (H.state self.old.host) (H.state self.new.host) }
-        ensures part { self.old.closed ≡ false → HasRun names.items false result.units.items result.last (held self.old.database self.old.lists self.old.diversions) (H.state self.old.host) (H.state self.new.host) }
+        ensures whole { self.old.closed ≡ false → IsNone result.last
+            → IsRemovalRun names.items false result.units.items
+            (held self.old.database self.old.lists self.old.diversions)
+            (held self.new.database self.new.lists self.new.diversions) (H.state self.old.host)
+            (H.state self.new.host) }
+        ensures part { self.old.closed ≡ false → HasRun names.items false result.units.items
+            result.last (held self.old.database self.old.lists self.old.diversions)
+            (H.state self.old.host) (H.state self.new.host) }
         ensures told { TellsCalls (H.state self.old.host) (H.state self.new.host) result }
-        ensures any_moment { self.old.closed ≡ false → Since (IsAmidRun names.items false (held self.old.database self.old.lists self.old.diversions) (H.state self.old.host)) (H.state self.old.host) (H.state self.new.host) }
-        ensures loss { self.old.closed ≡ false → LosesLikeAStop (IsAmidRun names.items false (held self.old.database self.old.lists self.old.diversions) (H.state self.old.host)) (H.state self.old.host) (H.state self.new.host) }
-        ensures stands { self.old.closed ≡ false → IsNone result.last → StandsOnceAnswered (H.state self.old.host) (H.state self.new.host) }
+        ensures any_moment { self.old.closed ≡ false
+            → Since (IsAmidRun names.items false (held self.old.database self.old.lists
+            self.old.diversions) (H.state self.old.host)) (H.state self.old.host)
+            (H.state self.new.host) }
+        ensures loss { self.old.closed ≡ false
+            → LosesLikeAStop (IsAmidRun names.items false (held self.old.database self.old.lists
+            self.old.diversions) (H.state self.old.host)) (H.state self.old.host)
+            (H.state self.new.host) }
+        ensures stands { self.old.closed ≡ false → IsNone result.last
+            → StandsOnceAnswered (H.state self.old.host) (H.state self.new.host) }
         ensures closes { self.new.closed ≡ is_some result.last }
         ensures refused { self.old.closed ≡ true → IsClosedReport result }
         ensures same { self.old.closed ≡ true → H.state self.new.host ≡ H.state self.old.host }
-        ensures same_held { self.old.closed ≡ true → held self.new.database self.new.lists self.new.diversions ≡ held self.old.database self.old.lists self.old.diversions }
-        ensures answered { self.old.closed ≡ false → IsNone result.last → IsAnswered (H.state self.old.host) (H.state self.new.host) }
+        ensures same_held { self.old.closed ≡ true → held self.new.database self.new.lists
+            self.new.diversions ≡ held self.old.database self.old.lists self.old.diversions }
+        ensures answered { self.old.closed ≡ false → IsNone result.last
+            → IsAnswered (H.state self.old.host) (H.state self.new.host) }
         ensures diversions { self.new.diversions ≡ self.old.diversions }
         ensures honest { Falls (H.state self.old.host) (H.state self.new.host) }
-        ensures counts { self.old.closed ≡ false → CountsLast (H.state self.old.host) (H.state self.new.host) result.last }
-        ensures not_closed { self.old.closed ≡ false → IfSome result.last (λ unit. IsBrokenBy Closed unit.reply → ⊥) }
+        ensures counts { self.old.closed ≡ false → CountsLast (H.state self.old.host)
+            (H.state self.new.host) result.last }
+        ensures not_closed { self.old.closed ≡ false
+            → IfSome result.last (λ unit. IsBrokenBy Closed unit.reply → ⊥) }
         ensures watched { IsTold W.tells watcher.old result.units.items watcher.new }
     {
         self.take(names, false, watcher)
@@ -133,21 +174,38 @@ impl<H: Host> Session<H> {
 
     /// Removes packages with their configuration files, or these alone where a package is removed already.
     pub fn purge<W: Watcher>(&mut self, names: Vec<Text>, watcher: &mut W) -> Report
-        ensures whole { self.old.closed ≡ false → IsNone result.last → IsRemovalRun names.items true result.units.items (held self.old.database self.old.lists self.old.diversions) (held self.new.database self.new.lists self.new.diversions) (H.state self.old.host) (H.state self.new.host) }
-        ensures part { self.old.closed ≡ false → HasRun names.items true result.units.items result.last (held self.old.database self.old.lists self.old.diversions) (H.state self.old.host) (H.state self.new.host) }
+        ensures whole { self.old.closed ≡ false → IsNone result.last
+            → IsRemovalRun names.items true result.units.items
+            (held self.old.database self.old.lists self.old.diversions)
+            (held self.new.database self.new.lists self.new.diversions) (H.state self.old.host)
+            (H.state self.new.host) }
+        ensures part { self.old.closed ≡ false → HasRun names.items true result.units.items
+            result.last (held self.old.database self.old.lists self.old.diversions)
+            (H.state self.old.host) (H.state self.new.host) }
         ensures told { TellsCalls (H.state self.old.host) (H.state self.new.host) result }
-        ensures any_moment { self.old.closed ≡ false → Since (IsAmidRun names.items true (held self.old.database self.old.lists self.old.diversions) (H.state self.old.host)) (H.state self.old.host) (H.state self.new.host) }
-        ensures loss { self.old.closed ≡ false → LosesLikeAStop (IsAmidRun names.items true (held self.old.database self.old.lists self.old.diversions) (H.state self.old.host)) (H.state self.old.host) (H.state self.new.host) }
-        ensures stands { self.old.closed ≡ false → IsNone result.last → StandsOnceAnswered (H.state self.old.host) (H.state self.new.host) }
+        ensures any_moment { self.old.closed ≡ false
+            → Since (IsAmidRun names.items true (held self.old.database self.old.lists
+            self.old.diversions) (H.state self.old.host)) (H.state self.old.host)
+            (H.state self.new.host) }
+        ensures loss { self.old.closed ≡ false
+            → LosesLikeAStop (IsAmidRun names.items true (held self.old.database self.old.lists
+            self.old.diversions) (H.state self.old.host)) (H.state self.old.host)
+            (H.state self.new.host) }
+        ensures stands { self.old.closed ≡ false → IsNone result.last
+            → StandsOnceAnswered (H.state self.old.host) (H.state self.new.host) }
         ensures closes { self.new.closed ≡ is_some result.last }
         ensures refused { self.old.closed ≡ true → IsClosedReport result }
         ensures same { self.old.closed ≡ true → H.state self.new.host ≡ H.state self.old.host }
-        ensures same_held { self.old.closed ≡ true → held self.new.database self.new.lists self.new.diversions ≡ held self.old.database self.old.lists self.old.diversions }
-        ensures answered { self.old.closed ≡ false → IsNone result.last → IsAnswered (H.state self.old.host) (H.state self.new.host) }
+        ensures same_held { self.old.closed ≡ true → held self.new.database self.new.lists
+            self.new.diversions ≡ held self.old.database self.old.lists self.old.diversions }
+        ensures answered { self.old.closed ≡ false → IsNone result.last
+            → IsAnswered (H.state self.old.host) (H.state self.new.host) }
         ensures diversions { self.new.diversions ≡ self.old.diversions }
         ensures honest { Falls (H.state self.old.host) (H.state self.new.host) }
-        ensures counts { self.old.closed ≡ false → CountsLast (H.state self.old.host) (H.state self.new.host) result.last }
-        ensures not_closed { self.old.closed ≡ false → IfSome result.last (λ unit. IsBrokenBy Closed unit.reply → ⊥) }
+        ensures counts { self.old.closed ≡ false → CountsLast (H.state self.old.host)
+            (H.state self.new.host) result.last }
+        ensures not_closed { self.old.closed ≡ false
+            → IfSome result.last (λ unit. IsBrokenBy Closed unit.reply → ⊥) }
         ensures watched { IsTold W.tells watcher.old result.units.items watcher.new }
     {
         self.take(names, true, watcher)

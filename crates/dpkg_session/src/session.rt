@@ -55,8 +55,10 @@ pub struct Session<H: Host> {
 
 // Opens the administration, and brings all that was done to the disk.
 fn open_to_disk<H: Host>(alloc: Global, host: &mut H) -> Result<Opened, AdministrationFault>
-    ensures opens { IsTrue (H.state host.new).honest → OpensAndMerges (fault_in result) (H.state host.old).world (H.state host.new).world }
-    ensures opened { Gives result (λ opened old new. IsOpened opened.database.records opened.lists.lists opened.diversions.entries new) (H.state host.old) (H.state host.new) }
+    ensures opens { IsTrue (H.state host.new).honest → OpensAndMerges (fault_in result)
+        (H.state host.old).world (H.state host.new).world }
+    ensures opened { Gives result (λ opened old new. IsOpened opened.database.records
+        opened.lists.lists opened.diversions.entries new) (H.state host.old) (H.state host.new) }
     ensures number { IfOk result (λ opened. opened.database.notes ≡ 0) }
     ensures noting { IfOk result (λ opened. opened.database.closed ≡ false) }
     ensures listing { IfOk result (λ opened. opened.lists.closed ≡ false) }
@@ -89,14 +91,20 @@ impl<H: Host> Session<H> {
     /// Opens the administration of a host. A refusal hands the host back; it and what was changed
     /// then are told by `refused`.
     pub fn open(alloc: Global, mut host: H) -> Result<Session<H>, (H, AdministrationFault)>
-        ensures opened { IfOk result (λ s. Needs (H.state s.host) (IsOpened s.database.records s.lists.lists s.diversions.entries)) }
+        ensures opened { IfOk result (λ s. Needs (H.state s.host) (IsOpened s.database.records
+            s.lists.lists s.diversions.entries)) }
         ensures number { IfOk result (λ s. s.database.notes ≡ 0) }
         ensures opens { IfOk result (λ s. OpensAll None (H.state host) (H.state s.host)) }
         ensures refused { IfErr result (λ e. OpensAll (Some e.1) (H.state host) (H.state e.0)) }
-        ensures any_moment { IfOk result (λ s. AtEachMoment IsOpeningOrMerging (H.state host) (H.state s.host)) }
-        ensures any_moment_refused { IfErr result (λ e. AtEachMoment IsOpeningOrMerging (H.state host) (H.state e.0)) }
-        ensures loss { IfOk result (λ s. LosesLikeAStop (λ so_far. IsOpeningOrMerging (H.state host).world) (H.state host) (H.state s.host)) }
-        ensures loss_refused { IfErr result (λ e. LosesLikeAStop (λ so_far. IsOpeningOrMerging (H.state host).world) (H.state host) (H.state e.0)) }
+        ensures any_moment { IfOk result (λ s. AtEachMoment IsOpeningOrMerging (H.state host)
+            (H.state s.host)) }
+        ensures any_moment_refused { IfErr result (λ e. AtEachMoment IsOpeningOrMerging
+            (H.state host) (H.state e.0)) }
+        ensures loss { IfOk result
+            (λ s. LosesLikeAStop (λ so_far. IsOpeningOrMerging (H.state host).world) (H.state host)
+            (H.state s.host)) }
+        ensures loss_refused { IfErr result (λ e. LosesLikeAStop (λ so_far. IsOpeningOrMerging
+            (H.state host).world) (H.state host) (H.state e.0)) }
         ensures silent { IfOk result (λ s. Silent (H.state host) (H.state s.host)) }
         ensures silent_refused { IfErr result (λ e. Silent (H.state host) (H.state e.0)) }
         ensures no_fault { IfOk result (λ s. faults (H.state s.host) ≡ faults (H.state host)) }
@@ -136,20 +144,29 @@ impl<H: Host> Session<H> {
         auto_deconfigure: bool,
         watcher: &mut W,
     ) -> Report
-        ensures run { self.old.closed ≡ false → (cs : List ACandidate) × AreRead T.reads trees.old cs trees.new × HasRunThrough auto_deconfigure cs (T.words trees.new) result (held self.old.database self.old.lists self.old.diversions) (held self.new.database self.new.lists self.new.diversions) (H.state self.old.host) (H.state self.new.host) }
+        ensures run { self.old.closed ≡ false → (cs : List ACandidate) × AreRead T.reads trees.old
+            cs trees.new × HasRunThrough auto_deconfigure cs (T.words trees.new) result
+            (held self.old.database self.old.lists self.old.diversions)
+            (held self.new.database self.new.lists self.new.diversions) (H.state self.old.host)
+            (H.state self.new.host) }
         ensures told { TellsCalls (H.state self.old.host) (H.state self.new.host) result }
         ensures watched { IsTold W.tells watcher.old result.units.items watcher.new }
-        ensures stands { self.old.closed ≡ false → IsNone result.last → StandsOnceAnswered (H.state self.old.host) (H.state self.new.host) }
+        ensures stands { self.old.closed ≡ false → IsNone result.last
+            → StandsOnceAnswered (H.state self.old.host) (H.state self.new.host) }
         ensures closes { self.new.closed ≡ is_some result.last }
         ensures refused { self.old.closed ≡ true → IsClosedReport result }
         ensures unread { self.old.closed ≡ true → trees.new ≡ trees.old }
         ensures same { self.old.closed ≡ true → H.state self.new.host ≡ H.state self.old.host }
-        ensures same_held { self.old.closed ≡ true → held self.new.database self.new.lists self.new.diversions ≡ held self.old.database self.old.lists self.old.diversions }
-        ensures answered { self.old.closed ≡ false → IsNone result.last → IsAnswered (H.state self.old.host) (H.state self.new.host) }
+        ensures same_held { self.old.closed ≡ true → held self.new.database self.new.lists
+            self.new.diversions ≡ held self.old.database self.old.lists self.old.diversions }
+        ensures answered { self.old.closed ≡ false → IsNone result.last
+            → IsAnswered (H.state self.old.host) (H.state self.new.host) }
         ensures diversions { self.new.diversions ≡ self.old.diversions }
         ensures honest { Falls (H.state self.old.host) (H.state self.new.host) }
-        ensures counts { self.old.closed ≡ false → CountsLast (H.state self.old.host) (H.state self.new.host) result.last }
-        ensures not_closed { self.old.closed ≡ false → IfSome result.last (λ unit. IsBrokenBy Closed unit.reply → ⊥) }
+        ensures counts { self.old.closed ≡ false → CountsLast (H.state self.old.host)
+            (H.state self.new.host) result.last }
+        ensures not_closed { self.old.closed ≡ false
+            → IfSome result.last (λ unit. IsBrokenBy Closed unit.reply → ⊥) }
     {
         if self.closed {
             return closed_report(self.alloc);

@@ -27,7 +27,8 @@ pub(crate) fn breakage_of(fault: DiversionFault) -> Breakage
 
 // The unit that a refusal makes.
 fn refused(alloc: Global, path: &ShipPath, refusal: diversions::Refusal) -> Unit
-    ensures unit { IsBrokenBy NoMemory result.reply ⊎ AnswersDiversion path.now (answered.Refused refusal) result }
+    ensures unit { IsBrokenBy NoMemory result.reply ⊎ AnswersDiversion path.now
+        (answered.Refused refusal) result }
     ensures calls { result.calls.items ≡ [] }
     ensures touched { TellsNoPackage result }
 {
@@ -53,8 +54,10 @@ fn done(
     places: &mut Places,
     path: &ShipPath,
 ) -> Unit
-    ensures unit { IsBrokenBy NoMemory result.reply ⊎ AnswersDiversion path.now answered.Done result }
-    ensures places { IsBrokenBy NoMemory result.reply ⊎ (places.new ≡ places_in diversions.now.entries lists.now.lists) }
+    ensures unit { IsBrokenBy NoMemory result.reply ⊎ AnswersDiversion path.now answered.Done
+        result }
+    ensures places { IsBrokenBy NoMemory result.reply
+        ⊎ (places.new ≡ places_in diversions.now.entries lists.now.lists) }
     ensures calls { result.calls.items ≡ [] }
     ensures touched { TellsNoPackage result }
 {
@@ -79,7 +82,9 @@ pub(crate) fn unit_of(
     answer: Answer,
 ) -> Unit
     ensures unit { IsBrokenBy NoMemory result.reply ⊎ AnswersDiversion path.now answer result }
-    ensures places { IsBrokenBy NoMemory result.reply ⊎ (places.new ≡ by_answer answer places.old (places_in diversions.now.entries lists.now.lists)) }
+    ensures places { IsBrokenBy NoMemory result.reply
+        ⊎ (places.new ≡ by_answer answer places.old (places_in diversions.now.entries
+        lists.now.lists)) }
     ensures calls { result.calls.items ≡ [] }
     ensures touched { TellsNoPackage result }
 {
@@ -93,7 +98,8 @@ pub(crate) fn unit_of(
 pub(crate) fn flush_done<H: Host>(host: &mut H, answer: Answer) -> Result<(), HostFault>
     ensures done { OnOk result (answer ≡ answered.Done → IsOnDisk (H.state host.new).events) }
     ensures refused { answer ≡ answered.Done ⊎ (H.state host.new ≡ H.state host.old) }
-    ensures world { IsTrue (H.state host.new).honest → (H.state host.new).world ≡ (H.state host.old).world }
+    ensures world { IsTrue (H.state host.new).honest → (H.state host.new).world
+        ≡ (H.state host.old).world }
     ensures any_moment { AtEachMoment (λ old now. now ≡ old) (H.state host.old) (H.state host.new) }
     ensures silent { Silent (H.state host.old) (H.state host.new) }
     ensures counts { Counts (H.state host.old) (H.state host.new) result }

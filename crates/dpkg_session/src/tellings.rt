@@ -14,7 +14,8 @@ use texts::{Text, Texts};
 use unit_reports::{Touched, touched_of};
 
 fn add_all(alloc: Global, set: &mut BTreeSet<String>, names: &[Text]) -> Result<(), AllocError>
-    ensures { OnOk result ((q : List ℕ) → contains_text set.new q ≡ contains_text set.old q || is_among names.now q) }
+    ensures { OnOk result ((q : List ℕ) → contains_text set.new q ≡ contains_text set.old q
+        || is_among names.now q) }
 {
     for name in names {
         set.insert(String::from_str(alloc, name.as_str())?)?;
@@ -27,7 +28,8 @@ fn set_of_both(
     first: &[Text],
     second: &[Text],
 ) -> Result<BTreeSet<String>, AllocError>
-    ensures { IfOk result (λ set. (q : List ℕ) → contains_text set q ≡ is_among first.now q || is_among second.now q) }
+    ensures { IfOk result (λ set. (q : List ℕ) → contains_text set q ≡ is_among first.now q
+        || is_among second.now q) }
 {
     let mut set = BTreeSet::new(alloc);
     add_all(alloc, &mut set, first)?;
@@ -126,7 +128,8 @@ fn deconfigured_among(
     half: &[Text],
     names: &[Text],
 ) -> Result<Texts, AllocError>
-    ensures { IfOk result (λ deconfigured. deconfigured ≡ deconfigured_among «package».now database.now.records half.now names.now) }
+    ensures { IfOk result (λ deconfigured. deconfigured ≡ deconfigured_among «package».now
+        database.now.records half.now names.now) }
 {
     let mut deconfigured = Texts::new(alloc);
     for name in names {
@@ -155,7 +158,8 @@ pub(crate) fn told_of(
     first: &[Text],
     second: &[Text],
 ) -> Result<Told, AllocError>
-    ensures { IfOk result (λ told. AreTold «package».now database.now.records copies.now half.now first.now second.now told.touched.items told.deconfigured) }
+    ensures { IfOk result (λ told. AreTold «package».now database.now.records copies.now half.now
+        first.now second.now told.touched.items told.deconfigured) }
 {
     let names = names_of_both(alloc, first, second)?;
     let unchanged = unchanged_of(alloc, database, copies)?;

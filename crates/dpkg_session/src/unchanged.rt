@@ -15,7 +15,8 @@ use unit_reports::Touched;
 // Whether two records are the same: they are written alike, and each text stands for one record.
 fn is_same_record(alloc: Global, before: &Record, now: &Record) -> Result<bool, AllocError>
     requires { is_not_installed now.now.state ≡ false }
-    ensures { IfOk result (λ same. MatchBool same ((now.now ≡ before.now → ⊥) → ⊥) (now.now ≡ before.now → ⊥)) }
+    ensures { IfOk result (λ same. MatchBool same ((now.now ≡ before.now → ⊥)
+        → ⊥) (now.now ≡ before.now → ⊥)) }
 {
     if before.state.is_not_installed() {
         return Ok(false);
@@ -27,7 +28,8 @@ fn is_same_record(alloc: Global, before: &Record, now: &Record) -> Result<bool, 
 
 fn is_same(alloc: Global, before: &Option<Record>, now: Option<&Record>) -> Result<bool, AllocError>
     requires { IfSome (option_copied now) (λ r. is_not_installed r.state ≡ false) }
-    ensures { IfOk result (λ same. MatchBool same ((option_copied now.entry ≡ before.now → ⊥) → ⊥) (option_copied now.entry ≡ before.now → ⊥)) }
+    ensures { IfOk result (λ same. MatchBool same ((option_copied now.entry ≡ before.now → ⊥)
+        → ⊥) (option_copied now.entry ≡ before.now → ⊥)) }
 {
     match (before, now) {
         (None, None) => Ok(true),
@@ -39,7 +41,9 @@ fn is_same(alloc: Global, before: &Option<Record>, now: Option<&Record>) -> Resu
 
 // Whether a package has the record of before.
 fn is_unchanged(alloc: Global, database: &NotedDatabase, copy: &Touched) -> Result<bool, AllocError>
-    ensures { IfOk result (λ same. MatchBool same ((record_in database.now.records copy.now.«package» ≡ copy.now.entry → ⊥) → ⊥) (record_in database.now.records copy.now.«package» ≡ copy.now.entry → ⊥)) }
+    ensures { IfOk result
+        (λ same. MatchBool same ((record_in database.now.records copy.now.«package» ≡ copy.now.entry
+        → ⊥) → ⊥) (record_in database.now.records copy.now.«package» ≡ copy.now.entry → ⊥)) }
 {
     database.law();
     is_same(alloc, &copy.entry, database.get(&copy.package))
@@ -60,7 +64,9 @@ pub(crate) fn unchanged_of(
     database: &NotedDatabase,
     copies: &[Touched],
 ) -> Result<Texts, AllocError>
-    ensures { IfOk result (λ names. (before : List ARecord) (packages : List (List ℕ)) → copies.now ≡ map (touched_at before) packages → AreUnchanged before database.now.records packages names) }
+    ensures { IfOk result (λ names. (before : List ARecord) (packages : List (List ℕ))
+        → copies.now ≡ map (touched_at before) packages → AreUnchanged before database.now.records
+        packages names) }
 {
     let mut names = Texts::new(alloc);
     for copy in copies {

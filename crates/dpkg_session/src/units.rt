@@ -72,7 +72,9 @@ fn answered(
     end: UnpackEnd,
     calls: Vec<Called>,
 ) -> Unit
-    ensures answer { IsBrokenBy NoMemory result.reply ⊎ AnswersBoth behind.«package» database.now.records behind.copies.items behind.half end.unpacked.unwinding end.displaced.failed end.unpacked.touched end.displaced.names result }
+    ensures answer { IsBrokenBy NoMemory result.reply ⊎ AnswersBoth behind.«package»
+        database.now.records behind.copies.items behind.half end.unpacked.unwinding
+        end.displaced.failed end.unpacked.touched end.displaced.names result }
     ensures told { result.calls.items ≡ calls.items }
     ensures untouched { IsBroken result.reply → TellsNoPackage result }
 {
@@ -127,15 +129,20 @@ fn unpack_named<H: Host>(
     requires listing { lists.old.closed ≡ false }
     requires kept { places.old ≡ places_in diversions.now.entries lists.old.lists }
     requires indexed { ArePackagesOf database.old.records packages.old }
-    ensures unit { IsBroken result.reply ⊎ IsUnpacked incoming beside.now (held database.old lists.old diversions.now) (held database.new lists.new diversions.now) result (H.state host.old) (H.state host.new) }
+    ensures unit { IsBroken result.reply ⊎ IsUnpacked incoming beside.now
+        (held database.old lists.old diversions.now) (held database.new lists.new diversions.now)
+        result (H.state host.old) (H.state host.new) }
     ensures noting { IsBroken result.reply ⊎ (database.new.closed ≡ false) }
     ensures listing { IsBroken result.reply ⊎ (lists.new.closed ≡ false) }
-    ensures kept { IsBroken result.reply ⊎ (places.new ≡ places_in diversions.now.entries lists.new.lists) }
+    ensures kept { IsBroken result.reply
+        ⊎ (places.new ≡ places_in diversions.now.entries lists.new.lists) }
     ensures indexed { IsBroken result.reply ⊎ ArePackagesOf database.new.records packages.new }
     ensures on_disk { IsBroken result.reply ⊎ IsOnDisk (H.state host.new).events }
     ensures untouched { IsBroken result.reply → TellsNoPackage result }
-    ensures told { HasCalledWhole incoming beside.now (held database.old lists.old diversions.now) (H.state host.old) (H.state host.new) [] result.calls.items }
-    ensures any_moment { AtEachMomentOf (IsAmidUnpack incoming beside.now (held database.old lists.old diversions.now)) (H.state host.old) (H.state host.new) }
+    ensures told { HasCalledWhole incoming beside.now (held database.old lists.old diversions.now)
+        (H.state host.old) (H.state host.new) [] result.calls.items }
+    ensures any_moment { AtEachMomentOf (IsAmidUnpack incoming beside.now
+        (held database.old lists.old diversions.now)) (H.state host.old) (H.state host.new) }
     ensures counts { CountsReply (H.state host.old) (H.state host.new) result.reply }
     ensures not_closed { IsBrokenBy Closed result.reply → ⊥ }
 {
@@ -167,15 +174,20 @@ fn unpack_unit<H: Host>(
     requires listing { lists.old.closed ≡ false }
     requires kept { places.old ≡ places_in diversions.now.entries lists.old.lists }
     requires indexed { ArePackagesOf database.old.records packages.old }
-    ensures unit { IsBroken result.reply ⊎ IsUnpacked incoming beside.now (held database.old lists.old diversions.now) (held database.new lists.new diversions.now) result (H.state host.old) (H.state host.new) }
+    ensures unit { IsBroken result.reply ⊎ IsUnpacked incoming beside.now
+        (held database.old lists.old diversions.now) (held database.new lists.new diversions.now)
+        result (H.state host.old) (H.state host.new) }
     ensures noting { IsBroken result.reply ⊎ (database.new.closed ≡ false) }
     ensures listing { IsBroken result.reply ⊎ (lists.new.closed ≡ false) }
-    ensures kept { IsBroken result.reply ⊎ (places.new ≡ places_in diversions.now.entries lists.new.lists) }
+    ensures kept { IsBroken result.reply
+        ⊎ (places.new ≡ places_in diversions.now.entries lists.new.lists) }
     ensures indexed { IsBroken result.reply ⊎ ArePackagesOf database.new.records packages.new }
     ensures on_disk { IsBroken result.reply ⊎ IsOnDisk (H.state host.new).events }
     ensures untouched { IsBroken result.reply → TellsNoPackage result }
-    ensures told { HasCalledWhole incoming beside.now (held database.old lists.old diversions.now) (H.state host.old) (H.state host.new) [] result.calls.items }
-    ensures any_moment { AtEachMomentOf (IsAmidUnpack incoming beside.now (held database.old lists.old diversions.now)) (H.state host.old) (H.state host.new) }
+    ensures told { HasCalledWhole incoming beside.now (held database.old lists.old diversions.now)
+        (H.state host.old) (H.state host.new) [] result.calls.items }
+    ensures any_moment { AtEachMomentOf (IsAmidUnpack incoming beside.now
+        (held database.old lists.old diversions.now)) (H.state host.old) (H.state host.new) }
     ensures counts { CountsReply (H.state host.old) (H.state host.new) result.reply }
     ensures not_closed { IsBrokenBy Closed result.reply → ⊥ }
 {
@@ -209,15 +221,20 @@ fn decide_and_unpack<H: Host>(
     requires listing { lists.old.closed ≡ false }
     requires kept { places.old ≡ places_in diversions.now.entries lists.old.lists }
     requires indexed { ArePackagesOf database.old.records packages.old }
-    ensures unit { IsBroken result.reply ⊎ IsPackageUnit auto_deconfigure incoming (held database.old lists.old diversions.now) (held database.new lists.new diversions.now) result (H.state host.old) (H.state host.new) }
+    ensures unit { IsBroken result.reply ⊎ IsPackageUnit auto_deconfigure incoming
+        (held database.old lists.old diversions.now) (held database.new lists.new diversions.now)
+        result (H.state host.old) (H.state host.new) }
     ensures noting { IsBroken result.reply ⊎ (database.new.closed ≡ false) }
     ensures listing { IsBroken result.reply ⊎ (lists.new.closed ≡ false) }
-    ensures kept { IsBroken result.reply ⊎ (places.new ≡ places_in diversions.now.entries lists.new.lists) }
+    ensures kept { IsBroken result.reply
+        ⊎ (places.new ≡ places_in diversions.now.entries lists.new.lists) }
     ensures indexed { IsBroken result.reply ⊎ ArePackagesOf database.new.records packages.new }
     ensures answered { IsBroken result.reply ⊎ IsAnswered (H.state host.old) (H.state host.new) }
     ensures untouched { IsBroken result.reply → TellsNoPackage result }
-    ensures told { HasCalledPackage auto_deconfigure incoming (held database.old lists.old diversions.now) result (H.state host.old) (H.state host.new) }
-    ensures any_moment { AtEachMomentOf (IsAmidPackage auto_deconfigure incoming (held database.old lists.old diversions.now)) (H.state host.old) (H.state host.new) }
+    ensures told { HasCalledPackage auto_deconfigure incoming (held database.old lists.old
+        diversions.now) result (H.state host.old) (H.state host.new) }
+    ensures any_moment { AtEachMomentOf (IsAmidPackage auto_deconfigure incoming
+        (held database.old lists.old diversions.now)) (H.state host.old) (H.state host.new) }
     ensures counts { CountsReply (H.state host.old) (H.state host.new) result.reply }
     ensures not_closed { IsBrokenBy Closed result.reply → ⊥ }
 {
@@ -253,15 +270,21 @@ fn unit_of_package<H: Host>(
     requires listing { lists.old.closed ≡ false }
     requires kept { places.old ≡ places_in diversions.now.entries lists.old.lists }
     requires indexed { IfSome packages.old (ArePackagesOf database.old.records) }
-    ensures unit { IsBroken result.reply ⊎ IsPackageUnit auto_deconfigure incoming (held database.old lists.old diversions.now) (held database.new lists.new diversions.now) result (H.state host.old) (H.state host.new) }
+    ensures unit { IsBroken result.reply ⊎ IsPackageUnit auto_deconfigure incoming
+        (held database.old lists.old diversions.now) (held database.new lists.new diversions.now)
+        result (H.state host.old) (H.state host.new) }
     ensures noting { IsBroken result.reply ⊎ (database.new.closed ≡ false) }
     ensures listing { IsBroken result.reply ⊎ (lists.new.closed ≡ false) }
-    ensures kept { IsBroken result.reply ⊎ (places.new ≡ places_in diversions.now.entries lists.new.lists) }
-    ensures indexed { IsBroken result.reply ⊎ IfSome packages.new (ArePackagesOf database.new.records) }
+    ensures kept { IsBroken result.reply
+        ⊎ (places.new ≡ places_in diversions.now.entries lists.new.lists) }
+    ensures indexed { IsBroken result.reply
+        ⊎ IfSome packages.new (ArePackagesOf database.new.records) }
     ensures answered { IsBroken result.reply ⊎ IsAnswered (H.state host.old) (H.state host.new) }
     ensures untouched { IsBroken result.reply → TellsNoPackage result }
-    ensures told { HasCalledPackage auto_deconfigure incoming (held database.old lists.old diversions.now) result (H.state host.old) (H.state host.new) }
-    ensures any_moment { AtEachMomentOf (IsAmidPackage auto_deconfigure incoming (held database.old lists.old diversions.now)) (H.state host.old) (H.state host.new) }
+    ensures told { HasCalledPackage auto_deconfigure incoming (held database.old lists.old
+        diversions.now) result (H.state host.old) (H.state host.new) }
+    ensures any_moment { AtEachMomentOf (IsAmidPackage auto_deconfigure incoming
+        (held database.old lists.old diversions.now)) (H.state host.old) (H.state host.new) }
     ensures counts { CountsReply (H.state host.old) (H.state host.new) result.reply }
     ensures not_closed { IsBrokenBy Closed result.reply → ⊥ }
 {
@@ -302,15 +325,21 @@ fn unit_of<H: Host>(
     requires listing { lists.old.closed ≡ false }
     requires kept { places.old ≡ places_in diversions.now.entries lists.old.lists }
     requires indexed { IfSome packages.old (ArePackagesOf database.old.records) }
-    ensures unit { IsBroken result.reply ⊎ IsUnit auto_deconfigure candidate (held database.old lists.old diversions.now) (held database.new lists.new diversions.now) result (H.state host.old) (H.state host.new) }
+    ensures unit { IsBroken result.reply ⊎ IsUnit auto_deconfigure candidate
+        (held database.old lists.old diversions.now) (held database.new lists.new diversions.now)
+        result (H.state host.old) (H.state host.new) }
     ensures noting { IsBroken result.reply ⊎ (database.new.closed ≡ false) }
     ensures listing { IsBroken result.reply ⊎ (lists.new.closed ≡ false) }
-    ensures kept { IsBroken result.reply ⊎ (places.new ≡ places_in diversions.now.entries lists.new.lists) }
-    ensures indexed { IsBroken result.reply ⊎ IfSome packages.new (ArePackagesOf database.new.records) }
+    ensures kept { IsBroken result.reply
+        ⊎ (places.new ≡ places_in diversions.now.entries lists.new.lists) }
+    ensures indexed { IsBroken result.reply
+        ⊎ IfSome packages.new (ArePackagesOf database.new.records) }
     ensures answered { IsBroken result.reply ⊎ IsAnswered (H.state host.old) (H.state host.new) }
     ensures untouched { IsBroken result.reply → TellsNoPackage result }
-    ensures told { HasCalledOf auto_deconfigure candidate.tree (held database.old lists.old diversions.now) result (H.state host.old) (H.state host.new) }
-    ensures any_moment { AtEachMomentOf (IsAmidUnitOf auto_deconfigure candidate.tree (held database.old lists.old diversions.now)) (H.state host.old) (H.state host.new) }
+    ensures told { HasCalledOf auto_deconfigure candidate.tree (held database.old lists.old
+        diversions.now) result (H.state host.old) (H.state host.new) }
+    ensures any_moment { AtEachMomentOf (IsAmidUnitOf auto_deconfigure candidate.tree
+        (held database.old lists.old diversions.now)) (H.state host.old) (H.state host.new) }
     ensures counts { CountsReply (H.state host.old) (H.state host.new) result.reply }
     ensures not_closed { IsBrokenBy Closed result.reply → ⊥ }
 {
@@ -370,18 +399,24 @@ fn run_one<H: Host, W: Watcher>(
     requires listing { lists.old.closed ≡ false }
     requires kept { places.old ≡ places_in diversions.now.entries lists.old.lists }
     requires indexed { IfSome packages.old (ArePackagesOf database.old.records) }
-    ensures ok { OnOk result (AddsUnit auto_deconfigure candidate (held database.old lists.old diversions.now) (held database.new lists.new diversions.now) (H.state host.old) (H.state host.new) units.old.items units.new.items) }
+    ensures ok { OnOk result (AddsUnit auto_deconfigure candidate (held database.old lists.old
+        diversions.now) (held database.new lists.new diversions.now) (H.state host.old)
+        (H.state host.new) units.old.items units.new.items) }
     ensures noting { OnOk result (database.new.closed ≡ false) }
     ensures listing { OnOk result (lists.new.closed ≡ false) }
     ensures kept { OnOk result (places.new ≡ places_in diversions.now.entries lists.new.lists) }
     ensures indexed { OnOk result (IfSome packages.new (ArePackagesOf database.new.records)) }
     ensures answered { OnOk result (IsAnswered (H.state host.old) (H.state host.new)) }
     ensures err { OnErr result (units.new.items ≡ units.old.items) }
-    ensures broken_off { IfErr result (λ unit. IsBrokenOff auto_deconfigure candidate (held database.old lists.old diversions.now) unit (H.state host.old) (H.state host.new)) }
-    ensures told { OnOk result (TellsAll (H.state host.old) (H.state host.new) (calls_of units.old.items) (calls_of units.new.items)) }
-    ensures any_moment { AtEachMomentOf (IsAmidUnitOf auto_deconfigure candidate.tree (held database.old lists.old diversions.now)) (H.state host.old) (H.state host.new) }
+    ensures broken_off { IfErr result (λ unit. IsBrokenOff auto_deconfigure candidate
+        (held database.old lists.old diversions.now) unit (H.state host.old) (H.state host.new)) }
+    ensures told { OnOk result (TellsAll (H.state host.old) (H.state host.new)
+        (calls_of units.old.items) (calls_of units.new.items)) }
+    ensures any_moment { AtEachMomentOf (IsAmidUnitOf auto_deconfigure candidate.tree
+        (held database.old lists.old diversions.now)) (H.state host.old) (H.state host.new) }
     ensures no_fault { OnOk result (faults (H.state host.new) ≡ faults (H.state host.old)) }
-    ensures counts { IfErr result (λ unit. CountsReply (H.state host.old) (H.state host.new) unit.reply) }
+    ensures counts { IfErr result (λ unit. CountsReply (H.state host.old) (H.state host.new)
+        unit.reply) }
     ensures not_closed { IfErr result (λ unit. IsBrokenBy Closed unit.reply → ⊥) }
     ensures labels { OnOk result (labels.new ≡ labels.old ++ label_of candidate ∷ []) }
     ensures watched { AddsTold W.tells units.old.items units.new.items watcher.old watcher.new }
@@ -429,15 +464,21 @@ pub(crate) fn run_units<H: Host, T: Trees, W: Watcher>(
     requires listing { lists.old.closed ≡ false }
     requires kept { places.old ≡ places_in diversions.now.entries lists.old.lists }
     requires indexed { IfSome packages.old (ArePackagesOf database.old.records) }
-    ensures run { (cs : List ACandidate) × AreRead T.reads trees.old cs trees.new × HasRunThrough auto_deconfigure cs (T.words trees.new) result (held database.old lists.old diversions.now) (held database.new lists.new diversions.now) (H.state host.old) (H.state host.new) × (IsNone result.last → labels.new ≡ map label_of cs) }
+    ensures run { (cs : List ACandidate) × AreRead T.reads trees.old cs trees.new
+        × HasRunThrough auto_deconfigure cs (T.words trees.new) result (held database.old lists.old
+        diversions.now) (held database.new lists.new diversions.now) (H.state host.old)
+        (H.state host.new) × (IsNone result.last → labels.new ≡ map label_of cs) }
     ensures told { TellsCalls (H.state host.old) (H.state host.new) result }
     ensures counts { CountsLast (H.state host.old) (H.state host.new) result.last }
     ensures not_closed { IfSome result.last (λ unit. IsBrokenBy Closed unit.reply → ⊥) }
-    ensures order { IsNone result.last → Needs (H.state host.new) (IsInOrder database.new lists.new.lists) }
+    ensures order { IsNone result.last
+        → Needs (H.state host.new) (IsInOrder database.new lists.new.lists) }
     ensures noting { IsNone result.last → database.new.closed ≡ false }
     ensures listing { IsNone result.last → lists.new.closed ≡ false }
-    ensures kept { IsNone result.last → places.new ≡ places_in diversions.now.entries lists.new.lists }
-    ensures indexed { IsNone result.last → IfSome packages.new (ArePackagesOf database.new.records) }
+    ensures kept { IsNone result.last → places.new ≡ places_in diversions.now.entries
+        lists.new.lists }
+    ensures indexed { IsNone result.last
+        → IfSome packages.new (ArePackagesOf database.new.records) }
     ensures watched { IsTold W.tells watcher.old result.units.items watcher.new }
 {
     what_is_told_in_turn::<W>();

@@ -31,7 +31,8 @@ fn others_beside<H: Host>(
     beside: &Beside,
 ) -> Result<Others, HostFault>
     requires { AreApart incoming.now.name database.now.records beside.now }
-    ensures rows { IfOk result (λ others. HaveRows incoming.now beside.now database.now.records (H.state host.old).world (H.state host.new).honest others.packages.items) }
+    ensures rows { IfOk result (λ others. HaveRows incoming.now beside.now database.now.records
+        (H.state host.old).world (H.state host.new).honest others.packages.items) }
     ensures yields { IfOk result (λ others. others.yields ≡ yielding beside.now) }
     ensures reads { Reads (H.state host.old) (H.state host.new) }
     ensures silent { Silent (H.state host.old) (H.state host.new) }
@@ -62,15 +63,26 @@ fn unpack_to_disk<H: Host>(
     requires order { Needs (H.state host.old) (IsInOrder database.old lists.old.lists) }
     requires noting { database.old.closed ≡ false }
     requires listing { lists.old.closed ≡ false }
-    ensures unit { IfOk result (λ u. HasUnpacked (given_by incoming (held database.old lists.old diversions.now) others.packages.items others.yields) places.old (ended_as u.unwinding) database.new lists.new.lists (H.state host.old) (H.state host.new) told.old.items told.new.items) }
-    ensures cause { IfOk result (λ u. HasFailedFor (given_by incoming (held database.old lists.old diversions.now) others.packages.items others.yields) (H.state host.old) (H.state host.new) u.unwinding) }
-    ensures touched { IfOk result (λ u. IsTouched incoming.name database.old.records database.new.records u.touched) }
-    ensures order { IfOk result (λ u. Needs (H.state host.new) (IsInOrder database.new lists.new.lists)) }
+    ensures unit { IfOk result
+        (λ u. HasUnpacked (given_by incoming (held database.old lists.old diversions.now)
+        others.packages.items others.yields) places.old (ended_as u.unwinding) database.new
+        lists.new.lists (H.state host.old) (H.state host.new) told.old.items told.new.items) }
+    ensures cause { IfOk result
+        (λ u. HasFailedFor (given_by incoming (held database.old lists.old diversions.now)
+        others.packages.items others.yields) (H.state host.old) (H.state host.new) u.unwinding) }
+    ensures touched { IfOk result (λ u. IsTouched incoming.name database.old.records
+        database.new.records u.touched) }
+    ensures order { IfOk result (λ u. Needs (H.state host.new)
+        (IsInOrder database.new lists.new.lists)) }
     ensures noting { OnOk result (database.new.closed ≡ false) }
     ensures listing { OnOk result (lists.new.closed ≡ false) }
     ensures on_disk { OnOk result (IsOnDisk (H.state host.new).events) }
-    ensures told { HasCalled (given_by incoming (held database.old lists.old diversions.now) others.packages.items others.yields) (H.state host.old) (H.state host.new) told.old.items told.new.items }
-    ensures any_moment { AtEachMomentOf (IsAmidUnit (given_by incoming (held database.old lists.old diversions.now) others.packages.items others.yields) places.old) (H.state host.old) (H.state host.new) }
+    ensures told { HasCalled (given_by incoming (held database.old lists.old diversions.now)
+        others.packages.items others.yields) (H.state host.old) (H.state host.new) told.old.items
+        told.new.items }
+    ensures any_moment { AtEachMomentOf (IsAmidUnit
+        (given_by incoming (held database.old lists.old diversions.now) others.packages.items
+        others.yields) places.old) (H.state host.old) (H.state host.new) }
     ensures counts { Counts (H.state host.old) (H.state host.new) result }
 {
     match unpack(
@@ -100,14 +112,21 @@ pub(crate) fn unpack_beside<H: Host>(
     requires order { Needs (H.state host.old) (IsInOrder database.old lists.old.lists) }
     requires noting { database.old.closed ≡ false }
     requires listing { lists.old.closed ≡ false }
-    ensures unit { IfOk result (λ u. HasUnpackedBeside incoming beside.now (held database.old lists.old diversions.now) places.old u.unwinding database.new lists.new.lists (H.state host.old) (H.state host.new) told.old.items told.new.items) }
-    ensures touched { IfOk result (λ u. IsTouched incoming.name database.old.records database.new.records u.touched) }
-    ensures order { IfOk result (λ u. Needs (H.state host.new) (IsInOrder database.new lists.new.lists)) }
+    ensures unit { IfOk result (λ u. HasUnpackedBeside incoming beside.now
+        (held database.old lists.old diversions.now) places.old u.unwinding database.new
+        lists.new.lists (H.state host.old) (H.state host.new) told.old.items told.new.items) }
+    ensures touched { IfOk result (λ u. IsTouched incoming.name database.old.records
+        database.new.records u.touched) }
+    ensures order { IfOk result (λ u. Needs (H.state host.new)
+        (IsInOrder database.new lists.new.lists)) }
     ensures noting { OnOk result (database.new.closed ≡ false) }
     ensures listing { OnOk result (lists.new.closed ≡ false) }
     ensures on_disk { OnOk result (IsOnDisk (H.state host.new).events) }
-    ensures told { HasCalledBeside incoming beside.now (held database.old lists.old diversions.now) (H.state host.old) (H.state host.new) told.old.items told.new.items }
-    ensures any_moment { AtEachMomentOf (IsAmidBeside incoming beside.now (held database.old lists.old diversions.now) places.old) (H.state host.old) (H.state host.new) }
+    ensures told { HasCalledBeside incoming beside.now (held database.old lists.old diversions.now)
+        (H.state host.old) (H.state host.new) told.old.items told.new.items }
+    ensures any_moment { AtEachMomentOf (IsAmidBeside incoming beside.now
+        (held database.old lists.old diversions.now) places.old) (H.state host.old)
+        (H.state host.new) }
     ensures counts { Counts (H.state host.old) (H.state host.new) result }
 {
     match others_beside(alloc, host, database, &incoming, beside) {

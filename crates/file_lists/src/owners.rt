@@ -128,7 +128,8 @@ fn take_owners(
 ) -> Result<(), AllocError>
     requires sources { AreSources diversions.now.entries at.now sources.now }
     requires order { AreIncreasing list.now.paths }
-    ensures { OnOk result (owners.new ≡ owners.old ++ owners_in diversions.now.entries at.now list.now) }
+    ensures { OnOk result (owners.new ≡ owners.old ++ owners_in diversions.now.entries at.now
+        list.now) }
 {
     if sources.len() != 1 {
         return take_each_owner(diversions, at, sources, list, owners);

@@ -7,7 +7,8 @@ use host_core::{Host, HostFault, RootPath};
 
 /// Whether nothing is below a path.
 pub fn is_bare<H: Host>(host: &mut H, path: &RootPath) -> Result<bool, HostFault>
-    ensures found { Tells result (λ bare w. IsTrue bare ↔ IsBare w path.now) (H.state host.old) (H.state host.new) }
+    ensures found { Tells result (λ bare w. IsTrue bare ↔ IsBare w path.now) (H.state host.old)
+        (H.state host.new) }
     ensures reads { Reads (H.state host.old) (H.state host.new) }
     ensures silent { Silent (H.state host.old) (H.state host.new) }
     ensures counts { Counts (H.state host.old) (H.state host.new) result }

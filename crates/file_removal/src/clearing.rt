@@ -8,8 +8,10 @@ use host_core::{Host, HostFault, RootPath};
 
 /// Removes the file or link at a name; a directory stays.
 pub fn clear_name<H: Host>(host: &mut H, path: &RootPath) -> Result<(), HostFault>
-    ensures cleared { Leaves result (Cleared (path.now ∷ [])) (H.state host.old) (H.state host.new) }
-    ensures any_moment { AtEachMoment (IsClearing (path.now ∷ [])) (H.state host.old) (H.state host.new) }
+    ensures cleared { Leaves result (Cleared (path.now ∷ [])) (H.state host.old)
+        (H.state host.new) }
+    ensures any_moment { AtEachMoment (IsClearing (path.now ∷ [])) (H.state host.old)
+        (H.state host.new) }
     ensures silent { Silent (H.state host.old) (H.state host.new) }
     ensures counts { Counts (H.state host.old) (H.state host.new) result }
 {

@@ -14,8 +14,10 @@ fn remove_one<H: Host>(
     leaving: &Leaving,
     directories_only: bool,
 ) -> Result<(), HostFault>
-    ensures visited { Leaves result (IsVisited directories_only leaving.now) (H.state host.old) (H.state host.new) }
-    ensures any_moment { AtEachMoment (IsVisiting directories_only leaving.now) (H.state host.old) (H.state host.new) }
+    ensures visited { Leaves result (IsVisited directories_only leaving.now) (H.state host.old)
+        (H.state host.new) }
+    ensures any_moment { AtEachMoment (IsVisiting directories_only leaving.now) (H.state host.old)
+        (H.state host.new) }
     ensures silent { Silent (H.state host.old) (H.state host.new) }
     ensures counts { Counts (H.state host.old) (H.state host.new) result }
 {
@@ -45,8 +47,10 @@ fn remove_each<H: Host>(
     leaving: &[Leaving],
     directories_only: bool,
 ) -> Result<(), HostFault>
-    ensures removed { Leaves result (RemovedBy directories_only leaving.now) (H.state host.old) (H.state host.new) }
-    ensures any_moment { AtEachMoment (IsRemovingBy directories_only leaving.now) (H.state host.old) (H.state host.new) }
+    ensures removed { Leaves result (RemovedBy directories_only leaving.now) (H.state host.old)
+        (H.state host.new) }
+    ensures any_moment { AtEachMoment (IsRemovingBy directories_only leaving.now) (H.state host.old)
+        (H.state host.new) }
     ensures silent { Silent (H.state host.old) (H.state host.new) }
     ensures counts { Counts (H.state host.old) (H.state host.new) result }
 {
@@ -63,7 +67,8 @@ fn remove_each<H: Host>(
 /// left below it.
 pub fn remove_owned<H: Host>(host: &mut H, leaving: &[Leaving]) -> Result<(), HostFault>
     ensures removed { Leaves result (Removed leaving.now) (H.state host.old) (H.state host.new) }
-    ensures any_moment { AtEachMoment (IsRemoving leaving.now) (H.state host.old) (H.state host.new) }
+    ensures any_moment { AtEachMoment (IsRemoving leaving.now) (H.state host.old)
+        (H.state host.new) }
     ensures silent { Silent (H.state host.old) (H.state host.new) }
     ensures counts { Counts (H.state host.old) (H.state host.new) result }
 {
@@ -72,8 +77,10 @@ pub fn remove_owned<H: Host>(host: &mut H, leaving: &[Leaving]) -> Result<(), Ho
 
 /// The same for directories alone, at the end of a purge: a file or link at a place stays.
 pub fn remove_directories<H: Host>(host: &mut H, leaving: &[Leaving]) -> Result<(), HostFault>
-    ensures removed { Leaves result (RemovedDirectories leaving.now) (H.state host.old) (H.state host.new) }
-    ensures any_moment { AtEachMoment (IsRemovingDirectories leaving.now) (H.state host.old) (H.state host.new) }
+    ensures removed { Leaves result (RemovedDirectories leaving.now) (H.state host.old)
+        (H.state host.new) }
+    ensures any_moment { AtEachMoment (IsRemovingDirectories leaving.now) (H.state host.old)
+        (H.state host.new) }
     ensures silent { Silent (H.state host.old) (H.state host.new) }
     ensures counts { Counts (H.state host.old) (H.state host.new) result }
 {

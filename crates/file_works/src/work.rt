@@ -21,7 +21,8 @@ pub struct Work {
 }
 
 fn target_of(place: &ShipPath, is_conffile: bool) -> Result<RootPath, AllocError>
-    ensures { IfOk result (λ path. path ≡ Rattle.file_works.specs.Works.target_of place.now is_conffile) }
+    ensures { IfOk result (λ path. path ≡ Rattle.file_works.specs.Works.target_of place.now
+        is_conffile) }
 {
     if is_conffile {
         return place.beside(Suffix::New);

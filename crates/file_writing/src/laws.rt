@@ -14,11 +14,15 @@ pub fn names_of_works_differ()
     ensures apart { (x : Work) → IsNamed x → IsApart x }
     ensures differ { (x y : Work) → IsNamed x → IsNamed y → x.place ≢ y.place → Differ x y }
     ensures by_place { (x : Work) → IsNamed x → IsByPlace x }
-    ensures misses { (x : Work) (q : Path) → IsNamed x → is_named_by q x.place ≡ false → Misses x q }
-    ensures kept { (places : List Path) (x : Work) → IsNamed x → Contains places x.place → HasNames (is_kept places) x }
+    ensures misses { (x : Work) (q : Path) → IsNamed x → is_named_by q x.place ≡ false
+        → Misses x q }
+    ensures kept { (places : List Path) (x : Work) → IsNamed x → Contains places x.place
+        → HasNames (is_kept places) x }
 {}
 
 /// Files that were written stand so as long as nothing changes at their names, and can be put back.
 pub fn written_files_stay()
-    ensures { (works : List Work) (kept : Path → Bool) (old mid later : World) → Each (HasNames kept) works → Each (IsFreeIn old) works → Each (IsSeen old) works → Written works old mid → SameOn kept mid later → IsWrittenFrom works old later }
+    ensures { (works : List Work) (kept : Path → Bool) (old mid later : World)
+        → Each (HasNames kept) works → Each (IsFreeIn old) works → Each (IsSeen old) works
+        → Written works old mid → SameOn kept mid later → IsWrittenFrom works old later }
 {}

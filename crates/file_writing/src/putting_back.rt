@@ -11,7 +11,8 @@ use host_core::{Host, HostFault, Kind, Node, RootPath};
 
 /// Whether nothing is below a directory.
 fn is_bare<H: Host>(host: &mut H, path: &RootPath) -> Result<bool, HostFault>
-    ensures found { Tells result (λ bare w. IsTrue bare ↔ IsBare w path.now) (H.state host.old) (H.state host.new) }
+    ensures found { Tells result (λ bare w. IsTrue bare ↔ IsBare w path.now) (H.state host.old)
+        (H.state host.new) }
     ensures reads { Reads (H.state host.old) (H.state host.new) }
     ensures silent { Silent (H.state host.old) (H.state host.new) }
     ensures counts { Counts (H.state host.old) (H.state host.new) result }
@@ -26,9 +27,13 @@ fn is_bare<H: Host>(host: &mut H, path: &RootPath) -> Result<bool, HostFault>
 /// What had stood at the target, if anything had, gets its own name again.
 fn restore_old<H: Host>(host: &mut H, work: &Work) -> Result<(), HostFault>
     requires named { IsNamed work.now }
-    requires there { Needs (H.state host.old) (λ w. CanRestore work.now.had (w work.now.target) (w work.now.backup)) }
-    ensures restored { Leaves result (λ old new. new ≡ restored work.now.had work.now.target work.now.backup old) (H.state host.old) (H.state host.new) }
-    ensures any_moment { AtEachMoment (λ old now. (now ≡ old) ⊎ (now ≡ restored work.now.had work.now.target work.now.backup old)) (H.state host.old) (H.state host.new) }
+    requires there { Needs (H.state host.old) (λ w. CanRestore work.now.had (w work.now.target)
+        (w work.now.backup)) }
+    ensures restored { Leaves result (λ old new. new ≡ restored work.now.had work.now.target
+        work.now.backup old) (H.state host.old) (H.state host.new) }
+    ensures any_moment { AtEachMoment (λ old now. (now ≡ old)
+        ⊎ (now ≡ restored work.now.had work.now.target work.now.backup old)) (H.state host.old)
+        (H.state host.new) }
     ensures silent { Silent (H.state host.old) (H.state host.new) }
     ensures counts { Counts (H.state host.old) (H.state host.new) result }
 {
@@ -44,7 +49,8 @@ fn unmake<H: Host>(host: &mut H, work: &Work) -> Result<(), HostFault>
     requires made { MakesDirectory work.now }
     requires written { Needs (H.state host.old) (CanGoBack (work.now ∷ [])) }
     ensures back { Leaves result (GoesBack (work.now ∷ [])) (H.state host.old) (H.state host.new) }
-    ensures any_moment { AtEachMoment (IsGoingBack (work.now ∷ [])) (H.state host.old) (H.state host.new) }
+    ensures any_moment { AtEachMoment (IsGoingBack (work.now ∷ [])) (H.state host.old)
+        (H.state host.new) }
     ensures silent { Silent (H.state host.old) (H.state host.new) }
     ensures counts { Counts (H.state host.old) (H.state host.new) result }
 {
@@ -60,7 +66,8 @@ fn put_back_directory<H: Host>(host: &mut H, work: &Work) -> Result<(), HostFaul
     requires node { is_directory (Some work.now.node) ≡ true }
     requires written { Needs (H.state host.old) (CanGoBack (work.now ∷ [])) }
     ensures back { Leaves result (GoesBack (work.now ∷ [])) (H.state host.old) (H.state host.new) }
-    ensures any_moment { AtEachMoment (IsGoingBack (work.now ∷ [])) (H.state host.old) (H.state host.new) }
+    ensures any_moment { AtEachMoment (IsGoingBack (work.now ∷ [])) (H.state host.old)
+        (H.state host.new) }
     ensures silent { Silent (H.state host.old) (H.state host.new) }
     ensures counts { Counts (H.state host.old) (H.state host.new) result }
 {
@@ -77,7 +84,8 @@ fn put_back_loose<H: Host>(host: &mut H, work: &Work) -> Result<(), HostFault>
     requires node { is_directory (Some work.now.node) ≡ false }
     requires written { Needs (H.state host.old) (CanGoBack (work.now ∷ [])) }
     ensures back { Leaves result (GoesBack (work.now ∷ [])) (H.state host.old) (H.state host.new) }
-    ensures any_moment { AtEachMoment (IsGoingBack (work.now ∷ [])) (H.state host.old) (H.state host.new) }
+    ensures any_moment { AtEachMoment (IsGoingBack (work.now ∷ [])) (H.state host.old)
+        (H.state host.new) }
     ensures silent { Silent (H.state host.old) (H.state host.new) }
     ensures counts { Counts (H.state host.old) (H.state host.new) result }
 {
@@ -94,7 +102,8 @@ fn put_back_one<H: Host>(host: &mut H, work: &Work) -> Result<(), HostFault>
     requires named { IsNamed work.now }
     requires written { Needs (H.state host.old) (CanGoBack (work.now ∷ [])) }
     ensures back { Leaves result (GoesBack (work.now ∷ [])) (H.state host.old) (H.state host.new) }
-    ensures any_moment { AtEachMoment (IsGoingBack (work.now ∷ [])) (H.state host.old) (H.state host.new) }
+    ensures any_moment { AtEachMoment (IsGoingBack (work.now ∷ [])) (H.state host.old)
+        (H.state host.new) }
     ensures silent { Silent (H.state host.old) (H.state host.new) }
     ensures counts { Counts (H.state host.old) (H.state host.new) result }
 {
@@ -112,7 +121,8 @@ pub fn put_back_files<H: Host>(host: &mut H, works: &[Work]) -> Result<(), HostF
     requires order { AllInOrder works.now }
     requires written { Needs (H.state host.old) (CanGoBack works.now) }
     ensures back { Leaves result (GoesBack works.now) (H.state host.old) (H.state host.new) }
-    ensures any_moment { AtEachMoment (IsGoingBack works.now) (H.state host.old) (H.state host.new) }
+    ensures any_moment { AtEachMoment (IsGoingBack works.now) (H.state host.old)
+        (H.state host.new) }
     ensures silent { Silent (H.state host.old) (H.state host.new) }
     ensures counts { Counts (H.state host.old) (H.state host.new) result }
 {

@@ -32,7 +32,8 @@ fn clear_name<H: Host>(host: &mut H, path: &RootPath) -> Result<(), HostFault>
 fn clear_spares<H: Host>(host: &mut H, work: &Work) -> Result<(), HostFault>
     requires named { IsNamed work.now }
     ensures cleared { Leaves result (AreCleared work.now) (H.state host.old) (H.state host.new) }
-    ensures any_moment { AtEachMoment (KeepsBesideSpares work.now) (H.state host.old) (H.state host.new) }
+    ensures any_moment { AtEachMoment (KeepsBesideSpares work.now) (H.state host.old)
+        (H.state host.new) }
     ensures silent { Silent (H.state host.old) (H.state host.new) }
     ensures counts { Counts (H.state host.old) (H.state host.new) result }
 {
@@ -46,9 +47,11 @@ fn make_aside<H: Host>(host: &mut H, work: &Work) -> Result<(), HostFault>
     requires loose { is_directory (Some work.now.node) ≡ false }
     requires absent { Needs (H.state host.old) (λ w. w work.now.fresh ≡ None) }
     requires parent { Needs (H.state host.old) (λ w. HasParent w work.now.place) }
-    ensures made { Leaves result (IsAside work.now.fresh work.now.node) (H.state host.old) (H.state host.new) }
+    ensures made { Leaves result (IsAside work.now.fresh work.now.node) (H.state host.old)
+        (H.state host.new) }
     ensures synced { OnOk result (unsynced (H.state host.new).events work.now.fresh ≡ false) }
-    ensures any_moment { AtEachMoment (KeepsBeside work.now.fresh) (H.state host.old) (H.state host.new) }
+    ensures any_moment { AtEachMoment (KeepsBeside work.now.fresh) (H.state host.old)
+        (H.state host.new) }
     ensures silent { Silent (H.state host.old) (H.state host.new) }
     ensures counts { Counts (H.state host.old) (H.state host.new) result }
 {
@@ -70,8 +73,10 @@ fn save_old<H: Host>(host: &mut H, work: &Work, had: Option<Kind>) -> Result<(),
     requires spare { Needs (H.state host.old) (λ w. w work.now.backup ≡ None) }
     requires parent { Needs (H.state host.old) (λ w. HasParent w work.now.place) }
     ensures saved { Leaves result (IsSaved work.now) (H.state host.old) (H.state host.new) }
-    ensures synced { unsynced (H.state host.old).events work.now.fresh ≡ false → OnOk result (unsynced (H.state host.new).events work.now.fresh ≡ false) }
-    ensures any_moment { AtEachMoment (KeepsBeside work.now.backup) (H.state host.old) (H.state host.new) }
+    ensures synced { unsynced (H.state host.old).events work.now.fresh ≡ false → OnOk
+        result (unsynced (H.state host.new).events work.now.fresh ≡ false) }
+    ensures any_moment { AtEachMoment (KeepsBeside work.now.backup) (H.state host.old)
+        (H.state host.new) }
     ensures silent { Silent (H.state host.old) (H.state host.new) }
     ensures counts { Counts (H.state host.old) (H.state host.new) result }
 {
@@ -88,8 +93,10 @@ fn exchange<H: Host>(host: &mut H, work: &Work, had: Option<Kind>) -> Result<(),
     requires ready { Needs (H.state host.old) (IsReady work.now) }
     requires seen { Needs (H.state host.old) (λ w. had ≡ kind_of (w work.now.target)) }
     requires over { Needs (H.state host.old) (λ w. is_directory (w work.now.target) ≡ false) }
-    ensures written { Leaves result (Written (work.now ∷ [])) (H.state host.old) (H.state host.new) }
-    ensures any_moment { AtEachMoment (λ old now. IsAmid (work.now ∷ []) old old now) (H.state host.old) (H.state host.new) }
+    ensures written { Leaves result (Written (work.now ∷ [])) (H.state host.old)
+        (H.state host.new) }
+    ensures any_moment { AtEachMoment (λ old now. IsAmid (work.now ∷ []) old old now)
+        (H.state host.old) (H.state host.new) }
     ensures silent { Silent (H.state host.old) (H.state host.new) }
     ensures counts { Counts (H.state host.old) (H.state host.new) result }
 {
@@ -104,8 +111,10 @@ fn make_over<H: Host>(host: &mut H, work: &Work, access: Access) -> Result<(), H
     requires node { work.now.node ≡ Dir access }
     requires ready { Needs (H.state host.old) (IsReady work.now) }
     requires over { Needs (H.state host.old) (λ w. kind_of (w work.now.target) ≡ Some kind.File) }
-    ensures written { Leaves result (Written (work.now ∷ [])) (H.state host.old) (H.state host.new) }
-    ensures any_moment { AtEachMoment (λ old now. IsAmid (work.now ∷ []) old old now) (H.state host.old) (H.state host.new) }
+    ensures written { Leaves result (Written (work.now ∷ [])) (H.state host.old)
+        (H.state host.new) }
+    ensures any_moment { AtEachMoment (λ old now. IsAmid (work.now ∷ []) old old now)
+        (H.state host.old) (H.state host.new) }
     ensures silent { Silent (H.state host.old) (H.state host.new) }
     ensures counts { Counts (H.state host.old) (H.state host.new) result }
 {
@@ -123,8 +132,10 @@ fn place_directory<H: Host>(
     requires node { work.now.node ≡ Dir access }
     requires ready { Needs (H.state host.old) (IsReady work.now) }
     requires seen { Needs (H.state host.old) (λ w. had ≡ kind_of (w work.now.target)) }
-    ensures written { Leaves result (Written (work.now ∷ [])) (H.state host.old) (H.state host.new) }
-    ensures any_moment { AtEachMoment (λ old now. IsAmid (work.now ∷ []) old old now) (H.state host.old) (H.state host.new) }
+    ensures written { Leaves result (Written (work.now ∷ [])) (H.state host.old)
+        (H.state host.new) }
+    ensures any_moment { AtEachMoment (λ old now. IsAmid (work.now ∷ []) old old now)
+        (H.state host.old) (H.state host.new) }
     ensures silent { Silent (H.state host.old) (H.state host.new) }
     ensures counts { Counts (H.state host.old) (H.state host.new) result }
 {
@@ -141,8 +152,10 @@ fn place_loose<H: Host>(host: &mut H, work: &Work, had: Option<Kind>) -> Result<
     requires loose { is_directory (Some work.now.node) ≡ false }
     requires ready { Needs (H.state host.old) (IsReady work.now) }
     requires seen { Needs (H.state host.old) (λ w. had ≡ kind_of (w work.now.target)) }
-    ensures written { Leaves result (Written (work.now ∷ [])) (H.state host.old) (H.state host.new) }
-    ensures any_moment { AtEachMoment (λ old now. IsAmid (work.now ∷ []) old old now) (H.state host.old) (H.state host.new) }
+    ensures written { Leaves result (Written (work.now ∷ [])) (H.state host.old)
+        (H.state host.new) }
+    ensures any_moment { AtEachMoment (λ old now. IsAmid (work.now ∷ []) old old now)
+        (H.state host.old) (H.state host.new) }
     ensures silent { Silent (H.state host.old) (H.state host.new) }
     ensures counts { Counts (H.state host.old) (H.state host.new) result }
 {
@@ -158,8 +171,10 @@ fn place<H: Host>(host: &mut H, work: &Work, had: Option<Kind>) -> Result<(), Ho
     requires named { IsNamed work.now }
     requires ready { Needs (H.state host.old) (IsReady work.now) }
     requires seen { Needs (H.state host.old) (λ w. had ≡ kind_of (w work.now.target)) }
-    ensures written { Leaves result (Written (work.now ∷ [])) (H.state host.old) (H.state host.new) }
-    ensures any_moment { AtEachMoment (λ old now. IsAmid (work.now ∷ []) old old now) (H.state host.old) (H.state host.new) }
+    ensures written { Leaves result (Written (work.now ∷ [])) (H.state host.old)
+        (H.state host.new) }
+    ensures any_moment { AtEachMoment (λ old now. IsAmid (work.now ∷ []) old old now)
+        (H.state host.old) (H.state host.new) }
     ensures silent { Silent (H.state host.old) (H.state host.new) }
     ensures counts { Counts (H.state host.old) (H.state host.new) result }
 {
@@ -175,8 +190,10 @@ fn write_one<H: Host>(host: &mut H, work: &Work) -> Result<(), HostFault>
     requires named { IsNamed work.now }
     requires free { Needs (H.state host.old) (λ w. IsFreeIn w work.now) }
     requires parent { Needs (H.state host.old) (λ w. HasParent w work.now.place) }
-    ensures written { Leaves result (Written (work.now ∷ [])) (H.state host.old) (H.state host.new) }
-    ensures any_moment { AtEachMoment (λ old now. IsAmid (work.now ∷ []) old old now) (H.state host.old) (H.state host.new) }
+    ensures written { Leaves result (Written (work.now ∷ [])) (H.state host.old)
+        (H.state host.new) }
+    ensures any_moment { AtEachMoment (λ old now. IsAmid (work.now ∷ []) old old now)
+        (H.state host.old) (H.state host.new) }
     ensures silent { Silent (H.state host.old) (H.state host.new) }
     ensures counts { Counts (H.state host.old) (H.state host.new) result }
 {
@@ -192,7 +209,8 @@ pub fn write_files<H: Host>(host: &mut H, works: &[Work]) -> Result<(), HostFaul
     requires free { Needs (H.state host.old) (λ w. Each (IsFreeIn w) works.now) }
     requires homed { Needs (H.state host.old) (λ w. Each (IsHomed works.now w) works.now) }
     ensures written { Leaves result (Written works.now) (H.state host.old) (H.state host.new) }
-    ensures any_moment { AtEachMoment (λ old now. IsAmid works.now old old now) (H.state host.old) (H.state host.new) }
+    ensures any_moment { AtEachMoment (λ old now. IsAmid works.now old old now) (H.state host.old)
+        (H.state host.new) }
     ensures silent { Silent (H.state host.old) (H.state host.new) }
     ensures counts { Counts (H.state host.old) (H.state host.new) result }
 {

@@ -37,7 +37,8 @@ impl Changed {
     // Adds a directory.
     fn insert(&mut self, directory: &str) -> Result<(), AllocError>
         ensures added { OnOk result (contains_text self.new.directories directory.now ≡ true) }
-        ensures kept { OnOk result ((other : List ℕ) → contains_text self.old.directories other ≡ true → contains_text self.new.directories other ≡ true) }
+        ensures kept { OnOk result ((other : List ℕ) → contains_text self.old.directories other
+            ≡ true → contains_text self.new.directories other ≡ true) }
     {
         let directory = String::from_str(self.alloc, directory)?;
         self.directories.insert(directory)?;
@@ -47,7 +48,8 @@ impl Changed {
     /// Adds the directory that the path stands in.
     pub(crate) fn add(&mut self, path: &RootPath) -> Result<(), AllocError>
         ensures added { OnOk result (HasDirectoryOf self.new.directories path.now) }
-        ensures kept { OnOk result ((other : List ℕ) → contains_text self.old.directories other ≡ true → contains_text self.new.directories other ≡ true) }
+        ensures kept { OnOk result ((other : List ℕ) → contains_text self.old.directories other
+            ≡ true → contains_text self.new.directories other ≡ true) }
     {
         let directory = directory_of(path);
         if self.directories.contains(directory) {
@@ -58,7 +60,8 @@ impl Changed {
 
     /// After a barrier that was done all is on the disk.
     pub(crate) fn clear_after(&mut self, barrier: &Result<(), HostFault>)
-        ensures done { OnOk barrier.now ((directory : List ℕ) → contains_text self.new.directories directory ≡ false) }
+        ensures done { OnOk barrier.now ((directory : List ℕ) → contains_text self.new.directories
+            directory ≡ false) }
         ensures failed { OnErr barrier.now (self.new.directories ≡ self.old.directories) }
     {
         if barrier.is_ok() {

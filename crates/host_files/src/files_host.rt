@@ -160,8 +160,11 @@ impl<D: Disk> FilesHost<D> {
     // Notes a call that was answered by looking.
     fn note(&mut self, note: &Note<'_>)
         requires plain { IsPlain (noted note.now) }
-        requires shown { IsShownBy (string_bytes self.old.root.directory) (string_bytes self.old.root.front) self.old.root.owners (noted note.now) self.old.system.trace.calls }
-        requires owed { IsTrue (replay D.Disk.model self.old.told.log.notes).honest → IsOwed (replay D.Disk.model self.old.told.log.notes).events (noted note.now) }
+        requires shown { IsShownBy (string_bytes self.old.root.directory)
+            (string_bytes self.old.root.front) self.old.root.owners (noted note.now)
+            self.old.system.trace.calls }
+        requires owed { IsTrue (replay D.Disk.model self.old.told.log.notes).honest
+            → IsOwed (replay D.Disk.model self.old.told.log.notes).events (noted note.now) }
         ensures notes { self.new.told.log.notes ≡ noted note.now ∷ self.old.told.log.notes }
     {
         self.root.remembered.take_note(note);
@@ -171,11 +174,15 @@ impl<D: Disk> FilesHost<D> {
     // Notes a call at a path that failed with Device; want of memory is no event.
     fn fail(&mut self, fault: HostFault, path: &str, note: &Note<'_>) -> HostFault
         requires fault { IsNotedFault (noted note.now) }
-        requires shown { fault ≡ Device → IsShownBy (string_bytes self.old.root.directory) (string_bytes self.old.root.front) self.old.root.owners (noted note.now) self.old.system.trace.calls }
+        requires shown { fault ≡ Device → IsShownBy (string_bytes self.old.root.directory)
+            (string_bytes self.old.root.front) self.old.root.owners (noted note.now)
+            self.old.system.trace.calls }
         requires unchanged { fault ≡ NoMemory → changes_in self.old.system.trace.calls ≡ [] }
-        requires owed { IsTrue (replay D.Disk.model self.old.told.log.notes).honest → IsOwed (replay D.Disk.model self.old.told.log.notes).events (noted note.now) }
+        requires owed { IsTrue (replay D.Disk.model self.old.told.log.notes).honest
+            → IsOwed (replay D.Disk.model self.old.told.log.notes).events (noted note.now) }
         requires countable { self.old.told.faults < 2 ^ 64 - 1 }
-        ensures device { result ≡ Device → self.new.told.log.notes ≡ noted note.now ∷ self.old.told.log.notes }
+        ensures device { result ≡ Device → self.new.told.log.notes ≡ noted note.now
+            ∷ self.old.told.log.notes }
         ensures memory { result ≡ NoMemory → self.new.told.log.notes ≡ self.old.told.log.notes }
     {
         match fault {
@@ -191,14 +198,22 @@ impl<D: Disk> FilesHost<D> {
 
     // Notes how a step ended.
     fn settle(&mut self, asked: Asks<'_>, ended: Result<(), HostFault>) -> Result<(), HostFault>
-        requires shown { IsStepBy (string_bytes self.old.root.front) self.old.root.owners (asked_by asked) self.old.system.trace.calls ended }
+        requires shown { IsStepBy (string_bytes self.old.root.front) self.old.root.owners
+            (asked_by asked) self.old.system.trace.calls ended }
         requires remembered { IsRemembered self.old.changed.directories (asked_by asked) }
-        requires brought { OnOk ended (IsBrought (string_bytes self.old.root.front) self.old.root.owners self.old.changed.directories (asked_by asked) self.old.system.trace.calls) }
-        requires sure { OnOk ended (IsSure (string_bytes self.old.root.front) self.old.told.log.notes (asked_by asked) self.old.system.trace.calls) }
-        requires owed { IsTrue (replay D.Disk.model self.old.told.log.notes).honest → KeepsSettled (replay D.Disk.model self.old.told.log.notes).events (step_of (asked_by asked)) }
+        requires brought { OnOk ended (IsBrought (string_bytes self.old.root.front)
+            self.old.root.owners self.old.changed.directories (asked_by asked)
+            self.old.system.trace.calls) }
+        requires sure { OnOk ended (IsSure (string_bytes self.old.root.front)
+            self.old.told.log.notes (asked_by asked) self.old.system.trace.calls) }
+        requires owed { IsTrue (replay D.Disk.model self.old.told.log.notes).honest
+            → KeepsSettled (replay D.Disk.model self.old.told.log.notes).events
+            (step_of (asked_by asked)) }
         requires countable { self.old.told.faults < 2 ^ 64 - 1 }
-        ensures done { OnOk result (self.new.told.log.notes ≡ Done (asked_by asked.entry) ∷ self.old.told.log.notes) }
-        ensures device { result ≡ Err Device → self.new.told.log.notes ≡ Undone (asked_by asked.entry) ∷ self.old.told.log.notes }
+        ensures done { OnOk result (self.new.told.log.notes ≡ Done (asked_by asked.entry)
+            ∷ self.old.told.log.notes) }
+        ensures device { result ≡ Err Device → self.new.told.log.notes
+            ≡ Undone (asked_by asked.entry) ∷ self.old.told.log.notes }
         ensures memory { result ≡ Err NoMemory → self.new.told.log.notes ≡ self.old.told.log.notes }
     {
         match ended {
@@ -214,8 +229,10 @@ impl<D: Disk> FilesHost<D> {
     fn end(&mut self, called: Call, call: &Call, kept: &Places, outcome: Outcome)
         requires room { vec_len self.old.told.calls < vec_capacity self.old.told.calls }
         requires copied { called ≡ call.now }
-        requires shown { IsEndedBy (string_bytes self.old.root.directory) (string_bytes self.old.root.front) call.now outcome self.old.system.trace.calls }
-        ensures notes { self.new.told.log.notes ≡ Ended call.now kept.now outcome ∷ self.old.told.log.notes }
+        requires shown { IsEndedBy (string_bytes self.old.root.directory)
+            (string_bytes self.old.root.front) call.now outcome self.old.system.trace.calls }
+        ensures notes { self.new.told.log.notes ≡ Ended call.now kept.now outcome
+            ∷ self.old.told.log.notes }
     {
         let note = Note::Ended(call, kept, outcome);
         self.root.remembered.take_note(&note);

@@ -26,8 +26,11 @@ pub(crate) struct Remembered {
 
 /// In each account that fits the answers so far a directory that is known stands, and so does the file that was written last.
 pub fn what_is_remembered_stands<D: Disk>()
-    ensures known { (d : Path) (notes : List Noted) → IsKnown d notes → IsTrue (replay D.Disk.model notes).honest → IsDirectory ((replay D.Disk.model notes).world d) }
-    ensures new { (f : Path) (notes : List Noted) → IsNew f notes → IsTrue (replay D.Disk.model notes).honest → IsSome ((replay D.Disk.model notes).world f) }
+    ensures known { (d : Path) (notes : List Noted) → IsKnown d notes
+        → IsTrue (replay D.Disk.model notes).honest
+        → IsDirectory ((replay D.Disk.model notes).world d) }
+    ensures new { (f : Path) (notes : List Noted) → IsNew f notes
+        → IsTrue (replay D.Disk.model notes).honest → IsSome ((replay D.Disk.model notes).world f) }
 {}
 
 // Whether a path goes on below another.
@@ -66,7 +69,8 @@ impl Remembered {
 
     /// Whether a path is that of the directory, or of one above it.
     pub(crate) fn covers(&self, path: &str) -> bool
-        ensures { result ≡ true → IsSomeAnd self.now.directory (λ s. (string_bytes s ≡ path.now) ⊎ IsBelow path.now (string_bytes s)) }
+        ensures { result ≡ true → IsSomeAnd self.now.directory (λ s. (string_bytes s ≡ path.now)
+            ⊎ IsBelow path.now (string_bytes s)) }
     {
         match &self.directory {
             Some(directory) => directory.as_str() == path || is_below(path, directory.as_str()),
@@ -86,8 +90,10 @@ impl Remembered {
 
     /// Takes from a call with its answer what it tells.
     pub(crate) fn take_note(&mut self, note: &Note<'_>)
-        ensures directory { ForSome self.new.directory (λ s. IsKnownBy (string_bytes s) (noted note.now) (self.old.directory ≡ Some s)) }
-        ensures file { ForSome self.new.file (λ f. IsNewBy f (noted note.now) (self.old.file ≡ Some f)) }
+        ensures directory { ForSome self.new.directory (λ s. IsKnownBy (string_bytes s)
+            (noted note.now) (self.old.directory ≡ Some s)) }
+        ensures file { ForSome self.new.file (λ f. IsNewBy f (noted note.now)
+            (self.old.file ≡ Some f)) }
     {
         match *note {
             Note::Looked(path, node) => self.take_node(path, node),
@@ -102,7 +108,8 @@ impl Remembered {
     }
 
     fn take_node(&mut self, path: &RootPath, node: &Option<Node>)
-        ensures directory { ForSome self.new.directory (λ s. IsKnownBy (string_bytes s) (Looked path.now node.now) (self.old.directory ≡ Some s)) }
+        ensures directory { ForSome self.new.directory (λ s. IsKnownBy (string_bytes s)
+            (Looked path.now node.now) (self.old.directory ≡ Some s)) }
         ensures file { self.new.file ≡ self.old.file }
     {
         match node {
@@ -113,7 +120,8 @@ impl Remembered {
     }
 
     fn take_kind(&mut self, path: &RootPath, kind: Option<Kind>)
-        ensures directory { ForSome self.new.directory (λ s. IsKnownBy (string_bytes s) (Seen path.now kind) (self.old.directory ≡ Some s)) }
+        ensures directory { ForSome self.new.directory (λ s. IsKnownBy (string_bytes s)
+            (Seen path.now kind) (self.old.directory ≡ Some s)) }
         ensures file { self.new.file ≡ self.old.file }
     {
         match kind {
@@ -124,8 +132,10 @@ impl Remembered {
     }
 
     fn take_step(&mut self, asked: Asks<'_>)
-        ensures directory { ForSome self.new.directory (λ s. IsKnownByStep (string_bytes s) (asked_by asked.entry) (self.old.directory ≡ Some s)) }
-        ensures file { ForSome self.new.file (λ f. IsNewByStep f (asked_by asked.entry) (self.old.file ≡ Some f)) }
+        ensures directory { ForSome self.new.directory (λ s. IsKnownByStep (string_bytes s)
+            (asked_by asked.entry) (self.old.directory ≡ Some s)) }
+        ensures file { ForSome self.new.file (λ f. IsNewByStep f (asked_by asked.entry)
+            (self.old.file ≡ Some f)) }
     {
         match asked {
             Asks::Write(path, _) => self.take_written(path),
@@ -141,7 +151,8 @@ impl Remembered {
     }
 
     fn take_written(&mut self, path: &RootPath)
-        ensures directory { ForSome self.new.directory (λ s. IsBelow (string_bytes s) path.now ⊎ ((path.now ≢ string_bytes s) × (self.old.directory ≡ Some s))) }
+        ensures directory { ForSome self.new.directory (λ s. IsBelow (string_bytes s) path.now
+            ⊎ ((path.now ≢ string_bytes s) × (self.old.directory ≡ Some s))) }
         ensures file { ForSome self.new.file (λ f. f ≡ path.now) }
     {
         self.forget_named(path);
@@ -153,7 +164,8 @@ impl Remembered {
     }
 
     fn take_made(&mut self, path: &RootPath)
-        ensures directory { ForSome self.new.directory (λ s. (string_bytes s ≡ path.now) ⊎ ((path.now ≢ string_bytes s) × (self.old.directory ≡ Some s))) }
+        ensures directory { ForSome self.new.directory (λ s. (string_bytes s ≡ path.now)
+            ⊎ ((path.now ≢ string_bytes s) × (self.old.directory ≡ Some s))) }
         ensures file { ForSome self.new.file (λ f. (path.now ≢ f) × (self.old.file ≡ Some f)) }
     {
         self.forget_named(path);
@@ -162,7 +174,8 @@ impl Remembered {
 
     // What stands at a path may be another.
     fn forget_named(&mut self, path: &RootPath)
-        ensures directory { ForSome self.new.directory (λ s. (path.now ≢ string_bytes s) × (self.old.directory ≡ Some s)) }
+        ensures directory { ForSome self.new.directory (λ s. (path.now ≢ string_bytes s)
+            × (self.old.directory ≡ Some s)) }
         ensures file { ForSome self.new.file (λ f. (path.now ≢ f) × (self.old.file ≡ Some f)) }
     {
         self.forget_directory(path.as_str());
@@ -172,15 +185,18 @@ impl Remembered {
     }
 
     fn forget_both(&mut self, from: &RootPath, to: &RootPath)
-        ensures directory { ForSome self.new.directory (λ s. (from.now ≢ string_bytes s) × (to.now ≢ string_bytes s) × (self.old.directory ≡ Some s)) }
-        ensures file { ForSome self.new.file (λ f. (from.now ≢ f) × (to.now ≢ f) × (self.old.file ≡ Some f)) }
+        ensures directory { ForSome self.new.directory (λ s. (from.now ≢ string_bytes s)
+            × (to.now ≢ string_bytes s) × (self.old.directory ≡ Some s)) }
+        ensures file { ForSome self.new.file (λ f. (from.now ≢ f) × (to.now ≢ f)
+            × (self.old.file ≡ Some f)) }
     {
         self.forget_named(from);
         self.forget_named(to);
     }
 
     fn forget_directory(&mut self, path: &str)
-        ensures directory { ForSome self.new.directory (λ s. (path.now ≢ string_bytes s) × (self.old.directory ≡ Some s)) }
+        ensures directory { ForSome self.new.directory (λ s. (path.now ≢ string_bytes s)
+            × (self.old.directory ≡ Some s)) }
         ensures file { self.new.file ≡ self.old.file }
     {
         let is_named = match &self.directory {
@@ -194,7 +210,8 @@ impl Remembered {
 
     // The directory that a path stands in.
     fn learn_above(&mut self, path: &RootPath)
-        ensures directory { ForSome self.new.directory (λ s. IsBelow (string_bytes s) path.now ⊎ (self.old.directory ≡ Some s)) }
+        ensures directory { ForSome self.new.directory (λ s. IsBelow (string_bytes s) path.now
+            ⊎ (self.old.directory ≡ Some s)) }
         ensures file { self.new.file ≡ self.old.file }
     {
         match path.as_str().rsplit_once('/') {
@@ -205,7 +222,8 @@ impl Remembered {
 
     // One above the directory that is remembered tells no more.
     fn learn(&mut self, directory: &str)
-        ensures directory { ForSome self.new.directory (λ s. (string_bytes s ≡ directory.now) ⊎ (self.old.directory ≡ Some s)) }
+        ensures directory { ForSome self.new.directory (λ s. (string_bytes s ≡ directory.now)
+            ⊎ (self.old.directory ≡ Some s)) }
         ensures file { self.new.file ≡ self.old.file }
     {
         if self.covers(directory) {

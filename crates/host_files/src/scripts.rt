@@ -124,7 +124,8 @@ pub(crate) fn run_script(
     call: &Call,
 ) -> Result<Outcome, HostFault>
     requires begun { system.old.trace.calls ≡ [] }
-    ensures { IsRunBy (string_bytes root.now.directory) (string_bytes root.now.front) call.now system.new.trace.calls result }
+    ensures { IsRunBy (string_bytes root.now.directory) (string_bytes root.now.front) call.now
+        system.new.trace.calls result }
 {
     let mut command = command_of(system.rt.alloc(), root, &system.architecture, call)?;
     match prepare(system, root, &call.at, &mut command) {

@@ -23,7 +23,8 @@ const NO_FILE: &str = "no file or link stands there";
 
 // The place of a step.
 fn place_of_step(system: &System, root: &Root, path: &RootPath) -> Result<String, HostFault>
-    ensures { IfOk result (λ place. string_bytes place ≡ place_of (string_bytes root.now.front) path.now) }
+    ensures { IfOk result (λ place. string_bytes place ≡ place_of (string_bytes root.now.front)
+        path.now) }
 {
     match root.place_at(&system.rt, path)? {
         Some(place) => Ok(place),
@@ -67,7 +68,8 @@ fn set_access(
     place: &str,
     access: Access,
 ) -> Result<(), HostFault>
-    ensures made { Adds (access_calls owners place.now access) system.old.trace.calls system.new.trace.calls result }
+    ensures made { Adds (access_calls owners place.now access) system.old.trace.calls
+        system.new.trace.calls result }
     ensures err { IfErr result (λ fault. fault ≡ Device) }
 {
     if owners {
@@ -84,7 +86,8 @@ fn write_bytes(
     bytes: &[u8],
     access: Access,
 ) -> Result<(), HostFault>
-    ensures { Adds (write_calls owners place.now bytes.now access) system.old.trace.calls system.new.trace.calls result }
+    ensures { Adds (write_calls owners place.now bytes.now access) system.old.trace.calls
+        system.new.trace.calls result }
 {
     check_settable(owners, access)?;
     system.create(place)?;
@@ -98,7 +101,8 @@ fn create_directory(
     place: &str,
     access: Access,
 ) -> Result<(), HostFault>
-    ensures { Adds (directory_calls owners place.now access) system.old.trace.calls system.new.trace.calls result }
+    ensures { Adds (directory_calls owners place.now access) system.old.trace.calls
+        system.new.trace.calls result }
 {
     check_settable(owners, access)?;
     system.make_directory(place)?;
@@ -114,7 +118,8 @@ pub(crate) fn write_file(
 ) -> Result<(), HostFault>
     requires file { IsFile node.now }
     requires begun { system.old.trace.calls ≡ [] }
-    ensures { IsStepBy (string_bytes root.now.front) root.now.owners (Write path.now node.now) system.new.trace.calls result }
+    ensures { IsStepBy (string_bytes root.now.front) root.now.owners (Write path.now node.now)
+        system.new.trace.calls result }
 {
     let Node::File { bytes, access } = node else {
         return Err(HostFault::Device);
@@ -137,7 +142,8 @@ pub(crate) fn make_directory(
     access: Access,
 ) -> Result<(), HostFault>
     requires begun { system.old.trace.calls ≡ [] }
-    ensures { IsStepBy (string_bytes root.now.front) root.now.owners (MakeDir path.now access) system.new.trace.calls result }
+    ensures { IsStepBy (string_bytes root.now.front) root.now.owners (MakeDir path.now access)
+        system.new.trace.calls result }
 {
     let place = place_of_step(system, root, path)?;
     create_directory(system, root.owners, place.as_str(), access)
@@ -155,8 +161,10 @@ fn is_same_file(one: &Metadata, other: &Option<Metadata>) -> bool
 
 // Looks what stands at a place, which is to be a file or link.
 fn look_at_loose(system: &mut System, place: &str) -> Result<Metadata, HostFault>
-    ensures ok { IfOk result (λ found. Looks place.now (Some found) system.old.trace.calls system.new.trace.calls) }
-    ensures err { OnErr result (changes_in system.new.trace.calls ≡ changes_in system.old.trace.calls) }
+    ensures ok { IfOk result (λ found. Looks place.now (Some found) system.old.trace.calls
+        system.new.trace.calls) }
+    ensures err { OnErr result (changes_in system.new.trace.calls ≡ changes_in
+        system.old.trace.calls) }
 {
     match system.look(place)? {
         Some(found) if !found.is_dir() => Ok(found),
@@ -167,7 +175,8 @@ fn look_at_loose(system: &mut System, place: &str) -> Result<Metadata, HostFault
 // The system does nothing where both are names of one file.
 fn rename_file(system: &mut System, from: &str, to: &str) -> Result<(), HostFault>
     requires begun { system.old.trace.calls ≡ [] }
-    ensures step { IsAnsweredBy (HasRenamed from.now to.now) (IsRenaming from.now to.now) system.new.trace.calls result }
+    ensures step { IsAnsweredBy (HasRenamed from.now to.now) (IsRenaming from.now to.now)
+        system.new.trace.calls result }
     ensures sure { OnOk result (IsLookedAt from.now system.new.trace.calls) }
 {
     let moved = look_at_loose(system, from)?;
@@ -182,7 +191,8 @@ fn rename_file(system: &mut System, from: &str, to: &str) -> Result<(), HostFaul
 // The file that was written last has no other name, so that nothing has to be looked at.
 fn rename_at(system: &mut System, is_new: bool, from: &str, to: &str) -> Result<(), HostFault>
     requires begun { system.old.trace.calls ≡ [] }
-    ensures step { IsAnsweredBy (HasRenamed from.now to.now) (IsRenaming from.now to.now) system.new.trace.calls result }
+    ensures step { IsAnsweredBy (HasRenamed from.now to.now) (IsRenaming from.now to.now)
+        system.new.trace.calls result }
     ensures sure { OnOk result (IsLookedAt from.now system.new.trace.calls ⊎ IsTrue is_new) }
 {
     if is_new {
@@ -199,8 +209,10 @@ pub(crate) fn move_over(
     to: &RootPath,
 ) -> Result<(), HostFault>
     requires begun { system.old.trace.calls ≡ [] }
-    ensures step { IsStepBy (string_bytes root.now.front) root.now.owners (Move from.now to.now) system.new.trace.calls result }
-    ensures sure { OnOk result (IsLookedAt (place_of (string_bytes root.now.front) from.now) system.new.trace.calls ⊎ (root.now.remembered.file ≡ Some from.now)) }
+    ensures step { IsStepBy (string_bytes root.now.front) root.now.owners (Move from.now to.now)
+        system.new.trace.calls result }
+    ensures sure { OnOk result (IsLookedAt (place_of (string_bytes root.now.front) from.now)
+        system.new.trace.calls ⊎ (root.now.remembered.file ≡ Some from.now)) }
 {
     let is_new = root.remembered.is_new(from);
     let from = place_of_step(system, root, from)?;
@@ -216,7 +228,8 @@ pub(crate) fn symlink(
     target: &Text,
 ) -> Result<(), HostFault>
     requires begun { system.old.trace.calls ≡ [] }
-    ensures { IsStepBy (string_bytes root.now.front) root.now.owners (MakeLink path.now target.now) system.new.trace.calls result }
+    ensures { IsStepBy (string_bytes root.now.front) root.now.owners (MakeLink path.now target.now)
+        system.new.trace.calls result }
 {
     let place = place_of_step(system, root, path)?;
     system.make_link(target.as_str(), place.as_str())
@@ -230,7 +243,8 @@ pub(crate) fn hard_link(
     to: &RootPath,
 ) -> Result<(), HostFault>
     requires begun { system.old.trace.calls ≡ [] }
-    ensures { IsStepBy (string_bytes root.now.front) root.now.owners (HardLink from.now to.now) system.new.trace.calls result }
+    ensures { IsStepBy (string_bytes root.now.front) root.now.owners (HardLink from.now to.now)
+        system.new.trace.calls result }
 {
     let from = place_of_step(system, root, from)?;
     let to = place_of_step(system, root, to)?;
@@ -241,7 +255,8 @@ pub(crate) fn hard_link(
 // Looks what stands at a place, and brings it to the disk.
 fn flush_at(system: &mut System, place: &str) -> Result<(), HostFault>
     requires begun { system.old.trace.calls ≡ [] }
-    ensures step { IsAnsweredBy (HasSynced place.now) (λ made. made ≡ []) system.new.trace.calls result }
+    ensures step { IsAnsweredBy (HasSynced place.now) (λ made. made ≡ []) system.new.trace.calls
+        result }
     ensures sure { OnOk result (IsLookedAt place.now system.new.trace.calls) }
 {
     match system.look(place)? {
@@ -254,8 +269,10 @@ fn flush_at(system: &mut System, place: &str) -> Result<(), HostFault>
 /// Brings the bytes of a file to the disk; of a link nothing has to be brought there.
 pub(crate) fn flush(system: &mut System, root: &Root, path: &RootPath) -> Result<(), HostFault>
     requires begun { system.old.trace.calls ≡ [] }
-    ensures step { IsStepBy (string_bytes root.now.front) root.now.owners (Sync path.now) system.new.trace.calls result }
-    ensures sure { OnOk result (IsLookedAt (place_of (string_bytes root.now.front) path.now) system.new.trace.calls ⊎ (root.now.remembered.file ≡ Some path.now)) }
+    ensures step { IsStepBy (string_bytes root.now.front) root.now.owners (Sync path.now)
+        system.new.trace.calls result }
+    ensures sure { OnOk result (IsLookedAt (place_of (string_bytes root.now.front) path.now)
+        system.new.trace.calls ⊎ (root.now.remembered.file ≡ Some path.now)) }
 {
     if root.remembered.is_new(path) && system.has_made() {
         return system.sync_made();
@@ -267,7 +284,8 @@ pub(crate) fn flush(system: &mut System, root: &Root, path: &RootPath) -> Result
 /// Removes a file or link.
 pub(crate) fn unlink(system: &mut System, root: &Root, path: &RootPath) -> Result<(), HostFault>
     requires begun { system.old.trace.calls ≡ [] }
-    ensures { IsStepBy (string_bytes root.now.front) root.now.owners (Take path.now) system.new.trace.calls result }
+    ensures { IsStepBy (string_bytes root.now.front) root.now.owners (Take path.now)
+        system.new.trace.calls result }
 {
     let place = place_of_step(system, root, path)?;
     system.unlink(place.as_str())
@@ -280,7 +298,8 @@ pub(crate) fn unlink_directory(
     path: &RootPath,
 ) -> Result<(), HostFault>
     requires begun { system.old.trace.calls ≡ [] }
-    ensures { IsStepBy (string_bytes root.now.front) root.now.owners (RemoveDir path.now) system.new.trace.calls result }
+    ensures { IsStepBy (string_bytes root.now.front) root.now.owners (RemoveDir path.now)
+        system.new.trace.calls result }
 {
     let place = place_of_step(system, root, path)?;
     system.remove_directory(place.as_str())
@@ -293,8 +312,10 @@ pub(crate) fn flush_all(
     changed: &Changed,
 ) -> Result<(), HostFault>
     requires begun { system.old.trace.calls ≡ [] }
-    ensures step { IsStepBy (string_bytes root.now.front) root.now.owners Barrier system.new.trace.calls result }
-    ensures brought { OnOk result (IsBrought (string_bytes root.now.front) root.now.owners changed.now.directories Barrier system.new.trace.calls) }
+    ensures step { IsStepBy (string_bytes root.now.front) root.now.owners Barrier
+        system.new.trace.calls result }
+    ensures brought { OnOk result (IsBrought (string_bytes root.now.front) root.now.owners
+        changed.now.directories Barrier system.new.trace.calls) }
 {
     for directory in changed.directories.iter() {
         system.sync_directory(root, directory.as_str())?;

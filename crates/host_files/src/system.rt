@@ -157,7 +157,8 @@ impl System {
 
     /// What stands at the place. No link at its end is followed.
     pub(crate) fn look(&mut self, place: &str) -> Result<Option<Metadata>, HostFault>
-        ensures ok { IfOk result (λ found. Looks place.now found self.old.trace.calls self.new.trace.calls) }
+        ensures ok { IfOk result (λ found. Looks place.now found self.old.trace.calls
+            self.new.trace.calls) }
         ensures err { OnErr result (self.new.trace.calls ≡ self.old.trace.calls) }
     {
         match stat(&self.rt, place) {
@@ -300,7 +301,8 @@ impl System {
     /// The directory is told by its path under the root. Where it is gone, or a link leads to it,
     /// nothing is to be brought to the disk.
     pub(crate) fn sync_directory(&mut self, root: &Root, directory: &str) -> Result<(), HostFault>
-        ensures made { OnOk result (self.new.trace.calls ≡ SyncDirectory (place_of (string_bytes root.now.front) directory.now) ∷ self.old.trace.calls) }
+        ensures made { OnOk result (self.new.trace.calls ≡ SyncDirectory
+            (place_of (string_bytes root.now.front) directory.now) ∷ self.old.trace.calls) }
         ensures same { changes_in self.new.trace.calls ≡ changes_in self.old.trace.calls }
     {
         let place = root.place(directory)?;
@@ -319,8 +321,10 @@ impl System {
     /// Nothing where the program is one that can't be started, or is missing. Where memory was wanting nothing was started.
     /// A file that is open for writing couldn't be started.
     pub(crate) fn start(&mut self, command: &mut Command) -> Result<Option<Child>, HostFault>
-        ensures made { OnOk result (self.new.trace.calls ≡ start_call command.old ∷ self.old.trace.calls) }
-        ensures err { IfErr result (IsNotBegun command.old self.old.trace.calls self.new.trace.calls) }
+        ensures made { OnOk result (self.new.trace.calls ≡ start_call command.old
+            ∷ self.old.trace.calls) }
+        ensures err { IfErr result (IsNotBegun command.old self.old.trace.calls
+            self.new.trace.calls) }
         ensures closed { self.new.made ≡ None }
     {
         self.made = None;
@@ -355,8 +359,10 @@ impl System {
 
     /// Waits for the end of the program that was started last.
     pub(crate) fn wait(&mut self, mut child: Child) -> Result<ExitStatus, HostFault>
-        ensures ok { IfOk result (λ status. self.new.trace.calls ≡ End (exit_code status) ∷ self.old.trace.calls) }
-        ensures err { IfErr result (λ fault. (fault ≡ Device) × (self.new.trace.calls ≡ self.old.trace.calls)) }
+        ensures ok { IfOk result (λ status. self.new.trace.calls ≡ End (exit_code status)
+            ∷ self.old.trace.calls) }
+        ensures err { IfErr result (λ fault. (fault ≡ Device)
+            × (self.new.trace.calls ≡ self.old.trace.calls)) }
     {
         match child.wait() {
             Ok(status) => {

@@ -58,7 +58,11 @@ impl History {
 
     // A root directory and nothing else.
     pub(crate) fn new(alloc: Global) -> Result<History, AllocError>
-        ensures state { IfOk result (λ history. history_state history ≡ record { honest = true; world = put nothing [] (Some new_directory); events = [] }) }
+        ensures state { IfOk result (λ history. history_state history ≡ record {
+          honest = true;
+          world = put nothing [] (Some new_directory);
+          events = [];
+        }) }
         ensures disk { IfOk result (λ history. IsOnDisk history) }
     {
         let files = Files::new(alloc)?;
@@ -94,7 +98,10 @@ impl History {
 
     // Sets what stands at a path, and all is on the disk.
     pub(crate) fn place(&mut self, path: &RootPath, node: Node) -> Result<bool, AllocError>
-        ensures ok { IfOk result (λ done. MatchBool done (IsPlaced (history_state self.old).world (history_state self.new).world path.now node) ((CanPlace (history_state self.old).world path.now node → ⊥) × ((history_state self.new).world ≡ (history_state self.old).world))) }
+        ensures ok { IfOk result (λ done. MatchBool done (IsPlaced (history_state self.old).world
+            (history_state self.new).world path.now node)
+            ((CanPlace (history_state self.old).world path.now node → ⊥)
+            × ((history_state self.new).world ≡ (history_state self.old).world))) }
         ensures disk { OnOk result (IsOnDisk self.new) }
         ensures err { OnErr result (IsAsBefore self.old self.new) }
         ensures events { (history_state self.new).events ≡ (history_state self.old).events }
@@ -196,7 +203,8 @@ impl History {
         ending: Ending,
         planned: &[Entry],
     ) -> Result<(), AllocError>
-        ensures ok { OnOk result (RunsSo (is_kept keep.now) call.now ending (change_of planned.now) self.old self.new × HasRoom self.new) }
+        ensures ok { OnOk result (RunsSo (is_kept keep.now) call.now ending (change_of planned.now)
+            self.old self.new × HasRoom self.new) }
         ensures err { OnErr result (IsAsBefore self.old self.new) }
     {
         self.make_room()?;
@@ -211,7 +219,8 @@ impl History {
     // What survives a loss that leaves at most so many of the steps on names since all was on the disk.
     fn survivors(&self, keep: usize) -> Survivors<'_>
         ensures survives { Survives keep (since_disk self.now) result.count }
-        ensures files { get_by_text result.files.now.nodes ≡ follow_all (take result.count (since_disk self.now)) (disk_state self.now).world }
+        ensures files { get_by_text result.files.now.nodes ≡ follow_all
+            (take result.count (since_disk self.now)) (disk_state self.now).world }
     {
         match self.pasts.get(keep) {
             Some(past) => Survivors {
@@ -240,7 +249,8 @@ impl History {
     pub(crate) fn lose(&mut self, keep: usize, fill: u8) -> Result<(), AllocError>
         ensures ok { OnOk result (IsLeft keep fill self.old (history_state self.new).world) }
         ensures disk { OnOk result (IsOnDisk self.new) }
-        ensures events { OnOk result ((history_state self.new).events ≡ (history_state self.old).events) }
+        ensures events { OnOk result ((history_state self.new).events
+            ≡ (history_state self.old).events) }
         ensures err { OnErr result (self.new ≡ self.old) }
     {
         let files = self.left_by_loss(keep, fill)?;

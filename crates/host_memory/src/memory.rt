@@ -59,7 +59,11 @@ impl MemoryHost {
 
     /// A root directory and nothing else.
     pub fn new(alloc: Global) -> Result<MemoryHost, AllocError>
-        ensures state { IfOk result (λ host. memory_state host ≡ record { honest = true; world = put nothing [] (Some new_directory); events = [] }) }
+        ensures state { IfOk result (λ host. memory_state host ≡ record {
+          honest = true;
+          world = put nothing [] (Some new_directory);
+          events = [];
+        }) }
         ensures disk { IfOk result (λ host. flushed_state host ≡ memory_state host) }
         ensures planned { IfOk result (λ host. planned_of host ≡ []) }
         ensures faults { IfOk result (λ host. faults_planned host ≡ no_faults) }
@@ -75,7 +79,10 @@ impl MemoryHost {
     /// Sets what stands at a path, with the directories that are missing above it. False where a file
     /// or link stands above, or the node would replace a directory that isn't empty. What was done before is then on the disk.
     pub fn place(&mut self, path: &RootPath, node: Node) -> Result<bool, AllocError>
-        ensures ok { IfOk result (λ done. MatchBool done (IsPlaced (memory_state self.old).world (memory_state self.new).world path.now node) ((CanPlace (memory_state self.old).world path.now node → ⊥) × ((memory_state self.new).world ≡ (memory_state self.old).world))) }
+        ensures ok { IfOk result (λ done. MatchBool done (IsPlaced (memory_state self.old).world
+            (memory_state self.new).world path.now node)
+            ((CanPlace (memory_state self.old).world path.now node → ⊥)
+            × ((memory_state self.new).world ≡ (memory_state self.old).world))) }
         ensures err { OnErr result (memory_state self.new ≡ memory_state self.old) }
         ensures disk { OnOk result (flushed_state self.new ≡ memory_state self.new) }
         ensures alone { TouchesFilesAlone self.old self.new }
@@ -97,7 +104,8 @@ impl MemoryHost {
     /// From now on `before` steps are made, and at the next one the device fails once. This stands in place of what was planned
     /// for steps before.
     pub fn fail_step(&mut self, before: usize, effect: Effect)
-        ensures faults { faults_planned self.new ≡ record (faults_planned self.old) { step = Some (record { before = before; effect = effect; stops = false }) } }
+        ensures faults { faults_planned self.new ≡ record (faults_planned self.old)
+            { step = Some (record { before = before; effect = effect; stops = false }) } }
         ensures planned { planned_of self.new ≡ planned_of self.old }
         ensures state { memory_state self.new ≡ memory_state self.old }
     {
@@ -110,7 +118,8 @@ impl MemoryHost {
 
     /// The same, and the device stops at that step: until the host is started again each call fails and does nothing.
     pub fn stop_step(&mut self, before: usize, effect: Effect)
-        ensures faults { faults_planned self.new ≡ record (faults_planned self.old) { step = Some (record { before = before; effect = effect; stops = true }) } }
+        ensures faults { faults_planned self.new ≡ record (faults_planned self.old)
+            { step = Some (record { before = before; effect = effect; stops = true }) } }
         ensures planned { planned_of self.new ≡ planned_of self.old }
         ensures state { memory_state self.new ≡ memory_state self.old }
     {
@@ -123,7 +132,8 @@ impl MemoryHost {
 
     /// From now on so many nodes, kinds and lists are told, and at the next one the device fails once.
     pub fn fail_read(&mut self, before: usize)
-        ensures faults { faults_planned self.new ≡ record (faults_planned self.old) { read = Some before } }
+        ensures faults { faults_planned self.new ≡ record (faults_planned self.old)
+            { read = Some before } }
         ensures planned { planned_of self.new ≡ planned_of self.old }
         ensures state { memory_state self.new ≡ memory_state self.old }
     {
@@ -188,7 +198,8 @@ impl MemoryHost {
     fn break_step(&mut self, step: DeviceStep, effect: Effect) -> Result<(), AllocError>
         requires can { CanDo (step_of step) (memory_state self.old).world }
         requires settled { KeepsSettled (memory_state self.old).events (step_of step) }
-        ensures ok { OnOk result (Breaks (part_left effect (step_of step)) self.old.history self.new.history) }
+        ensures ok { OnOk result (Breaks (part_left effect (step_of step)) self.old.history
+            self.new.history) }
         ensures err { OnErr result (IsAsBefore self.old.history self.new.history) }
         ensures plans { KeepsPlans self.old self.new }
     {
@@ -279,7 +290,8 @@ impl Host for MemoryHost {
     }
 
     fn kind(&mut self, path: &RootPath) -> Result<Option<Kind>, HostFault>
-        ensures found { IfOk result (λ kind. kind ≡ kind_of ((memory_state self.old).world path.now)) }
+        ensures found { IfOk result (λ kind. kind ≡ kind_of ((memory_state self.old).world
+            path.now)) }
         ensures looks { Looks self.old self.new result }
     {
         let kind = self.history.files().kind_at(path);
@@ -288,7 +300,8 @@ impl Host for MemoryHost {
     }
 
     fn list(&mut self, path: &RootPath) -> Result<Listing, HostFault>
-        ensures listed { IfOk result (λ listing. IsListing (memory_state self.old).world path.now listing.names listing.bad) }
+        ensures listed { IfOk result (λ listing. IsListing (memory_state self.old).world path.now
+            listing.names listing.bad) }
         ensures looks { Looks self.old self.new result }
     {
         let names = self.history.files().names_in(self.alloc, path)?;
@@ -374,7 +387,8 @@ impl Host for MemoryHost {
 
     /// The call ends as the first plan says, which is then used up.
     fn run(&mut self, call: &Call, keep: &Keep<'_>) -> Result<Outcome, HostFault>
-        ensures runs { Runs (is_kept keep.now) call.now (memory_state self.old) (memory_state self.new) result }
+        ensures runs { Runs (is_kept keep.now) call.now (memory_state self.old)
+            (memory_state self.new) result }
         ensures honest { Falls (memory_state self.old) (memory_state self.new) }
         ensures counts { Counts (memory_state self.old) (memory_state self.new) result }
         ensures planned { CallsAsPlanned (is_kept keep.now) call.now self.old self.new result }

@@ -15,7 +15,8 @@ use std::alloc::{AllocError, Global};
 fn add(alloc: Global, files: &mut Files, path: &RootPath, node: Node) -> Result<(), AllocError>
     requires absent { get_by_text files.old.nodes path.now ≡ None }
     requires parent { HasParent (get_by_text files.old.nodes) path.now }
-    ensures ok { OnOk result (get_by_text files.new.nodes ≡ put (get_by_text files.old.nodes) path.now (Some node)) }
+    ensures ok { OnOk result (get_by_text files.new.nodes ≡ put (get_by_text files.old.nodes)
+        path.now (Some node)) }
     ensures err { OnErr result (get_by_text files.new.nodes ≡ get_by_text files.old.nodes) }
 {
     path.law();
@@ -33,7 +34,8 @@ fn move_node(
     requires there { IsLoose (get_by_text files.old.nodes from.now) }
     requires over { IsDirectory (get_by_text files.old.nodes to.now) → ⊥ }
     requires parent { HasParent (get_by_text files.old.nodes) to.now }
-    ensures ok { OnOk result (get_by_text files.new.nodes ≡ moved (get_by_text files.old.nodes) from.now to.now) }
+    ensures ok { OnOk result (get_by_text files.new.nodes ≡ moved (get_by_text files.old.nodes)
+        from.now to.now) }
     ensures err { OnErr result (get_by_text files.new.nodes ≡ get_by_text files.old.nodes) }
 {
     let node = match files.copy_at(from)? {
@@ -58,7 +60,8 @@ fn link_node(
     requires there { IsLoose (get_by_text files.old.nodes from.now) }
     requires absent { get_by_text files.old.nodes to.now ≡ None }
     requires parent { HasParent (get_by_text files.old.nodes) to.now }
-    ensures ok { OnOk result (get_by_text files.new.nodes ≡ put (get_by_text files.old.nodes) to.now (get_by_text files.old.nodes from.now)) }
+    ensures ok { OnOk result (get_by_text files.new.nodes ≡ put (get_by_text files.old.nodes) to.now
+        (get_by_text files.old.nodes from.now)) }
     ensures err { OnErr result (get_by_text files.new.nodes ≡ get_by_text files.old.nodes) }
 {
     let node = match files.copy_at(from)? {
@@ -79,7 +82,8 @@ fn remove(files: &mut Files, path: &RootPath)
 // Makes a step. Where memory is refused nothing is done.
 pub(crate) fn perform(alloc: Global, files: &mut Files, step: &DeviceStep) -> Result<(), AllocError>
     requires { CanDo (step_of step.now) (get_by_text files.old.nodes) }
-    ensures ok { OnOk result (get_by_text files.new.nodes ≡ after (step_of step.now) (get_by_text files.old.nodes)) }
+    ensures ok { OnOk result (get_by_text files.new.nodes ≡ after (step_of step.now)
+        (get_by_text files.old.nodes)) }
     ensures err { OnErr result (get_by_text files.new.nodes ≡ get_by_text files.old.nodes) }
 {
     match step {

@@ -42,7 +42,8 @@ fn linked_at<'a>(from: &'a RootPath, to: &RootPath, path: &'a RootPath) -> Trace
 }
 
 fn moved_at<'a>(from: &'a RootPath, to: &RootPath, path: &'a RootPath) -> Trace<'a>
-    ensures { (u : Path → Bool) → told_by result u ≡ marked (marked u from.now false) to.now (u from.now) path.now }
+    ensures { (u : Path → Bool) → told_by result u ≡ marked (marked u from.now false) to.now
+        (u from.now) path.now }
 {
     if to.is(path) {
         return Trace::From(from);
@@ -124,7 +125,8 @@ fn fill_node(alloc: Global, node: &Node, fill: u8) -> Result<Node, AllocError>
 
 // A file at the path gets one byte throughout.
 fn fill_at(alloc: Global, files: &mut Files, path: &RootPath, fill: u8) -> Result<(), AllocError>
-    ensures { OnOk result (get_by_text files.new.nodes ≡ put (get_by_text files.old.nodes) path.now (filled fill (get_by_text files.old.nodes path.now))) }
+    ensures { OnOk result (get_by_text files.new.nodes ≡ put (get_by_text files.old.nodes) path.now
+        (filled fill (get_by_text files.old.nodes path.now))) }
 {
     let Some(node) = files.get(path.as_str()) else {
         return Ok(());
@@ -142,7 +144,9 @@ fn fill_target(
     done: &Done,
     fill: u8,
 ) -> Result<(), AllocError>
-    ensures { OnOk result ((q : Path) → get_by_text files.new.nodes q ≡ left_of fill (is_target (event_of done.now) q && unsynced (map event_of events.now) q) (get_by_text files.old.nodes q)) }
+    ensures { OnOk result ((q : Path) → get_by_text files.new.nodes q ≡ left_of fill
+        (is_target (event_of done.now) q && unsynced (map event_of events.now) q)
+        (get_by_text files.old.nodes q)) }
 {
     let Some(path) = event_target(done) else {
         return Ok(());
@@ -160,7 +164,8 @@ pub(crate) fn fill_unsynced(
     events: &[Done],
     fill: u8,
 ) -> Result<(), AllocError>
-    ensures { OnOk result ((q : Path) → get_by_text files.new.nodes q ≡ left_of fill (unsynced (map event_of events.now) q) (get_by_text files.old.nodes q)) }
+    ensures { OnOk result ((q : Path) → get_by_text files.new.nodes q ≡ left_of fill
+        (unsynced (map event_of events.now) q) (get_by_text files.old.nodes q)) }
 {
     for done in events {
         fill_target(alloc, files, events, done, fill)?;

@@ -54,7 +54,8 @@ fn push_entry(
     role: Role,
     found: Option<&Record>,
 ) -> Result<(), AllocError>
-    ensures { OnOk result (entries.new.items ≡ entries.old.items ++ entry_of role (option_copied found.entry)) }
+    ensures { OnOk result (entries.new.items ≡ entries.old.items ++ entry_of role
+        (option_copied found.entry)) }
 {
     if let Some(record) = found {
         let record = record.copy()?;
@@ -68,7 +69,8 @@ fn push_broken(
     database: &NotedDatabase,
     names: &[Text],
 ) -> Result<(), AllocError>
-    ensures { OnOk result (entries.new.items ≡ entries.old.items ++ broken_entries database.now.records names.now) }
+    ensures { OnOk result (entries.new.items ≡ entries.old.items ++ broken_entries
+        database.now.records names.now) }
 {
     for name in names {
         push_entry(entries, Role::Broken, database.get(name))?;
@@ -81,7 +83,8 @@ fn push_dependents(
     database: &NotedDatabase,
     dependents: &[Dependent],
 ) -> Result<(), AllocError>
-    ensures { OnOk result (entries.new.items ≡ entries.old.items ++ dependent_entries database.now.records dependents.now) }
+    ensures { OnOk result (entries.new.items ≡ entries.old.items ++ dependent_entries
+        database.now.records dependents.now) }
 {
     for dependent in dependents {
         let role = Role::Dependent {
@@ -98,7 +101,8 @@ fn push_conflicting(
     database: &NotedDatabase,
     names: &[Text],
 ) -> Result<(), AllocError>
-    ensures { OnOk result (entries.new.items ≡ entries.old.items ++ conflicting_entries database.now.records names.now) }
+    ensures { OnOk result (entries.new.items ≡ entries.old.items ++ conflicting_entries
+        database.now.records names.now) }
 {
     for name in names {
         push_entry(entries, Role::Conflicting, with_prerm(database.get(name)))?;

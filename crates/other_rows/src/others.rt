@@ -28,8 +28,10 @@ fn other_package<H: Host>(
 ) -> Result<OtherPackage, HostFault>
     ensures same { IfOk result (λ other. other.«record» ≡ entry.now.«record») }
     ensures own { IfOk result (λ other. other.row.owner ≡ OfPackage entry.now.«record».name) }
-    ensures shaped { IfOk result (λ other. (stored : WhichAreStored) × (other ≡ package_with incoming.now.name incoming.now.version stored entry.now)) }
-    ensures row { Tells result (λ other w. other ≡ other_package incoming.now.name incoming.now.version w entry.now) (H.state host.old) (H.state host.new) }
+    ensures shaped { IfOk result (λ other. (stored : WhichAreStored)
+        × (other ≡ package_with incoming.now.name incoming.now.version stored entry.now)) }
+    ensures row { Tells result (λ other w. other ≡ other_package incoming.now.name
+        incoming.now.version w entry.now) (H.state host.old) (H.state host.new) }
     ensures reads { Reads (H.state host.old) (H.state host.new) }
     ensures silent { Silent (H.state host.old) (H.state host.new) }
     ensures counts { Counts (H.state host.old) (H.state host.new) result }
@@ -51,8 +53,10 @@ fn push_others<H: Host>(
     requires { others.old.items ≡ [] }
     ensures same { OnOk result (records_of others.new.items ≡ entry_records entries.now) }
     ensures own { OnOk result (AreOwn others.new.items) }
-    ensures shaped { OnOk result (AreRowsOf incoming.now.name incoming.now.version entries.now others.new.items) }
-    ensures rows { Tells result (λ done w. others.new.items ≡ map (other_package incoming.now.name incoming.now.version w) entries.now) (H.state host.old) (H.state host.new) }
+    ensures shaped { OnOk result (AreRowsOf incoming.now.name incoming.now.version entries.now
+        others.new.items) }
+    ensures rows { Tells result (λ done w. others.new.items ≡ map (other_package incoming.now.name
+        incoming.now.version w) entries.now) (H.state host.old) (H.state host.new) }
     ensures reads { Reads (H.state host.old) (H.state host.new) }
     ensures silent { Silent (H.state host.old) (H.state host.new) }
     ensures counts { Counts (H.state host.old) (H.state host.new) result }
@@ -73,11 +77,15 @@ pub fn rows_beside<H: Host>(
     beside: &Beside,
 ) -> Result<Vec<OtherPackage>, HostFault>
     requires { checks.AreApart incoming.now.name database.now.records beside.now }
-    ensures rows { Tells result (λ others w. AreRowsBeside incoming.now.name incoming.now.version database.now.records beside.now w others.items) (H.state host.old) (H.state host.new) }
-    ensures shaped { IfOk result (λ others. AreRowsOf incoming.now.name incoming.now.version (entries_of database.now.records beside.now) others.items) }
+    ensures rows { Tells result (λ others w. AreRowsBeside incoming.now.name incoming.now.version
+        database.now.records beside.now w others.items) (H.state host.old) (H.state host.new) }
+    ensures shaped { IfOk result (λ others. AreRowsOf incoming.now.name incoming.now.version
+        (entries_of database.now.records beside.now) others.items) }
     ensures own { IfOk result (λ others. AreOwn others.items) }
-    ensures recorded { IfOk result (λ others. AreRecorded database.now.records (records_of others.items)) }
-    ensures unnamed { IfOk result (λ others. IsWithout incoming.now.name (records_of others.items)) }
+    ensures recorded { IfOk result (λ others. AreRecorded database.now.records
+        (records_of others.items)) }
+    ensures unnamed { IfOk result (λ others. IsWithout incoming.now.name
+        (records_of others.items)) }
     ensures apart { IfOk result (λ others. AreApart (records_of others.items)) }
     ensures reads { Reads (H.state host.old) (H.state host.new) }
     ensures silent { Silent (H.state host.old) (H.state host.new) }

@@ -14,7 +14,8 @@ use unwind_stack::{Owner, Row};
 use version_order::Version;
 
 fn in_favour(alloc: Global, first: &str, incoming: &Package) -> Result<Texts, AllocError>
-    ensures { IfOk result (λ args. args ≡ first.now ∷ in_favour incoming.now.name incoming.now.version) }
+    ensures { IfOk result (λ args. args ≡ first.now ∷ in_favour incoming.now.name
+        incoming.now.version) }
 {
     let mut args = Texts::new(alloc);
     args.push(Text::from_str(alloc, first)?)?;
@@ -32,7 +33,9 @@ fn in_favour_removing(
     removing: &Text,
     version: &Version,
 ) -> Result<Texts, AllocError>
-    ensures { IfOk result (λ args. args ≡ first.now ∷ (in_favour incoming.now.name incoming.now.version ++ removing_args removing.now version.now)) }
+    ensures { IfOk result (λ args. args ≡ first.now
+        ∷ (in_favour incoming.now.name incoming.now.version ++ removing_args removing.now
+        version.now)) }
 {
     let mut args = in_favour(alloc, first, incoming)?;
     args.push(Text::from_str(alloc, "removing")?)?;
@@ -90,7 +93,8 @@ pub(crate) fn row_of(
     role: &Role,
 ) -> Result<Row, AllocError>
     requires named { is_package_name name.now ≡ true }
-    ensures { IfOk result (λ row. row ≡ row_of incoming.now.name incoming.now.version stored name.now role.now) }
+    ensures { IfOk result (λ row. row ≡ row_of incoming.now.name incoming.now.version stored
+        name.now role.now) }
 {
     match role {
         Role::Broken => {

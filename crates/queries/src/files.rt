@@ -14,7 +14,8 @@ use std::alloc::{AllocError, Global};
 use texts::{Bytes, Text};
 
 fn add_paths(alloc: Global, lines: &mut String, paths: &[RootPath]) -> Result<(), AllocError>
-    ensures { OnOk result (string_bytes lines.new ≡ string_bytes lines.old ++ flat_map path_line paths.now) }
+    ensures { OnOk result (string_bytes lines.new ≡ string_bytes lines.old ++ flat_map path_line
+        paths.now) }
 {
     for path in paths {
         let line = path_line(alloc, path)?;
@@ -38,7 +39,8 @@ pub fn files_text(
     lists: &FileLists,
     name: &Text,
 ) -> Result<Option<Bytes>, AllocError>
-    ensures { IfOk result (λ text. text ≡ files_text database.now.records lists.now.lists name.now) }
+    ensures { IfOk result (λ text. text ≡ files_text database.now.records lists.now.lists
+        name.now) }
 {
     match database.get(name) {
         Some(_) => Ok(Some(listing_text(alloc, lists.list_of(name))?)),
@@ -56,7 +58,8 @@ fn search_line(alloc: Global, listed: &Listed) -> Result<String, AllocError>
 }
 
 fn add_listed(alloc: Global, lines: &mut String, all: &[Listed]) -> Result<(), AllocError>
-    ensures { OnOk result (string_bytes lines.new ≡ string_bytes lines.old ++ flat_map search_line all.now) }
+    ensures { OnOk result (string_bytes lines.new ≡ string_bytes lines.old ++ flat_map search_line
+        all.now) }
 {
     for listed in all {
         let line = search_line(alloc, listed)?;
@@ -72,7 +75,8 @@ pub fn search_text(
     diversions: &Diversions,
     place: &RootPath,
 ) -> Result<Bytes, AllocError>
-    ensures { IfOk result (λ text. text ≡ search_text diversions.now.entries lists.now.lists place.now) }
+    ensures { IfOk result (λ text. text ≡ search_text diversions.now.entries lists.now.lists
+        place.now) }
 {
     let owners = lists.owners(alloc, diversions, place)?;
     let mut lines = String::new(alloc);

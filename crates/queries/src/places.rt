@@ -15,7 +15,8 @@ fn place_for(
     user: Option<&Text>,
     path: &RootPath,
 ) -> Result<RootPath, AllocError>
-    ensures { IfOk result (λ p. p ≡ place_for diversions.now.entries (option_copied user.entry) path.now) }
+    ensures { IfOk result (λ p. p ≡ place_for diversions.now.entries (option_copied user.entry)
+        path.now) }
 {
     match user {
         Some(user) => diversions.place(user, path),
@@ -31,7 +32,8 @@ pub fn truename_text(
     user: Option<&Text>,
     path: &RootPath,
 ) -> Result<Bytes, AllocError>
-    ensures { IfOk result (λ text. text ≡ truename_text diversions.now.entries (option_copied user.entry) path.now) }
+    ensures { IfOk result (λ text. text ≡ truename_text diversions.now.entries
+        (option_copied user.entry) path.now) }
 {
     let place = place_for(diversions, user, path)?;
     let printed = path_line(alloc, &place)?;

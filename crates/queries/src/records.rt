@@ -28,7 +28,8 @@ fn is_before(entry: &Record, other: &Record) -> bool
 // The index of the first record of no lesser name.
 fn place_of(ordered: &[&Record], entry: &Record) -> usize
     ensures within { result ≤ length ordered.now }
-    ensures place { place_record entry.now (map (λ r. r.now) ordered.now) ≡ insert (map (λ r. r.now) ordered.now) result entry.now }
+    ensures place { place_record entry.now (map (λ r. r.now) ordered.now)
+        ≡ insert (map (λ r. r.now) ordered.now) result entry.now }
 {
     for (i, other) in ordered.iter().enumerate() {
         if !is_before(other, entry) {
@@ -73,7 +74,8 @@ fn list_line(alloc: Global, entry: &Record) -> Result<String, AllocError>
 }
 
 fn add_list(alloc: Global, lines: &mut String, entries: &[&Record]) -> Result<(), AllocError>
-    ensures { OnOk result (string_bytes lines.new ≡ string_bytes lines.old ++ flat_map list_line (map (λ r. r.now) entries.now)) }
+    ensures { OnOk result (string_bytes lines.new ≡ string_bytes lines.old ++ flat_map list_line
+        (map (λ r. r.now) entries.now)) }
 {
     for entry in entries {
         let line = list_line(alloc, entry)?;
@@ -136,7 +138,8 @@ fn audit_lines(alloc: Global, entry: &Record) -> Result<String, AllocError>
 }
 
 fn add_audit(alloc: Global, lines: &mut String, entries: &[&Record]) -> Result<(), AllocError>
-    ensures { OnOk result (string_bytes lines.new ≡ string_bytes lines.old ++ flat_map audit_lines (map (λ r. r.now) entries.now)) }
+    ensures { OnOk result (string_bytes lines.new ≡ string_bytes lines.old ++ flat_map audit_lines
+        (map (λ r. r.now) entries.now)) }
 {
     for entry in entries {
         let line = audit_lines(alloc, entry)?;

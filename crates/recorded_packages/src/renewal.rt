@@ -35,7 +35,9 @@ fn renew_each(
     database: &NotedDatabase,
     names: &[Text],
 ) -> Result<(), AllocError>
-    ensures { OnOk result ((before : List ARecord) → AreInOrder before → ArePackagesOf before packages.old → AreUpToDate database.now.records before names.now packages.new) }
+    ensures { OnOk result ((before : List ARecord) → AreInOrder before
+        → ArePackagesOf before packages.old → AreUpToDate database.now.records before names.now
+        packages.new) }
 {
     for name in names {
         renew_package(alloc, packages, database, name)?;
@@ -51,7 +53,9 @@ pub fn renew(
     database: &NotedDatabase,
     names: &[Text],
 ) -> Result<(), AllocError>
-    ensures ok { OnOk result ((before : List ARecord) → AreInOrder before → ArePackagesOf before packages.old → AreSameBut names.now before database.now.records → ArePackagesOf database.now.records packages.new) }
+    ensures ok { OnOk result ((before : List ARecord) → AreInOrder before
+        → ArePackagesOf before packages.old → AreSameBut names.now before database.now.records
+        → ArePackagesOf database.now.records packages.new) }
     ensures err { OnErr result (packages.new ≡ []) }
 {
     database.law();
@@ -71,7 +75,9 @@ pub fn renew_one(
     database: &NotedDatabase,
     name: &Text,
 ) -> Result<(), AllocError>
-    ensures ok { OnOk result ((before : List ARecord) → AreInOrder before → ArePackagesOf before packages.old → AreSameBut (name.now ∷ []) before database.now.records → ArePackagesOf database.now.records packages.new) }
+    ensures ok { OnOk result ((before : List ARecord) → AreInOrder before
+        → ArePackagesOf before packages.old → AreSameBut (name.now ∷ []) before database.now.records
+        → ArePackagesOf database.now.records packages.new) }
     ensures err { OnErr result (packages.new ≡ []) }
 {
     database.law();

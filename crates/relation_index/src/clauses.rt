@@ -50,7 +50,8 @@ fn push_needs(
     of: &Package,
 ) -> Result<(), AllocError>
     requires { IsIndex packages.now (get_by_text index.now.slots) index.now.rows.items }
-    ensures { OnOk result (HasStated packages.now owner (needs of.now) list.old.items list.new.items) }
+    ensures { OnOk result (HasStated packages.now owner (needs of.now) list.old.items
+        list.new.items) }
 {
     let first = of.pre_depends.clauses();
     push_clauses(alloc, list, index, packages, owner, first)?;

@@ -47,7 +47,8 @@ impl Index {
     fn make_slot(&mut self, alloc: Global, name: &str) -> Result<usize, AllocError>
         requires { get_by_text self.old.slots name.now ≡ None }
         ensures slot { IfOk result (λ s. s ≡ length self.old.rows.items) }
-        ensures slots { OnOk result (get_by_text self.new.slots ≡ update bytes_eq (get_by_text self.old.slots) name.now (Some (length self.old.rows.items))) }
+        ensures slots { OnOk result (get_by_text self.new.slots ≡ update bytes_eq
+            (get_by_text self.old.slots) name.now (Some (length self.old.rows.items))) }
         ensures rows { OnOk result (self.new.rows.items ≡ self.old.rows.items ++ [] ∷ []) }
     {
         let slot = self.rows.len();
@@ -60,7 +61,8 @@ impl Index {
 
 fn enter(rows: &mut Vec<Row>, slot: usize, number: usize) -> Result<(), AllocError>
     requires { slot < length rows.old.items }
-    ensures kept { OnOk result ((s x : ℕ) → Contains (row_at rows.old.items s) x → Contains (row_at rows.new.items s) x) }
+    ensures kept { OnOk result ((s x : ℕ) → Contains (row_at rows.old.items s) x
+        → Contains (row_at rows.new.items s) x) }
     ensures entered { OnOk result (Contains (row_at rows.new.items slot) number) }
     ensures len { OnOk result (length rows.new.items ≡ length rows.old.items) }
 {
@@ -71,7 +73,8 @@ fn enter(rows: &mut Vec<Row>, slot: usize, number: usize) -> Result<(), AllocErr
 impl Index {
     // The row of a name, which is made where there is none.
     fn slot(&mut self, alloc: Global, name: &str) -> Result<usize, AllocError>
-        ensures grows { OnOk result (Grows (get_by_text self.old.slots) self.old.rows.items (get_by_text self.new.slots) self.new.rows.items) }
+        ensures grows { OnOk result (Grows (get_by_text self.old.slots) self.old.rows.items
+            (get_by_text self.new.slots) self.new.rows.items) }
         ensures slot { IfOk result (λ s. get_by_text self.new.slots name.now ≡ Some s) }
     {
         if let Some(slot) = self.slot_of(name) {
@@ -82,9 +85,12 @@ impl Index {
     }
 
     fn enter(&mut self, alloc: Global, name: &str, number: usize) -> Result<(), AllocError>
-        requires within { (n : List ℕ) (s : ℕ) → get_by_text self.old.slots n ≡ Some s → s < length self.old.rows.items }
-        ensures grows { OnOk result (Grows (get_by_text self.old.slots) self.old.rows.items (get_by_text self.new.slots) self.new.rows.items) }
-        ensures entered { OnOk result (IsEntered (get_by_text self.new.slots) self.new.rows.items name.now number) }
+        requires within { (n : List ℕ) (s : ℕ) → get_by_text self.old.slots n ≡ Some s
+            → s < length self.old.rows.items }
+        ensures grows { OnOk result (Grows (get_by_text self.old.slots) self.old.rows.items
+            (get_by_text self.new.slots) self.new.rows.items) }
+        ensures entered { OnOk result (IsEntered (get_by_text self.new.slots) self.new.rows.items
+            name.now number) }
     {
         let slot = self.slot(alloc, name)?;
         enter(&mut self.rows, slot, number)?;
@@ -97,9 +103,12 @@ impl Index {
         entries: &[Provided],
         number: usize,
     ) -> Result<(), AllocError>
-        requires within { (n : List ℕ) (s : ℕ) → get_by_text self.old.slots n ≡ Some s → s < length self.old.rows.items }
-        ensures grows { OnOk result (Grows (get_by_text self.old.slots) self.old.rows.items (get_by_text self.new.slots) self.new.rows.items) }
-        ensures entered { OnOk result ((e : AProvided) → Contains entries.now e → IsEntered (get_by_text self.new.slots) self.new.rows.items e.name number) }
+        requires within { (n : List ℕ) (s : ℕ) → get_by_text self.old.slots n ≡ Some s
+            → s < length self.old.rows.items }
+        ensures grows { OnOk result (Grows (get_by_text self.old.slots) self.old.rows.items
+            (get_by_text self.new.slots) self.new.rows.items) }
+        ensures entered { OnOk result ((e : AProvided) → Contains entries.now e
+            → IsEntered (get_by_text self.new.slots) self.new.rows.items e.name number) }
     {
         for entry in entries {
             self.enter(alloc, entry.name.as_str(), number)?;
@@ -114,9 +123,12 @@ impl Index {
         of: &Package,
         number: usize,
     ) -> Result<(), AllocError>
-        requires within { (n : List ℕ) (s : ℕ) → get_by_text self.old.slots n ≡ Some s → s < length self.old.rows.items }
-        ensures grows { OnOk result (Grows (get_by_text self.old.slots) self.old.rows.items (get_by_text self.new.slots) self.new.rows.items) }
-        ensures entered { OnOk result ((name : List ℕ) → IsTrue (bears name of.now) → IsEntered (get_by_text self.new.slots) self.new.rows.items name number) }
+        requires within { (n : List ℕ) (s : ℕ) → get_by_text self.old.slots n ≡ Some s
+            → s < length self.old.rows.items }
+        ensures grows { OnOk result (Grows (get_by_text self.old.slots) self.old.rows.items
+            (get_by_text self.new.slots) self.new.rows.items) }
+        ensures entered { OnOk result ((name : List ℕ) → IsTrue (bears name of.now)
+            → IsEntered (get_by_text self.new.slots) self.new.rows.items name number) }
     {
         self.enter(alloc, of.name.as_str(), number)?;
         self.enter_provided(alloc, of.provides.entries(), number)?;
@@ -136,21 +148,25 @@ impl Index {
 
     /// The packages from this number on stand one higher; there were so many packages.
     pub(crate) fn make_room(&mut self, at: usize, count: usize)
-        ensures { Moves (moved_up at count) (get_by_text self.old.slots) self.old.rows.items (get_by_text self.new.slots) self.new.rows.items }
+        ensures { Moves (moved_up at count) (get_by_text self.old.slots) self.old.rows.items
+            (get_by_text self.new.slots) self.new.rows.items }
     {
         make_room(&mut self.rows, at, count);
     }
 
     /// The packages behind this number stand one lower.
     pub(crate) fn close_gap(&mut self, at: usize)
-        ensures { Moves (moved_down at) (get_by_text self.old.slots) self.old.rows.items (get_by_text self.new.slots) self.new.rows.items }
+        ensures { Moves (moved_down at) (get_by_text self.old.slots) self.old.rows.items
+            (get_by_text self.new.slots) self.new.rows.items }
     {
         close_gap(&mut self.rows, at);
     }
 
     fn row(&self, name: &str) -> &[usize]
-        requires within { (n : List ℕ) (s : ℕ) → get_by_text self.now.slots n ≡ Some s → s < length self.now.rows.items }
-        ensures { (s : ℕ) → get_by_text self.now.slots name.now ≡ Some s → result.now ≡ row_at self.now.rows.items s }
+        requires within { (n : List ℕ) (s : ℕ) → get_by_text self.now.slots n ≡ Some s
+            → s < length self.now.rows.items }
+        ensures { (s : ℕ) → get_by_text self.now.slots name.now ≡ Some s
+            → result.now ≡ row_at self.now.rows.items s }
     {
         match self.slot_of(name) {
             Some(slot) => self.rows[slot].as_slice(),
@@ -166,7 +182,8 @@ impl Index {
         packages: &[Package],
     ) -> Result<Numbers, AllocError>
         requires index { IsIndex packages.now (get_by_text self.now.slots) self.now.rows.items }
-        ensures { IfOk result (λ list. (x : ℕ) → Contains list x ↔ Meets clause.now packages.now x) }
+        ensures { IfOk result (λ list. (x : ℕ) → Contains list x ↔ Meets clause.now packages.now
+            x) }
     {
         let mut list = Numbers::new(alloc);
         for alternative in clause {
@@ -188,8 +205,10 @@ fn push_if_admitted(
     packages: &[Package],
 ) -> Result<(), AllocError>
     ensures kept { OnOk result ((x : ℕ) → Contains list.old x → Contains list.new x) }
-    ensures pushed { OnOk result (IsAdmitted alternative.now packages.now number → Contains list.new number) }
-    ensures no_more { OnOk result ((x : ℕ) → Contains list.new x → Contains list.old x ⊎ IsAdmitted alternative.now packages.now x) }
+    ensures pushed { OnOk result (IsAdmitted alternative.now packages.now number
+        → Contains list.new number) }
+    ensures no_more { OnOk result ((x : ℕ) → Contains list.new x → Contains list.old x
+        ⊎ IsAdmitted alternative.now packages.now x) }
 {
     let Some(of) = packages.get(number) else {
         return Ok(());

@@ -56,9 +56,11 @@ fn replace(
 ) -> Result<(), AllocError>
     requires place { IsPlaceOf packages.old.items entry.name at }
     requires there { IsThere packages.old.items entry.name at }
-    requires indexed { AreIndexed packages.old.items (get_by_text index.old.slots) index.old.rows.items }
+    requires indexed { AreIndexed packages.old.items (get_by_text index.old.slots)
+        index.old.rows.items }
     ensures packages { OnOk result (packages.new.items ≡ put_package entry packages.old.items) }
-    ensures indexed { OnOk result (AreIndexed packages.new.items (get_by_text index.new.slots) index.new.rows.items) }
+    ensures indexed { OnOk result (AreIndexed packages.new.items (get_by_text index.new.slots)
+        index.new.rows.items) }
 {
     index.enter_package(alloc, &entry, at)?;
     packages[at] = entry;
@@ -75,9 +77,11 @@ fn insert(
 ) -> Result<(), AllocError>
     requires place { IsPlaceOf packages.old.items entry.name at }
     requires absent { IsThere packages.old.items entry.name at → ⊥ }
-    requires indexed { AreIndexed packages.old.items (get_by_text index.old.slots) index.old.rows.items }
+    requires indexed { AreIndexed packages.old.items (get_by_text index.old.slots)
+        index.old.rows.items }
     ensures packages { OnOk result (packages.new.items ≡ put_package entry packages.old.items) }
-    ensures indexed { OnOk result (AreIndexed packages.new.items (get_by_text index.new.slots) index.new.rows.items) }
+    ensures indexed { OnOk result (AreIndexed packages.new.items (get_by_text index.new.slots)
+        index.new.rows.items) }
 {
     index.make_room(at, packages.len());
     index.enter_package(alloc, &entry, at)?;
@@ -93,7 +97,8 @@ fn put(
 ) -> Result<(), AllocError>
     requires { AreIndexed packages.old.items (get_by_text index.old.slots) index.old.rows.items }
     ensures packages { OnOk result (packages.new.items ≡ put_package entry packages.old.items) }
-    ensures indexed { OnOk result (AreIndexed packages.new.items (get_by_text index.new.slots) index.new.rows.items) }
+    ensures indexed { OnOk result (AreIndexed packages.new.items (get_by_text index.new.slots)
+        index.new.rows.items) }
 {
     let at = place_of(packages.as_slice(), &entry.name);
     if is_there(packages.as_slice(), &entry.name, at) {
@@ -105,7 +110,8 @@ fn put(
 fn remove(packages: &mut Vec<Package>, index: &mut Index, name: &Text)
     requires { AreIndexed packages.old.items (get_by_text index.old.slots) index.old.rows.items }
     ensures packages { packages.new.items ≡ drop_package name.now packages.old.items }
-    ensures indexed { AreIndexed packages.new.items (get_by_text index.new.slots) index.new.rows.items }
+    ensures indexed { AreIndexed packages.new.items (get_by_text index.new.slots)
+        index.new.rows.items }
 {
     let at = place_of(packages.as_slice(), name);
     if is_there(packages.as_slice(), name, at) {
@@ -126,7 +132,8 @@ impl Packages {
 
     /// The packages with their index; none where they aren't in name order.
     pub fn of(alloc: Global, packages: Vec<Package>) -> Result<Option<Packages>, AllocError>
-        ensures { IfOk result (λ found. MatchOption found (AreInNameOrder packages.items → ⊥) (λ p. (p ≡ packages.items) × AreInNameOrder packages.items)) }
+        ensures { IfOk result (λ found. MatchOption found (AreInNameOrder packages.items
+            → ⊥) (λ p. (p ≡ packages.items) × AreInNameOrder packages.items)) }
     {
         if !are_in_name_order(packages.as_slice()) {
             return Ok(None);

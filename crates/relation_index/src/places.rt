@@ -35,7 +35,8 @@ pub(crate) fn place_of(packages: &[Package], name: &Text) -> usize
 
 /// Whether the package that stands there is of this name.
 pub(crate) fn is_there(packages: &[Package], name: &Text, at: usize) -> bool
-    ensures { MatchBool result (IsThere packages.now name.now at) (IsThere packages.now name.now at → ⊥) }
+    ensures { MatchBool result (IsThere packages.now name.now at) (IsThere packages.now name.now at
+        → ⊥) }
 {
     at < packages.len() && packages[at].name.is(name)
 }

@@ -23,7 +23,8 @@ fn left_unit(
     requires waits { IsTrue (has left.now number) }
     requires within { number < length queue.now.packages }
     requires none { IsRemovableNow queue.now number → ⊥ }
-    ensures { IfOk result (IsDependedOn queue.now.packages (has queue.now.installed) (has left.now) number) }
+    ensures { IfOk result (IsDependedOn queue.now.packages (has queue.now.installed) (has left.now)
+        number) }
 {
     let packages = queue.packages();
     match depended_on_by(alloc, packages, queue.supply(), left, number)? {

@@ -72,8 +72,10 @@ pub(crate) fn sort(
     database: &NotedDatabase,
     names: Vec<Text>,
 ) -> Result<Sorted, AllocError>
-    ensures refused { IfOk result (λ sorted. AreRefused (refusals purge database.now.records names.items) sorted.refused.items) }
-    ensures waiting { IfOk result (λ sorted. sorted.waiting.items ≡ accepted purge database.now.records names.items) }
+    ensures refused { IfOk result (λ sorted. AreRefused (refusals purge database.now.records
+        names.items) sorted.refused.items) }
+    ensures waiting { IfOk result (λ sorted. sorted.waiting.items ≡ accepted purge
+        database.now.records names.items) }
     ensures asked { IfOk result (λ sorted. sorted.asked.items ≡ sorted.waiting.items) }
 {
     let mut units = Vec::new(alloc);

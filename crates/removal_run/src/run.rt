@@ -39,8 +39,10 @@ fn sorted(
     database: &NotedDatabase,
     names: Vec<Text>,
 ) -> Result<Sorted, AllocError>
-    ensures refused { IfOk result (λ sorted. AreRefused (refusals purge database.now.records (once names.items)) sorted.refused.items) }
-    ensures waiting { IfOk result (λ sorted. sorted.waiting.items ≡ accepted purge database.now.records (once names.items)) }
+    ensures refused { IfOk result (λ sorted. AreRefused (refusals purge database.now.records
+        (once names.items)) sorted.refused.items) }
+    ensures waiting { IfOk result (λ sorted. sorted.waiting.items ≡ accepted purge
+        database.now.records (once names.items)) }
     ensures asked { IfOk result (λ sorted. sorted.asked.items ≡ sorted.waiting.items) }
 {
     let list = once(alloc, names)?;
@@ -94,7 +96,8 @@ fn tell_left<W: Watcher>(
     requires none { (x : ℕ) → IsRemovableNow queue x → ⊥ }
     ensures ok { OnOk result (AddsLeft queue units.old.items units.new.items) }
     ensures err { OnErr result (units.new.items ≡ units.old.items) }
-    ensures renewed { OnOk result (AreRenewed asked.now database.now.records queue.packages packages.new) }
+    ensures renewed { OnOk result (AreRenewed asked.now database.now.records queue.packages
+        packages.new) }
     ensures watched { AddsTold W.tells units.old.items units.new.items watcher.old watcher.new }
 {
     let left = left_over(alloc, &queue, waiting)?;
@@ -116,7 +119,8 @@ fn ended<W: Watcher>(
     requires queue { queue.waiting ≡ map (is_named waiting.now) queue.packages }
     requires none { (x : ℕ) → IsRemovableNow queue x → ⊥ }
     ensures ends { EndsAs queue units.items result }
-    ensures renewed { IsNone result.last → AreRenewed asked.now database.now.records queue.packages packages.new }
+    ensures renewed { IsNone result.last → AreRenewed asked.now database.now.records queue.packages
+        packages.new }
     ensures watched { AddsTold W.tells units.items result.units.items watcher.old watcher.new }
 {
     match tell_left(
@@ -151,16 +155,23 @@ fn run_sorted<H: Host, W: Watcher>(
     requires told { calls_of sorted.refused.items ≡ [] }
     requires asked { sorted.asked.items ≡ sorted.waiting.items }
     requires indexed { ArePackagesOf database.old.records packages.old }
-    ensures whole { IsNone result.last → RunsThrough purge sorted.waiting.items sorted.refused.items result.units.items (held database.old lists.old diversions.now) (held database.new lists.new diversions.now) (H.state host.old) (H.state host.new) }
-    ensures part { RunsUpTo purge sorted.waiting.items sorted.refused.items result.units.items result.last (held database.old lists.old diversions.now) (H.state host.old) (H.state host.new) }
+    ensures whole { IsNone result.last → RunsThrough purge sorted.waiting.items sorted.refused.items
+        result.units.items (held database.old lists.old diversions.now) (held database.new lists.new
+        diversions.now) (H.state host.old) (H.state host.new) }
+    ensures part { RunsUpTo purge sorted.waiting.items sorted.refused.items result.units.items
+        result.last (held database.old lists.old diversions.now) (H.state host.old)
+        (H.state host.new) }
     ensures told { TellsCalls (H.state host.old) (H.state host.new) result }
-    ensures any_moment { Since (IsAmidTurns purge sorted.waiting.items (held database.old lists.old diversions.now) (H.state host.old)) (H.state host.old) (H.state host.new) }
+    ensures any_moment { Since (IsAmidTurns purge sorted.waiting.items (held database.old lists.old
+        diversions.now) (H.state host.old)) (H.state host.old) (H.state host.new) }
     ensures counts { CountsLast (H.state host.old) (H.state host.new) result.last }
     ensures not_closed { IfSome result.last (λ unit. IsBrokenBy Closed unit.reply → ⊥) }
-    ensures order { IsNone result.last → Needs (H.state host.new) (IsInOrder database.new lists.new.lists) }
+    ensures order { IsNone result.last
+        → Needs (H.state host.new) (IsInOrder database.new lists.new.lists) }
     ensures noting { IsNone result.last → database.new.closed ≡ false }
     ensures listing { IsNone result.last → lists.new.closed ≡ false }
-    ensures kept { IsNone result.last → places.new ≡ places_in diversions.now.entries lists.new.lists }
+    ensures kept { IsNone result.last → places.new ≡ places_in diversions.now.entries
+        lists.new.lists }
     ensures indexed { IsNone result.last → ArePackagesOf database.new.records packages.new }
     ensures answered { IsNone result.last → IsAnswered (H.state host.old) (H.state host.new) }
     ensures watched { IsTold W.tells watcher.old result.units.items watcher.new }
@@ -226,16 +237,23 @@ pub fn remove_packages<H: Host, W: Watcher>(
     requires listing { lists.old.closed ≡ false }
     requires kept { places.old ≡ places_in diversions.now.entries lists.old.lists }
     requires indexed { ArePackagesOf database.old.records packages.old }
-    ensures whole { IsNone result.last → IsRemovalRun names.items purge result.units.items (held database.old lists.old diversions.now) (held database.new lists.new diversions.now) (H.state host.old) (H.state host.new) }
-    ensures part { HasRun names.items purge result.units.items result.last (held database.old lists.old diversions.now) (H.state host.old) (H.state host.new) }
+    ensures whole { IsNone result.last → IsRemovalRun names.items purge result.units.items
+        (held database.old lists.old diversions.now) (held database.new lists.new diversions.now)
+        (H.state host.old) (H.state host.new) }
+    ensures part { HasRun names.items purge result.units.items result.last
+        (held database.old lists.old diversions.now) (H.state host.old) (H.state host.new) }
     ensures told { TellsCalls (H.state host.old) (H.state host.new) result }
-    ensures any_moment { Since (IsAmidTurns purge (waiting_for purge names.items (held database.old lists.old diversions.now)) (held database.old lists.old diversions.now) (H.state host.old)) (H.state host.old) (H.state host.new) }
+    ensures any_moment { Since (IsAmidTurns purge (waiting_for purge names.items
+        (held database.old lists.old diversions.now)) (held database.old lists.old diversions.now)
+        (H.state host.old)) (H.state host.old) (H.state host.new) }
     ensures counts { CountsLast (H.state host.old) (H.state host.new) result.last }
     ensures not_closed { IfSome result.last (λ unit. IsBrokenBy Closed unit.reply → ⊥) }
-    ensures order { IsNone result.last → Needs (H.state host.new) (IsInOrder database.new lists.new.lists) }
+    ensures order { IsNone result.last
+        → Needs (H.state host.new) (IsInOrder database.new lists.new.lists) }
     ensures noting { IsNone result.last → database.new.closed ≡ false }
     ensures listing { IsNone result.last → lists.new.closed ≡ false }
-    ensures kept { IsNone result.last → places.new ≡ places_in diversions.now.entries lists.new.lists }
+    ensures kept { IsNone result.last → places.new ≡ places_in diversions.now.entries
+        lists.new.lists }
     ensures indexed { IsNone result.last → ArePackagesOf database.new.records packages.new }
     ensures answered { IsNone result.last → IsAnswered (H.state host.old) (H.state host.new) }
     ensures watched { IsTold W.tells watcher.old result.units.items watcher.new }

@@ -57,17 +57,27 @@ pub(crate) fn run_turns<H: Host, W: Watcher>(
     requires kept { places.old ≡ places_in diversions.now.entries lists.old.lists }
     requires accepted { AreAccepted purge database.old.records waiting.old.items }
     requires stated { ArePackagesOf database.old.records packages }
-    ensures turned { OnOk result (HasTurned purge waiting.old.items waiting.new.items (held database.old lists.old diversions.now) (held database.new lists.new diversions.now) (H.state host.old) (H.state host.new) units.old.items units.new.items) }
-    ensures nothing { IfOk result (IsNothing database.old.records database.new.records waiting.new.items) }
-    ensures others { OnOk result (AreSameBut waiting.old.items database.old.records database.new.records) }
-    ensures stopped { IfErr result (HasStopped purge waiting.old.items (held database.old lists.old diversions.now) (H.state host.old) (H.state host.new) units.old.items units.new.items) }
-    ensures told { OnOk result (TellsAll (H.state host.old) (H.state host.new) (calls_of units.old.items) (calls_of units.new.items)) }
-    ensures told_stopped { IfErr result (λ unit. TellsAll (H.state host.old) (H.state host.new) (calls_of units.old.items) (calls_of units.new.items ++ unit.calls.items)) }
-    ensures any_moment { Since (IsAmidTurns purge waiting.old.items (held database.old lists.old diversions.now) (H.state host.old)) (H.state host.old) (H.state host.new) }
+    ensures turned { OnOk result (HasTurned purge waiting.old.items waiting.new.items
+        (held database.old lists.old diversions.now) (held database.new lists.new diversions.now)
+        (H.state host.old) (H.state host.new) units.old.items units.new.items) }
+    ensures nothing { IfOk result (IsNothing database.old.records database.new.records
+        waiting.new.items) }
+    ensures others { OnOk result (AreSameBut waiting.old.items database.old.records
+        database.new.records) }
+    ensures stopped { IfErr result (HasStopped purge waiting.old.items (held database.old lists.old
+        diversions.now) (H.state host.old) (H.state host.new) units.old.items units.new.items) }
+    ensures told { OnOk result (TellsAll (H.state host.old) (H.state host.new)
+        (calls_of units.old.items) (calls_of units.new.items)) }
+    ensures told_stopped { IfErr result (λ unit. TellsAll (H.state host.old) (H.state host.new)
+        (calls_of units.old.items) (calls_of units.new.items ++ unit.calls.items)) }
+    ensures any_moment { Since (IsAmidTurns purge waiting.old.items (held database.old lists.old
+        diversions.now) (H.state host.old)) (H.state host.old) (H.state host.new) }
     ensures no_fault { OnOk result (faults (H.state host.new) ≡ faults (H.state host.old)) }
-    ensures counts { IfErr result (λ unit. CountsReply (H.state host.old) (H.state host.new) unit.reply) }
+    ensures counts { IfErr result (λ unit. CountsReply (H.state host.old) (H.state host.new)
+        unit.reply) }
     ensures not_closed { IfErr result (λ unit. IsBrokenBy Closed unit.reply → ⊥) }
-    ensures order { IfOk result (λ queue. Needs (H.state host.new) (IsInOrder database.new lists.new.lists)) }
+    ensures order { IfOk result (λ queue. Needs (H.state host.new)
+        (IsInOrder database.new lists.new.lists)) }
     ensures noting { OnOk result (database.new.closed ≡ false) }
     ensures listing { OnOk result (lists.new.closed ≡ false) }
     ensures kept { OnOk result (places.new ≡ places_in diversions.now.entries lists.new.lists) }

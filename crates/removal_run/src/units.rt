@@ -61,15 +61,21 @@ fn remove_to_disk<H: Host>(
     requires listing { lists.old.closed ≡ false }
     requires kept { places.old ≡ places_in diversions.now.entries lists.old.lists }
     requires accepted { rule_for purge database.old.records name.now ≡ None }
-    ensures unit { IfOk result (λ failed. IsBroughtToDisk purge name.now (held database.old lists.old diversions.now) failed (held database.new lists.new diversions.now) (H.state host.old) (H.state host.new) told.old.items told.new.items) }
-    ensures order { IfOk result (λ failed. Needs (H.state host.new) (IsInOrder database.new lists.new.lists)) }
+    ensures unit { IfOk result (λ failed. IsBroughtToDisk purge name.now
+        (held database.old lists.old diversions.now) failed (held database.new lists.new
+        diversions.now) (H.state host.old) (H.state host.new) told.old.items told.new.items) }
+    ensures order { IfOk result (λ failed. Needs (H.state host.new)
+        (IsInOrder database.new lists.new.lists)) }
     ensures noting { OnOk result (database.new.closed ≡ false) }
     ensures listing { OnOk result (lists.new.closed ≡ false) }
     ensures kept { OnOk result (places.new ≡ places_in diversions.now.entries lists.new.lists) }
-    ensures others { OnOk result (AreOthersKept name.now database.old.records database.new.records) }
+    ensures others { OnOk result (AreOthersKept name.now database.old.records
+        database.new.records) }
     ensures on_disk { OnOk result (IsOnDisk (H.state host.new).events) }
-    ensures told { HasCalledRemoving purge name.now (held database.old lists.old diversions.now) (H.state host.old) (H.state host.new) told.old.items told.new.items }
-    ensures any_moment { AtEachMomentOf (IsAmidRemoval purge name.now (held database.old lists.old diversions.now)) (H.state host.old) (H.state host.new) }
+    ensures told { HasCalledRemoving purge name.now (held database.old lists.old diversions.now)
+        (H.state host.old) (H.state host.new) told.old.items told.new.items }
+    ensures any_moment { AtEachMomentOf (IsAmidRemoval purge name.now (held database.old lists.old
+        diversions.now)) (H.state host.old) (H.state host.new) }
     ensures counts { Counts (H.state host.old) (H.state host.new) result }
 {
     let extent = extent_of(purge);
@@ -89,7 +95,8 @@ fn touched_alone(
     database: &NotedDatabase,
     name: &Text,
 ) -> Result<Vec<Touched>, AllocError>
-    ensures { IfOk result (λ touched. touched.items ≡ touched_at database.now.records name.now ∷ []) }
+    ensures { IfOk result (λ touched. touched.items ≡ touched_at database.now.records name.now
+        ∷ []) }
 {
     let mut touched = Vec::new(alloc);
     touched.push(touched_at(database, name)?)?;
@@ -104,7 +111,8 @@ fn answered(
     failed: Option<Call>,
     calls: Vec<Called>,
 ) -> Unit
-    ensures answer { IsBrokenBy NoMemory result.reply ⊎ Answers «package» database.now.records failed result }
+    ensures answer { IsBrokenBy NoMemory result.reply ⊎ Answers «package» database.now.records
+        failed result }
     ensures told { result.calls.items ≡ calls.items }
     ensures untouched { IsBroken result.reply → TellsNoPackage result }
 {
@@ -135,15 +143,21 @@ fn remove_named<H: Host>(
     requires listing { lists.old.closed ≡ false }
     requires kept { places.old ≡ places_in diversions.now.entries lists.old.lists }
     requires accepted { rule_for purge database.old.records «package» ≡ None }
-    ensures unit { IsBroken result.reply ⊎ IsRemoval purge «package» (held database.old lists.old diversions.now) (held database.new lists.new diversions.now) result (H.state host.old) (H.state host.new) }
+    ensures unit { IsBroken result.reply ⊎ IsRemoval purge «package» (held database.old lists.old
+        diversions.now) (held database.new lists.new diversions.now) result (H.state host.old)
+        (H.state host.new) }
     ensures noting { IsBroken result.reply ⊎ (database.new.closed ≡ false) }
     ensures listing { IsBroken result.reply ⊎ (lists.new.closed ≡ false) }
-    ensures kept { IsBroken result.reply ⊎ (places.new ≡ places_in diversions.now.entries lists.new.lists) }
-    ensures others { IsBroken result.reply ⊎ AreOthersKept «package» database.old.records database.new.records }
+    ensures kept { IsBroken result.reply
+        ⊎ (places.new ≡ places_in diversions.now.entries lists.new.lists) }
+    ensures others { IsBroken result.reply ⊎ AreOthersKept «package» database.old.records
+        database.new.records }
     ensures answered { IsBroken result.reply ⊎ IsAnswered (H.state host.old) (H.state host.new) }
     ensures untouched { IsBroken result.reply → TellsNoPackage result }
-    ensures told { HasCalledRemoving purge «package» (held database.old lists.old diversions.now) (H.state host.old) (H.state host.new) [] result.calls.items }
-    ensures any_moment { AtEachMomentOf (IsAmidRemoval purge «package» (held database.old lists.old diversions.now)) (H.state host.old) (H.state host.new) }
+    ensures told { HasCalledRemoving purge «package» (held database.old lists.old diversions.now)
+        (H.state host.old) (H.state host.new) [] result.calls.items }
+    ensures any_moment { AtEachMomentOf (IsAmidRemoval purge «package» (held database.old lists.old
+        diversions.now)) (H.state host.old) (H.state host.new) }
     ensures counts { CountsReply (H.state host.old) (H.state host.new) result.reply }
     ensures not_closed { IsBrokenBy Closed result.reply → ⊥ }
 {
@@ -174,17 +188,24 @@ pub(crate) fn run_one<H: Host, W: Watcher>(
     requires listing { lists.old.closed ≡ false }
     requires kept { places.old ≡ places_in diversions.now.entries lists.old.lists }
     requires accepted { rule_for purge database.old.records «package» ≡ None }
-    ensures ok { OnOk result (AddsRemoval purge «package» (held database.old lists.old diversions.now) (held database.new lists.new diversions.now) (H.state host.old) (H.state host.new) units.old.items units.new.items) }
+    ensures ok { OnOk result (AddsRemoval purge «package» (held database.old lists.old
+        diversions.now) (held database.new lists.new diversions.now) (H.state host.old)
+        (H.state host.new) units.old.items units.new.items) }
     ensures noting { OnOk result (database.new.closed ≡ false) }
     ensures listing { OnOk result (lists.new.closed ≡ false) }
     ensures kept { OnOk result (places.new ≡ places_in diversions.now.entries lists.new.lists) }
-    ensures others { OnOk result (AreOthersKept «package» database.old.records database.new.records) }
+    ensures others { OnOk result (AreOthersKept «package» database.old.records
+        database.new.records) }
     ensures err { OnErr result (units.new.items ≡ units.old.items) }
-    ensures broken_off { IfErr result (λ unit. IsBrokenOff purge «package» (held database.old lists.old diversions.now) unit (H.state host.old) (H.state host.new)) }
-    ensures told { OnOk result (TellsAll (H.state host.old) (H.state host.new) (calls_of units.old.items) (calls_of units.new.items)) }
-    ensures any_moment { AtEachMomentOf (IsAmidRemoval purge «package» (held database.old lists.old diversions.now)) (H.state host.old) (H.state host.new) }
+    ensures broken_off { IfErr result (λ unit. IsBrokenOff purge «package»
+        (held database.old lists.old diversions.now) unit (H.state host.old) (H.state host.new)) }
+    ensures told { OnOk result (TellsAll (H.state host.old) (H.state host.new)
+        (calls_of units.old.items) (calls_of units.new.items)) }
+    ensures any_moment { AtEachMomentOf (IsAmidRemoval purge «package» (held database.old lists.old
+        diversions.now)) (H.state host.old) (H.state host.new) }
     ensures no_fault { OnOk result (faults (H.state host.new) ≡ faults (H.state host.old)) }
-    ensures counts { IfErr result (λ unit. CountsReply (H.state host.old) (H.state host.new) unit.reply) }
+    ensures counts { IfErr result (λ unit. CountsReply (H.state host.old) (H.state host.new)
+        unit.reply) }
     ensures not_closed { IfErr result (λ unit. IsBrokenBy Closed unit.reply → ⊥) }
     ensures watched { AddsTold W.tells units.old.items units.new.items watcher.old watcher.new }
 {

@@ -44,7 +44,8 @@ fn installed_of(
     database: &NotedDatabase,
     packages: &[Package],
 ) -> Result<Vec<bool>, AllocError>
-    ensures { IfOk result (λ marks. marks.items ≡ map (is_installed_now database.now.records) packages.now) }
+    ensures { IfOk result (λ marks. marks.items ≡ map (is_installed_now database.now.records)
+        packages.now) }
 {
     let mut marks = Vec::new(alloc);
     for package in packages {
@@ -60,7 +61,8 @@ pub(crate) fn queue_of(
     database: &NotedDatabase,
     waiting: &[Text],
 ) -> Result<RemoveQueue, AllocError>
-    ensures { IfOk result (λ queue. (start : List ARecord) → ArePackagesOf start packages → IsQueueNow start database.now.records waiting.now queue) }
+    ensures { IfOk result (λ queue. (start : List ARecord) → ArePackagesOf start packages
+        → IsQueueNow start database.now.records waiting.now queue) }
 {
     let installed = installed_of(alloc, database, packages.as_slice())?;
     let marks = marks_of(alloc, waiting, packages.as_slice())?;
@@ -79,7 +81,10 @@ pub(crate) fn queue_behind(
 ) -> Result<RemoveQueue, AllocError>
     requires even { IsEven queue }
     requires member { IsRemovableNow queue number }
-    ensures { IfOk result (λ later. (start before : List ARecord) (names : List (List ℕ)) → IsQueueNow start before names queue → AreOthersKept (name_at queue.packages number) before database.now.records → waiting.now ≡ without (name_at queue.packages number) names → IsQueueNow start database.now.records waiting.now later) }
+    ensures { IfOk result (λ later. (start before : List ARecord) (names : List (List ℕ))
+        → IsQueueNow start before names queue → AreOthersKept (name_at queue.packages number) before
+        database.now.records → waiting.now ≡ without (name_at queue.packages number) names
+        → IsQueueNow start database.now.records waiting.now later) }
 {
     let mut queue = queue;
     if is_installed_in(database, &queue.packages().as_slice()[number].name) {

@@ -34,7 +34,8 @@ use opening::{a_stopped_opening_can_be_opened, what_is_fine_has_no_fault};
 /// What can be opened isn't damaged: the next opening tells no fault of it.
 pub fn what_can_be_opened_is_undamaged()
     ensures undamaged { (w : World) → IsTree w → CanBeOpened w → IsUndamaged w }
-    ensures no_fault { (w : World) (file : Path) (line : ℕ) → IsTree w → CanBeOpened w → IsFirstFault parts w file line → ⊥ }
+    ensures no_fault { (w : World) (file : Path) (line : ℕ) → IsTree w → CanBeOpened w
+        → IsFirstFault parts w file line → ⊥ }
 {
     what_is_fine_has_no_fault();
 }
@@ -42,31 +43,50 @@ pub fn what_can_be_opened_is_undamaged()
 /// At each moment of an unpack, also of one that was broken off, and of an install behind its unpacks, the next
 /// opening can read all parts of an administration that stood when it began.
 pub fn an_unpack_can_be_opened_amid()
-    ensures unpack { (auto_deconfigure : Bool) (cs : List ACandidate) (us : List AUnit) (last : Option AUnit) (before : Held) (s t : State) → AreTextTrees cs → FindsStanding before s → HasRun auto_deconfigure cs us last before s t → CanBeOpenedAmid s t }
-    ensures install { (auto_deconfigure : Bool) (cs : List ACandidate) (policy : APolicy) (unpacked : List AUnit) (configured : AReport) (before : Held) (s t : State) → AreTextTrees cs → FindsStanding before s → HasGoneOn auto_deconfigure cs policy unpacked configured before s t → CanBeOpenedAmid s t }
+    ensures unpack { (auto_deconfigure : Bool) (cs : List ACandidate) (us : List AUnit)
+        (last : Option AUnit) (before : Held) (s t : State) → AreTextTrees cs
+        → FindsStanding before s
+        → HasRun auto_deconfigure cs us last before s t → CanBeOpenedAmid s t }
+    ensures install { (auto_deconfigure : Bool) (cs : List ACandidate) (policy : APolicy)
+        (unpacked : List AUnit) (configured : AReport) (before : Held) (s t : State)
+        → AreTextTrees cs → FindsStanding before s → HasGoneOn auto_deconfigure cs policy unpacked
+        configured before s t → CanBeOpenedAmid s t }
 {}
 
 /// At each moment of a configure, likewise.
 pub fn a_configure_can_be_opened_amid()
-    ensures { (names : List (List ℕ)) (policy : APolicy) (us : List AUnit) (last : Option AUnit) (before : Held) (s t : State) → FindsStanding before s → HasConfigured names policy us last before s t → CanBeOpenedAmid s t }
+    ensures { (names : List (List ℕ)) (policy : APolicy) (us : List AUnit) (last : Option AUnit)
+        (before : Held) (s t : State) → FindsStanding before s
+        → HasConfigured names policy us last before s t → CanBeOpenedAmid s t }
 {}
 
 /// At each moment of a removal or a purge, likewise.
 pub fn a_removal_can_be_opened_amid()
-    ensures { (names : List (List ℕ)) (purge : Bool) (us : List AUnit) (last : Option AUnit) (before : Held) (s t : State) → FindsStanding before s → HasRemoved names purge us last before s t → CanBeOpenedAmid s t }
+    ensures { (names : List (List ℕ)) (purge : Bool) (us : List AUnit) (last : Option AUnit)
+        (before : Held) (s t : State) → FindsStanding before s
+        → HasRemoved names purge us last before s t → CanBeOpenedAmid s t }
 {}
 
 /// At each moment while a diversion is added or taken away, likewise.
 pub fn a_diversion_can_be_opened_amid()
-    ensures divert { (asked : ADiverting) (seen : ASeen) (before : Held) (s t : State) → is_ship_text asked.path ≡ true → is_ship_text asked.target ≡ true → FindsStanding before s → AtEachMoment (IsAdding before.entries (asked_entry asked) asked.rename seen) s t → CanBeOpenedAmid s t }
-    ensures undivert { (asked : AnUndiverting) (before : Held) (s t : State) → is_ship_text asked.path ≡ true → FindsStanding before s → AtEachMoment (IsRemoving before.entries asked.path asked.rename) s t → CanBeOpenedAmid s t }
+    ensures divert { (asked : ADiverting) (seen : ASeen) (before : Held) (s t : State)
+        → is_ship_text asked.path ≡ true → is_ship_text asked.target ≡ true → FindsStanding before s
+        → AtEachMoment (IsAdding before.entries (asked_entry asked) asked.rename seen) s t
+        → CanBeOpenedAmid s t }
+    ensures undivert { (asked : AnUndiverting) (before : Held) (s t : State)
+        → is_ship_text asked.path ≡ true → FindsStanding before s → AtEachMoment
+        (IsRemoving before.entries asked.path asked.rename) s t → CanBeOpenedAmid s t }
 {}
 
 /// At each moment of an opening of what can be opened, as a stop or a loss of power left it, so can what is there. Of any
 /// administration that isn't damaged, as of a root without its directories, a loss of power during an opening leaves one that isn't.
 pub fn an_opening_can_be_opened_amid()
-    ensures amid { (s t : State) → Needs s CanBeOpened → AtEachMoment IsOpeningOrMerging s t → CanBeOpenedAmid s t }
-    ensures lost { (begun s t : State) (session : List Event) (left : World) → IsTrue t.honest → IsSettled t.events → t.events ≡ begun.events ++ session → changes_of session ≡ [] → Needs s IsUndamaged → AtEachMoment IsOpeningOrMerging s t → LosesSince begun s t left → IsUndamaged left }
+    ensures amid { (s t : State) → Needs s CanBeOpened
+        → AtEachMoment IsOpeningOrMerging s t → CanBeOpenedAmid s t }
+    ensures lost { (begun s t : State) (session : List Event) (left : World) → IsTrue t.honest
+        → IsSettled t.events → t.events ≡ begun.events ++ session
+        → changes_of session ≡ [] → Needs s IsUndamaged
+        → AtEachMoment IsOpeningOrMerging s t → LosesSince begun s t left → IsUndamaged left }
 {
     a_stopped_opening_can_be_opened();
 }
@@ -75,9 +95,18 @@ pub fn an_opening_can_be_opened_amid()
 /// administration: the next opening can read what is left. Behind a command that has answered, with all on the disk, the
 /// administration stands as it was left, for the same records, lists and diversions.
 pub fn a_loss_can_be_opened()
-    ensures amid { (begun s t : State) (session : List Event) (left : World) → IsTrue t.honest → IsSettled t.events → t.events ≡ begun.events ++ session → Avoids is_own (changes_of session) → CanBeOpenedAmid s t → LosesSince begun s t left → CanBeOpened left }
-    ensures answered { (h : Held) (begun t : State) (session : List Event) (left : World) → IsTrue t.honest → IsSettled t.events → t.events ≡ begun.events ++ session → Avoids is_own (changes_of session) → Stands h t.world → LosesSince begun t t left → Stands h left }
-    ensures command { (ran : ARan) (before after : Held) (begun s t : State) (session : List Event) (left : World) → IsTrue t.honest → IsSettled t.events → t.events ≡ begun.events ++ session → Avoids is_own (changes_of session) → Stands before s.world → HasDone ran before after s t → LosesSince begun t t left → Stands after left }
+    ensures amid { (begun s t : State) (session : List Event) (left : World) → IsTrue t.honest
+        → IsSettled t.events → t.events ≡ begun.events ++ session
+        → Avoids is_own (changes_of session) → CanBeOpenedAmid s t → LosesSince begun s t left
+        → CanBeOpened left }
+    ensures answered { (h : Held) (begun t : State) (session : List Event) (left : World)
+        → IsTrue t.honest → IsSettled t.events → t.events ≡ begun.events ++ session
+        → Avoids is_own (changes_of session) → Stands h t.world → LosesSince begun t t left
+        → Stands h left }
+    ensures command { (ran : ARan) (before after : Held) (begun s t : State) (session : List Event)
+        (left : World) → IsTrue t.honest → IsSettled t.events → t.events ≡ begun.events ++ session
+        → Avoids is_own (changes_of session) → Stands before s.world
+        → HasDone ran before after s t → LosesSince begun t t left → Stands after left }
 {
     history_stands();
 }

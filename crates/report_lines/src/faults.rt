@@ -51,7 +51,8 @@ fn path_text(path: &RootPath) -> &str
 
 // A fault of one path, by its name.
 fn at_path(alloc: Global, name: &str, path: &RootPath) -> Result<String, AllocError>
-    ensures { IfOk result (λ text. string_bytes text ≡ name.now ++ (codes " " ++ path_text path.now)) }
+    ensures { IfOk result (λ text. string_bytes text ≡ name.now
+        ++ (codes " " ++ path_text path.now)) }
 {
     let path = path_text(path);
     format!(in alloc; "{name} {path}")
@@ -64,8 +65,8 @@ fn at_path_of(
     path: &RootPath,
     other: &Text,
 ) -> Result<String, AllocError>
-    ensures { IfOk result (λ text.
-        string_bytes text ≡ name.now ++ (codes " " ++ (path_text path.now ++ (codes " " ++ other.now)))) }
+    ensures { IfOk result (λ text. string_bytes text ≡ name.now
+        ++ (codes " " ++ (path_text path.now ++ (codes " " ++ other.now)))) }
 {
     let path = path_text(path);
     let other = other.as_str();
@@ -137,7 +138,8 @@ fn divert_word(refusal: diversions::Refusal) -> &'static str
 
 // A rule that names a clause of a package's relations.
 fn of_clause(alloc: Global, name: &str, clause: &Clause) -> Result<String, AllocError>
-    ensures { IfOk result (λ text. string_bytes text ≡ name.now ++ (codes " " ++ print_clause clause.now)) }
+    ensures { IfOk result (λ text. string_bytes text ≡ name.now
+        ++ (codes " " ++ print_clause clause.now)) }
 {
     let clause = clause.printed()?;
     format!(in alloc; "{name} {clause}")

@@ -35,7 +35,8 @@ fn arg_word(arg: &str) -> &str
 }
 
 fn add_args(text: &mut String, args: &[Text]) -> Result<(), AllocError>
-    ensures { OnOk result (string_bytes text.new ≡ string_bytes text.old ++ flat_map arg_text args.now) }
+    ensures { OnOk result (string_bytes text.new ≡ string_bytes text.old ++ flat_map arg_text
+        args.now) }
 {
     for arg in args {
         text.push_str(" ")?;
@@ -110,7 +111,8 @@ fn breakage_word(breakage: Breakage) -> &'static str
 }
 
 fn refused_line(alloc: Global, refusal: &Refusal) -> Result<String, AllocError>
-    ensures { IfOk result (λ printed. string_bytes printed ≡ reply_line (Reply.Refused refusal.now)) }
+    ensures { IfOk result (λ printed. string_bytes printed ≡ reply_line
+        (Reply.Refused refusal.now)) }
 {
     let package = refusal.package.as_str();
     let rule = rule_text(alloc, &refusal.rule)?;
@@ -119,7 +121,8 @@ fn refused_line(alloc: Global, refusal: &Refusal) -> Result<String, AllocError>
 }
 
 fn files_text(alloc: Global, package: &Text, fault: &StepFault) -> Result<String, AllocError>
-    ensures { IfOk result (λ text. string_bytes text ≡ cause_text «package».now (Cause.OfFiles fault.now)) }
+    ensures { IfOk result (λ text. string_bytes text ≡ cause_text «package».now
+        (Cause.OfFiles fault.now)) }
 {
     let package = package.as_str();
     let fault = step_text(alloc, fault)?;
@@ -137,7 +140,8 @@ fn cause_text(alloc: Global, package: &Text, cause: &Cause) -> Result<String, Al
 }
 
 fn failed_line(alloc: Global, failure: &Failure) -> Result<String, AllocError>
-    ensures { IfOk result (λ printed. string_bytes printed ≡ reply_line (Reply.Failed failure.now)) }
+    ensures { IfOk result (λ printed. string_bytes printed ≡ reply_line
+        (Reply.Failed failure.now)) }
 {
     let cause = cause_text(alloc, &failure.package, &failure.cause)?;
     let content = format!(in alloc; "failed {cause}")?;
@@ -182,7 +186,8 @@ fn reply_status(reply: &Reply) -> u8
 }
 
 fn add_calls(alloc: Global, lines: &mut String, calls: &[Called]) -> Result<(), AllocError>
-    ensures { OnOk result (string_bytes lines.new ≡ string_bytes lines.old ++ flat_map call_line calls.now) }
+    ensures { OnOk result (string_bytes lines.new ≡ string_bytes lines.old ++ flat_map call_line
+        calls.now) }
 {
     for called in calls {
         let line = call_line(alloc, called)?;
@@ -192,7 +197,8 @@ fn add_calls(alloc: Global, lines: &mut String, calls: &[Called]) -> Result<(), 
 }
 
 fn add_touched(alloc: Global, lines: &mut String, packages: &[Touched]) -> Result<(), AllocError>
-    ensures { OnOk result (string_bytes lines.new ≡ string_bytes lines.old ++ flat_map state_line packages.now) }
+    ensures { OnOk result (string_bytes lines.new ≡ string_bytes lines.old ++ flat_map state_line
+        packages.now) }
 {
     for touched in packages {
         let line = state_line(alloc, touched)?;
@@ -202,7 +208,8 @@ fn add_touched(alloc: Global, lines: &mut String, packages: &[Touched]) -> Resul
 }
 
 fn add_states(alloc: Global, lines: &mut String, unit: &Unit) -> Result<(), AllocError>
-    ensures { OnOk result (string_bytes lines.new ≡ string_bytes lines.old ++ states_lines unit.now) }
+    ensures { OnOk result (string_bytes lines.new ≡ string_bytes lines.old ++ states_lines
+        unit.now) }
 {
     if !tells_states(&unit.reply) {
         return Ok(());
@@ -220,7 +227,8 @@ fn add_unit(alloc: Global, lines: &mut String, unit: &Unit) -> Result<(), AllocE
 }
 
 fn add_units(alloc: Global, lines: &mut String, units: &[Unit]) -> Result<(), AllocError>
-    ensures { OnOk result (string_bytes lines.new ≡ string_bytes lines.old ++ flat_map unit_lines units.now) }
+    ensures { OnOk result (string_bytes lines.new ≡ string_bytes lines.old ++ flat_map unit_lines
+        units.now) }
 {
     for unit in units {
         add_unit(alloc, lines, unit)?;

@@ -43,7 +43,8 @@ fn add_shown_byte(text: &mut String, byte: u8) -> Result<(), AllocError>
 }
 
 fn add_shown(text: &mut String, character: char) -> Result<(), AllocError>
-    ensures { OnOk result (string_bytes text.new ≡ string_bytes text.old ++ shown (encode_utf8 character)) }
+    ensures { OnOk result (string_bytes text.new ≡ string_bytes text.old ++ shown
+        (encode_utf8 character)) }
 {
     if !character.is_ascii() {
         return text.push(character);

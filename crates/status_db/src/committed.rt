@@ -78,7 +78,8 @@ fn marked_entry(flagged: bool, entry: &ConffileEntry) -> Result<ConffileEntry, A
 
 // Whether an entry of a path that isn't a shipped conffile stays.
 fn stays<S: Ships>(entry: &ConffileEntry, ships: &S) -> bool
-    ensures { result ≡ not (S.Ships.shipped ships.now entry.now.path || not (is_some entry.now.digest)) }
+    ensures { result ≡ not (S.Ships.shipped ships.now entry.now.path
+        || not (is_some entry.now.digest)) }
 {
     !ships.ships(&entry.path) && entry.digest.is_some()
 }
@@ -90,7 +91,8 @@ fn left_entries<S: Ships>(
     flagged: &[ShipPath],
     ships: &S,
 ) -> Result<ConffileEntries, AllocError>
-    ensures { IfOk result (λ es. es ≡ left_entries entries.now shipped.now flagged.now (S.Ships.shipped ships.now)) }
+    ensures { IfOk result (λ es. es ≡ left_entries entries.now shipped.now flagged.now
+        (S.Ships.shipped ships.now)) }
 {
     entries.law();
     let mut left = ConffileEntries::new(alloc);
@@ -111,7 +113,8 @@ pub fn committed_entries<S: Ships>(
     flagged: &[ShipPath],
     ships: &S,
 ) -> Result<ConffileEntries, AllocError>
-    ensures { IfOk result (λ es. es ≡ committed_entries entries.now shipped.now flagged.now (S.Ships.shipped ships.now)) }
+    ensures { IfOk result (λ es. es ≡ committed_entries entries.now shipped.now flagged.now
+        (S.Ships.shipped ships.now)) }
 {
     shipped.law();
     let mut committed = left_entries(alloc, entries, shipped, flagged, ships)?;

@@ -118,7 +118,8 @@ fn is_removed_on_upgrade(line: &[u8]) -> bool
 }
 
 fn ship_path(alloc: Global, text: &[u8]) -> Result<Option<ShipPath>, AllocError>
-    ensures { IfOk result (λ o. MatchOption o (is_ship_path text.now ≡ false) (λ path. (is_ship_path text.now ≡ true) × (path ≡ text.now))) }
+    ensures { IfOk result (λ o. MatchOption o (is_ship_path text.now ≡ false)
+        (λ path. (is_ship_path text.now ≡ true) × (path ≡ text.now))) }
 {
     match str::from_utf8(text) {
         Ok(text) => ShipPath::parse(alloc, text),
@@ -152,7 +153,9 @@ fn recorded_digest(text: &[u8]) -> Option<Option<Digest>>
 
 /// The entry of a line of `Conffiles`, if it can be read.
 pub(crate) fn conffile_of(alloc: Global, line: &[u8]) -> Result<Option<ConffileEntry>, AllocError>
-    ensures { IfOk result (λ o. MatchOption o (is_conffile_line line.now ≡ false) (λ e. (is_conffile_line line.now ≡ true) × (words_of_conffile e ≡ conffile_words line.now))) }
+    ensures { IfOk result (λ o. MatchOption o (is_conffile_line line.now ≡ false)
+        (λ e. (is_conffile_line line.now ≡ true)
+        × (words_of_conffile e ≡ conffile_words line.now))) }
 {
     let Some(digest) = recorded_digest(last_word(text_before_flags(line))) else {
         return Ok(None);
@@ -167,7 +170,8 @@ pub(crate) fn conffile_of(alloc: Global, line: &[u8]) -> Result<Option<ConffileE
 
 /// The same of a line of `New-Conffiles`.
 pub(crate) fn pending_of(alloc: Global, line: &[u8]) -> Result<Option<PendingDigest>, AllocError>
-    ensures { IfOk result (λ o. MatchOption o (is_pending_line line.now ≡ false) (λ p. (is_pending_line line.now ≡ true) × (words_of_pending p ≡ pending_words line.now))) }
+    ensures { IfOk result (λ o. MatchOption o (is_pending_line line.now ≡ false)
+        (λ p. (is_pending_line line.now ≡ true) × (words_of_pending p ≡ pending_words line.now))) }
 {
     let Some(digest) = digest_of(last_word(line_text(line))) else {
         return Ok(None);
@@ -190,7 +194,8 @@ fn is_new(alloc: Global, seen: &mut Names, path: &ShipPath) -> Result<bool, Allo
 
 // Whether each line can be read, and no path stands twice.
 fn are_conffile_lines(alloc: Global, lines: &[Bytes]) -> Result<bool, AllocError>
-    ensures { IfOk result (λ good. good ≡ (list_all is_conffile_line lines.now && are_apart (conffile_paths lines.now))) }
+    ensures { IfOk result (λ good. good ≡ (list_all is_conffile_line lines.now && are_apart
+        (conffile_paths lines.now))) }
 {
     let mut seen = Names::new(alloc);
     for line in lines {
@@ -205,7 +210,8 @@ fn are_conffile_lines(alloc: Global, lines: &[Bytes]) -> Result<bool, AllocError
 }
 
 fn are_pending_lines(alloc: Global, lines: &[Bytes]) -> Result<bool, AllocError>
-    ensures { IfOk result (λ good. good ≡ (list_all is_pending_line lines.now && are_apart (pending_paths lines.now))) }
+    ensures { IfOk result (λ good. good ≡ (list_all is_pending_line lines.now && are_apart
+        (pending_paths lines.now))) }
 {
     let mut seen = Names::new(alloc);
     for line in lines {

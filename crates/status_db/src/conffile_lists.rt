@@ -50,7 +50,8 @@ fn is_before(path: &ShipPath, other: &ShipPath) -> bool
 // The index of the first entry whose path isn't before this one.
 fn place_of(entries: &[ConffileEntry], path: &ShipPath) -> usize
     ensures within { result ≤ length entries.now }
-    ensures place { (e : AConffileEntry) → e.path ≡ path.now → placed_by (λ x. x.path) e entries.now ≡ insert entries.now result e }
+    ensures place { (e : AConffileEntry) → e.path ≡ path.now → placed_by (λ x. x.path) e entries.now
+        ≡ insert entries.now result e }
 {
     for (i, entry) in entries.iter().enumerate() {
         if !is_before(&entry.path, path) {
@@ -62,7 +63,8 @@ fn place_of(entries: &[ConffileEntry], path: &ShipPath) -> usize
 
 fn place_of_pending(pending: &[PendingDigest], path: &ShipPath) -> usize
     ensures within { result ≤ length pending.now }
-    ensures place { (p : APendingDigest) → p.path ≡ path.now → placed_by (λ x. x.path) p pending.now ≡ insert pending.now result p }
+    ensures place { (p : APendingDigest) → p.path ≡ path.now → placed_by (λ x. x.path) p pending.now
+        ≡ insert pending.now result p }
 {
     for (i, digest) in pending.iter().enumerate() {
         if !is_before(&digest.path, path) {

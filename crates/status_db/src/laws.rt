@@ -10,13 +10,18 @@ ghost use Rattle.status_db.specs.Records.{record_in, put_record, drop_record};
 
 /// Setting and dropping a record changes the look-up of its name alone.
 pub fn records_are_a_table()
-    ensures put { (r : ARecord) (rs : List ARecord) (q : List ℕ) → record_in (put_record r rs) q ≡ update bytes_eq (record_in rs) r.name (Some r) q }
-    ensures drop { (name : List ℕ) (rs : List ARecord) (q : List ℕ) → record_in (drop_record name rs) q ≡ update bytes_eq (record_in rs) name None q }
+    ensures put { (r : ARecord) (rs : List ARecord) (q : List ℕ) → record_in (put_record r rs) q
+        ≡ update bytes_eq (record_in rs) r.name (Some r) q }
+    ensures drop { (name : List ℕ) (rs : List ARecord) (q : List ℕ)
+        → record_in (drop_record name rs) q ≡ update bytes_eq (record_in rs) name None q }
 {}
 
 /// With notes, the records are those of the status file and the notes, whatever else changes, and stay kept while their
 /// directories stay.
 pub fn records_stand_at_their_places()
-    ensures places { (w v : World) (rs : List ARecord) → SameOn is_record_place w v → HasRecords w rs → HasRecords v rs }
-    ensures kept { (w v : World) (rs : List ARecord) (notes : ℕ) → SameOn is_record_place w v → IsDirectory (v home_path) → IsDirectory (v updates_path) → AreKept rs notes w → AreKept rs notes v }
+    ensures places { (w v : World) (rs : List ARecord) → SameOn is_record_place w v
+        → HasRecords w rs → HasRecords v rs }
+    ensures kept { (w v : World) (rs : List ARecord) (notes : ℕ) → SameOn is_record_place w v
+        → IsDirectory (v home_path) → IsDirectory (v updates_path) → AreKept rs notes w
+        → AreKept rs notes v }
 {}

@@ -19,8 +19,10 @@ use std::alloc::Global;
 fn discard_note<H: Host>(alloc: Global, host: &mut H, number: u16) -> Result<(), HostFault>
     requires number { number < 10000 }
     requires file { Needs (H.state host.old) (λ w. NoDirectory (w (place.note_path number))) }
-    ensures dropped { Leaves result (IsDropped (place.note_path number)) (H.state host.old) (H.state host.new) }
-    ensures any_moment { AtEachMoment (IsDropping (place.note_path number)) (H.state host.old) (H.state host.new) }
+    ensures dropped { Leaves result (IsDropped (place.note_path number)) (H.state host.old)
+        (H.state host.new) }
+    ensures any_moment { AtEachMoment (IsDropping (place.note_path number)) (H.state host.old)
+        (H.state host.new) }
     ensures silent { Silent (H.state host.old) (H.state host.new) }
     ensures counts { Counts (H.state host.old) (H.state host.new) result }
 {
@@ -31,7 +33,8 @@ fn discard_note<H: Host>(alloc: Global, host: &mut H, number: u16) -> Result<(),
 // Takes the notes below a number away, the smallest first.
 fn take_notes<H: Host>(alloc: Global, host: &mut H, count: u16) -> Result<(), HostFault>
     requires count { count ≤ 10000 }
-    requires files { Needs (H.state host.old) (λ w. (n : ℕ) → n < count → NoDirectory (w (place.note_path n))) }
+    requires files { Needs (H.state host.old) (λ w. (n : ℕ) → n < count
+        → NoDirectory (w (place.note_path n))) }
     ensures taken { Leaves result (IsTaken count) (H.state host.old) (H.state host.new) }
     ensures any_moment { AtEachMoment IsTakingNotes (H.state host.old) (H.state host.new) }
     ensures silent { Silent (H.state host.old) (H.state host.new) }
@@ -54,9 +57,12 @@ fn replace_notes<H: Host>(
     requires count { count ≤ 10000 }
     requires unblocked { Needs (H.state host.old) IsUnblocked }
     requires target { Needs (H.state host.old) (λ w. NoDirectory (w status_path)) }
-    requires files { Needs (H.state host.old) (λ w. (n : ℕ) → n < count → NoDirectory (w (place.note_path n))) }
-    ensures merged { Leaves result (HasReplacedNotes status.now count) (H.state host.old) (H.state host.new) }
-    ensures any_moment { AtEachMoment (IsReplacingNotes status.now) (H.state host.old) (H.state host.new) }
+    requires files { Needs (H.state host.old) (λ w. (n : ℕ) → n < count
+        → NoDirectory (w (place.note_path n))) }
+    ensures merged { Leaves result (HasReplacedNotes status.now count) (H.state host.old)
+        (H.state host.new) }
+    ensures any_moment { AtEachMoment (IsReplacingNotes status.now) (H.state host.old)
+        (H.state host.new) }
     ensures silent { Silent (H.state host.old) (H.state host.new) }
     ensures counts { Counts (H.state host.old) (H.state host.new) result }
 {

@@ -76,7 +76,8 @@ fn read_note(alloc: Global, bytes: &[u8]) -> Result<Entry, StatusFault>
 // What a note says takes the place of what was said of its package.
 fn enter(table: &mut Table, entry: Entry) -> Result<(), AllocError>
     requires { IsSaid entry.name entry.kept }
-    ensures { OnOk result ((name : List ℕ) → record_in table.new name ≡ entered (Some (record { name = entry.name; entry = entry.kept })) (record_in table.old) name) }
+    ensures { OnOk result ((name : List ℕ) → record_in table.new name ≡ entered
+        (Some (record { name = entry.name; entry = entry.kept })) (record_in table.old) name) }
 {
     let Entry { name, kept } = entry;
     match kept {

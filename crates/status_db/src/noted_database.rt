@@ -49,10 +49,13 @@ impl Model for NotedDatabase {
 impl NotedDatabase {
     /// Reads the status file and the notes; a missing one has no records.
     pub fn open<H: Host>(alloc: Global, host: &mut H) -> Result<NotedDatabase, AdministrationFault>
-        ensures records { Tells result (λ d w. HasRecords w d.records) (H.state host.old) (H.state host.new) }
-        ensures free { Tells result (λ d w. IsFree d.notes w) (H.state host.old) (H.state host.new) }
+        ensures records { Tells result (λ d w. HasRecords w d.records) (H.state host.old)
+            (H.state host.new) }
+        ensures free { Tells result (λ d w. IsFree d.notes w) (H.state host.old)
+            (H.state host.new) }
         ensures notes { Tells result (λ d w. AreNotesFine w) (H.state host.old) (H.state host.new) }
-        ensures damage { IsTrue (H.state host.new).honest → IfErr result (IsRecordsDamage (H.state host.old).world) }
+        ensures damage { IsTrue (H.state host.new).honest
+            → IfErr result (IsRecordsDamage (H.state host.old).world) }
         ensures opened { IfOk result (λ d. d.closed ≡ false) }
         ensures reads { Reads (H.state host.old) (H.state host.new) }
         ensures silent { Silent (H.state host.old) (H.state host.new) }
@@ -122,15 +125,19 @@ impl NotedDatabase {
     ) -> Result<(), RecordFault>
         requires kept { Needs (H.state host.old) (IsKept self.old) }
         ensures records { OnOk result (self.new.records ≡ entered_in entry self.old.records) }
-        ensures number { OnOk result (self.new.notes ≡ cond (writes_note entry self.old.records) (note_number self.old.notes + 1) self.old.notes) }
+        ensures number { OnOk result (self.new.notes ≡ cond (writes_note entry self.old.records)
+            (note_number self.old.notes + 1) self.old.notes) }
         ensures opened { OnOk result (self.new.closed ≡ false) }
         ensures err { OnErr result (self.new.closed ≡ true) }
         ensures same { OnErr result (self.new.records ≡ self.old.records) }
         ensures closed { IsErrOf result Closed ↔ (self.old.closed ≡ true) }
         ensures shut { self.old.closed ≡ true → H.state host.new ≡ H.state host.old }
         ensures kept { Leaves result (IsNoted self.new) (H.state host.old) (H.state host.new) }
-        ensures placed { writes_note entry self.old.records ≡ true → Leaves result (IsPlaced self.old.records self.old.notes) (H.state host.old) (H.state host.new) }
-        ensures any_moment { AtEachMoment (IsNoting self.old.records (entered_in entry self.old.records)) (H.state host.old) (H.state host.new) }
+        ensures placed { writes_note entry self.old.records ≡ true
+            → Leaves result (IsPlaced self.old.records self.old.notes) (H.state host.old)
+            (H.state host.new) }
+        ensures any_moment { AtEachMoment (IsNoting self.old.records
+            (entered_in entry self.old.records)) (H.state host.old) (H.state host.new) }
         ensures silent { Silent (H.state host.old) (H.state host.new) }
         ensures counts { CountsRecord (H.state host.old) (H.state host.new) result }
     {
@@ -156,15 +163,20 @@ impl NotedDatabase {
     ) -> Result<(), RecordFault>
         requires { Needs (H.state host.old) (IsKept self.old) }
         ensures records { OnOk result (self.new.records ≡ drop_record name.now self.old.records) }
-        ensures number { OnOk result (self.new.notes ≡ cond (is_some (record_in self.old.records name.now)) (note_number self.old.notes + 1) self.old.notes) }
+        ensures number { OnOk result
+            (self.new.notes ≡ cond (is_some (record_in self.old.records name.now))
+            (note_number self.old.notes + 1) self.old.notes) }
         ensures opened { OnOk result (self.new.closed ≡ false) }
         ensures err { OnErr result (self.new.closed ≡ true) }
         ensures same { OnErr result (self.new.records ≡ self.old.records) }
         ensures closed { IsErrOf result Closed ↔ (self.old.closed ≡ true) }
         ensures shut { self.old.closed ≡ true → H.state host.new ≡ H.state host.old }
         ensures kept { Leaves result (IsNoted self.new) (H.state host.old) (H.state host.new) }
-        ensures placed { is_some (record_in self.old.records name.now) ≡ true → Leaves result (IsPlaced self.old.records self.old.notes) (H.state host.old) (H.state host.new) }
-        ensures any_moment { AtEachMoment (IsNoting self.old.records (drop_record name.now self.old.records)) (H.state host.old) (H.state host.new) }
+        ensures placed { is_some (record_in self.old.records name.now) ≡ true
+            → Leaves result (IsPlaced self.old.records self.old.notes) (H.state host.old)
+            (H.state host.new) }
+        ensures any_moment { AtEachMoment (IsNoting self.old.records
+            (drop_record name.now self.old.records)) (H.state host.old) (H.state host.new) }
         ensures silent { Silent (H.state host.old) (H.state host.new) }
         ensures counts { CountsRecord (H.state host.old) (H.state host.new) result }
     {
@@ -190,8 +202,10 @@ impl NotedDatabase {
         ensures err { OnErr result (self.new.closed ≡ true) }
         ensures closed { IsErrOf result Closed ↔ (self.old.closed ≡ true) }
         ensures shut { self.old.closed ≡ true → H.state host.new ≡ H.state host.old }
-        ensures merged { Leaves result (AreMerged self.old.records) (H.state host.old) (H.state host.new) }
-        ensures any_moment { AtEachMoment (IsMerging self.old.records) (H.state host.old) (H.state host.new) }
+        ensures merged { Leaves result (AreMerged self.old.records) (H.state host.old)
+            (H.state host.new) }
+        ensures any_moment { AtEachMoment (IsMerging self.old.records) (H.state host.old)
+            (H.state host.new) }
         ensures silent { Silent (H.state host.old) (H.state host.new) }
         ensures counts { CountsRecord (H.state host.old) (H.state host.new) result }
     {

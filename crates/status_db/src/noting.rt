@@ -36,8 +36,10 @@ fn write_note<H: Host>(
     requires number { number < 10000 }
     requires unblocked { Needs (H.state host.old) IsUnblocked }
     requires target { Needs (H.state host.old) (λ w. NoDirectory (w (place.note_path number))) }
-    ensures replaced { Leaves result (IsReplaced (place.note_path number) node.now) (H.state host.old) (H.state host.new) }
-    ensures any_moment { AtEachMoment (IsReplacing (place.note_path number) node.now) (H.state host.old) (H.state host.new) }
+    ensures replaced { Leaves result (IsReplaced (place.note_path number) node.now)
+        (H.state host.old) (H.state host.new) }
+    ensures any_moment { AtEachMoment (IsReplacing (place.note_path number) node.now)
+        (H.state host.old) (H.state host.new) }
     ensures silent { Silent (H.state host.old) (H.state host.new) }
     ensures counts { Counts (H.state host.old) (H.state host.new) result }
 {
@@ -56,7 +58,8 @@ fn make_room<H: Host>(
     requires kept { Needs (H.state host.old) (AreKept table.now notes.old) }
     ensures number { OnOk result (notes.new ≡ note_number notes.old) }
     ensures within { notes.new ≤ 10000 }
-    ensures room { Leaves result (HasRoom table.now notes.old notes.new) (H.state host.old) (H.state host.new) }
+    ensures room { Leaves result (HasRoom table.now notes.old notes.new) (H.state host.old)
+        (H.state host.new) }
     ensures any_moment { AtEachMoment (IsMerging table.now) (H.state host.old) (H.state host.new) }
     ensures silent { Silent (H.state host.old) (H.state host.new) }
     ensures counts { Counts (H.state host.old) (H.state host.new) result }
@@ -82,9 +85,14 @@ fn write_next<H: Host>(
     requires kept { Needs (H.state host.old) (AreKept table.now notes.old) }
     ensures number { OnOk result (notes.new ≡ note_number notes.old + 1) }
     ensures within { notes.new ≤ 10000 }
-    ensures noted { (note : Note) (after : List ARecord) → IsNoteFile node.now note → IsEntered note table.now after → Leaves result (AreNoted after notes.new) (H.state host.old) (H.state host.new) }
-    ensures placed { Leaves result (IsPlaced table.now notes.old) (H.state host.old) (H.state host.new) }
-    ensures any_moment { (note : Note) (after : List ARecord) → IsNoteFile node.now note → IsEntered note table.now after → AtEachMoment (IsNoting table.now after) (H.state host.old) (H.state host.new) }
+    ensures noted { (note : Note) (after : List ARecord) → IsNoteFile node.now note
+        → IsEntered note table.now after → Leaves result (AreNoted after notes.new)
+        (H.state host.old) (H.state host.new) }
+    ensures placed { Leaves result (IsPlaced table.now notes.old) (H.state host.old)
+        (H.state host.new) }
+    ensures any_moment { (note : Note) (after : List ARecord) → IsNoteFile node.now note
+        → IsEntered note table.now after → AtEachMoment (IsNoting table.now after)
+        (H.state host.old) (H.state host.new) }
     ensures silent { Silent (H.state host.old) (H.state host.new) }
     ensures counts { Counts (H.state host.old) (H.state host.new) result }
 {
@@ -107,9 +115,12 @@ fn write_record<H: Host>(
     requires kept { Needs (H.state host.old) (AreKept table.now notes.old) }
     ensures number { OnOk result (notes.new ≡ note_number notes.old + 1) }
     ensures within { notes.new ≤ 10000 }
-    ensures noted { Leaves result (AreNoted (put_record entry.now table.now) notes.new) (H.state host.old) (H.state host.new) }
-    ensures placed { Leaves result (IsPlaced table.now notes.old) (H.state host.old) (H.state host.new) }
-    ensures any_moment { AtEachMoment (IsNoting table.now (put_record entry.now table.now)) (H.state host.old) (H.state host.new) }
+    ensures noted { Leaves result (AreNoted (put_record entry.now table.now) notes.new)
+        (H.state host.old) (H.state host.new) }
+    ensures placed { Leaves result (IsPlaced table.now notes.old) (H.state host.old)
+        (H.state host.new) }
+    ensures any_moment { AtEachMoment (IsNoting table.now (put_record entry.now table.now))
+        (H.state host.old) (H.state host.new) }
     ensures silent { Silent (H.state host.old) (H.state host.new) }
     ensures counts { Counts (H.state host.old) (H.state host.new) result }
 {
@@ -131,9 +142,12 @@ fn write_gone<H: Host>(
     requires kept { Needs (H.state host.old) (AreKept table.now notes.old) }
     ensures number { OnOk result (notes.new ≡ note_number notes.old + 1) }
     ensures within { notes.new ≤ 10000 }
-    ensures noted { Leaves result (AreNoted (drop_record name.now table.now) notes.new) (H.state host.old) (H.state host.new) }
-    ensures placed { Leaves result (IsPlaced table.now notes.old) (H.state host.old) (H.state host.new) }
-    ensures any_moment { AtEachMoment (IsNoting table.now (drop_record name.now table.now)) (H.state host.old) (H.state host.new) }
+    ensures noted { Leaves result (AreNoted (drop_record name.now table.now) notes.new)
+        (H.state host.old) (H.state host.new) }
+    ensures placed { Leaves result (IsPlaced table.now notes.old) (H.state host.old)
+        (H.state host.new) }
+    ensures any_moment { AtEachMoment (IsNoting table.now (drop_record name.now table.now))
+        (H.state host.old) (H.state host.new) }
     ensures silent { Silent (H.state host.old) (H.state host.new) }
     ensures counts { Counts (H.state host.old) (H.state host.new) result }
 {
@@ -157,9 +171,12 @@ fn note_record<H: Host>(
     ensures err { OnErr result (table.new ≡ table.old) }
     ensures number { OnOk result (notes.new ≡ note_number notes.old + 1) }
     ensures within { notes.new ≤ 10000 }
-    ensures noted { Leaves result (AreNoted table.new notes.new) (H.state host.old) (H.state host.new) }
-    ensures placed { Leaves result (IsPlaced table.old notes.old) (H.state host.old) (H.state host.new) }
-    ensures any_moment { AtEachMoment (IsNoting table.old (put_record entry table.old)) (H.state host.old) (H.state host.new) }
+    ensures noted { Leaves result (AreNoted table.new notes.new) (H.state host.old)
+        (H.state host.new) }
+    ensures placed { Leaves result (IsPlaced table.old notes.old) (H.state host.old)
+        (H.state host.new) }
+    ensures any_moment { AtEachMoment (IsNoting table.old (put_record entry table.old))
+        (H.state host.old) (H.state host.new) }
     ensures silent { Silent (H.state host.old) (H.state host.new) }
     ensures counts { Counts (H.state host.old) (H.state host.new) result }
 {
@@ -181,11 +198,15 @@ pub(crate) fn forget_record<H: Host>(
     requires kept { Needs (H.state host.old) (AreKept table.old notes.old) }
     ensures table { OnOk result (table.new ≡ drop_record name.now table.old) }
     ensures err { OnErr result (table.new ≡ table.old) }
-    ensures number { OnOk result (notes.new ≡ cond (is_some (record_in table.old name.now)) (note_number notes.old + 1) notes.old) }
+    ensures number { OnOk result (notes.new ≡ cond (is_some (record_in table.old name.now))
+        (note_number notes.old + 1) notes.old) }
     ensures within { notes.new ≤ 10000 }
-    ensures noted { Leaves result (AreNoted table.new notes.new) (H.state host.old) (H.state host.new) }
-    ensures placed { is_some (record_in table.old name.now) ≡ true → Leaves result (IsPlaced table.old notes.old) (H.state host.old) (H.state host.new) }
-    ensures any_moment { AtEachMoment (IsNoting table.old (drop_record name.now table.old)) (H.state host.old) (H.state host.new) }
+    ensures noted { Leaves result (AreNoted table.new notes.new) (H.state host.old)
+        (H.state host.new) }
+    ensures placed { is_some (record_in table.old name.now) ≡ true
+        → Leaves result (IsPlaced table.old notes.old) (H.state host.old) (H.state host.new) }
+    ensures any_moment { AtEachMoment (IsNoting table.old (drop_record name.now table.old))
+        (H.state host.old) (H.state host.new) }
     ensures silent { Silent (H.state host.old) (H.state host.new) }
     ensures counts { Counts (H.state host.old) (H.state host.new) result }
 {
@@ -210,11 +231,15 @@ pub(crate) fn enter_record<H: Host>(
     requires kept { Needs (H.state host.old) (AreKept table.old notes.old) }
     ensures table { OnOk result (table.new ≡ entered_in entry table.old) }
     ensures err { OnErr result (table.new ≡ table.old) }
-    ensures number { OnOk result (notes.new ≡ cond (writes_note entry table.old) (note_number notes.old + 1) notes.old) }
+    ensures number { OnOk result (notes.new ≡ cond (writes_note entry table.old)
+        (note_number notes.old + 1) notes.old) }
     ensures within { notes.new ≤ 10000 }
-    ensures noted { Leaves result (AreNoted table.new notes.new) (H.state host.old) (H.state host.new) }
-    ensures placed { writes_note entry table.old ≡ true → Leaves result (IsPlaced table.old notes.old) (H.state host.old) (H.state host.new) }
-    ensures any_moment { AtEachMoment (IsNoting table.old (entered_in entry table.old)) (H.state host.old) (H.state host.new) }
+    ensures noted { Leaves result (AreNoted table.new notes.new) (H.state host.old)
+        (H.state host.new) }
+    ensures placed { writes_note entry table.old ≡ true
+        → Leaves result (IsPlaced table.old notes.old) (H.state host.old) (H.state host.new) }
+    ensures any_moment { AtEachMoment (IsNoting table.old (entered_in entry table.old))
+        (H.state host.old) (H.state host.new) }
     ensures silent { Silent (H.state host.old) (H.state host.new) }
     ensures counts { Counts (H.state host.old) (H.state host.new) result }
 {

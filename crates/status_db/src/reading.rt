@@ -83,8 +83,10 @@ fn name_in(fields: &Paragraph) -> Option<&str>
 }
 
 fn status_in(fields: &Paragraph) -> Option<Status>
-    ensures some { IfSome result (λ s. Says (codes "status") fields.now (status_text s.want s.flag s.state)) }
-    ensures none { IfNone result ((want : AWant) (flag : AFlag) (state : AState) → Says (codes "status") fields.now (status_text want flag state) → ⊥) }
+    ensures some { IfSome result (λ s. Says (codes "status") fields.now (status_text s.want s.flag
+        s.state)) }
+    ensures none { IfNone result ((want : AWant) (flag : AFlag) (state : AState)
+        → Says (codes "status") fields.now (status_text want flag state) → ⊥) }
 {
     match value_in(fields, b"status") {
         Some(value) => read_status(value),
@@ -102,8 +104,10 @@ fn is_gone(fields: &Paragraph) -> bool
 }
 
 fn version_in(alloc: Global, fields: &Paragraph) -> Result<Option<Version>, AllocError>
-    ensures some { IfOk result (λ o. IfSome o (λ v. Says (codes "version") fields.now v × IsVersion v)) }
-    ensures none { IfOk result (λ o. IfNone o ((v : List ℕ) → Says (codes "version") fields.now v × IsVersion v → ⊥)) }
+    ensures some { IfOk result (λ o. IfSome o (λ v. Says (codes "version") fields.now v
+        × IsVersion v)) }
+    ensures none { IfOk result (λ o. IfNone o ((v : List ℕ) → Says (codes "version") fields.now v
+        × IsVersion v → ⊥)) }
 {
     match value_in(fields, b"version") {
         Some(value) => read_version(alloc, value),
@@ -138,7 +142,8 @@ fn is_faulty_whole(names: &Names, fields: &Paragraph) -> bool
 /// The line of the first field whose value can't be read.
 pub(crate) fn first_bad(alloc: Global, located: &Located) -> Result<Option<u64>, AllocError>
     requires { HasLines located.now }
-    ensures { IfOk result (λ o. MatchOption o (AllByRecursion IsReadable located.now.paragraph) (IsBadField located.now)) }
+    ensures { IfOk result (λ o. MatchOption o (AllByRecursion IsReadable located.now.paragraph)
+        (IsBadField located.now)) }
 {
     let mut index: usize = 0;
     for field in located.paragraph.fields() {
@@ -198,7 +203,8 @@ fn earlier_version(
 fn read_earlier(alloc: Global, state: State, fields: &Paragraph) -> Result<Earlier, AllocError>
     requires { AllByRecursion IsReadable fields.now }
     ensures config { IfOk result (λ e. e.config_version ≡ earlier_version state fields.now) }
-    ensures removed { IfOk result (λ e. e.removed_since ≡ is_some (field_in (codes "removed-since") fields.now)) }
+    ensures removed { IfOk result (λ e. e.removed_since ≡ is_some (field_in (codes "removed-since")
+        fields.now)) }
     ensures conffiles { IfOk result (λ e. AreConffilesOf (conffile_lines fields.now) e.conffiles) }
     ensures pending { IfOk result (λ e. ArePendingOf (pending_lines fields.now) e.pending) }
 {
@@ -226,7 +232,8 @@ fn record_of(
     ensures state { IfOk result (λ r. r.state ≡ status.state) }
     ensures version { IfOk result (λ r. r.version ≡ version) }
     ensures config { IfOk result (λ r. r.config_version ≡ earlier_version status.state fields.now) }
-    ensures removed { IfOk result (λ r. r.removed_since ≡ is_some (field_in (codes "removed-since") fields.now)) }
+    ensures removed { IfOk result (λ r. r.removed_since ≡ is_some (field_in (codes "removed-since")
+        fields.now)) }
     ensures conffiles { IfOk result (λ r. AreConffilesOf (conffile_lines fields.now) r.conffiles) }
     ensures pending { IfOk result (λ r. ArePendingOf (pending_lines fields.now) r.pending) }
     ensures fields { IfOk result (λ r. r.fields ≡ recorded_fields fields.now) }
@@ -254,7 +261,8 @@ fn record_of(
 fn read_entry(alloc: Global, fields: &Paragraph) -> Result<Option<Entry>, AllocError>
     requires written { ∥ AreFields [] fields.now ∥₁ }
     requires readable { AllByRecursion IsReadable fields.now }
-    ensures some { IfOk result (λ o. IfSome o (λ e. SaysEntry fields.now e.name (option_to_list e.kept))) }
+    ensures some { IfOk result
+        (λ o. IfSome o (λ e. SaysEntry fields.now e.name (option_to_list e.kept))) }
     ensures none { IfOk result (λ o. IfNone o (IsMissing fields.now)) }
 {
     let Some(name) = name_in(fields) else {
@@ -287,7 +295,8 @@ pub(crate) fn entry_of(
     located: &Located,
 ) -> Result<Entry, StatusFault>
     requires { IsSound located.now }
-    ensures entry { IfOk result (λ e. IsEntry names.now located.now.paragraph e.name (option_to_list e.kept)) }
+    ensures entry { IfOk result (λ e. IsEntry names.now located.now.paragraph e.name
+        (option_to_list e.kept)) }
     ensures fault { IfErr result (IsEntryFault names.now located.now) }
 {
     if is_faulty_whole(names, &located.paragraph) {
@@ -311,7 +320,8 @@ struct Table {
 
 fn enter(table: &mut Table, entry: Entry) -> Result<(), AllocError>
     ensures names { OnOk result (table.new.names ≡ table.old.names ++ entry.name ∷ []) }
-    ensures records { OnOk result (table.new.records.items ≡ table.old.records.items ++ option_to_list entry.kept) }
+    ensures records { OnOk result (table.new.records.items ≡ table.old.records.items
+        ++ option_to_list entry.kept) }
 {
     let Entry { name, kept } = entry;
     if let Some(kept) = kept {
@@ -322,7 +332,8 @@ fn enter(table: &mut Table, entry: Entry) -> Result<(), AllocError>
 
 fn read_entries(alloc: Global, paragraphs: &[Located]) -> Result<Table, StatusFault>
     requires { AllByRecursion IsSound paragraphs.now }
-    ensures entered { IfOk result (λ t. Enters [] [] (paragraphs_of paragraphs.now) t.names t.records.items) }
+    ensures entered { IfOk result (λ t. Enters [] [] (paragraphs_of paragraphs.now) t.names
+        t.records.items) }
     ensures fault { IfErr result (IsTableFault paragraphs.now) }
 {
     let mut table = Table {

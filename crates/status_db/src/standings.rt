@@ -19,7 +19,8 @@ use version_order::Version;
 
 // The version last configured, for a record of this state.
 fn version_beside(state: State, last: Option<&Version>) -> Result<Option<Version>, AllocError>
-    ensures { IfOk result (λ version. version ≡ version_beside (is_installed state) (option_copied last.entry)) }
+    ensures { IfOk result (λ version. version ≡ version_beside (is_installed state)
+        (option_copied last.entry)) }
 {
     if state.is_installed() {
         return Ok(None);
@@ -178,7 +179,8 @@ impl Record {
         requires named { is_package_name name.now ≡ true }
         requires written { ∥ AreFields [] control.now ∥₁ }
         requires readable { ∥ AllByRecursion IsReadableControl control.now ∥₁ }
-        ensures { IfOk result (IsUnpackedOf name.now version.now control.now (option_copied old.entry) conffiles pending) }
+        ensures { IfOk result (IsUnpackedOf name.now version.now control.now
+            (option_copied old.entry) conffiles pending) }
     {
         Ok(Record {
             name: name.copy()?,

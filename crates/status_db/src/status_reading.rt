@@ -53,8 +53,10 @@ fn read_at<H: Host>(
     path: RootPath,
 ) -> Result<Table, AdministrationFault>
     requires { path ≡ status_path }
-    ensures table { Tells result (λ t w. IsTableOf (w status_path) t) (H.state host.old) (H.state host.new) }
-    ensures damage { IsTrue (H.state host.new).honest → IfErr result (IsStatusDamage (H.state host.old).world) }
+    ensures table { Tells result (λ t w. IsTableOf (w status_path) t) (H.state host.old)
+        (H.state host.new) }
+    ensures damage { IsTrue (H.state host.new).honest
+        → IfErr result (IsStatusDamage (H.state host.old).world) }
     ensures reads { Reads (H.state host.old) (H.state host.new) }
     ensures silent { Silent (H.state host.old) (H.state host.new) }
     ensures counts { CountsAdministration (H.state host.old) (H.state host.new) result }
@@ -68,8 +70,10 @@ pub(crate) fn read_status<H: Host>(
     alloc: Global,
     host: &mut H,
 ) -> Result<Table, AdministrationFault>
-    ensures table { Tells result (λ t w. IsTableOf (w status_path) t) (H.state host.old) (H.state host.new) }
-    ensures damage { IsTrue (H.state host.new).honest → IfErr result (IsStatusDamage (H.state host.old).world) }
+    ensures table { Tells result (λ t w. IsTableOf (w status_path) t) (H.state host.old)
+        (H.state host.new) }
+    ensures damage { IsTrue (H.state host.new).honest
+        → IfErr result (IsStatusDamage (H.state host.old).world) }
     ensures reads { Reads (H.state host.old) (H.state host.new) }
     ensures silent { Silent (H.state host.old) (H.state host.new) }
     ensures counts { CountsAdministration (H.state host.old) (H.state host.new) result }

@@ -67,7 +67,8 @@ fn place_of(records: &[Record], name: &Text) -> usize
 
 // Whether the record that stands there is of this name.
 fn is_there(records: &[Record], name: &Text, at: usize) -> bool
-    ensures { MatchBool result (IsThere records.now name.now at) (IsThere records.now name.now at → ⊥) }
+    ensures { MatchBool result (IsThere records.now name.now at) (IsThere records.now name.now at
+        → ⊥) }
 {
     at < records.len() && records[at].name.is(name)
 }
@@ -108,7 +109,8 @@ impl Table {
     /// The records of a file, of which the first of a name counts.
     pub(crate) fn of_records(alloc: Global, records: Vec<Record>) -> Result<Table, AllocError>
         requires { standing records.items ≡ records.items }
-        ensures { IfOk result (λ t. (name : List ℕ) → record_in t name ≡ record_in records.items name) }
+        ensures { IfOk result (λ t. (name : List ℕ) → record_in t name ≡ record_in records.items
+            name) }
     {
         if are_in_order(records.as_slice()) {
             return Ok(Table { records });

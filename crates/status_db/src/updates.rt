@@ -27,7 +27,8 @@ const NUMBERS: usize = 10000;
 // since only its own file is read.
 fn number_in(name: &[u8]) -> Option<usize>
     ensures some { IfSome result (λ n. n < 10000) }
-    ensures none { (n : ℕ) (tail : List ℕ) → n < 10000 → name.now ≡ digits n ++ tail → result ≡ Some n }
+    ensures none { (n : ℕ) (tail : List ℕ) → n < 10000 → name.now ≡ digits n ++ tail
+        → result ≡ Some n }
 {
     if name.len() < 4 {
         return None;
@@ -46,8 +47,10 @@ fn number_in(name: &[u8]) -> Option<usize>
 fn mark(marks: &mut Vec<bool>, name: &[u8])
     requires { length marks.old.items ≡ 10000 }
     ensures length { length marks.new.items ≡ 10000 }
-    ensures less { (n : ℕ) → get_or marks.new.items n false ≡ false → get_or marks.old.items n false ≡ false }
-    ensures marked { (n : ℕ) (tail : List ℕ) → n < 10000 → name.now ≡ digits n ++ tail → get_or marks.new.items n false ≡ true }
+    ensures less { (n : ℕ) → get_or marks.new.items n false ≡ false → get_or marks.old.items n false
+        ≡ false }
+    ensures marked { (n : ℕ) (tail : List ℕ) → n < 10000 → name.now ≡ digits n ++ tail
+        → get_or marks.new.items n false ≡ true }
 {
     match number_in(name) {
         Some(number) => {
@@ -75,10 +78,13 @@ fn marks_in(
     listing: &Listing,
 ) -> Result<Vec<bool>, AdministrationFault>
     requires { directory ≡ updates_path }
-    ensures marks { (w : World) → IsListing w updates_path listing.now.names listing.now.bad → IfOk result (λ marks. AreMarked marks.items w) }
+    ensures marks { (w : World) → IsListing w updates_path listing.now.names listing.now.bad → IfOk
+        result (λ marks. AreMarked marks.items w) }
     ensures all { IfOk result (λ marks. length marks.items ≡ 10000) }
-    ensures text { (w : World) → IsListing w updates_path listing.now.names listing.now.bad → OnOk result (HasBadName w updates_path → ⊥) }
-    ensures damage { (w : World) → IsListing w updates_path listing.now.names listing.now.bad → IfErr result (IsNameDamage w) }
+    ensures text { (w : World) → IsListing w updates_path listing.now.names listing.now.bad → OnOk
+        result (HasBadName w updates_path → ⊥) }
+    ensures damage { (w : World) → IsListing w updates_path listing.now.names listing.now.bad
+        → IfErr result (IsNameDamage w) }
     ensures device { IfErr result (λ fault. fault ≡ Device → ⊥) }
 {
     if listing.bad {
@@ -91,10 +97,13 @@ fn marks_in(
 }
 
 fn list_notes<H: Host>(alloc: Global, host: &mut H) -> Result<Vec<bool>, AdministrationFault>
-    ensures marks { Tells result (λ marks w. AreMarked marks.items w) (H.state host.old) (H.state host.new) }
+    ensures marks { Tells result (λ marks w. AreMarked marks.items w) (H.state host.old)
+        (H.state host.new) }
     ensures all { IfOk result (λ marks. length marks.items ≡ 10000) }
-    ensures text { Tells result (λ marks w. HasBadName w updates_path → ⊥) (H.state host.old) (H.state host.new) }
-    ensures damage { IsTrue (H.state host.new).honest → IfErr result (IsNameDamage (H.state host.old).world) }
+    ensures text { Tells result (λ marks w. HasBadName w updates_path → ⊥) (H.state host.old)
+        (H.state host.new) }
+    ensures damage { IsTrue (H.state host.new).honest
+        → IfErr result (IsNameDamage (H.state host.old).world) }
     ensures reads { Reads (H.state host.old) (H.state host.new) }
     ensures silent { Silent (H.state host.old) (H.state host.new) }
     ensures counts { CountsAdministration (H.state host.old) (H.state host.new) result }
@@ -111,8 +120,10 @@ fn read_at<H: Host>(
     path: RootPath,
     table: &mut Table,
 ) -> Result<(), AdministrationFault>
-    ensures taken { IsTrue (H.state host.new).honest → OnOk result (IsNoteTaken ((H.state host.old).world path) table.old table.new) }
-    ensures damage { IsTrue (H.state host.new).honest → IfErr result (IsFileDamage (H.state host.old).world path) }
+    ensures taken { IsTrue (H.state host.new).honest → OnOk
+        result (IsNoteTaken ((H.state host.old).world path) table.old table.new) }
+    ensures damage { IsTrue (H.state host.new).honest
+        → IfErr result (IsFileDamage (H.state host.old).world path) }
     ensures reads { Reads (H.state host.old) (H.state host.new) }
     ensures silent { Silent (H.state host.old) (H.state host.new) }
     ensures counts { CountsAdministration (H.state host.old) (H.state host.new) result }
@@ -123,8 +134,10 @@ fn read_at<H: Host>(
 
 // No directory may be where a note is written aside.
 fn check_aside<H: Host>(host: &mut H, path: RootPath) -> Result<(), AdministrationFault>
-    ensures free { IsTrue (H.state host.new).honest → OnOk result (NoDirectory ((H.state host.old).world path)) }
-    ensures damage { IsTrue (H.state host.new).honest → IfErr result (IsSpareDamage (H.state host.old).world path) }
+    ensures free { IsTrue (H.state host.new).honest → OnOk
+        result (NoDirectory ((H.state host.old).world path)) }
+    ensures damage { IsTrue (H.state host.new).honest
+        → IfErr result (IsSpareDamage (H.state host.old).world path) }
     ensures reads { Reads (H.state host.old) (H.state host.new) }
     ensures silent { Silent (H.state host.old) (H.state host.new) }
     ensures counts { CountsAdministration (H.state host.old) (H.state host.new) result }
@@ -148,8 +161,10 @@ fn read_number<H: Host>(
     table: &mut Table,
 ) -> Result<(), AdministrationFault>
     requires { number < 10000 }
-    ensures taken { IsTrue (H.state host.new).honest → OnOk result (IsNumberTaken (H.state host.old).world number table.old table.new) }
-    ensures damage { IsTrue (H.state host.new).honest → IfErr result (IsNumberDamage (H.state host.old).world number) }
+    ensures taken { IsTrue (H.state host.new).honest → OnOk
+        result (IsNumberTaken (H.state host.old).world number table.old table.new) }
+    ensures damage { IsTrue (H.state host.new).honest
+        → IfErr result (IsNumberDamage (H.state host.old).world number) }
     ensures reads { Reads (H.state host.old) (H.state host.new) }
     ensures silent { Silent (H.state host.old) (H.state host.new) }
     ensures counts { CountsAdministration (H.state host.old) (H.state host.new) result }
@@ -172,9 +187,11 @@ fn read_if_marked<H: Host>(
     requires number { number < 10000 }
     requires count { count ≤ number }
     requires none { marked ≡ false → Needs (H.state host.old) (HasNone number) }
-    ensures taken { IsTrue (H.state host.new).honest → IfOk result (λ next. IsNext (H.state host.old).world number count next table.old table.new) }
+    ensures taken { IsTrue (H.state host.new).honest → IfOk
+        result (λ next. IsNext (H.state host.old).world number count next table.old table.new) }
     ensures within { IfOk result (λ next. next ≤ number + 1) }
-    ensures damage { IsTrue (H.state host.new).honest → IfErr result (IsNumberDamage (H.state host.old).world number) }
+    ensures damage { IsTrue (H.state host.new).honest
+        → IfErr result (IsNumberDamage (H.state host.old).world number) }
     ensures reads { Reads (H.state host.old) (H.state host.new) }
     ensures silent { Silent (H.state host.old) (H.state host.new) }
     ensures counts { CountsAdministration (H.state host.old) (H.state host.new) result }
@@ -197,9 +214,11 @@ fn read_marked<H: Host>(
 ) -> Result<u16, AdministrationFault>
     requires marked { Needs (H.state host.old) (AreMarked marks.now) }
     requires all { length marks.now ≡ 10000 }
-    ensures taken { IsTrue (H.state host.new).honest → IfOk result (λ count. AreNumbersTaken (H.state host.old).world count 10000 table.old table.new) }
+    ensures taken { IsTrue (H.state host.new).honest → IfOk
+        result (λ count. AreNumbersTaken (H.state host.old).world count 10000 table.old table.new) }
     ensures within { IfOk result (λ count. count ≤ 10000) }
-    ensures damage { IsTrue (H.state host.new).honest → IfErr result (IsNumbersDamage (H.state host.old).world) }
+    ensures damage { IsTrue (H.state host.new).honest
+        → IfErr result (IsNumbersDamage (H.state host.old).world) }
     ensures reads { Reads (H.state host.old) (H.state host.new) }
     ensures silent { Silent (H.state host.old) (H.state host.new) }
     ensures counts { CountsAdministration (H.state host.old) (H.state host.new) result }
@@ -219,10 +238,13 @@ pub(crate) fn read_notes<H: Host>(
     host: &mut H,
     table: &mut Table,
 ) -> Result<u16, AdministrationFault>
-    ensures taken { IsTrue (H.state host.new).honest → IfOk result (λ count. AreNumbersTaken (H.state host.old).world count 10000 table.old table.new) }
-    ensures text { Tells result (λ count w. HasBadName w updates_path → ⊥) (H.state host.old) (H.state host.new) }
+    ensures taken { IsTrue (H.state host.new).honest → IfOk
+        result (λ count. AreNumbersTaken (H.state host.old).world count 10000 table.old table.new) }
+    ensures text { Tells result (λ count w. HasBadName w updates_path → ⊥) (H.state host.old)
+        (H.state host.new) }
     ensures within { IfOk result (λ count. count ≤ 10000) }
-    ensures damage { IsTrue (H.state host.new).honest → IfErr result (IsNotesDamage (H.state host.old).world) }
+    ensures damage { IsTrue (H.state host.new).honest
+        → IfErr result (IsNotesDamage (H.state host.old).world) }
     ensures reads { Reads (H.state host.old) (H.state host.new) }
     ensures silent { Silent (H.state host.old) (H.state host.new) }
     ensures counts { CountsAdministration (H.state host.old) (H.state host.new) result }

@@ -54,7 +54,8 @@ fn after_word<'a>(bytes: &'a [u8], word: &str) -> Option<&'a [u8]>
 
 fn read_want(bytes: &[u8]) -> Option<(Want, &[u8])>
     ensures some { IfSome result (λ r. bytes.now ≡ want_word r.0 ++ 32 ∷ r.1.now) }
-    ensures none { IfNone result ((want : AWant) (rest : List ℕ) → bytes.now ≢ want_word want ++ 32 ∷ rest) }
+    ensures none { IfNone result ((want : AWant) (rest : List ℕ) → bytes.now ≢ want_word want ++ 32
+        ∷ rest) }
 {
     if let Some(rest) = after_word(bytes, Want::Unknown.name()) {
         return Some((Want::Unknown, rest));
@@ -76,7 +77,8 @@ fn read_want(bytes: &[u8]) -> Option<(Want, &[u8])>
 
 fn read_flag(bytes: &[u8]) -> Option<(Flag, &[u8])>
     ensures some { IfSome result (λ r. bytes.now ≡ flag_word r.0 ++ 32 ∷ r.1.now) }
-    ensures none { IfNone result ((flag : AFlag) (rest : List ℕ) → bytes.now ≢ flag_word flag ++ 32 ∷ rest) }
+    ensures none { IfNone result ((flag : AFlag) (rest : List ℕ) → bytes.now ≢ flag_word flag ++ 32
+        ∷ rest) }
 {
     if let Some(rest) = after_word(bytes, Flag::Ok.name()) {
         return Some((Flag::Ok, rest));
@@ -137,7 +139,8 @@ pub(crate) fn read_status(bytes: &[u8]) -> Option<Status>
 
 /// The version that a value is.
 pub(crate) fn read_version(alloc: Global, value: &[u8]) -> Result<Option<Version>, AllocError>
-    ensures { IfOk result (λ o. MatchOption o (IsVersion value.now → ⊥) (λ v. (v ≡ value.now) × IsVersion value.now)) }
+    ensures { IfOk result (λ o. MatchOption o (IsVersion value.now → ⊥) (λ v. (v ≡ value.now)
+        × IsVersion value.now)) }
 {
     match Version::parse(alloc, value) {
         Ok(version) => Ok(Some(version)),

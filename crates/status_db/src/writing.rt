@@ -20,7 +20,8 @@ use texts::Bytes;
 use version_order::Version;
 
 fn status_text(alloc: Global, entry: &Record) -> Result<Vec<u8>, AllocError>
-    ensures { IfOk result (λ text. text.items ≡ status_text entry.now.want entry.now.flag entry.now.state) }
+    ensures { IfOk result (λ text. text.items ≡ status_text entry.now.want entry.now.flag
+        entry.now.state) }
 {
     let mut text = Vec::new(alloc);
     text.extend_from_slice(entry.want.name().as_bytes())?;
@@ -46,7 +47,8 @@ pub(crate) fn add_line(
 
 fn add_first_fields(alloc: Global, entry: &Record, fields: &mut Paragraph) -> Result<(), AllocError>
     requires { fields.old ≡ [] }
-    ensures fields { OnOk result (fields.new ≡ first_fields entry.now.name (status_text entry.now.want entry.now.flag entry.now.state) entry.now.version) }
+    ensures fields { OnOk result (fields.new ≡ first_fields entry.now.name
+        (status_text entry.now.want entry.now.flag entry.now.state) entry.now.version) }
     ensures version { OnOk result (IsVersion entry.now.version) }
 {
     let status = status_text(alloc, entry)?;
@@ -107,7 +109,9 @@ fn add_lines(
 fn add_conffiles(alloc: Global, entry: &Record, fields: &mut Paragraph) -> Result<(), AllocError>
     requires conffiles { stands (codes "Conffiles") fields.old ≡ false }
     requires pending { stands (codes "New-Conffiles") fields.old ≡ false }
-    ensures { OnOk result (fields.new ≡ fields.old ++ (lines_field (codes "Conffiles") (map conffile_line entry.now.conffiles) ++ lines_field (codes "New-Conffiles") (map pending_line entry.now.pending))) }
+    ensures { OnOk result (fields.new ≡ fields.old ++ (lines_field (codes "Conffiles")
+        (map conffile_line entry.now.conffiles) ++ lines_field (codes "New-Conffiles")
+        (map pending_line entry.now.pending))) }
 {
     add_lines(
         alloc,
@@ -160,7 +164,8 @@ pub(crate) fn paragraph_of(alloc: Global, entry: &Record) -> Result<Paragraph, A
 /// A record as it is written in the status file, from which it is read again.
 pub fn record_text(alloc: Global, entry: &Record) -> Result<Bytes, AllocError>
     ensures text { IfOk result (λ text. text ≡ record_text entry.now) }
-    ensures read { is_not_installed entry.now.state ≡ false → IfOk result (λ text. ∥ IsStatus text (entry.now ∷ []) ∥₁) }
+    ensures read { is_not_installed entry.now.state ≡ false → IfOk
+        result (λ text. ∥ IsStatus text (entry.now ∷ []) ∥₁) }
 {
     let paragraph = paragraph_of(alloc, entry)?;
     match write_paragraph(alloc, &paragraph) {
@@ -196,7 +201,8 @@ fn status_bytes(alloc: Global, records: &[Record]) -> Result<Bytes, AllocError>
 /// The status file of a table.
 pub(crate) fn status_node(alloc: Global, records: &[Record]) -> Result<Node, AllocError>
     requires { AreApart records.now }
-    ensures { IfOk result (λ node. (bytes : List ℕ) × (node ≡ File bytes (own_access 0o644)) × ∥ IsStatus bytes records.now ∥₁) }
+    ensures { IfOk result (λ node. (bytes : List ℕ) × (node ≡ File bytes (own_access 0o644))
+        × ∥ IsStatus bytes records.now ∥₁) }
 {
     Ok(Node::File {
         bytes: status_bytes(alloc, records)?,

@@ -194,7 +194,8 @@ fn unpack(
     requires fitting { Each IsFitting works.old.items }
     ensures works { IsRearranged works.old.items works.new.items }
     ensures order { IfOk result (λ found. IfNone found (AllInOrder works.new.items)) }
-    ensures ready { Gives result (λ found old new. IfNone found (IsWrittenFrom works.new.items old new)) (memory_state host.old) (memory_state host.new) }
+    ensures ready { Gives result (λ found old new. IfNone found (IsWrittenFrom works.new.items old
+        new)) (memory_state host.old) (memory_state host.new) }
 {
     let yields = names_of(alloc, package.yields)?;
     let incoming = Text::from_str(alloc, package.name)?;

@@ -63,7 +63,8 @@ fn file(alloc: Global, text: &str) -> Result<Node, AllocError>
 }
 
 fn is_directory<H: Host>(host: &mut H, path: &RootPath) -> Result<bool, HostFault>
-    ensures found { Tells result (λ is w. IsTrue is → IsDirectory (w path.now)) (H.state host.old) (H.state host.new) }
+    ensures found { Tells result (λ is w. IsTrue is → IsDirectory (w path.now)) (H.state host.old)
+        (H.state host.new) }
     ensures reads { Reads (H.state host.old) (H.state host.new) }
     ensures silent { Silent (H.state host.old) (H.state host.new) }
     ensures counts { Counts (H.state host.old) (H.state host.new) result }
@@ -75,7 +76,8 @@ fn is_directory<H: Host>(host: &mut H, path: &RootPath) -> Result<bool, HostFaul
 }
 
 fn is_free<H: Host>(host: &mut H, path: &RootPath) -> Result<bool, HostFault>
-    ensures found { Tells result (λ is w. IsTrue is → NoDirectory (w path.now)) (H.state host.old) (H.state host.new) }
+    ensures found { Tells result (λ is w. IsTrue is → NoDirectory (w path.now)) (H.state host.old)
+        (H.state host.new) }
     ensures reads { Reads (H.state host.old) (H.state host.new) }
     ensures silent { Silent (H.state host.old) (H.state host.new) }
     ensures counts { Counts (H.state host.old) (H.state host.new) result }
@@ -94,7 +96,9 @@ fn is_ready<H: Host>(
     path: &RootPath,
     spare: &RootPath,
 ) -> Result<bool, HostFault>
-    ensures found { Tells result (λ is w. IsTrue is → IsDirectory (w top.now) × NoDirectory (w path.now) × NoDirectory (w spare.now)) (H.state host.old) (H.state host.new) }
+    ensures found { Tells result (λ is w. IsTrue is → IsDirectory (w top.now)
+        × NoDirectory (w path.now) × NoDirectory (w spare.now)) (H.state host.old)
+        (H.state host.new) }
     ensures reads { Reads (H.state host.old) (H.state host.new) }
     ensures silent { Silent (H.state host.old) (H.state host.new) }
     ensures counts { Counts (H.state host.old) (H.state host.new) result }

@@ -40,7 +40,8 @@ pub fn touched_of(
     database: &NotedDatabase,
     names: &[Text],
 ) -> Result<Vec<Touched>, AllocError>
-    ensures { IfOk result (λ touched. touched.items ≡ map (touched_at database.now.records) names.now) }
+    ensures { IfOk result (λ touched. touched.items ≡ map (touched_at database.now.records)
+        names.now) }
 {
     let mut touched = Vec::new(alloc);
     for name in names {

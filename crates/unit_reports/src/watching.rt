@@ -31,6 +31,9 @@ impl Watcher for Unwatched {
 pub fn what_is_told_in_turn<W: Watcher>()
     ensures none { (w : W) → IsTold W.tells w [] w }
     ensures one { (old new : W) (u : AUnit) → W.tells old u new → IsTold W.tells old (u ∷ []) new }
-    ensures more { (old mid new : W) (us vs : List AUnit) → IsTold W.tells old us mid → IsTold W.tells mid vs new → IsTold W.tells old (us ++ vs) new }
-    ensures added { (old mid new : W) (first second third : List AUnit) → AddsTold W.tells first second old mid → AddsTold W.tells second third mid new → AddsTold W.tells first third old new }
+    ensures more { (old mid new : W) (us vs : List AUnit) → IsTold W.tells old us mid
+        → IsTold W.tells mid vs new → IsTold W.tells old (us ++ vs) new }
+    ensures added { (old mid new : W) (first second third : List AUnit)
+        → AddsTold W.tells first second old mid → AddsTold W.tells second third mid new
+        → AddsTold W.tells first third old new }
 {}

@@ -37,23 +37,37 @@ pub fn commit<H: Host>(
     requires noting { database.old.closed ≡ false }
     requires opened { lists.old.closed ≡ false }
     requires named { is_package_name change.now.name ≡ true }
-    requires losers { (name : List ℕ) → Contains change.now.losers name → is_package_name name ≡ true }
+    requires losers { (name : List ℕ) → Contains change.now.losers name → is_package_name name
+        ≡ true }
     requires spared { SparesAdministration change.now.leaving.items }
     requires paths { AreListPaths new_list }
     requires elsewhere { AreElsewhere change.now.names.items }
     requires stands { AreStanding records.now }
     requires ready { Needs (H.state host.old) (IsListReady change.now.name) }
-    requires losers_ready { Needs (H.state host.old) (λ w. (name : List ℕ) → Contains change.now.losers name → IsListReady name w) }
+    requires losers_ready { Needs (H.state host.old) (λ w. (name : List ℕ)
+        → Contains change.now.losers name → IsListReady name w) }
     requires members { Needs (H.state host.old) (IsMembersReady change.now.name) }
     requires kept { Needs (H.state host.old) (IsKept database.old) }
-    ensures lists { OnOk result (lists.new ≡ record lists.old { lists = committed_lists (changes_of change.now new_list) diversions.now.entries lists.old.lists }) }
-    ensures lists_err { OnErr result ((lists.new.closed ≡ true) ⊎ AreListsAmid (changes_of change.now new_list) diversions.now.entries lists.old.lists lists.new.lists) }
-    ensures records { OnOk result (database.new.records ≡ put_records records.now database.old.records) }
+    ensures lists { OnOk result (lists.new ≡ record lists.old {
+      lists = committed_lists (changes_of change.now new_list) diversions.now.entries
+          lists.old.lists;
+    }) }
+    ensures lists_err { OnErr result ((lists.new.closed ≡ true)
+        ⊎ AreListsAmid (changes_of change.now new_list) diversions.now.entries lists.old.lists
+        lists.new.lists) }
+    ensures records { OnOk result (database.new.records ≡ put_records records.now
+        database.old.records) }
     ensures opened { OnOk result (database.new.closed ≡ false) }
-    ensures err { OnErr result (HasSomeNoted records.now database.old.records database.new.records) }
-    ensures committed { Leaves result (HasCommitted (changes_of change.now new_list) diversions.now.entries lists.old.lists (put_records records.now database.old.records)) (H.state host.old) (H.state host.new) }
-    ensures kept { Leaves result (λ old new. IsKept database.new new) (H.state host.old) (H.state host.new) }
-    ensures any_moment { AtEachMoment (MayCommit (changes_of change.now new_list) diversions.now.entries lists.old.lists records.now database.old.records) (H.state host.old) (H.state host.new) }
+    ensures err { OnErr result (HasSomeNoted records.now database.old.records
+        database.new.records) }
+    ensures committed { Leaves result (HasCommitted (changes_of change.now new_list)
+        diversions.now.entries lists.old.lists (put_records records.now database.old.records))
+        (H.state host.old) (H.state host.new) }
+    ensures kept { Leaves result (λ old new. IsKept database.new new) (H.state host.old)
+        (H.state host.new) }
+    ensures any_moment { AtEachMoment (MayCommit (changes_of change.now new_list)
+        diversions.now.entries lists.old.lists records.now database.old.records) (H.state host.old)
+        (H.state host.new) }
     ensures silent { Silent (H.state host.old) (H.state host.new) }
     ensures counts { Counts (H.state host.old) (H.state host.new) result }
 {

@@ -11,7 +11,8 @@ use std::alloc::{AllocError, Global};
 use texts::Text;
 
 fn has_entry(diversions: &Diversions, taken: &Taken, name: &Text, entries: &ConffileEntries) -> bool
-    ensures { result ≡ list_any (λ e. is_at diversions.now.entries taken.now name.now e.path) entries.now }
+    ensures { result ≡ list_any (λ e. is_at diversions.now.entries taken.now name.now e.path)
+        entries.now }
 {
     entries
         .as_slice()
@@ -20,7 +21,8 @@ fn has_entry(diversions: &Diversions, taken: &Taken, name: &Text, entries: &Conf
 }
 
 fn has_digest(diversions: &Diversions, taken: &Taken, name: &Text, pending: &PendingDigests) -> bool
-    ensures { result ≡ list_any (λ p. is_at diversions.now.entries taken.now name.now p.path) pending.now }
+    ensures { result ≡ list_any (λ p. is_at diversions.now.entries taken.now name.now p.path)
+        pending.now }
 {
     pending.as_slice().iter().any(|digest| taken.has_ship_path(diversions, name, &digest.path))
 }
@@ -39,7 +41,9 @@ fn left_entries(
     name: &Text,
     entries: &ConffileEntries,
 ) -> Result<ConffileEntries, AllocError>
-    ensures { IfOk result (λ left. left ≡ filter (λ e. not (is_at diversions.now.entries taken.now name.now e.path)) entries.now) }
+    ensures { IfOk result
+        (λ left. left ≡ filter (λ e. not (is_at diversions.now.entries taken.now name.now e.path))
+        entries.now) }
 {
     entries.law();
     let mut left = ConffileEntries::new(alloc);
@@ -58,7 +62,9 @@ fn left_pending(
     name: &Text,
     pending: &PendingDigests,
 ) -> Result<PendingDigests, AllocError>
-    ensures { IfOk result (λ left. left ≡ filter (λ p. not (is_at diversions.now.entries taken.now name.now p.path)) pending.now) }
+    ensures { IfOk result
+        (λ left. left ≡ filter (λ p. not (is_at diversions.now.entries taken.now name.now p.path))
+        pending.now) }
 {
     pending.law();
     let mut left = PendingDigests::new(alloc);
@@ -90,7 +96,8 @@ fn is_among(names: &[Text], name: &Text) -> bool
 }
 
 fn loses(diversions: &Diversions, taken: &Taken, losers: &[Text], entry: &Record) -> bool
-    ensures { result ≡ (list_any (bytes_eq entry.now.name) losers.now && loses_conffile diversions.now.entries taken.now entry.now) }
+    ensures { result ≡ (list_any (bytes_eq entry.now.name) losers.now && loses_conffile
+        diversions.now.entries taken.now entry.now) }
 {
     is_among(losers, &entry.name) && loses_conffile(diversions, taken, entry)
 }
@@ -103,7 +110,8 @@ pub(crate) fn losing_records(
     losers: &[Text],
     records: &[Record],
 ) -> Result<Vec<Record>, AllocError>
-    ensures { IfOk result (λ losing. losing.items ≡ losing_records diversions.now.entries taken.now losers.now records.now) }
+    ensures { IfOk result (λ losing. losing.items ≡ losing_records diversions.now.entries taken.now
+        losers.now records.now) }
 {
     let mut losing = Vec::new(alloc);
     for entry in records {

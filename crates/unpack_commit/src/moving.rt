@@ -28,10 +28,16 @@ pub(crate) fn renew<H: Host>(
     requires spared { SparesAdministration change.now.leaving.items }
     requires paths { AreListPaths new_list }
     requires ready { Needs (H.state host.old) (IsListReady change.now.name) }
-    ensures lists { OnOk result (lists.new ≡ record lists.old { lists = with_list change.now.name new_list lists.old.lists }) }
-    ensures err { OnErr result ((lists.new ≡ record lists.old { closed = true }) ⊎ (lists.new ≡ lists.old)) }
-    ensures renewed { Leaves result (HasRenewed change.now.leaving.items (list_path change.now.name) (list_file new_list)) (H.state host.old) (H.state host.new) }
-    ensures any_moment { AtEachMoment (MayRenew change.now.leaving.items (list_path change.now.name) (list_file new_list)) (H.state host.old) (H.state host.new) }
+    ensures lists { OnOk result (lists.new ≡ record lists.old {
+      lists = with_list change.now.name
+          new_list lists.old.lists;
+    }) }
+    ensures err { OnErr result ((lists.new ≡ record lists.old { closed = true })
+        ⊎ (lists.new ≡ lists.old)) }
+    ensures renewed { Leaves result (HasRenewed change.now.leaving.items (list_path change.now.name)
+        (list_file new_list)) (H.state host.old) (H.state host.new) }
+    ensures any_moment { AtEachMoment (MayRenew change.now.leaving.items (list_path change.now.name)
+        (list_file new_list)) (H.state host.old) (H.state host.new) }
     ensures silent { Silent (H.state host.old) (H.state host.new) }
     ensures counts { Counts (H.state host.old) (H.state host.new) result }
 {
@@ -48,12 +54,25 @@ pub(crate) fn release_places<H: Host>(
     change: &Change,
 ) -> Result<(), HostFault>
     requires opened { lists.old.closed ≡ false }
-    requires named { (name : List ℕ) → Contains change.now.losers name → is_package_name name ≡ true }
-    requires ready { Needs (H.state host.old) (λ w. (name : List ℕ) → Contains change.now.losers name → IsListReady name w) }
-    ensures lists { OnOk result (lists.new ≡ record lists.old { lists = without_all diversions.now.entries change.now.places.items change.now.losers lists.old.lists }) }
-    ensures err { OnErr result ((lists.new.closed ≡ true) ⊎ (lists.new ≡ record lists.old { lists = without_all diversions.now.entries change.now.places.items change.now.losers lists.old.lists })) }
-    ensures released { Leaves result (HasReleased diversions.now.entries change.now.places.items change.now.losers lists.old.lists change.now.names.items) (H.state host.old) (H.state host.new) }
-    ensures any_moment { AtEachMoment (MayRelease diversions.now.entries change.now.places.items change.now.losers lists.old.lists change.now.names.items) (H.state host.old) (H.state host.new) }
+    requires named { (name : List ℕ) → Contains change.now.losers name → is_package_name name
+        ≡ true }
+    requires ready { Needs (H.state host.old) (λ w. (name : List ℕ)
+        → Contains change.now.losers name → IsListReady name w) }
+    ensures lists { OnOk result (lists.new ≡ record lists.old {
+      lists = without_all diversions.now.entries change.now.places.items change.now.losers
+          lists.old.lists;
+    }) }
+    ensures err { OnErr result ((lists.new.closed ≡ true)
+        ⊎ (lists.new ≡ record lists.old {
+          lists = without_all diversions.now.entries
+              change.now.places.items change.now.losers lists.old.lists;
+        })) }
+    ensures released { Leaves result (HasReleased diversions.now.entries change.now.places.items
+        change.now.losers lists.old.lists change.now.names.items) (H.state host.old)
+        (H.state host.new) }
+    ensures any_moment { AtEachMoment (MayRelease diversions.now.entries change.now.places.items
+        change.now.losers lists.old.lists change.now.names.items) (H.state host.old)
+        (H.state host.new) }
     ensures silent { Silent (H.state host.old) (H.state host.new) }
     ensures counts { Counts (H.state host.old) (H.state host.new) result }
 {

@@ -22,11 +22,13 @@ fn note_copy<H: Host>(
     requires opened { database.old.closed ≡ false }
     requires stands { is_not_installed entry.now.state ≡ false }
     requires kept { Needs (H.state host.old) (IsKept database.old) }
-    ensures records { OnOk result (database.new.records ≡ put_record entry.now database.old.records) }
+    ensures records { OnOk result (database.new.records ≡ put_record entry.now
+        database.old.records) }
     ensures opened { OnOk result (database.new.closed ≡ false) }
     ensures same { OnErr result (database.new.records ≡ database.old.records) }
     ensures kept { Leaves result (IsNoted database.new) (H.state host.old) (H.state host.new) }
-    ensures any_moment { AtEachMoment (IsNoting database.old.records (put_record entry.now database.old.records)) (H.state host.old) (H.state host.new) }
+    ensures any_moment { AtEachMoment (IsNoting database.old.records
+        (put_record entry.now database.old.records)) (H.state host.old) (H.state host.new) }
     ensures silent { Silent (H.state host.old) (H.state host.new) }
     ensures counts { Counts (H.state host.old) (H.state host.new) result }
 {
@@ -44,12 +46,17 @@ pub(crate) fn note_records<H: Host>(
     requires opened { database.old.closed ≡ false }
     requires stands { AreStanding records.now }
     requires kept { Needs (H.state host.old) (IsKept database.old) }
-    ensures records { OnOk result (database.new.records ≡ put_records records.now database.old.records) }
+    ensures records { OnOk result (database.new.records ≡ put_records records.now
+        database.old.records) }
     ensures opened { OnOk result (database.new.closed ≡ false) }
-    ensures err { OnErr result (HasSomeNoted records.now database.old.records database.new.records) }
-    ensures noted { Leaves result (HaveNoted (put_records records.now database.old.records)) (H.state host.old) (H.state host.new) }
-    ensures kept { Leaves result (λ old new. IsKept database.new new) (H.state host.old) (H.state host.new) }
-    ensures any_moment { AtEachMoment (AreNoting records.now database.old.records) (H.state host.old) (H.state host.new) }
+    ensures err { OnErr result (HasSomeNoted records.now database.old.records
+        database.new.records) }
+    ensures noted { Leaves result (HaveNoted (put_records records.now database.old.records))
+        (H.state host.old) (H.state host.new) }
+    ensures kept { Leaves result (λ old new. IsKept database.new new) (H.state host.old)
+        (H.state host.new) }
+    ensures any_moment { AtEachMoment (AreNoting records.now database.old.records)
+        (H.state host.old) (H.state host.new) }
     ensures silent { Silent (H.state host.old) (H.state host.new) }
     ensures counts { Counts (H.state host.old) (H.state host.new) result }
 {

@@ -19,8 +19,10 @@ pub(crate) fn store_members<H: Host>(
 ) -> Result<(), HostFault>
     requires named { is_package_name owner.now ≡ true }
     requires ready { Needs (H.state host.old) (IsMembersReady owner.now) }
-    ensures stored { Leaves result (HasStored owner.now members.now) (H.state host.old) (H.state host.new) }
-    ensures any_moment { AtEachMoment (IsStoring owner.now members.now) (H.state host.old) (H.state host.new) }
+    ensures stored { Leaves result (HasStored owner.now members.now) (H.state host.old)
+        (H.state host.new) }
+    ensures any_moment { AtEachMoment (IsStoring owner.now members.now) (H.state host.old)
+        (H.state host.new) }
     ensures silent { Silent (H.state host.old) (H.state host.new) }
     ensures counts { Counts (H.state host.old) (H.state host.new) result }
 {

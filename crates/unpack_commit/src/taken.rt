@@ -64,7 +64,8 @@ fn places_of(alloc: Global, works: &[Work]) -> Result<Vec<RootPath>, AllocError>
 }
 
 fn texts_of(alloc: Global, places: &[RootPath]) -> Result<BTreeSet<String>, AllocError>
-    ensures { IfOk result (λ texts. (q : Path) → contains_text texts q ≡ list_any (bytes_eq q) places.now) }
+    ensures { IfOk result (λ texts. (q : Path) → contains_text texts q ≡ list_any (bytes_eq q)
+        places.now) }
 {
     let mut texts = BTreeSet::new(alloc);
     for place in places {

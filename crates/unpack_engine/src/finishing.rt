@@ -172,12 +172,10 @@ fn finish_committed<H: Host>(
     ensures told { IfOk result (AreTold name.now (records_from name.now yields.now
         diversions.now.entries lists.old.lists works.now rest database.old.records
         ++ deconfigured database.new.records others.now)) }
-    ensures lists { OnOk result (lists.new
-        ≡ record lists.old {
-          lists = committed_lists
-              (changes_from name.now yields.now diversions.now.entries lists.old.lists works.now rest)
-              diversions.now.entries lists.old.lists;
-        }) }
+    ensures lists { OnOk result (lists.new ≡ record lists.old {
+      lists = committed_lists (changes_from name.now yields.now diversions.now.entries
+          lists.old.lists works.now rest) diversions.now.entries lists.old.lists;
+    }) }
     ensures records { OnOk result (database.new.records
         ≡ put_records
         (records_from name.now yields.now diversions.now.entries lists.old.lists works.now rest

@@ -50,16 +50,16 @@ pub(crate) fn begin_and_run<H: Host>(
         calls.items }
     requires length { length calls.items ≡ length (kinds_of rows.now.found rows.now.others.items) }
     requires order { Needs (H.state host.old) (IsInOrder database.old lists.old.lists) }
-    ensures ran { IfOk result (λ u. HasRunRows (HasBegun members.now)
-        (λ s. task_of s database.old lists.old diversions.now.entries places.old works.old.items rows.now) calls.items
-        (ended_as u) (holding database.new lists.new places.new works.new.items)
-        (H.state host.old) (H.state host.new) told.old.items told.new.items) }
+    ensures ran { IfOk result (λ u. HasRunRows (HasBegun members.now) (λ s. task_of s database.old
+        lists.old diversions.now.entries places.old works.old.items rows.now) calls.items
+        (ended_as u) (holding database.new lists.new places.new works.new.items) (H.state host.old)
+        (H.state host.new) told.old.items told.new.items) }
     ensures cause { IfOk result (IsCauseOf calls.items) }
     ensures told { HasCalledRows calls.items
         (H.state host.old) (H.state host.new) told.old.items told.new.items }
     ensures any_moment { AtEachMomentOf (IsRunning (HasBegun members.now) IsLaying
-        (λ s. task_of s database.old lists.old diversions.now.entries places.old works.old.items rows.now))
-        (H.state host.old) (H.state host.new) }
+        (λ s. task_of s database.old lists.old diversions.now.entries places.old works.old.items
+        rows.now)) (H.state host.old) (H.state host.new) }
     ensures counts { Counts (H.state host.old) (H.state host.new) result }
 {
     match lay_out(alloc, host, members) {

@@ -30,10 +30,16 @@ pub fn renew_list<H: Host>(
     requires spared { SparesAdministration leaving.now }
     requires paths { AreListPaths shipped }
     requires ready { Needs (H.state host.old) (IsListReady name.now) }
-    ensures lists { OnOk result (lists.new ≡ record lists.old { lists = with_list name.now shipped lists.old.lists }) }
-    ensures err { OnErr result ((lists.new ≡ record lists.old { closed = true }) ⊎ (lists.new ≡ lists.old)) }
-    ensures renewed { Leaves result (HasRenewed leaving.now (list_path name.now) (list_file shipped)) (H.state host.old) (H.state host.new) }
-    ensures any_moment { AtEachMoment (MayRenew leaving.now (list_path name.now) (list_file shipped)) (H.state host.old) (H.state host.new) }
+    ensures lists { OnOk result (lists.new ≡ record lists.old {
+      lists = with_list name.now shipped
+          lists.old.lists;
+    }) }
+    ensures err { OnErr result ((lists.new ≡ record lists.old { closed = true })
+        ⊎ (lists.new ≡ lists.old)) }
+    ensures renewed { Leaves result (HasRenewed leaving.now (list_path name.now)
+        (list_file shipped)) (H.state host.old) (H.state host.new) }
+    ensures any_moment { AtEachMoment (MayRenew leaving.now (list_path name.now)
+        (list_file shipped)) (H.state host.old) (H.state host.new) }
     ensures silent { Silent (H.state host.old) (H.state host.new) }
     ensures counts { Counts (H.state host.old) (H.state host.new) result }
 {
@@ -55,11 +61,19 @@ pub fn release<H: Host>(
 ) -> Result<(), HostFault>
     requires opened { lists.old.closed ≡ false }
     requires named { (name : List ℕ) → Contains from.now name → is_package_name name ≡ true }
-    requires ready { Needs (H.state host.old) (λ w. (name : List ℕ) → Contains from.now name → IsListReady name w) }
-    ensures lists { OnOk result (lists.new ≡ record lists.old { lists = without_all diversions.now.entries places.now from.now lists.old.lists }) }
-    ensures err { OnErr result ((lists.new.closed ≡ true) ⊎ (lists.new ≡ record lists.old { lists = without_all diversions.now.entries places.now from.now lists.old.lists })) }
-    ensures released { Leaves result (HasReleased diversions.now.entries places.now from.now lists.old.lists names.now) (H.state host.old) (H.state host.new) }
-    ensures any_moment { AtEachMoment (MayRelease diversions.now.entries places.now from.now lists.old.lists names.now) (H.state host.old) (H.state host.new) }
+    requires ready { Needs (H.state host.old) (λ w. (name : List ℕ) → Contains from.now name
+        → IsListReady name w) }
+    ensures lists { OnOk result (lists.new ≡ record lists.old
+        { lists = without_all diversions.now.entries places.now from.now lists.old.lists }) }
+    ensures err { OnErr result ((lists.new.closed ≡ true)
+        ⊎ (lists.new ≡ record lists.old {
+          lists = without_all diversions.now.entries places.now
+              from.now lists.old.lists;
+        })) }
+    ensures released { Leaves result (HasReleased diversions.now.entries places.now from.now
+        lists.old.lists names.now) (H.state host.old) (H.state host.new) }
+    ensures any_moment { AtEachMoment (MayRelease diversions.now.entries places.now from.now
+        lists.old.lists names.now) (H.state host.old) (H.state host.new) }
     ensures silent { Silent (H.state host.old) (H.state host.new) }
     ensures counts { Counts (H.state host.old) (H.state host.new) result }
 {

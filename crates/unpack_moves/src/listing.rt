@@ -36,10 +36,16 @@ pub fn write_listed<H: Host>(
     requires order { AllInOrder works.now }
     requires free { Needs (H.state host.old) (λ w. Each (IsFreeIn w) works.now) }
     requires homed { Needs (H.state host.old) (λ w. Each (IsHomed works.now w) works.now) }
-    ensures lists { OnOk result (lists.new ≡ record lists.old { lists = with_list name.now union lists.old.lists }) }
-    ensures err { OnErr result ((lists.new ≡ record lists.old { closed = true }) ⊎ (lists.new ≡ record lists.old { lists = with_list name.now union lists.old.lists })) }
-    ensures listed { Leaves result (HasListed (list_path name.now) (list_file union) works.now) (H.state host.old) (H.state host.new) }
-    ensures any_moment { AtEachMoment (MayList (list_path name.now) (list_file union) works.now) (H.state host.old) (H.state host.new) }
+    ensures lists { OnOk result (lists.new ≡ record lists.old {
+      lists = with_list name.now union
+          lists.old.lists;
+    }) }
+    ensures err { OnErr result ((lists.new ≡ record lists.old { closed = true })
+        ⊎ (lists.new ≡ record lists.old { lists = with_list name.now union lists.old.lists })) }
+    ensures listed { Leaves result (HasListed (list_path name.now) (list_file union) works.now)
+        (H.state host.old) (H.state host.new) }
+    ensures any_moment { AtEachMoment (MayList (list_path name.now) (list_file union) works.now)
+        (H.state host.old) (H.state host.new) }
     ensures silent { Silent (H.state host.old) (H.state host.new) }
     ensures counts { Counts (H.state host.old) (H.state host.new) result }
 {
@@ -63,10 +69,16 @@ pub fn put_back_listed<H: Host>(
     requires named { Each IsNamed works.now }
     requires order { AllInOrder works.now }
     requires written { Needs (H.state host.old) (CanGoBack works.now) }
-    ensures lists { OnOk result (lists.new ≡ record lists.old { lists = with_list name.now old lists.old.lists }) }
-    ensures err { OnErr result ((lists.new ≡ record lists.old { closed = true }) ⊎ (lists.new ≡ lists.old)) }
-    ensures unlisted { Leaves result (HasUnlisted (list_path name.now) (list_file old) works.now) (H.state host.old) (H.state host.new) }
-    ensures any_moment { AtEachMoment (MayUnlist (list_path name.now) (list_file old) works.now) (H.state host.old) (H.state host.new) }
+    ensures lists { OnOk result (lists.new ≡ record lists.old {
+      lists = with_list name.now old
+          lists.old.lists;
+    }) }
+    ensures err { OnErr result ((lists.new ≡ record lists.old { closed = true })
+        ⊎ (lists.new ≡ lists.old)) }
+    ensures unlisted { Leaves result (HasUnlisted (list_path name.now) (list_file old) works.now)
+        (H.state host.old) (H.state host.new) }
+    ensures any_moment { AtEachMoment (MayUnlist (list_path name.now) (list_file old) works.now)
+        (H.state host.old) (H.state host.new) }
     ensures silent { Silent (H.state host.old) (H.state host.new) }
     ensures counts { Counts (H.state host.old) (H.state host.new) result }
 {

@@ -26,7 +26,8 @@ pub fn note_record<H: Host>(
     ensures err { OnErr result (database.new.closed ≡ true) }
     ensures same { OnErr result (database.new.records ≡ database.old.records) }
     ensures kept { Leaves result (IsNoted database.new) (H.state host.old) (H.state host.new) }
-    ensures any_moment { AtEachMoment (IsNoting database.old.records (put_record entry database.old.records)) (H.state host.old) (H.state host.new) }
+    ensures any_moment { AtEachMoment (IsNoting database.old.records
+        (put_record entry database.old.records)) (H.state host.old) (H.state host.new) }
     ensures silent { Silent (H.state host.old) (H.state host.new) }
     ensures counts { Counts (H.state host.old) (H.state host.new) result }
 {
@@ -47,12 +48,14 @@ pub fn note_no_record<H: Host>(
 ) -> Result<(), HostFault>
     requires opened { database.old.closed ≡ false }
     requires kept { Needs (H.state host.old) (IsKept database.old) }
-    ensures records { OnOk result (database.new.records ≡ drop_record name.now database.old.records) }
+    ensures records { OnOk result (database.new.records ≡ drop_record name.now
+        database.old.records) }
     ensures opened { OnOk result (database.new.closed ≡ false) }
     ensures err { OnErr result (database.new.closed ≡ true) }
     ensures same { OnErr result (database.new.records ≡ database.old.records) }
     ensures kept { Leaves result (IsNoted database.new) (H.state host.old) (H.state host.new) }
-    ensures any_moment { AtEachMoment (IsNoting database.old.records (drop_record name.now database.old.records)) (H.state host.old) (H.state host.new) }
+    ensures any_moment { AtEachMoment (IsNoting database.old.records
+        (drop_record name.now database.old.records)) (H.state host.old) (H.state host.new) }
     ensures silent { Silent (H.state host.old) (H.state host.new) }
     ensures counts { Counts (H.state host.old) (H.state host.new) result }
 {

@@ -26,10 +26,15 @@ pub(crate) fn replace_list<H: Host>(
     requires named { is_package_name name.now ≡ true }
     requires paths { AreListPaths paths }
     requires ready { Needs (H.state host.old) (IsListReady name.now) }
-    ensures lists { OnOk result (lists.new ≡ record lists.old { lists = with_list name.now paths lists.old.lists }) }
+    ensures lists { OnOk result (lists.new ≡ record lists.old {
+      lists = with_list name.now paths
+          lists.old.lists;
+    }) }
     ensures err { OnErr result (lists.new ≡ record lists.old { closed = true }) }
-    ensures replaced { Leaves result (IsReplaced (list_path name.now) (list_file paths)) (H.state host.old) (H.state host.new) }
-    ensures any_moment { AtEachMoment (IsReplacing (list_path name.now) (list_file paths)) (H.state host.old) (H.state host.new) }
+    ensures replaced { Leaves result (IsReplaced (list_path name.now) (list_file paths))
+        (H.state host.old) (H.state host.new) }
+    ensures any_moment { AtEachMoment (IsReplacing (list_path name.now) (list_file paths))
+        (H.state host.old) (H.state host.new) }
     ensures silent { Silent (H.state host.old) (H.state host.new) }
     ensures counts { Counts (H.state host.old) (H.state host.new) result }
 {
@@ -52,11 +57,15 @@ pub(crate) fn take_places<H: Host>(
 ) -> Result<(), HostFault>
     requires opened { lists.old.closed ≡ false }
     requires named { (name : List ℕ) → Contains from.now name → is_package_name name ≡ true }
-    requires ready { Needs (H.state host.old) (λ w. (name : List ℕ) → Contains from.now name → IsListReady name w) }
-    ensures lists { OnOk result (lists.new ≡ record lists.old { lists = without_all diversions.now.entries places.now from.now lists.old.lists }) }
+    requires ready { Needs (H.state host.old) (λ w. (name : List ℕ) → Contains from.now name
+        → IsListReady name w) }
+    ensures lists { OnOk result (lists.new ≡ record lists.old
+        { lists = without_all diversions.now.entries places.now from.now lists.old.lists }) }
     ensures err { OnErr result (lists.new.closed ≡ true) }
-    ensures taken { Leaves result (HasTakenAll diversions.now.entries places.now from.now lists.old.lists) (H.state host.old) (H.state host.new) }
-    ensures any_moment { AtEachMoment (IsTaking diversions.now.entries places.now from.now lists.old.lists) (H.state host.old) (H.state host.new) }
+    ensures taken { Leaves result (HasTakenAll diversions.now.entries places.now from.now
+        lists.old.lists) (H.state host.old) (H.state host.new) }
+    ensures any_moment { AtEachMoment (IsTaking diversions.now.entries places.now from.now
+        lists.old.lists) (H.state host.old) (H.state host.new) }
     ensures silent { Silent (H.state host.old) (H.state host.new) }
     ensures counts { Counts (H.state host.old) (H.state host.new) result }
 {

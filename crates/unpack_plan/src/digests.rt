@@ -43,7 +43,8 @@ fn add_conffile(
     conffiles: &BTreeSet<String>,
     pending: &mut PendingDigests,
 ) -> Result<(), AllocError>
-    requires trimmed { contains_text conffiles.now file.now.path ≡ true → is_trimmed file.now.path ≡ true }
+    requires trimmed { contains_text conffiles.now file.now.path ≡ true → is_trimmed file.now.path
+        ≡ true }
     requires before { AllByRecursion (λ p. is_before p.path file.now.path ≡ true) pending.old }
     ensures { OnOk result
         ((paths : List Path)

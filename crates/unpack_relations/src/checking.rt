@@ -27,7 +27,8 @@ fn checked_by(
     auto_deconfigure: bool,
 ) -> Result<Checked, AllocError>
     ensures checked { IfOk result (IsCheckedBy packages.now incoming.now auto_deconfigure) }
-    ensures apart { IfOk result (λ checked. (records : List ARecord) → ArePackagesOf records packages.now → AreBesideApart incoming.now.name records checked) }
+    ensures apart { IfOk result (λ checked. (records : List ARecord)
+        → ArePackagesOf records packages.now → AreBesideApart incoming.now.name records checked) }
 {
     let list = packages.as_slice();
     match check_unpack(alloc, packages, incoming, auto_deconfigure) {
@@ -47,8 +48,11 @@ pub fn check(
     incoming: &Package,
     auto_deconfigure: bool,
 ) -> Result<Checked, AllocError>
-    ensures checked { IfOk result (λ checked. (records : List ARecord) → ArePackagesOf records packages.now → IsChecked records incoming.now auto_deconfigure checked) }
-    ensures apart { IfOk result (λ checked. (records : List ARecord) → ArePackagesOf records packages.now → AreBesideApart incoming.now.name records checked) }
+    ensures checked { IfOk result (λ checked. (records : List ARecord)
+        → ArePackagesOf records packages.now → IsChecked records incoming.now auto_deconfigure
+        checked) }
+    ensures apart { IfOk result (λ checked. (records : List ARecord)
+        → ArePackagesOf records packages.now → AreBesideApart incoming.now.name records checked) }
 {
     let package = incoming_package(incoming)?;
     let checked = checked_by(alloc, packages, &package, auto_deconfigure)?;

@@ -11,7 +11,8 @@ use texts::Texts;
 
 // Whether a field admits a package by its own name and version, whatever it provides.
 fn admits_by_name(alloc: Global, field: &[Clause], other: &Package) -> bool
-    ensures { result ≡ list_any (λ clause. clause_admits clause other.now.name other.now.version []) field.now }
+    ensures { result ≡ list_any (λ clause. clause_admits clause other.now.name other.now.version [])
+        field.now }
 {
     let nothing = Provides::new(alloc);
     let offer = Offer {
@@ -35,7 +36,8 @@ fn push_replaced(
     incoming: &Package,
     other: &Package,
 ) -> Result<(), AllocError>
-    ensures { OnOk result (names.new ≡ cond (is_replaced incoming.now other.now) (names.old ++ other.now.name ∷ []) names.old) }
+    ensures { OnOk result (names.new ≡ cond (is_replaced incoming.now other.now)
+        (names.old ++ other.now.name ∷ []) names.old) }
 {
     if is_replaced(alloc, incoming, other) {
         names.push(other.name.copy()?)?;
@@ -49,7 +51,8 @@ pub(crate) fn replaced_names(
     packages: &[Package],
     incoming: &Package,
 ) -> Result<Texts, AllocError>
-    ensures { IfOk result (λ names. names ≡ map (λ p. p.name) (filter (is_replaced incoming.now) packages.now)) }
+    ensures { IfOk result (λ names. names ≡ map (λ p. p.name) (filter (is_replaced incoming.now)
+        packages.now)) }
 {
     let mut names = Texts::new(alloc);
     for other in packages {

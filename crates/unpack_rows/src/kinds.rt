@@ -76,7 +76,8 @@ fn first_kinds(alloc: Global, state: State) -> Result<Vec<RowKind>, AllocError>
 }
 
 fn push_others(kinds: &mut Vec<RowKind>, others: &[OtherPackage]) -> Result<(), AllocError>
-    ensures { OnOk result (kinds.new.items ≡ kinds.old.items ++ map (λ r. kind.Other r) (records_of others.now)) }
+    ensures { OnOk result (kinds.new.items ≡ kinds.old.items ++ map (λ r. kind.Other r)
+        (records_of others.now)) }
 {
     for other in others {
         kinds.push(RowKind::Other(other.record.copy()?))?;
@@ -102,7 +103,8 @@ pub fn kinds_of(
     start: Option<&Record>,
     others: &[OtherPackage],
 ) -> Result<Vec<RowKind>, AllocError>
-    ensures { IfOk result (λ kinds. kinds.items ≡ kinds_of (option_copied start.entry) (records_of others.now)) }
+    ensures { IfOk result (λ kinds. kinds.items ≡ kinds_of (option_copied start.entry)
+        (records_of others.now)) }
 {
     let state = state_of(start);
     let mut kinds = first_kinds(alloc, state)?;

@@ -37,7 +37,8 @@ fn unpacked(old: &Record) -> Result<Note, AllocError>
 }
 
 fn as_before(start: Option<&Record>, incoming: &Record) -> Result<Note, AllocError>
-    ensures { IfOk result (λ n. n ≡ as_before (option_copied start.entry) incoming.now (option_copied start.entry)) }
+    ensures { IfOk result (λ n. n ≡ as_before (option_copied start.entry) incoming.now
+        (option_copied start.entry)) }
 {
     match start {
         None => Ok(Note::Drop(incoming.name.copy()?)),
@@ -47,7 +48,8 @@ fn as_before(start: Option<&Record>, incoming: &Record) -> Result<Note, AllocErr
 
 // A package whose prerm's row is still to be undone is unpacked meanwhile.
 fn preinst_undone(start: Option<&Record>, incoming: &Record) -> Result<Note, AllocError>
-    ensures { IfOk result (λ n. Some n ≡ note_undone (option_copied start.entry) incoming.now kind.Preinst) }
+    ensures { IfOk result (λ n. Some n ≡ note_undone (option_copied start.entry) incoming.now
+        kind.Preinst) }
 {
     if has_prerm(state_of(start)) {
         return unpacked(own_of(start, incoming));
@@ -61,7 +63,8 @@ pub fn note_before(
     incoming: &Record,
     kind: &RowKind,
 ) -> Result<Option<Note>, AllocError>
-    ensures { IfOk result (λ note. note ≡ note_before (option_copied start.entry) incoming.now kind.now) }
+    ensures { IfOk result (λ note. note ≡ note_before (option_copied start.entry) incoming.now
+        kind.now) }
 {
     match kind {
         RowKind::Prerm => Ok(Some(half_configured(own_of(start, incoming))?)),
@@ -78,7 +81,8 @@ pub fn note_undone(
     incoming: &Record,
     kind: &RowKind,
 ) -> Result<Option<Note>, AllocError>
-    ensures { IfOk result (λ note. note ≡ note_undone (option_copied start.entry) incoming.now kind.now) }
+    ensures { IfOk result (λ note. note ≡ note_undone (option_copied start.entry) incoming.now
+        kind.now) }
 {
     match kind {
         RowKind::Prerm => Ok(Some(as_before(start, incoming)?)),

@@ -79,7 +79,8 @@ fn with_both(alloc: Global, first: &str, old: &Version, new: &Version) -> Result
 }
 
 fn failed_upgrade(alloc: Global, versions: &Versions<'_>) -> Result<Texts, AllocError>
-    ensures { IfOk result (λ args. args ≡ codes "failed-upgrade" ∷ versions.now.old.now ∷ versions.now.new.now ∷ []) }
+    ensures { IfOk result (λ args. args ≡ codes "failed-upgrade" ∷ versions.now.old.now
+        ∷ versions.now.new.now ∷ []) }
 {
     with_both(alloc, "failed-upgrade", versions.old, versions.new)
 }
@@ -91,7 +92,8 @@ fn old_call(
     args: Texts,
 ) -> Result<Option<Call>, AllocError>
     requires named { is_package_name versions.now.name.now ≡ true }
-    ensures { IfOk result (λ call. call ≡ old_call versions.now.name.now versions.now.stored script args) }
+    ensures { IfOk result (λ call. call ≡ old_call versions.now.name.now versions.now.stored script
+        args) }
 {
     if !versions.stored.has(script) {
         return Ok(None);
@@ -111,7 +113,8 @@ fn new_call(
     script: Script,
     args: Texts,
 ) -> Result<Option<Call>, AllocError>
-    ensures { IfOk result (λ call. call ≡ new_call versions.now.name.now versions.now.tree script args) }
+    ensures { IfOk result (λ call. call ≡ new_call versions.now.name.now versions.now.tree script
+        args) }
 {
     if !versions.tree.has(script) {
         return Ok(None);
@@ -127,7 +130,8 @@ fn new_call(
 
 fn prerm_row(alloc: Global, versions: &Versions<'_>) -> Result<Row, AllocError>
     requires named { is_package_name versions.now.name.now ≡ true }
-    ensures { IfOk result (λ row. row ≡ prerm_row versions.now.name.now versions.now.old.now versions.now.new.now versions.now.stored versions.now.tree) }
+    ensures { IfOk result (λ row. row ≡ prerm_row versions.now.name.now versions.now.old.now
+        versions.now.new.now versions.now.stored versions.now.tree) }
 {
     let upgrade = with_new(alloc, "upgrade", versions.new)?;
     let failed = failed_upgrade(alloc, versions)?;
@@ -142,7 +146,8 @@ fn prerm_row(alloc: Global, versions: &Versions<'_>) -> Result<Row, AllocError>
 
 fn postrm_row(alloc: Global, versions: &Versions<'_>) -> Result<Row, AllocError>
     requires named { is_package_name versions.now.name.now ≡ true }
-    ensures { IfOk result (λ row. row ≡ postrm_row versions.now.name.now versions.now.old.now versions.now.new.now versions.now.stored versions.now.tree) }
+    ensures { IfOk result (λ row. row ≡ postrm_row versions.now.name.now versions.now.old.now
+        versions.now.new.now versions.now.stored versions.now.tree) }
 {
     let upgrade = with_new(alloc, "upgrade", versions.new)?;
     let failed = failed_upgrade(alloc, versions)?;
@@ -156,7 +161,8 @@ fn postrm_row(alloc: Global, versions: &Versions<'_>) -> Result<Row, AllocError>
 }
 
 fn upgrade_row(alloc: Global, versions: &Versions<'_>) -> Result<Row, AllocError>
-    ensures { IfOk result (λ row. row ≡ upgrade_row versions.now.name.now versions.now.old.now versions.now.new.now versions.now.stored versions.now.tree) }
+    ensures { IfOk result (λ row. row ≡ upgrade_row versions.now.name.now versions.now.old.now
+        versions.now.new.now versions.now.stored versions.now.tree) }
 {
     let upgrade = with_both(alloc, "upgrade", versions.old, versions.new)?;
     let abort = with_both(alloc, "abort-upgrade", versions.old, versions.new)?;
@@ -169,7 +175,8 @@ fn upgrade_row(alloc: Global, versions: &Versions<'_>) -> Result<Row, AllocError
 }
 
 fn reinstall_row(alloc: Global, versions: &Versions<'_>) -> Result<Row, AllocError>
-    ensures { IfOk result (λ row. row ≡ reinstall_row versions.now.name.now versions.now.old.now versions.now.new.now versions.now.stored versions.now.tree) }
+    ensures { IfOk result (λ row. row ≡ reinstall_row versions.now.name.now versions.now.old.now
+        versions.now.new.now versions.now.stored versions.now.tree) }
 {
     let install = with_both(alloc, "install", versions.old, versions.new)?;
     let abort = with_both(alloc, "abort-install", versions.old, versions.new)?;
@@ -182,7 +189,8 @@ fn reinstall_row(alloc: Global, versions: &Versions<'_>) -> Result<Row, AllocErr
 }
 
 fn install_row(alloc: Global, versions: &Versions<'_>) -> Result<Row, AllocError>
-    ensures { IfOk result (λ row. row ≡ install_row versions.now.name.now versions.now.old.now versions.now.new.now versions.now.stored versions.now.tree) }
+    ensures { IfOk result (λ row. row ≡ install_row versions.now.name.now versions.now.old.now
+        versions.now.new.now versions.now.stored versions.now.tree) }
 {
     let install = word(alloc, "install")?;
     let abort = word(alloc, "abort-install")?;
@@ -195,7 +203,8 @@ fn install_row(alloc: Global, versions: &Versions<'_>) -> Result<Row, AllocError
 }
 
 fn preinst_row(alloc: Global, versions: &Versions<'_>, state: State) -> Result<Row, AllocError>
-    ensures { IfOk result (λ row. row ≡ preinst_row versions.now.name.now versions.now.old.now versions.now.new.now versions.now.stored versions.now.tree state) }
+    ensures { IfOk result (λ row. row ≡ preinst_row versions.now.name.now versions.now.old.now
+        versions.now.new.now versions.now.stored versions.now.tree state) }
 {
     match state {
         State::NotInstalled => install_row(alloc, versions),
@@ -221,7 +230,8 @@ fn files_row() -> Row
 // The row before those of other packages.
 fn first_rows(alloc: Global, versions: &Versions<'_>, state: State) -> Result<Vec<Row>, AllocError>
     requires named { is_package_name versions.now.name.now ≡ true }
-    ensures { IfOk result (λ rows. rows.items ≡ first_rows versions.now.name.now versions.now.old.now versions.now.new.now versions.now.stored versions.now.tree state) }
+    ensures { IfOk result (λ rows. rows.items ≡ first_rows versions.now.name.now
+        versions.now.old.now versions.now.new.now versions.now.stored versions.now.tree state) }
 {
     let mut rows = Vec::new(alloc);
     if has_prerm(state) {
@@ -247,7 +257,8 @@ fn push_last(
     state: State,
 ) -> Result<(), AllocError>
     requires named { is_package_name versions.now.name.now ≡ true }
-    ensures { OnOk result (rows.new.items ≡ rows.old.items ++ last_rows versions.now.name.now versions.now.old.now versions.now.new.now versions.now.stored versions.now.tree state) }
+    ensures { OnOk result (rows.new.items ≡ rows.old.items ++ last_rows versions.now.name.now
+        versions.now.old.now versions.now.new.now versions.now.stored versions.now.tree state) }
 {
     rows.push(preinst_row(alloc, versions, state)?)?;
     rows.push(files_row())?;
@@ -264,7 +275,9 @@ fn rows_from(
     others: Vec<OtherPackage>,
 ) -> Result<Vec<Row>, AllocError>
     requires named { is_package_name versions.now.name.now ≡ true }
-    ensures { IfOk result (λ rows. rows.items ≡ rows_from versions.now.name.now versions.now.old.now versions.now.new.now versions.now.stored versions.now.tree state (others_rows others.items)) }
+    ensures { IfOk result (λ rows. rows.items ≡ rows_from versions.now.name.now versions.now.old.now
+        versions.now.new.now versions.now.stored versions.now.tree state
+        (others_rows others.items)) }
 {
     let mut rows = first_rows(alloc, versions, state)?;
     push_others(&mut rows, others)?;
@@ -283,7 +296,8 @@ pub fn rows_of(
     tree: Present,
     others: Vec<OtherPackage>,
 ) -> Result<Vec<Row>, AllocError>
-    ensures { IfOk result (λ rows. rows.items ≡ rows_of (option_copied start.entry) incoming.now stored tree (others_rows others.items)) }
+    ensures { IfOk result (λ rows. rows.items ≡ rows_of (option_copied start.entry) incoming.now
+        stored tree (others_rows others.items)) }
 {
     let own = own_of(start, incoming);
     let versions = Versions {

@@ -51,13 +51,12 @@ pub(crate) fn clear_left<H: Host>(
     requires named { is_package_name (own_name plan.now.found plan.now.incoming) ≡ true }
     requires members { clears_before plan.now.found kind.now ≡ true
         → Needs (H.state host.old) (IsMembersReady (own_name plan.now.found plan.now.incoming)) }
-    requires list { Needs (H.state host.old) (IsListReady (own_name plan.now.found plan.now.incoming)) }
-    ensures cleared { Leaves result
-        (HasCleared (clears_before plan.now.found kind.now) (own_name plan.now.found plan.now.incoming))
-        (H.state host.old) (H.state host.new) }
-    ensures any_moment { AtEachMoment
-        (MayClear false (clears_before plan.now.found kind.now) (own_name plan.now.found plan.now.incoming))
-        (H.state host.old) (H.state host.new) }
+    requires list { Needs (H.state host.old)
+        (IsListReady (own_name plan.now.found plan.now.incoming)) }
+    ensures cleared { Leaves result (HasCleared (clears_before plan.now.found kind.now)
+        (own_name plan.now.found plan.now.incoming)) (H.state host.old) (H.state host.new) }
+    ensures any_moment { AtEachMoment (MayClear false (clears_before plan.now.found kind.now)
+        (own_name plan.now.found plan.now.incoming)) (H.state host.old) (H.state host.new) }
     ensures silent { Silent (H.state host.old) (H.state host.new) }
     ensures counts { Counts (H.state host.old) (H.state host.new) result }
 {

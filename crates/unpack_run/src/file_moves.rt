@@ -62,11 +62,20 @@ fn check_works<H: Host>(
     requires named { Each IsNamed works.old.items }
     requires fitting { Each IsFitting works.old.items }
     ensures same_works { IsSameBut works.old.items works.new.items }
-    ensures seen { Tells result (λ found w. IfNone found (Each (IsSeen w) works.new.items)) (H.state host.old) (H.state host.new) }
-    ensures free { Tells result (λ found w. IfNone found (Each (IsFreeIn w) works.new.items)) (H.state host.old) (H.state host.new) }
-    ensures homed { Tells result (λ found w. IfNone found (Each (IsHomed works.new.items w) works.new.items)) (H.state host.old) (H.state host.new) }
-    ensures distinct { IfOk result (λ found. IfNone found (IsDistinct is_one_place works.new.items)) }
-    ensures judged { Tells result (λ found w. MatchOption found (AllSound (owning diversions.now.entries lists.now.lists plan.now.yields (own_name plan.now.found plan.now.incoming)) works.old.items w) (IsFirstFault (owning diversions.now.entries lists.now.lists plan.now.yields (own_name plan.now.found plan.now.incoming)) works.old.items w)) (H.state host.old) (H.state host.new) }
+    ensures seen { Tells result (λ found w. IfNone found (Each (IsSeen w) works.new.items))
+        (H.state host.old) (H.state host.new) }
+    ensures free { Tells result (λ found w. IfNone found (Each (IsFreeIn w) works.new.items))
+        (H.state host.old) (H.state host.new) }
+    ensures homed { Tells result (λ found w. IfNone found (Each (IsHomed works.new.items w)
+        works.new.items)) (H.state host.old) (H.state host.new) }
+    ensures distinct { IfOk result
+        (λ found. IfNone found (IsDistinct is_one_place works.new.items)) }
+    ensures judged { Tells result (λ found w. MatchOption found
+        (AllSound (owning diversions.now.entries lists.now.lists plan.now.yields
+        (own_name plan.now.found plan.now.incoming)) works.old.items w)
+        (IsFirstFault (owning diversions.now.entries lists.now.lists plan.now.yields
+        (own_name plan.now.found plan.now.incoming)) works.old.items w)) (H.state host.old)
+        (H.state host.new) }
     ensures reads { Reads (H.state host.old) (H.state host.new) }
     ensures silent { Silent (H.state host.old) (H.state host.new) }
     ensures counts { Counts (H.state host.old) (H.state host.new) result }
@@ -98,12 +107,18 @@ fn write_ordered<H: Host>(
     requires named { Each IsNamed works.old.items }
     requires distinct { IsDistinct is_one_place works.old.items }
     requires free { Needs (H.state host.old) (λ w. Each (IsFreeIn w) works.old.items) }
-    requires homed { Needs (H.state host.old) (λ w. Each (IsHomed works.old.items w) works.old.items) }
+    requires homed { Needs (H.state host.old) (λ w. Each (IsHomed works.old.items w)
+        works.old.items) }
     ensures works { IsPermutation works.old.items works.new.items }
     ensures order { AllInOrder works.new.items }
-    ensures lists { OnOk result (lists.new ≡ record lists.old { lists = with_list name.now union lists.old.lists }) }
-    ensures listed { Leaves result (HasListed (list_path name.now) (list_file union) works.new.items) (H.state host.old) (H.state host.new) }
-    ensures any_moment { AtEachMoment (MayList (list_path name.now) (list_file union) works.new.items) (H.state host.old) (H.state host.new) }
+    ensures lists { OnOk result (lists.new ≡ record lists.old {
+      lists = with_list name.now union
+          lists.old.lists;
+    }) }
+    ensures listed { Leaves result (HasListed (list_path name.now) (list_file union)
+        works.new.items) (H.state host.old) (H.state host.new) }
+    ensures any_moment { AtEachMoment (MayList (list_path name.now) (list_file union)
+        works.new.items) (H.state host.old) (H.state host.new) }
     ensures silent { Silent (H.state host.old) (H.state host.new) }
     ensures counts { Counts (H.state host.old) (H.state host.new) result }
 {
@@ -123,17 +138,26 @@ fn write_checked<H: Host>(
     requires opened { lists.old.closed ≡ false }
     requires name { is_package_name (own_name plan.now.found plan.now.incoming) ≡ true }
     requires paths { AreListPaths plan.now.union }
-    requires ready { Needs (H.state host.old) (IsListReady (own_name plan.now.found plan.now.incoming)) }
+    requires ready { Needs (H.state host.old)
+        (IsListReady (own_name plan.now.found plan.now.incoming)) }
     requires named { Each IsNamed works.old.items }
     requires distinct { IsDistinct is_one_place works.old.items }
     requires free { Needs (H.state host.old) (λ w. Each (IsFreeIn w) works.old.items) }
-    requires homed { Needs (H.state host.old) (λ w. Each (IsHomed works.old.items w) works.old.items) }
+    requires homed { Needs (H.state host.old) (λ w. Each (IsHomed works.old.items w)
+        works.old.items) }
     ensures works { IsPermutation works.old.items works.new.items }
     ensures order { OnOk result (AllInOrder works.new.items) }
-    ensures lists { OnOk result (lists.new ≡ record lists.old { lists = with_list (own_name plan.now.found plan.now.incoming) plan.now.union lists.old.lists }) }
+    ensures lists { OnOk result (lists.new ≡ record lists.old {
+      lists = with_list (own_name plan.now.found plan.now.incoming) plan.now.union
+          lists.old.lists;
+    }) }
     ensures places { OnOk result (places.new ≡ places.old ++ places_of works.old.items) }
-    ensures listed { Leaves result (HasListed (list_path (own_name plan.now.found plan.now.incoming)) (list_file plan.now.union) works.new.items) (H.state host.old) (H.state host.new) }
-    ensures any_moment { AtEachMoment (MayList (list_path (own_name plan.now.found plan.now.incoming)) (list_file plan.now.union) works.new.items) (H.state host.old) (H.state host.new) }
+    ensures listed { Leaves result (HasListed
+        (list_path (own_name plan.now.found plan.now.incoming)) (list_file plan.now.union)
+        works.new.items) (H.state host.old) (H.state host.new) }
+    ensures any_moment { AtEachMoment (MayList
+        (list_path (own_name plan.now.found plan.now.incoming)) (list_file plan.now.union)
+        works.new.items) (H.state host.old) (H.state host.new) }
     ensures silent { Silent (H.state host.old) (H.state host.new) }
     ensures counts { Counts (H.state host.old) (H.state host.new) result }
 {
@@ -156,17 +180,32 @@ pub(crate) fn check_and_write<H: Host>(
     requires opened { lists.old.closed ≡ false }
     requires name { is_package_name (own_name plan.now.found plan.now.incoming) ≡ true }
     requires paths { AreListPaths plan.now.union }
-    requires ready { Needs (H.state host.old) (IsListReady (own_name plan.now.found plan.now.incoming)) }
+    requires ready { Needs (H.state host.old)
+        (IsListReady (own_name plan.now.found plan.now.incoming)) }
     requires named { Each IsNamed works.old.items }
     requires fitting { Each IsFitting works.old.items }
-    ensures judged { Tells result (λ found w. MatchOption found (AllSound (owning diversions.now.entries lists.old.lists plan.now.yields (own_name plan.now.found plan.now.incoming)) works.old.items w) (IsFirstFault (owning diversions.now.entries lists.old.lists plan.now.yields (own_name plan.now.found plan.now.incoming)) works.old.items w)) (H.state host.old) (H.state host.new) }
-    ensures written { Gives result (λ found old new. MatchOption found (HasWrittenRow (list_path (own_name plan.now.found plan.now.incoming)) (list_file plan.now.union) works.new.items old new) (λ fault. new ≡ old)) (H.state host.old) (H.state host.new) }
+    ensures judged { Tells result (λ found w. MatchOption found
+        (AllSound (owning diversions.now.entries lists.old.lists plan.now.yields
+        (own_name plan.now.found plan.now.incoming)) works.old.items w)
+        (IsFirstFault (owning diversions.now.entries lists.old.lists plan.now.yields
+        (own_name plan.now.found plan.now.incoming)) works.old.items w)) (H.state host.old)
+        (H.state host.new) }
+    ensures written { Gives result (λ found old new. MatchOption found
+        (HasWrittenRow (list_path (own_name plan.now.found plan.now.incoming))
+        (list_file plan.now.union) works.new.items old new) (λ fault. new ≡ old)) (H.state host.old)
+        (H.state host.new) }
     ensures works { IsRearranged works.old.items works.new.items }
     ensures named { Each IsNamed works.new.items }
     ensures order { IfOk result (λ found. IfNone found (AllInOrder works.new.items)) }
-    ensures lists { IfOk result (λ found. MatchOption found (lists.new ≡ record lists.old { lists = with_list (own_name plan.now.found plan.now.incoming) plan.now.union lists.old.lists }) (λ fault. lists.new ≡ lists.old)) }
-    ensures places { IfOk result (λ found. MatchOption found (places.new ≡ places.old ++ places_of works.old.items) (λ fault. places.new ≡ places.old)) }
-    ensures any_moment { AtEachMoment (MayWriteRow (list_path (own_name plan.now.found plan.now.incoming)) (list_file plan.now.union) works.old.items) (H.state host.old) (H.state host.new) }
+    ensures lists { IfOk result (λ found. MatchOption found (lists.new ≡ record lists.old {
+      lists = with_list (own_name plan.now.found plan.now.incoming) plan.now.union
+          lists.old.lists;
+    }) (λ fault. lists.new ≡ lists.old)) }
+    ensures places { IfOk result (λ found. MatchOption found (places.new ≡ places.old ++ places_of
+        works.old.items) (λ fault. places.new ≡ places.old)) }
+    ensures any_moment { AtEachMoment (MayWriteRow
+        (list_path (own_name plan.now.found plan.now.incoming)) (list_file plan.now.union)
+        works.old.items) (H.state host.old) (H.state host.new) }
     ensures silent { Silent (H.state host.old) (H.state host.new) }
     ensures counts { Counts (H.state host.old) (H.state host.new) result }
 {
@@ -191,15 +230,23 @@ pub(crate) fn put_back<H: Host>(
     requires opened { lists.old.closed ≡ false }
     requires name { is_package_name (own_name plan.now.found plan.now.incoming) ≡ true }
     requires paths { AreListPaths plan.now.listed }
-    requires ready { Needs (H.state host.old) (IsListReady (own_name plan.now.found plan.now.incoming)) }
+    requires ready { Needs (H.state host.old)
+        (IsListReady (own_name plan.now.found plan.now.incoming)) }
     requires named { Each IsNamed works.now }
     requires order { AllInOrder works.now }
     requires written { Needs (H.state host.old) (CanGoBack works.now) }
     requires grown { length works.now ≤ length places.old }
-    ensures lists { OnOk result (lists.new ≡ record lists.old { lists = with_list (own_name plan.now.found plan.now.incoming) plan.now.listed lists.old.lists }) }
+    ensures lists { OnOk result (lists.new ≡ record lists.old {
+      lists = with_list (own_name plan.now.found plan.now.incoming) plan.now.listed
+          lists.old.lists;
+    }) }
     ensures places { OnOk result (places.new ≡ places_before places.old works.now) }
-    ensures unlisted { Leaves result (HasUnlisted (list_path (own_name plan.now.found plan.now.incoming)) (list_file plan.now.listed) works.now) (H.state host.old) (H.state host.new) }
-    ensures any_moment { AtEachMoment (MayUnlist (list_path (own_name plan.now.found plan.now.incoming)) (list_file plan.now.listed) works.now) (H.state host.old) (H.state host.new) }
+    ensures unlisted { Leaves result (HasUnlisted
+        (list_path (own_name plan.now.found plan.now.incoming)) (list_file plan.now.listed)
+        works.now) (H.state host.old) (H.state host.new) }
+    ensures any_moment { AtEachMoment (MayUnlist
+        (list_path (own_name plan.now.found plan.now.incoming)) (list_file plan.now.listed)
+        works.now) (H.state host.old) (H.state host.new) }
     ensures silent { Silent (H.state host.old) (H.state host.new) }
     ensures counts { Counts (H.state host.old) (H.state host.new) result }
 {

@@ -19,12 +19,41 @@ pub(crate) fn write_row<H: Host>(
     host: &mut H,
     index: usize,
 ) -> Result<Option<StepFault>, HostFault>
-    requires place { At (task_of (H.state unpacking.old.start.now.host.value) unpacking.old.start.now.database.value unpacking.old.start.now.lists.value unpacking.old.diversions.now.entries unpacking.old.start.now.places.value unpacking.old.start.now.works.value.items unpacking.old.plan.now) (holding unpacking.old.database.now unpacking.old.lists.now unpacking.old.places.now unpacking.old.works.now.items) (H.state host.old) (Forward index) }
-    requires row { IsFileRow (kinds (task_of (H.state unpacking.old.start.now.host.value) unpacking.old.start.now.database.value unpacking.old.start.now.lists.value unpacking.old.diversions.now.entries unpacking.old.start.now.places.value unpacking.old.start.now.works.value.items unpacking.old.plan.now)) index }
-    ensures fault { IfOk result (IfHonest (H.state host.new) (IsFileFault (task_of (H.state unpacking.old.start.now.host.value) unpacking.old.start.now.database.value unpacking.old.start.now.lists.value unpacking.old.diversions.now.entries unpacking.old.start.now.places.value unpacking.old.start.now.works.value.items unpacking.old.plan.now)) (calls (H.state host.old))) }
-    ensures place { IfOk result (λ fault. At (task_of (H.state unpacking.old.start.now.host.value) unpacking.old.start.now.database.value unpacking.old.start.now.lists.value unpacking.old.diversions.now.entries unpacking.old.start.now.places.value unpacking.old.start.now.works.value.items unpacking.old.plan.now) (holding unpacking.new.database.now unpacking.new.lists.now unpacking.new.places.now unpacking.new.works.now.items) (H.state host.new) (worked index fault)) }
-    ensures any_moment { AtEachStop (Stops (task_of (H.state unpacking.old.start.now.host.value) unpacking.old.start.now.database.value unpacking.old.start.now.lists.value unpacking.old.diversions.now.entries unpacking.old.start.now.places.value unpacking.old.start.now.works.value.items unpacking.old.plan.now)) (H.state host.old) (H.state host.new) }
-    ensures task { task_of (H.state unpacking.new.start.now.host.value) unpacking.new.start.now.database.value unpacking.new.start.now.lists.value unpacking.new.diversions.now.entries unpacking.new.start.now.places.value unpacking.new.start.now.works.value.items unpacking.new.plan.now ≡ task_of (H.state unpacking.old.start.now.host.value) unpacking.old.start.now.database.value unpacking.old.start.now.lists.value unpacking.old.diversions.now.entries unpacking.old.start.now.places.value unpacking.old.start.now.works.value.items unpacking.old.plan.now }
+    requires place { At (task_of (H.state unpacking.old.start.now.host.value)
+        unpacking.old.start.now.database.value unpacking.old.start.now.lists.value
+        unpacking.old.diversions.now.entries unpacking.old.start.now.places.value
+        unpacking.old.start.now.works.value.items unpacking.old.plan.now)
+        (holding unpacking.old.database.now unpacking.old.lists.now unpacking.old.places.now
+        unpacking.old.works.now.items) (H.state host.old) (Forward index) }
+    requires row { IsFileRow (kinds (task_of (H.state unpacking.old.start.now.host.value)
+        unpacking.old.start.now.database.value unpacking.old.start.now.lists.value
+        unpacking.old.diversions.now.entries unpacking.old.start.now.places.value
+        unpacking.old.start.now.works.value.items unpacking.old.plan.now)) index }
+    ensures fault { IfOk result (IfHonest (H.state host.new)
+        (IsFileFault (task_of (H.state unpacking.old.start.now.host.value)
+        unpacking.old.start.now.database.value unpacking.old.start.now.lists.value
+        unpacking.old.diversions.now.entries unpacking.old.start.now.places.value
+        unpacking.old.start.now.works.value.items unpacking.old.plan.now))
+        (calls (H.state host.old))) }
+    ensures place { IfOk result (λ fault. At (task_of (H.state unpacking.old.start.now.host.value)
+        unpacking.old.start.now.database.value unpacking.old.start.now.lists.value
+        unpacking.old.diversions.now.entries unpacking.old.start.now.places.value
+        unpacking.old.start.now.works.value.items unpacking.old.plan.now)
+        (holding unpacking.new.database.now unpacking.new.lists.now unpacking.new.places.now
+        unpacking.new.works.now.items) (H.state host.new) (worked index fault)) }
+    ensures any_moment { AtEachStop (Stops (task_of (H.state unpacking.old.start.now.host.value)
+        unpacking.old.start.now.database.value unpacking.old.start.now.lists.value
+        unpacking.old.diversions.now.entries unpacking.old.start.now.places.value
+        unpacking.old.start.now.works.value.items unpacking.old.plan.now)) (H.state host.old)
+        (H.state host.new) }
+    ensures task { task_of (H.state unpacking.new.start.now.host.value)
+        unpacking.new.start.now.database.value unpacking.new.start.now.lists.value
+        unpacking.new.diversions.now.entries unpacking.new.start.now.places.value
+        unpacking.new.start.now.works.value.items unpacking.new.plan.now ≡ task_of
+        (H.state unpacking.old.start.now.host.value) unpacking.old.start.now.database.value
+        unpacking.old.start.now.lists.value unpacking.old.diversions.now.entries
+        unpacking.old.start.now.places.value unpacking.old.start.now.works.value.items
+        unpacking.old.plan.now }
     ensures database_stay { unpacking.new.database.ghost_name ≡ unpacking.old.database.ghost_name }
     ensures lists_stay { unpacking.new.lists.ghost_name ≡ unpacking.old.lists.ghost_name }
     ensures places_stay { unpacking.new.places.ghost_name ≡ unpacking.old.places.ghost_name }
@@ -53,12 +82,36 @@ pub(crate) fn restore_row<H: Host>(
     fall: &Fall,
     failed: &[Failed],
 ) -> Result<(), HostFault>
-    requires place { At (task_of (H.state unpacking.old.start.now.host.value) unpacking.old.start.now.database.value unpacking.old.start.now.lists.value unpacking.old.diversions.now.entries unpacking.old.start.now.places.value unpacking.old.start.now.works.value.items unpacking.old.plan.now) (holding unpacking.old.database.now unpacking.old.lists.now unpacking.old.places.now unpacking.old.works.now.items) (H.state host.old) (Back (index + 1) fall.now failed.now) }
-    requires row { IsFileRow (kinds (task_of (H.state unpacking.old.start.now.host.value) unpacking.old.start.now.database.value unpacking.old.start.now.lists.value unpacking.old.diversions.now.entries unpacking.old.start.now.places.value unpacking.old.start.now.works.value.items unpacking.old.plan.now)) index }
+    requires place { At (task_of (H.state unpacking.old.start.now.host.value)
+        unpacking.old.start.now.database.value unpacking.old.start.now.lists.value
+        unpacking.old.diversions.now.entries unpacking.old.start.now.places.value
+        unpacking.old.start.now.works.value.items unpacking.old.plan.now)
+        (holding unpacking.old.database.now unpacking.old.lists.now unpacking.old.places.now
+        unpacking.old.works.now.items) (H.state host.old) (Back (index + 1) fall.now failed.now) }
+    requires row { IsFileRow (kinds (task_of (H.state unpacking.old.start.now.host.value)
+        unpacking.old.start.now.database.value unpacking.old.start.now.lists.value
+        unpacking.old.diversions.now.entries unpacking.old.start.now.places.value
+        unpacking.old.start.now.works.value.items unpacking.old.plan.now)) index }
     requires wrote { index < fall.now.row }
-    ensures place { OnOk result (At (task_of (H.state unpacking.old.start.now.host.value) unpacking.old.start.now.database.value unpacking.old.start.now.lists.value unpacking.old.diversions.now.entries unpacking.old.start.now.places.value unpacking.old.start.now.works.value.items unpacking.old.plan.now) (holding unpacking.new.database.now unpacking.new.lists.now unpacking.new.places.now unpacking.new.works.now.items) (H.state host.new) (Back index fall.now failed.now)) }
-    ensures any_moment { AtEachStop (Stops (task_of (H.state unpacking.old.start.now.host.value) unpacking.old.start.now.database.value unpacking.old.start.now.lists.value unpacking.old.diversions.now.entries unpacking.old.start.now.places.value unpacking.old.start.now.works.value.items unpacking.old.plan.now)) (H.state host.old) (H.state host.new) }
-    ensures task { task_of (H.state unpacking.new.start.now.host.value) unpacking.new.start.now.database.value unpacking.new.start.now.lists.value unpacking.new.diversions.now.entries unpacking.new.start.now.places.value unpacking.new.start.now.works.value.items unpacking.new.plan.now ≡ task_of (H.state unpacking.old.start.now.host.value) unpacking.old.start.now.database.value unpacking.old.start.now.lists.value unpacking.old.diversions.now.entries unpacking.old.start.now.places.value unpacking.old.start.now.works.value.items unpacking.old.plan.now }
+    ensures place { OnOk result (At (task_of (H.state unpacking.old.start.now.host.value)
+        unpacking.old.start.now.database.value unpacking.old.start.now.lists.value
+        unpacking.old.diversions.now.entries unpacking.old.start.now.places.value
+        unpacking.old.start.now.works.value.items unpacking.old.plan.now)
+        (holding unpacking.new.database.now unpacking.new.lists.now unpacking.new.places.now
+        unpacking.new.works.now.items) (H.state host.new) (Back index fall.now failed.now)) }
+    ensures any_moment { AtEachStop (Stops (task_of (H.state unpacking.old.start.now.host.value)
+        unpacking.old.start.now.database.value unpacking.old.start.now.lists.value
+        unpacking.old.diversions.now.entries unpacking.old.start.now.places.value
+        unpacking.old.start.now.works.value.items unpacking.old.plan.now)) (H.state host.old)
+        (H.state host.new) }
+    ensures task { task_of (H.state unpacking.new.start.now.host.value)
+        unpacking.new.start.now.database.value unpacking.new.start.now.lists.value
+        unpacking.new.diversions.now.entries unpacking.new.start.now.places.value
+        unpacking.new.start.now.works.value.items unpacking.new.plan.now ≡ task_of
+        (H.state unpacking.old.start.now.host.value) unpacking.old.start.now.database.value
+        unpacking.old.start.now.lists.value unpacking.old.diversions.now.entries
+        unpacking.old.start.now.places.value unpacking.old.start.now.works.value.items
+        unpacking.old.plan.now }
     ensures database_stay { unpacking.new.database.ghost_name ≡ unpacking.old.database.ghost_name }
     ensures lists_stay { unpacking.new.lists.ghost_name ≡ unpacking.old.lists.ghost_name }
     ensures places_stay { unpacking.new.places.ghost_name ≡ unpacking.old.places.ghost_name }

@@ -21,10 +21,12 @@ fn write_one<H: Host>(
     requires opened { database.old.closed ≡ false }
     requires notable { IsNotable (Some entry) }
     requires kept { Needs (H.state host.old) (IsKept database.old) }
-    ensures records { OnOk result (database.new.records ≡ noted database.old.records (listed (Some entry))) }
+    ensures records { OnOk result (database.new.records ≡ noted database.old.records
+        (listed (Some entry))) }
     ensures opened { OnOk result (database.new.closed ≡ false) }
     ensures kept { Leaves result (IsNoted database.new) (H.state host.old) (H.state host.new) }
-    ensures any_moment { AtEachMoment (IsNoting database.old.records (noted database.old.records (listed (Some entry)))) (H.state host.old) (H.state host.new) }
+    ensures any_moment { AtEachMoment (IsNoting database.old.records (noted database.old.records
+        (listed (Some entry)))) (H.state host.old) (H.state host.new) }
     ensures silent { Silent (H.state host.old) (H.state host.new) }
     ensures counts { Counts (H.state host.old) (H.state host.new) result }
 {
@@ -44,10 +46,12 @@ pub(crate) fn write_note<H: Host>(
     requires opened { database.old.closed ≡ false }
     requires notable { IsNotable entry }
     requires kept { Needs (H.state host.old) (IsKept database.old) }
-    ensures records { OnOk result (database.new.records ≡ noted database.old.records (listed entry)) }
+    ensures records { OnOk result (database.new.records ≡ noted database.old.records
+        (listed entry)) }
     ensures opened { OnOk result (database.new.closed ≡ false) }
     ensures kept { Leaves result (IsNoted database.new) (H.state host.old) (H.state host.new) }
-    ensures any_moment { AtEachMoment (IsNoting database.old.records (noted database.old.records (listed entry))) (H.state host.old) (H.state host.new) }
+    ensures any_moment { AtEachMoment (IsNoting database.old.records (noted database.old.records
+        (listed entry))) (H.state host.old) (H.state host.new) }
     ensures silent { Silent (H.state host.old) (H.state host.new) }
     ensures counts { Counts (H.state host.old) (H.state host.new) result }
 {

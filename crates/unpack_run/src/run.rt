@@ -30,13 +30,40 @@ fn run_all<H: Host>(
     rows: Vec<Row>,
     told: &mut Vec<Called>,
 ) -> Result<Option<Unwinding>, HostFault>
-    requires place { At (task_of (H.state unpacking.old.start.now.host.value) unpacking.old.start.now.database.value unpacking.old.start.now.lists.value unpacking.old.diversions.now.entries unpacking.old.start.now.places.value unpacking.old.start.now.works.value.items unpacking.old.plan.now) (holding unpacking.old.database.now unpacking.old.lists.now unpacking.old.places.now unpacking.old.works.now.items) (H.state host.old) (Forward 0) }
-    requires rows { Fit (Fits (name (task_of (H.state unpacking.old.start.now.host.value) unpacking.old.start.now.database.value unpacking.old.start.now.lists.value unpacking.old.diversions.now.entries unpacking.old.start.now.places.value unpacking.old.start.now.works.value.items unpacking.old.plan.now)) (kinds (task_of (H.state unpacking.old.start.now.host.value) unpacking.old.start.now.database.value unpacking.old.start.now.lists.value unpacking.old.diversions.now.entries unpacking.old.start.now.places.value unpacking.old.start.now.works.value.items unpacking.old.plan.now))) rows.items }
-    ensures calls { IfOk result (λ u. HasRun (IsFileFault (task_of (H.state unpacking.old.start.now.host.value) unpacking.old.start.now.database.value unpacking.old.start.now.lists.value unpacking.old.diversions.now.entries unpacking.old.start.now.places.value unpacking.old.start.now.works.value.items unpacking.old.plan.now)) (ended_as u) rows.items (H.state host.old) (H.state host.new) told.old.items told.new.items) }
+    requires place { At (task_of (H.state unpacking.old.start.now.host.value)
+        unpacking.old.start.now.database.value unpacking.old.start.now.lists.value
+        unpacking.old.diversions.now.entries unpacking.old.start.now.places.value
+        unpacking.old.start.now.works.value.items unpacking.old.plan.now)
+        (holding unpacking.old.database.now unpacking.old.lists.now unpacking.old.places.now
+        unpacking.old.works.now.items) (H.state host.old) (Forward 0) }
+    requires rows { Fit (Fits (name (task_of (H.state unpacking.old.start.now.host.value)
+        unpacking.old.start.now.database.value unpacking.old.start.now.lists.value
+        unpacking.old.diversions.now.entries unpacking.old.start.now.places.value
+        unpacking.old.start.now.works.value.items unpacking.old.plan.now))
+        (kinds (task_of (H.state unpacking.old.start.now.host.value)
+        unpacking.old.start.now.database.value unpacking.old.start.now.lists.value
+        unpacking.old.diversions.now.entries unpacking.old.start.now.places.value
+        unpacking.old.start.now.works.value.items unpacking.old.plan.now))) rows.items }
+    ensures calls { IfOk result
+        (λ u. HasRun (IsFileFault (task_of (H.state unpacking.old.start.now.host.value)
+        unpacking.old.start.now.database.value unpacking.old.start.now.lists.value
+        unpacking.old.diversions.now.entries unpacking.old.start.now.places.value
+        unpacking.old.start.now.works.value.items unpacking.old.plan.now)) (ended_as u) rows.items
+        (H.state host.old) (H.state host.new) told.old.items told.new.items) }
     ensures cause { IfOk result (IsCauseOf rows.items) }
-    ensures told { Begun (MayRun rows.items) (H.state host.old) (H.state host.new) told.old.items told.new.items }
-    ensures there { IfOk result (λ u. At (task_of (H.state unpacking.old.start.now.host.value) unpacking.old.start.now.database.value unpacking.old.start.now.lists.value unpacking.old.diversions.now.entries unpacking.old.start.now.places.value unpacking.old.start.now.works.value.items unpacking.old.plan.now) (holding unpacking.new.database.now unpacking.new.lists.now unpacking.new.places.now unpacking.new.works.now.items) (H.state host.new) (end_place (length rows.items) u)) }
-    ensures any_moment { AtEachStop (Stops (task_of (H.state unpacking.old.start.now.host.value) unpacking.old.start.now.database.value unpacking.old.start.now.lists.value unpacking.old.diversions.now.entries unpacking.old.start.now.places.value unpacking.old.start.now.works.value.items unpacking.old.plan.now)) (H.state host.old) (H.state host.new) }
+    ensures told { Begun (MayRun rows.items) (H.state host.old) (H.state host.new) told.old.items
+        told.new.items }
+    ensures there { IfOk result (λ u. At (task_of (H.state unpacking.old.start.now.host.value)
+        unpacking.old.start.now.database.value unpacking.old.start.now.lists.value
+        unpacking.old.diversions.now.entries unpacking.old.start.now.places.value
+        unpacking.old.start.now.works.value.items unpacking.old.plan.now)
+        (holding unpacking.new.database.now unpacking.new.lists.now unpacking.new.places.now
+        unpacking.new.works.now.items) (H.state host.new) (end_place (length rows.items) u)) }
+    ensures any_moment { AtEachStop (Stops (task_of (H.state unpacking.old.start.now.host.value)
+        unpacking.old.start.now.database.value unpacking.old.start.now.lists.value
+        unpacking.old.diversions.now.entries unpacking.old.start.now.places.value
+        unpacking.old.start.now.works.value.items unpacking.old.plan.now)) (H.state host.old)
+        (H.state host.new) }
     ensures database_stay { unpacking.new.database.ghost_name ≡ unpacking.old.database.ghost_name }
     ensures lists_stay { unpacking.new.lists.ghost_name ≡ unpacking.old.lists.ghost_name }
     ensures places_stay { unpacking.new.places.ghost_name ≡ unpacking.old.places.ghost_name }
@@ -61,18 +88,35 @@ pub fn run_unpack_rows<'a, H: Host>(
     rows: Vec<Row>,
     told: &mut Vec<Called>,
 ) -> Result<Option<Unwinding>, HostFault>
-    requires sound { IsSound (task_of (H.state host.old) database.old lists.old diversions.now.entries places.old works.old.items plan.now) }
+    requires sound { IsSound (task_of (H.state host.old) database.old lists.old
+        diversions.now.entries places.old works.old.items plan.now) }
     requires open { database.old.closed ≡ false }
     requires lists_open { lists.old.closed ≡ false }
-    requires kinds { plan.now.kinds.items ≡ kinds (task_of (H.state host.old) database.old lists.old diversions.now.entries places.old works.old.items plan.now) }
-    requires rows { Fit (Fits (name (task_of (H.state host.old) database.old lists.old diversions.now.entries places.old works.old.items plan.now)) (kinds (task_of (H.state host.old) database.old lists.old diversions.now.entries places.old works.old.items plan.now))) rows.items }
-    requires length { length rows.items ≡ length (kinds (task_of (H.state host.old) database.old lists.old diversions.now.entries places.old works.old.items plan.now)) }
-    requires begun { Needs (H.state host.old) (IsBegun (task_of (H.state host.old) database.old lists.old diversions.now.entries places.old works.old.items plan.now) database.old) }
-    ensures calls { IfOk result (λ u. HasRun (IsFileFault (task_of (H.state host.old) database.old lists.old diversions.now.entries places.old works.old.items plan.now)) (ended_as u) rows.items (H.state host.old) (H.state host.new) told.old.items told.new.items) }
+    requires kinds { plan.now.kinds.items ≡ kinds (task_of (H.state host.old) database.old lists.old
+        diversions.now.entries places.old works.old.items plan.now) }
+    requires rows { Fit (Fits (name (task_of (H.state host.old) database.old lists.old
+        diversions.now.entries places.old works.old.items plan.now))
+        (kinds (task_of (H.state host.old) database.old lists.old diversions.now.entries places.old
+        works.old.items plan.now))) rows.items }
+    requires length { length rows.items
+        ≡ length (kinds (task_of (H.state host.old) database.old lists.old diversions.now.entries
+        places.old works.old.items plan.now)) }
+    requires begun { Needs (H.state host.old)
+        (IsBegun (task_of (H.state host.old) database.old lists.old diversions.now.entries
+        places.old works.old.items plan.now) database.old) }
+    ensures calls { IfOk result
+        (λ u. HasRun (IsFileFault (task_of (H.state host.old) database.old lists.old
+        diversions.now.entries places.old works.old.items plan.now)) (ended_as u) rows.items
+        (H.state host.old) (H.state host.new) told.old.items told.new.items) }
     ensures cause { IfOk result (IsCauseOf rows.items) }
-    ensures told { Begun (MayRun rows.items) (H.state host.old) (H.state host.new) told.old.items told.new.items }
-    ensures there { IfOk result (λ u. At (task_of (H.state host.old) database.old lists.old diversions.now.entries places.old works.old.items plan.now) (holding database.new lists.new places.new works.new.items) (H.state host.new) (end_place (length rows.items) u)) }
-    ensures any_moment { AtEachStop (Stops (task_of (H.state host.old) database.old lists.old diversions.now.entries places.old works.old.items plan.now)) (H.state host.old) (H.state host.new) }
+    ensures told { Begun (MayRun rows.items) (H.state host.old) (H.state host.new) told.old.items
+        told.new.items }
+    ensures there { IfOk result (λ u. At (task_of (H.state host.old) database.old lists.old
+        diversions.now.entries places.old works.old.items plan.now) (holding database.new lists.new
+        places.new works.new.items) (H.state host.new) (end_place (length rows.items) u)) }
+    ensures any_moment { AtEachStop (Stops (task_of (H.state host.old) database.old lists.old
+        diversions.now.entries places.old works.old.items plan.now)) (H.state host.old)
+        (H.state host.new) }
     ensures counts { Counts (H.state host.old) (H.state host.new) result }
 {
     let start = Start {
