@@ -29,9 +29,15 @@ impl<'a, S: Hosts> Trees for TreeWords<'a, S> {
 
     ghost reads = { λ old c new. (new.hosts.ghost_name ≡ old.hosts.ghost_name)
         × (new.asked.now ≡ old.asked.now)
-        × IsReadOnce (around (S.root old.hosts.now) (S.tree old.hosts.now) (S.left new.hosts.now) (S.seen new.hosts.now) (S.faults old.hosts.now < S.faults new.hosts.now) (S.unopened old.hosts.now new.hosts.now) (S.locked old.hosts.now))
-        old.asked.now.owners (words_before old.asked.now.trees (length (into_iter_items old.left.now))) c.label c.tree
-        × HaveGoneOn (S.tree old.hosts.now) (S.tree new.hosts.now) (S.seen old.hosts.now) (S.seen new.hosts.now) (S.faults old.hosts.now) (S.faults new.hosts.now)
+        × IsReadOnce
+        (around (S.root old.hosts.now) (S.tree old.hosts.now) (S.left new.hosts.now)
+        (S.seen new.hosts.now) (S.faults old.hosts.now < S.faults new.hosts.now)
+        (S.unopened old.hosts.now new.hosts.now) (S.locked old.hosts.now))
+        old.asked.now.owners
+        (words_before old.asked.now.trees (length (into_iter_items old.left.now)))
+        c.label c.tree
+        × HaveGoneOn (S.tree old.hosts.now) (S.tree new.hosts.now) (S.seen old.hosts.now)
+        (S.seen new.hosts.now) (S.faults old.hosts.now) (S.faults new.hosts.now)
         × (into_iter_items old.left.now ≡ c.label ∷ into_iter_items new.left.now) };
 
     fn next(&mut self) -> Option<Candidate> {

@@ -13,5 +13,7 @@ pub trait Trees {
 
     /// The next tree; none where all have been read.
     fn next(&mut self) -> Option<Candidate>
-        ensures { MatchOption result ((words self.old ≡ []) × (self.new ≡ self.old)) (λ c. reads self.old c self.new × (words self.old ≡ c.label ∷ words self.new)) };
+        ensures { MatchOption result
+            ((words self.old ≡ []) × (self.new ≡ self.old))
+            (λ c. reads self.old c self.new × (words self.old ≡ c.label ∷ words self.new)) };
 }

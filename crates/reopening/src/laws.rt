@@ -56,15 +56,15 @@ pub fn an_unpack_can_be_opened_amid()
 /// At each moment of a configure, likewise.
 pub fn a_configure_can_be_opened_amid()
     ensures { (names : List (List ℕ)) (policy : APolicy) (us : List AUnit) (last : Option AUnit)
-        (before : Held) (s t : State) → FindsStanding before s
-        → HasConfigured names policy us last before s t → CanBeOpenedAmid s t }
+        (before : Held) (s t : State) → FindsStanding before s → HasConfigured
+        names policy us last before s t → CanBeOpenedAmid s t }
 {}
 
 /// At each moment of a removal or a purge, likewise.
 pub fn a_removal_can_be_opened_amid()
     ensures { (names : List (List ℕ)) (purge : Bool) (us : List AUnit) (last : Option AUnit)
-        (before : Held) (s t : State) → FindsStanding before s
-        → HasRemoved names purge us last before s t → CanBeOpenedAmid s t }
+        (before : Held) (s t : State) → FindsStanding before s → HasRemoved
+        names purge us last before s t → CanBeOpenedAmid s t }
 {}
 
 /// At each moment while a diversion is added or taken away, likewise.
@@ -81,12 +81,12 @@ pub fn a_diversion_can_be_opened_amid()
 /// At each moment of an opening of what can be opened, as a stop or a loss of power left it, so can what is there. Of any
 /// administration that isn't damaged, as of a root without its directories, a loss of power during an opening leaves one that isn't.
 pub fn an_opening_can_be_opened_amid()
-    ensures amid { (s t : State) → Needs s CanBeOpened
-        → AtEachMoment IsOpeningOrMerging s t → CanBeOpenedAmid s t }
+    ensures amid { (s t : State) → Needs s CanBeOpened → AtEachMoment
+        IsOpeningOrMerging s t → CanBeOpenedAmid s t }
     ensures lost { (begun s t : State) (session : List Event) (left : World) → IsTrue t.honest
         → IsSettled t.events → t.events ≡ begun.events ++ session
-        → changes_of session ≡ [] → Needs s IsUndamaged
-        → AtEachMoment IsOpeningOrMerging s t → LosesSince begun s t left → IsUndamaged left }
+        → changes_of session ≡ [] → Needs s IsUndamaged → AtEachMoment
+        IsOpeningOrMerging s t → LosesSince begun s t left → IsUndamaged left }
 {
     a_stopped_opening_can_be_opened();
 }
