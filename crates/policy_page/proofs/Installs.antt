@@ -17,10 +17,11 @@ use Rattle.unpack_rows.specs.Kinds.{has_prerm, is_upgrade, kinds_of, own_of, sta
 use Rattle.unpack_rows.specs.Notes.{noted, notes_at}
 use Rattle.unpack_rows.specs.Stages.{stage_of}
 use Rattle.policy_page.specs.Answers.{Answer, answer_of, fails, works}
-use Rattle.policy_page.specs.Lines.{IsLine, Line, all_present, fault_of}
+use Rattle.policy_page.specs.Lines.{IsLine, IsPage, Line, all_present, fault_of}
 use Rattle.policy_page.specs.Page
 use Rattle.policy_page.specs.Page.{Install}
 use Rattle.policy_page.proofs.Left.{kinds_by, left_committed, left_stuck, left_undone, place_of, stage_is}
+use Rattle.policy_page.proofs.Pages.{is_page}
 use Rattle.policy_page.proofs.Rows.{Are, fell_alone, fell_files, goes_alone, goes_files, falls_alone, falls_files, of_none, row_alone, row_of_files, went_alone, went_files}
 use Rattle.policy_page.proofs.Runs.{Falls, alone, each_line, is_line, three, unwinds}
 use Rattle.policy_page.proofs.Undoing.{Calls, Has, Have, Puts, Undo, either_end, undoes, undone}
@@ -192,3 +193,9 @@ module _ (start : Option Record) (incoming : Record) where
       by state.Unpacked fresh = cc
       by state.HalfConfigured fresh = cc
       by state.Installed fresh = cc
+
+-- the whole page
+pub whole : (start : Option Record) (incoming : Record) → is_upgrade (state_of start) ≡ false → IsPage (Page.install start incoming) start incoming
+whole start incoming fresh =
+    is_page (Page.install start incoming) start incoming (rows start incoming) (rows_are start incoming fresh) (each start incoming) (legal start incoming) read (read_back start incoming)
+    (files_left start incoming (unconfigured start incoming fresh) fresh) (record_left start incoming (unconfigured start incoming fresh) fresh)

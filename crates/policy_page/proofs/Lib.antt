@@ -3,7 +3,8 @@ pub mod Undoing
 pub mod Runs
 pub mod Left
 pub mod Deciding
+pub mod Pages
 pub mod Upgrades
 pub mod Unconfigured
 pub mod Installs
-pub mod Pages
+pub mod Telling

@@ -16,10 +16,11 @@ use Rattle.unpack_rows.specs.Kinds.{has_prerm, is_upgrade, kinds_of, own_of, sta
 use Rattle.unpack_rows.specs.Notes.{noted, notes_at}
 use Rattle.unpack_rows.specs.Stages.{stage_of}
 use Rattle.policy_page.specs.Answers.{Answer, Way, answer_of, Outright, InItsPlace, fails, works}
-use Rattle.policy_page.specs.Lines.{IsLine, Line, all_present, fault_of}
+use Rattle.policy_page.specs.Lines.{IsLine, IsPage, Line, all_present, fault_of}
 use Rattle.policy_page.specs.Page
 use Rattle.policy_page.specs.Page.{Unconfigured}
 use Rattle.policy_page.proofs.Left.{kinds_by, left_committed, left_stuck, left_undone, place_of, stage_is}
+use Rattle.policy_page.proofs.Pages.{is_page}
 use Rattle.policy_page.proofs.Rows.{Are, fell_alone, fell_files, fell_with, goes_alone, goes_files, goes_with, falls_alone, falls_files, falls_with, of_none, parted, row_alone, row_of_files, row_with, went_alone, went_files, went_with}
 use Rattle.policy_page.proofs.Runs.{Falls, alone, each_line, is_line, three, two, unwinds}
 use Rattle.policy_page.proofs.Undoing.{Calls, Has, Have, Puts, Undo, either_end, three_ends, undoes, undone}
@@ -230,3 +231,9 @@ module _ (start : Option Record) (incoming : Record) where
     record_left table found Unconfigured.PostrmFails = left_undone start incoming false true none upgraded table found 2 None
     record_left table found Unconfigured.PostrmFailsThenPreinst = left_stuck start incoming false true none upgraded table found 2 2 None
     record_left table found Unconfigured.PostrmFailsThenPostrm = left_stuck start incoming false true none upgraded table found 2 0 None
+
+-- the whole page
+pub whole : (start : Option Record) (incoming : Record) → has_prerm (state_of start) ≡ false → is_upgrade (state_of start) ≡ true → IsPage (Page.upgrade_unconfigured start incoming) start incoming
+whole start incoming none upgraded =
+    is_page (Page.upgrade_unconfigured start incoming) start incoming (rows start incoming) (rows_are start incoming none upgraded) (each start incoming) (legal start incoming) read (read_back start incoming)
+    (files_left start incoming none upgraded) (record_left start incoming none upgraded)

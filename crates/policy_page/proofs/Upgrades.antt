@@ -16,10 +16,11 @@ use Rattle.unpack_rows.specs.Kinds.{has_prerm, is_upgrade, kinds_of, own_of, sta
 use Rattle.unpack_rows.specs.Notes.{noted, notes_at}
 use Rattle.unpack_rows.specs.Stages.{stage_of}
 use Rattle.policy_page.specs.Answers.{Answer, Way, answer_of, Outright, InItsPlace, works}
-use Rattle.policy_page.specs.Lines.{IsLine, Line, all_present, fault_of}
+use Rattle.policy_page.specs.Lines.{IsLine, IsPage, Line, all_present, fault_of}
 use Rattle.policy_page.specs.Page
 use Rattle.policy_page.specs.Page.{Upgrade}
 use Rattle.policy_page.proofs.Left.{kinds_by, left_committed, left_stuck, left_undone, place_of, stage_is}
+use Rattle.policy_page.proofs.Pages.{is_page}
 use Rattle.policy_page.proofs.Rows.{Are, fell_alone, fell_files, fell_with, goes_alone, goes_files, goes_with, falls_alone, falls_files, falls_with, of_none, parted, row_alone, row_of_files, row_with, went_alone, went_files, went_with}
 use Rattle.policy_page.proofs.Runs.{Falls, alone, each_line, is_line, three, two, unwinds}
 use Rattle.policy_page.proofs.Undoing.{Calls, Has, Have, Puts, Undo, either_end, four_ends, three_ends, undoes, undone}
@@ -359,3 +360,9 @@ module _ (start : Option Record) (incoming : Record) where
     record_left table found (Upgrade.PostrmFailsThenPreinst way) = left_stuck start incoming true true p upgraded table found 3 3 None
     record_left table found (Upgrade.PostrmFailsThenPostrm way) = left_stuck start incoming true true p upgraded table found 3 1 None
     record_left table found (Upgrade.PostrmFailsThenPostinst way) = left_stuck start incoming true true p upgraded table found 3 0 None
+
+-- the whole page
+pub whole : (start : Option Record) (incoming : Record) → has_prerm (state_of start) ≡ true → IsPage (Page.upgrade start incoming) start incoming
+whole start incoming prerm =
+    is_page (Page.upgrade start incoming) start incoming (four start incoming) (rows_are start incoming prerm) (each start incoming) (legal start incoming) read (read_back start incoming)
+    (files_left start incoming prerm) (record_left start incoming prerm)

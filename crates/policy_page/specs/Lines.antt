@@ -3,7 +3,9 @@ use Rattle.std.specs.Prelude.{◌≡◌, true, List, [], Option, None, map, leng
 use Rattle.host_core.specs.Events.{Ran}
 use Rattle.host_core.specs.Outcome.{is_success}
 use Rattle.unwind_stack.specs.declared.fall.StepFault.{StepFault}
+use Rattle.unwind_stack.specs.declared.rows.Called.{Called}
 use Rattle.unwind_stack.specs.declared.rows.Row.{Row}
+use Rattle.unwind_stack.specs.Transcript.{Tells}
 use Rattle.cleanup_stack.specs.Place.{Place}
 use Rattle.cleanup_stack.specs.Transcripts.{Anyhow, Ended, Committed, Legal, Unwound}
 use Rattle.status_db.specs.declared.record.Record.{Record}
@@ -45,21 +47,26 @@ fault_of (Unwound fall failed) = fall.fault
 abbrev pub all_present : Present
 all_present = record { preinst = true; postinst = true; prerm = true; postrm = true }
 
-module _ {L : Type 0} (page : L → Line) (start : Option Record) (incoming : Record) where
-  abbrev rows : List Row
-  rows = rows_of start incoming all_present all_present []
+-- the rows of an unpack with which no other package is concerned
+abbrev pub rows_alone : Option Record → Record → List Row
+rows_alone start incoming = rows_of start incoming all_present all_present []
 
+-- the calls of this line were told, and the rows ended as it says
+abbrev pub HasTold : Line → Ended → List Called → List Called → Type 0
+HasTold line ended told now = (ts : List Ran) × IsLine line ended ts × Tells ts told now
+
+module _ {L : Type 0} (page : L → Line) (start : Option Record) (incoming : Record) where
   abbrev last_place : Line → Place
   last_place line = end_of (length (kinds_of start [])) line.end.ended
 
-  -- It is the page of the unpack of a package that is found so, with which no other package is concerned.
+  -- It is the page of such an unpack of a package that is found so.
   pub record IsPage : Type 0 where
     -- whatever may be called is one of its lines
-    pub each : (ended : Ended) (ts : List Ran) → Legal Anyhow [] ended rows ts → (l : L) × IsLine (page l) ended ts
+    pub each : (ended : Ended) (ts : List Ran) → Legal Anyhow [] ended (rows_alone start incoming) ts → (l : L) × IsLine (page l) ended ts
     -- and each of its lines may be called
-    pub no_other : (l : L) (ended : Ended) (ts : List Ran) → IsLine (page l) ended ts → Legal Anyhow [] ended rows ts
+    pub no_other : (l : L) (ended : Ended) (ts : List Ran) → IsLine (page l) ended ts → Legal Anyhow [] ended (rows_alone start incoming) ts
     -- how its calls end, and the fault of the files or none, tell a line from all others
-    pub decided : (l : L) (ended : Ended) (ts : List Ran) → Legal Anyhow [] ended rows ts
+    pub decided : (l : L) (ended : Ended) (ts : List Ran) → Legal Anyhow [] ended (rows_alone start incoming) ts
         → map (λ t. is_success t.outcome) ts ≡ map (λ a. a.succeeds) (page l).calls → fault_of ended ≡ fault_of (page l).end.ended
         → IsLine (page l) ended ts
     -- the files are left as it says

@@ -1,9 +1,16 @@
 // The page of an unpack has all that may be called, and nothing else.
-ghost use Rattle.std.specs.Prelude.{◌≡◌, Option, true, false};
+ghost use Rattle.std.specs.Prelude.{◌≡◌, List, Option, true, false};
+ghost use Rattle.host_core.specs.Host.{State};
+ghost use Rattle.unwind_stack.specs.declared.rows.Called.{Called};
+ghost use Rattle.cleanup_stack.specs.Telling.{HasRun};
+ghost use Rattle.cleanup_stack.specs.Transcripts.{Ended};
 ghost use Rattle.status_db.specs.declared.record.Record.{Record as ARecord};
 ghost use Rattle.unpack_rows.specs.Kinds.{has_prerm, is_upgrade, state_of};
-ghost use Rattle.policy_page.specs.Lines.{IsPage};
-ghost use Rattle.policy_page.specs.Page.{install, upgrade, upgrade_unconfigured};
+ghost use Rattle.policy_page.specs.Lines.{HasTold, IsPage, rows_alone};
+ghost use Rattle.policy_page.specs.Page.{Install, Unconfigured, Upgrade, install, upgrade, upgrade_unconfigured};
+
+use cleanup_stack::Around;
+use host_core::Host;
 
 /// The upgrade of a package that is installed or half-configured.
 pub fn an_upgrade_is_on_the_page()
@@ -22,4 +29,21 @@ pub fn an_unconfigured_upgrade_is_on_the_page()
 pub fn an_install_is_on_the_page()
     ensures { (start : Option ARecord) (incoming : ARecord) → is_upgrade (state_of start) ≡ false
         → IsPage (install start incoming) start incoming }
+{}
+
+/// What a run of these rows tells are the calls of a line.
+pub fn a_run_tells_a_line<H: Host, A: Around<H>>()
+    ensures upgrade { (t : A.Task) (start : Option ARecord) (incoming : ARecord) (ended : Ended)
+        (a b : State) (told now : List Called) → has_prerm (state_of start) ≡ true
+        → HasRun (A.file_step_fault t) ended (rows_alone start incoming) a b told now
+        → (l : Upgrade) × HasTold (upgrade start incoming l) ended told now }
+    ensures unconfigured { (t : A.Task) (start : Option ARecord) (incoming : ARecord)
+        (ended : Ended) (a b : State) (told now : List Called) → has_prerm (state_of start) ≡ false
+        → is_upgrade (state_of start) ≡ true
+        → HasRun (A.file_step_fault t) ended (rows_alone start incoming) a b told now
+        → (l : Unconfigured) × HasTold (upgrade_unconfigured start incoming l) ended told now }
+    ensures install { (t : A.Task) (start : Option ARecord) (incoming : ARecord) (ended : Ended)
+        (a b : State) (told now : List Called) → is_upgrade (state_of start) ≡ false
+        → HasRun (A.file_step_fault t) ended (rows_alone start incoming) a b told now
+        → (l : Install) × HasTold (install start incoming l) ended told now }
 {}

@@ -4,5 +4,6 @@
 mod laws;
 
 pub use laws::{
-    an_install_is_on_the_page, an_unconfigured_upgrade_is_on_the_page, an_upgrade_is_on_the_page,
+    a_run_tells_a_line, an_install_is_on_the_page, an_unconfigured_upgrade_is_on_the_page,
+    an_upgrade_is_on_the_page,
 };
