@@ -144,7 +144,7 @@ module _ (g : Ground) (p : Planned) where
     stage_there old so_far now (IsStage.running (IsRunning.beginning none may)) = beginning_same q alone.aside old now may ∙ ap (λ c. changed c old q) (sym (no_change so_far none))
     stage_there old so_far now (IsStage.running (IsRunning.running begun before more is none begins stops)) =
         amid_there (task_from g p (state_on begun stops.base)) q spared named _ (changes_of stops.since) now stops.files
-        ∙ changed_at (changes_of stops.since) stops.base old q (begun_same q alone.aside old stops.base (based_amid g p old begun _ now begins stops))
+        ∙ changed_at (changes_of stops.since) stops.base old q (begun_same q alone.aside old stops.base (based_amid old begun _ now begins stops))
         ∙ ap (λ c. changed c old q) (calls_since begun.events so_far before more stops.since is none stops.events)
     stage_there old so_far now (IsStage.leaving ended works begun last begins are come may) =
         leave_same q alone.aside works begun (stage_of (kinds_of p.found p.others) (last_place g p ended)) (table_after g p (last_place g p ended)) ended (are_moved begun ended _ works are) last now may

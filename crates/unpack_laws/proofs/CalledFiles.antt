@@ -96,7 +96,7 @@ module _ (g : Given) (places : List Path) (old now : World) (so_far : List Event
     own_stays s there =
         let apart = member_is_no_list own (script_name s) own (script_is_member s) in
         let both = stays p.found (length p.others) stops.place own old begun.world stops.base seen_scripts stops.cleared seen s there in
-        (same (script_path own s) (entry_beside own (own ++ 46 ∷ script_name s) apart.0 apart.1) ∙ begins.lays (script_path own s) refl ∙ both.0, both.1)
+        (same (script_path own s) (entry_beside own (own ++ 46 ∷ script_name s) apart.0 apart.1) ∙ both.0 ∙ begins.lays (script_path own s) refl, both.1)
 
     own_holds : (call : Call) → IsOwnCall own seen_scripts (scripts_in tree) call → HasScript tree old now call
     own_holds call (IsOwnCall.of_stored side of at there) =

@@ -21,7 +21,7 @@ use Rattle.list_changes.specs.Clearable.{clearable, is_clearable}
 use Rattle.list_changes.specs.Leaving.{is_place_of, leaving_of, stays}
 use Rattle.status_db.specs.declared.record.Record.{Record}
 use Rattle.unpack_moves.specs.Areas.{is_leaving_place}
-use Rattle.unpack_plan.specs.Lists.{entry_paths}
+use Rattle.unpack_plan.specs.Lists.{entry_paths, old_leaving}
 use Rattle.unpack_plan.specs.Names.{cut_names, gone_name, gone_names, waiting_name, was_cut}
 use Rattle.unpack_plan.specs.Records.{entries_of}
 use Rattle.unpack_engine.specs.Units.{Given}
@@ -112,7 +112,7 @@ module _ (g : Given) (x : Work) (has : Contains (unit_works g) x) (ship : is_shi
         stays = λ fresh paths is after. no_leaving_at g.entries (unit_name g) g.lists paths (entry_paths (entries_of (unit_found g))) x.place
             (subst (λ r. is_place_of g.entries (unit_name g) paths r ≡ true) at.2 (place_among g.entries (unit_name g) paths at.0 ((after.are at.0).1 (inl at.1)))) (unit_listed g);
         uncleared = no_waiting g.entries (unit_name g) x.place ship _;
-        uncut = λ fresh paths is after. no_cut x.place ship (unit_found g) _;
+        uncut = λ fresh paths is after. no_cut x.place ship (unit_found g) (old_leaving g.entries g.lists (unit_name g) (unit_found g) paths (unit_listed g));
       }
 
   pub target_lasts : x.target ≡ x.place → IsLasting g x.target

@@ -130,7 +130,7 @@ module _ (entries : List Diversion) (lists : List PackageList) (name : List ℕ)
     where
       by : (b : Bool) → was_cut found ≡ b → is_among (cond b (gone_names (leaving_of entries lists name to_come conffiles listed)) []) q ≡ true
           → (was_cut found ≡ true) × (path : Path) × Contains listed path × (place entries name path ++ suffix_text New ≡ q)
-      by true cut some = (cut, gone_place listed some)
+      by true cut some = let at = gone_place listed some in (cut, at.0, at.1, at.2)
       by false cut none = absurd (true≢false (sym none))
 
 -- a name that was cleared has what it had, or nothing
@@ -218,7 +218,7 @@ module _ (g : Given) (stored : Present) (p : Planned) (plan : IsPlanned (job_of 
       left_cleared : (v w : World) → is_among p.names q ≡ true → w q ≡ cleared (v q) → IsLeftAt v → IsLeftAt w
       left_cleared v w is same left = elim (cleared_is (v q)) [
         | inl keeps ↦ left_then v w (same ∙ keeps) left
-        | inr none ↦ elim (among_waiting q missed is) [ inl waits ↦ IsLeftAt.waited waits (same ∙ none) | inr cut ↦ IsLeftAt.cut cut (same ∙ none) ]
+        | inr none ↦ elim (among_waiting q missed is) [ inl waits ↦ IsLeftAt.waited waits (same ∙ none) | inr left_so ↦ IsLeftAt.cut left_so (same ∙ none) ]
       ]
 
       left_by : (b : Bool) → is_among p.names q ≡ b → (v w : World) → w q ≡ cond b (cleared (v q)) (v q) → IsLeftAt v → IsLeftAt w

@@ -15,6 +15,12 @@ ghost use Rattle.unpack_laws.specs.InHand.{unit_works};
 /// writes, nor at the place of a path that the package listed before, but where that place stays: so what a stopped unpack left there
 /// is gone, since its list had the path.
 pub fn what_an_unpack_that_is_done_leaves()
-    ensures beside { (g : Given) (places : List Path) (after : Recorded) (lists : List APackageList) (old new : HostState) (told now : List ACalled) → HasUnpacked g places Committed after lists old new told now → IsTrue new.honest → Each (IsClearBeside new.world) (unit_works g) }
-    ensures old_paths { (g : Given) (places : List Path) (after : Recorded) (lists : List APackageList) (old new : HostState) (told now : List ACalled) → HasUnpacked g places Committed after lists old new told now → IsTrue new.honest → LeavesNoOldFile g new.world }
+    ensures beside { (g : Given) (places : List Path) (after : Recorded)
+        (lists : List APackageList) (old new : HostState) (told now : List ACalled)
+        → HasUnpacked g places Committed after lists old new told now → IsTrue new.honest
+        → Each (IsClearBeside new.world) (unit_works g) }
+    ensures old_paths { (g : Given) (places : List Path) (after : Recorded)
+        (lists : List APackageList) (old new : HostState) (told now : List ACalled)
+        → HasUnpacked g places Committed after lists old new told now → IsTrue new.honest
+        → LeavesNoOldFile g new.world }
 {}

@@ -14,7 +14,14 @@ ghost use Rattle.unpack_laws.specs.Whole.{IsLasting, IsOwnList, IsWorkAmid};
 /// and the package's list is the one of before, the old paths with those to come, or the new one. A target at the place of its
 /// path lasts.
 pub fn what_stands_of_the_package()
-    ensures files { (g : Given) (places : List Path) (old now : World) (so_far : List Event) → IsAmidUnit g places old so_far now → Each (λ x. IsLasting g x.target → IsWorkAmid old now (changes_of so_far) x) (unit_works g) }
-    ensures lasting { (g : Given) (x : AWork) → Contains (unit_works g) x → is_ship_text x.place ≡ true → x.target ≡ x.place → IsLasting g x.target }
-    ensures list { (g : Given) (places : List Path) (old now : World) (so_far : List Event) → IsAmidUnit g places old so_far now → IsOwnList g (old (list_path (unit_name g))) (now (list_path (unit_name g))) }
+    ensures files { (g : Given) (places : List Path) (old now : World) (so_far : List Event)
+        → IsAmidUnit g places old so_far now
+        → Each (λ x. IsLasting g x.target → IsWorkAmid old now (changes_of so_far) x)
+        (unit_works g) }
+    ensures lasting { (g : Given) (x : AWork)
+        → Contains (unit_works g) x → is_ship_text x.place ≡ true → x.target ≡ x.place
+        → IsLasting g x.target }
+    ensures list { (g : Given) (places : List Path) (old now : World) (so_far : List Event)
+        → IsAmidUnit g places old so_far now
+        → IsOwnList g (old (list_path (unit_name g))) (now (list_path (unit_name g))) }
 {}

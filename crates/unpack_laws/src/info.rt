@@ -13,6 +13,13 @@ ghost use Rattle.unpack_laws.specs.Info.{IsOtherList, IsOwnMember};
 /// At each moment of an unpack another package's list is the one of before or, where the package yields, that without its paths
 /// at places of shipped files and links; and each stored control file of the package is that of before, none, or that of the tree.
 pub fn what_stands_in_info()
-    ensures lists { (g : Given) (places : List Path) (old now : World) (so_far : List Event) (q : List ℕ) → q ≢ unit_name g → IsAmidUnit g places old so_far now → IsOtherList g q (old (list_path q)) (now (list_path q)) }
-    ensures members { (g : Given) (places : List Path) (old now : World) (so_far : List Event) (member : Path) → is_member_name member ≡ true → IsAmidUnit g places old so_far now → IsOwnMember g member (old (stored_member_path (unit_name g) member)) (now (stored_member_path (unit_name g) member)) }
+    ensures lists { (g : Given) (places : List Path) (old now : World) (so_far : List Event)
+        (q : List ℕ)
+        → q ≢ unit_name g → IsAmidUnit g places old so_far now
+        → IsOtherList g q (old (list_path q)) (now (list_path q)) }
+    ensures members { (g : Given) (places : List Path) (old now : World) (so_far : List Event)
+        (member : Path)
+        → is_member_name member ≡ true → IsAmidUnit g places old so_far now
+        → IsOwnMember g member (old (stored_member_path (unit_name g) member))
+        (now (stored_member_path (unit_name g) member)) }
 {}

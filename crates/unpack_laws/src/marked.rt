@@ -10,5 +10,6 @@ ghost use Rattle.unpack_laws.specs.Marked.{IsMarkedAmid};
 /// half-installed and its list names what is changed; or its files are put back; or its last note is written, and its new list
 /// names what is changed.
 pub fn what_is_marked()
-    ensures { (g : Given) (places : List Path) (old now : World) (so_far : List Event) → IsAmidUnit g places old so_far now → IsMarkedAmid g old now (changes_of so_far) }
+    ensures { (g : Given) (places : List Path) (old now : World) (so_far : List Event)
+        → IsAmidUnit g places old so_far now → IsMarkedAmid g old now (changes_of so_far) }
 {}

@@ -12,7 +12,14 @@ ghost use Rattle.unpack_laws.specs.InHand.{KeepsPlaces, unit_name};
 /// At each moment of an unpack another package that loses no place has its list as it was, and each other package has its
 /// stored control files as they were; so are the diversions.
 pub fn what_other_packages_keep()
-    ensures lists { (g : Given) (places : List Path) (old now : World) (so_far : List Event) (q : List ℕ) → q ≢ unit_name g → KeepsPlaces g q → IsAmidUnit g places old so_far now → now (list_path q) ≡ old (list_path q) }
-    ensures members { (g : Given) (places : List Path) (old now : World) (so_far : List Event) (q : List ℕ) (member : Path) → q ≢ unit_name g → is_member_name member ≡ true → IsAmidUnit g places old so_far now → now (stored_member_path q member) ≡ old (stored_member_path q member) }
-    ensures diversions { (g : Given) (places : List Path) (old now : World) (so_far : List Event) → IsAmidUnit g places old so_far now → now diversions_path ≡ old diversions_path }
+    ensures lists { (g : Given) (places : List Path) (old now : World) (so_far : List Event)
+        (q : List ℕ)
+        → q ≢ unit_name g → KeepsPlaces g q → IsAmidUnit g places old so_far now
+        → now (list_path q) ≡ old (list_path q) }
+    ensures members { (g : Given) (places : List Path) (old now : World) (so_far : List Event)
+        (q : List ℕ) (member : Path)
+        → q ≢ unit_name g → is_member_name member ≡ true → IsAmidUnit g places old so_far now
+        → now (stored_member_path q member) ≡ old (stored_member_path q member) }
+    ensures diversions { (g : Given) (places : List Path) (old now : World) (so_far : List Event)
+        → IsAmidUnit g places old so_far now → now diversions_path ≡ old diversions_path }
 {}

@@ -9,6 +9,12 @@ ghost use Rattle.unpack_laws.specs.InHand.{IsPassedBy};
 /// At each moment of an unpack a path that it passes by has what script calls made of what stood there; where they leave the
 /// path alone, what stood there.
 pub fn what_stands_where_no_work_comes()
-    ensures scripts { (g : Given) (places : List Path) (old now : World) (so_far : List Event) (q : Path) → IsPassedBy g q → IsAmidUnit g places old so_far now → now q ≡ changed (changes_of so_far) old q }
-    ensures kept { (g : Given) (places : List Path) (old now : World) (so_far : List Event) (q : Path) → IsPassedBy g q → is_kept places q ≡ true → IsAmidUnit g places old so_far now → now q ≡ old q }
+    ensures scripts { (g : Given) (places : List Path) (old now : World) (so_far : List Event)
+        (q : Path)
+        → IsPassedBy g q → IsAmidUnit g places old so_far now
+        → now q ≡ changed (changes_of so_far) old q }
+    ensures kept { (g : Given) (places : List Path) (old now : World) (so_far : List Event)
+        (q : Path)
+        → IsPassedBy g q → is_kept places q ≡ true → IsAmidUnit g places old so_far now
+        → now q ≡ old q }
 {}

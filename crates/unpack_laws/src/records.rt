@@ -14,5 +14,8 @@ ghost use Rattle.unpack_laws.specs.NextOpening.{HasRecordsAmid};
 /// that of before or one that the unit notes. That of any other package is the one of before, or half-configured where it has a
 /// row; where it yields and lists a path whose place a shipped file or link has, the conffiles at such places may be gone from it.
 pub fn what_the_next_opening_finds()
-    ensures { (g : Given) (d : Recorded) (places : List Path) (old now : World) (so_far : List Event) → AreOthers (unit_name g) g.records g.others → IsInOrder d g.lists old → d.records ≡ g.records → IsAmidUnit g places old so_far now → HasRecordsAmid g now }
+    ensures { (g : Given) (d : Recorded) (places : List Path) (old now : World)
+        (so_far : List Event)
+        → AreOthers (unit_name g) g.records g.others → IsInOrder d g.lists old
+        → d.records ≡ g.records → IsAmidUnit g places old so_far now → HasRecordsAmid g now }
 {}

@@ -17,7 +17,7 @@ returns c =
       works_are = record { works_are = contents.works; named = contents.named; fitting = contents.fitting };
       lists_are = lists_planned _ _ _ same changes.listed changes.listed_paths changes.union changes.new_list changes.leaving changes.spares;
       names_are = names_planned _ _ _ same
-          (contents.names ∙ ap (λ (l : List Leaving). cleared_names c.args.diversions.now.entries p.name (option_copied c.get-found.result) p.conffiles _ l) c.as_slice.ensures.value) contents.elsewhere;
+          (contents.names ∙ ap (λ (l : List Leaving). cleared_names c.args.diversions.now.entries p.name (option_copied c.get-found.result) p.conffiles c.in_ok-contents.contents.works.items l) c.as_slice.ensures.value) contents.elsewhere;
       members_are = contents.members;
     }
 
