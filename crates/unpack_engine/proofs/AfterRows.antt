@@ -1,5 +1,5 @@
 -- A unit after its rows, at each moment.
-use Rattle.std.proofs.Common.{◌≡◌, IsTrue, true, List, sym, subst}
+use Rattle.std.proofs.Common.{◌≡◌, IsTrue, true, List, length, sym, subst}
 use Rattle.texts.specs.PackageNames.{is_package_name}
 use Rattle.host_core.specs.Paths.{Path}
 use Rattle.host_core.specs.World.{World}

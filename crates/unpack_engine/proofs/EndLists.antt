@@ -75,10 +75,14 @@ enough : (n m : ℕ) → m ≡ n + 2 → nat_le (n + 1) m ≡ true
 enough n m e = grind arith
 
 bare_many : (others : List Record) → length (kinds_of None others) ≡ length others + 2
-bare_many others = length-append (map (λ r. Other r) others) (last_kinds false) ∙ ap (λ n. n + 2) (length-map (λ r. Other r) others)
+bare_many others = length-append (map (λ r. Other r) others) (last_kinds false) ∙ ap (λ n. n + 2) (length-map others (λ (r : Record). Other r))
 
 bare_rows : (others : List Record) → nat_le (length others + 1) (length (kinds_of None others)) ≡ true
 bare_rows others = enough (length others) (length (kinds_of None others)) (bare_many others)
+
+-- nor is there a row of another package before the first
+none_before : (n m : ℕ) → nat_le n m ≡ nat_le (0 + n) m
+none_before n m = grind arith
 
 module _ (G : Given) (stored : Present) (p : Planned) (plan : IsPlanned (job_of G stored) p) (places : List Path) where
   abbrev own : List ℕ
@@ -112,7 +116,7 @@ module _ (G : Given) (stored : Present) (p : Planned) (plan : IsPlanned (job_of 
   own_none (Some r) e fall failed short = absurd cc
 
   not_reached : (found : Option Record) → found ≡ None → (fall : Fall) → is_gone found (length p.others) (Back 0 fall []) ≡ is_preinst_reached found p.incoming p.others fall
-  not_reached None e fall = refl
+  not_reached None e fall = none_before (length p.others) fall.row
   not_reached (Some r) e fall = absurd cc
 
   all_rows : (found : Option Record) → found ≡ None → is_gone found (length p.others) (Forward (length (kinds_of found p.others))) ≡ true
@@ -348,9 +352,9 @@ module _ (G : Given) (stored : Present) (p : Planned) (plan : IsPlanned (job_of 
       where
         by : (found : Option Record) → p.found ≡ found → (found ≡ None → is_gone found (length p.others) (Back 0 fall failed) ≡ true)
             → MayClear (is_gone found (length p.others) (Back 0 fall failed)) (is_gone found (length p.others) (Back 0 fall failed)) own begins.begun rows_end.base → IsListEnd old.world w names (record_names after.records) G.lists ls own
-        by None is gone may = IsListEnd.bare (same ∙ (cleared_if _ _ own begins.begun rows_end.base (gone refl) may).list)
+        by None is bare may = IsListEnd.bare (same ∙ (cleared_if _ _ own begins.begun rows_end.base (bare refl) may).list)
             (paths_are ∙ unlisted old.world w names (record_names after.records) G.lists ls has own (own_unrecorded is))
-        by (Some r) is gone kept = IsListEnd.stays (own_recorded r is) (same ∙ ap (λ (x : World). x (list_path own)) kept ∙ begins.begins.lays (list_path own) refl) paths_are
+        by (Some r) is bare kept = IsListEnd.stays (own_recorded r is) (same ∙ ap (λ (x : World). x (list_path own)) kept ∙ begins.begins.lays (list_path own) refl) paths_are
 
     end_restored : (w : World) → w (list_path own) ≡ Some (list_file p.listed) → (ls : List PackageList) → paths_of ls own ≡ paths_of G.lists own → IsListEnd old.world w names (record_names after.records) G.lists ls own
     end_restored w is ls paths_are = IsListEnd.written p.listed plan.lists_are.listed_paths.room

@@ -1,5 +1,4 @@
 pub mod Ready
-pub mod Clearing
 pub mod Frames
 pub mod Apart
 pub mod Begun

@@ -66,9 +66,12 @@ pub(crate) fn committing_of(
     works: &[Work],
     rest: Rest,
 ) -> Result<Committing, AllocError>
-    ensures change { IfOk result (λ c. changes_of c.change c.new_list ≡ changes_from name.now yields.now diversions.now.entries lists.now.lists works.now rest) }
+    ensures change { IfOk result (λ c. changes_of c.change c.new_list
+        ≡ changes_from name.now yields.now diversions.now.entries lists.now.lists works.now rest) }
     ensures members { IfOk result (λ c. c.change.members ≡ rest.members) }
-    ensures records { IfOk result (λ c. c.records.items ≡ records_from name.now yields.now diversions.now.entries lists.now.lists works.now rest database.now.records) }
+    ensures records { IfOk result (λ c. c.records.items
+        ≡ records_from name.now yields.now diversions.now.entries lists.now.lists works.now rest
+        database.now.records) }
 {
     let others = yields_beside(alloc, name, yields)?;
     let takeover = takeover_of(alloc, works, database, lists, diversions, others.as_slice())?;
@@ -102,22 +105,42 @@ pub(crate) fn end_committed<H: Host>(
     requires noting { database.old.closed ≡ false }
     requires opened { lists.old.closed ≡ false }
     requires named { is_package_name change.now.name ≡ true }
-    requires losers { (name : List ℕ) → Contains change.now.losers name → is_package_name name ≡ true }
+    requires losers { (name : List ℕ) → Contains change.now.losers name
+        → is_package_name name ≡ true }
     requires spared { SparesAdministration change.now.leaving.items }
     requires paths { AreListPaths new_list }
     requires elsewhere { AreElsewhere change.now.names.items }
     requires stands { AreStanding records.now }
     requires ready { Needs (H.state host.old) (IsListReady change.now.name) }
-    requires losers_ready { Needs (H.state host.old) (λ w. (name : List ℕ) → Contains change.now.losers name → IsListReady name w) }
+    requires losers_ready { Needs (H.state host.old) (λ w. (name : List ℕ)
+        → Contains change.now.losers name → IsListReady name w) }
     requires members { Needs (H.state host.old) (IsMembersReady change.now.name) }
     requires kept { Needs (H.state host.old) (IsKept database.old) }
     requires laid { Needs (H.state host.old) (AreLaidOut change.now.members) }
-    ensures lists { OnOk result (lists.new ≡ record lists.old { lists = committed_lists (changes_of change.now new_list) diversions.now.entries lists.old.lists }) }
-    ensures records { OnOk result (database.new.records ≡ put_records records.now database.old.records) }
+    ensures lists { OnOk result (lists.new
+        ≡ record lists.old {
+          lists = committed_lists
+              (changes_of change.now new_list) diversions.now.entries lists.old.lists;
+        }) }
+    ensures records { OnOk result (database.new.records
+        ≡ put_records records.now database.old.records) }
     ensures opened { OnOk result (database.new.closed ≡ false) }
-    ensures left { Leaves result (HasLeftBy (HasCommitted (changes_of change.now new_list) diversions.now.entries lists.old.lists (put_records records.now database.old.records))) (H.state host.old) (H.state host.new) }
-    ensures kept { Leaves result (λ old new. IsKept database.new new) (H.state host.old) (H.state host.new) }
-    ensures any_moment { AtEachMoment (MayLeaveBy (HasCommitted (changes_of change.now new_list) diversions.now.entries lists.old.lists (put_records records.now database.old.records)) (MayCommit (changes_of change.now new_list) diversions.now.entries lists.old.lists records.now database.old.records)) (H.state host.old) (H.state host.new) }
+    ensures left { Leaves result
+        (HasLeftBy (HasCommitted
+        (changes_of change.now new_list) diversions.now.entries lists.old.lists
+        (put_records records.now database.old.records)))
+        (H.state host.old) (H.state host.new) }
+    ensures kept { Leaves result
+        (λ old new. IsKept database.new new) (H.state host.old) (H.state host.new) }
+    ensures any_moment { AtEachMoment
+        (MayLeaveBy
+        (HasCommitted
+        (changes_of change.now new_list) diversions.now.entries lists.old.lists
+        (put_records records.now database.old.records))
+        (MayCommit
+        (changes_of change.now new_list) diversions.now.entries lists.old.lists records.now
+        database.old.records))
+        (H.state host.old) (H.state host.new) }
     ensures silent { Silent (H.state host.old) (H.state host.new) }
     ensures counts { Counts (H.state host.old) (H.state host.new) result }
 {

@@ -55,8 +55,10 @@ pub(crate) fn course_of(
     database: &NotedDatabase,
     yields: Texts,
 ) -> Result<Course, AllocError>
-    ensures parts { IfOk result (λ c. planned_from c.rows c.works.items c.calls.items c.rest ≡ planned plan) }
-    ensures yields { IfOk result (λ c. c.rows.yields ≡ names_of_yields database.now.records ++ yields) }
+    ensures parts { IfOk result (λ c. planned_from c.rows c.works.items c.calls.items c.rest
+        ≡ planned plan) }
+    ensures yields { IfOk result (λ c. c.rows.yields
+        ≡ names_of_yields database.now.records ++ yields) }
 {
     let yields = all_yields(alloc, database, yields.as_slice())?;
     Ok(Course {

@@ -60,8 +60,14 @@ fn finish_unwound<H: Host>(
     requires laid { Needs (H.state host.old) (AreLaidOut members.now) }
     requires kept { Needs (H.state host.old) (IsKept database.now) }
     ensures told { IfOk result (AreTold name.now (deconfigured database.now.records others.now)) }
-    ensures left { Leaves result (HasLeftBy (HasDropped reached (record_in database.now.records name.now) name.now)) (H.state host.old) (H.state host.new) }
-    ensures any_moment { AtEachMoment (MayLeaveBy (HasDropped reached (record_in database.now.records name.now) name.now) (MayDrop reached (record_in database.now.records name.now) name.now)) (H.state host.old) (H.state host.new) }
+    ensures left { Leaves result
+        (HasLeftBy (HasDropped reached (record_in database.now.records name.now) name.now))
+        (H.state host.old) (H.state host.new) }
+    ensures any_moment { AtEachMoment
+        (MayLeaveBy
+        (HasDropped reached (record_in database.now.records name.now) name.now)
+        (MayDrop reached (record_in database.now.records name.now) name.now))
+        (H.state host.old) (H.state host.new) }
     ensures silent { Silent (H.state host.old) (H.state host.new) }
     ensures counts { Counts (H.state host.old) (H.state host.new) result }
 {
@@ -82,23 +88,45 @@ fn finish_ready<H: Host>(
     requires noting { database.old.closed ≡ false }
     requires opened { lists.old.closed ≡ false }
     requires named { is_package_name committing.change.name ≡ true }
-    requires losers { (name : List ℕ) → Contains committing.change.losers name → is_package_name name ≡ true }
+    requires losers { (name : List ℕ) → Contains committing.change.losers name
+        → is_package_name name ≡ true }
     requires spared { SparesAdministration committing.change.leaving.items }
     requires paths { AreListPaths committing.new_list }
     requires elsewhere { AreElsewhere committing.change.names.items }
     requires stands { AreStanding committing.records.items }
     requires ready { Needs (H.state host.old) (IsListReady committing.change.name) }
-    requires losers_ready { Needs (H.state host.old) (λ w. (name : List ℕ) → Contains committing.change.losers name → IsListReady name w) }
+    requires losers_ready { Needs (H.state host.old) (λ w. (name : List ℕ)
+        → Contains committing.change.losers name → IsListReady name w) }
     requires members { Needs (H.state host.old) (IsMembersReady committing.change.name) }
     requires kept { Needs (H.state host.old) (IsKept database.old) }
     requires laid { Needs (H.state host.old) (AreLaidOut committing.change.members) }
-    ensures told { IfOk result (AreTold committing.change.name (committing.records.items ++ deconfigured database.new.records others.now)) }
-    ensures lists { OnOk result (lists.new ≡ record lists.old { lists = committed_lists (changes_of committing.change committing.new_list) diversions.now.entries lists.old.lists }) }
-    ensures records { OnOk result (database.new.records ≡ put_records committing.records.items database.old.records) }
+    ensures told { IfOk result (AreTold committing.change.name (committing.records.items
+        ++ deconfigured database.new.records others.now)) }
+    ensures lists { OnOk result (lists.new
+        ≡ record lists.old {
+          lists = committed_lists
+              (changes_of committing.change committing.new_list) diversions.now.entries
+              lists.old.lists;
+        }) }
+    ensures records { OnOk result (database.new.records
+        ≡ put_records committing.records.items database.old.records) }
     ensures opened { OnOk result (database.new.closed ≡ false) }
-    ensures left { Leaves result (HasLeftBy (HasCommitted (changes_of committing.change committing.new_list) diversions.now.entries lists.old.lists (put_records committing.records.items database.old.records))) (H.state host.old) (H.state host.new) }
-    ensures kept { Leaves result (λ old new. IsKept database.new new) (H.state host.old) (H.state host.new) }
-    ensures any_moment { AtEachMoment (MayLeaveBy (HasCommitted (changes_of committing.change committing.new_list) diversions.now.entries lists.old.lists (put_records committing.records.items database.old.records)) (MayCommit (changes_of committing.change committing.new_list) diversions.now.entries lists.old.lists committing.records.items database.old.records)) (H.state host.old) (H.state host.new) }
+    ensures left { Leaves result
+        (HasLeftBy (HasCommitted
+        (changes_of committing.change committing.new_list) diversions.now.entries
+        lists.old.lists (put_records committing.records.items database.old.records)))
+        (H.state host.old) (H.state host.new) }
+    ensures kept { Leaves result
+        (λ old new. IsKept database.new new) (H.state host.old) (H.state host.new) }
+    ensures any_moment { AtEachMoment
+        (MayLeaveBy
+        (HasCommitted
+        (changes_of committing.change committing.new_list) diversions.now.entries
+        lists.old.lists (put_records committing.records.items database.old.records))
+        (MayCommit
+        (changes_of committing.change committing.new_list) diversions.now.entries
+        lists.old.lists committing.records.items database.old.records))
+        (H.state host.old) (H.state host.new) }
     ensures silent { Silent (H.state host.old) (H.state host.new) }
     ensures counts { Counts (H.state host.old) (H.state host.new) result }
 {
@@ -135,18 +163,45 @@ fn finish_committed<H: Host>(
     requires spared { SparesAdministration rest.leaving.items }
     requires paths { AreListPaths rest.new_list }
     requires elsewhere { AreElsewhere rest.names.items }
-    requires stands { AreStanding (records_from name.now yields.now diversions.now.entries lists.old.lists works.now rest database.old.records) }
+    requires stands { AreStanding (records_from name.now yields.now diversions.now.entries
+        lists.old.lists works.now rest database.old.records) }
     requires info { Needs (H.state host.old) (λ w. IsDirectory (w info_path)) }
     requires loose { Needs (H.state host.old) AreLoose }
     requires kept { Needs (H.state host.old) (IsKept database.old) }
     requires laid { Needs (H.state host.old) (AreLaidOut rest.members) }
-    ensures told { IfOk result (AreTold name.now (records_from name.now yields.now diversions.now.entries lists.old.lists works.now rest database.old.records ++ deconfigured database.new.records others.now)) }
-    ensures lists { OnOk result (lists.new ≡ record lists.old { lists = committed_lists (changes_from name.now yields.now diversions.now.entries lists.old.lists works.now rest) diversions.now.entries lists.old.lists }) }
-    ensures records { OnOk result (database.new.records ≡ put_records (records_from name.now yields.now diversions.now.entries lists.old.lists works.now rest database.old.records) database.old.records) }
+    ensures told { IfOk result (AreTold name.now (records_from name.now yields.now
+        diversions.now.entries lists.old.lists works.now rest database.old.records
+        ++ deconfigured database.new.records others.now)) }
+    ensures lists { OnOk result (lists.new
+        ≡ record lists.old {
+          lists = committed_lists
+              (changes_from name.now yields.now diversions.now.entries lists.old.lists works.now rest)
+              diversions.now.entries lists.old.lists;
+        }) }
+    ensures records { OnOk result (database.new.records
+        ≡ put_records
+        (records_from name.now yields.now diversions.now.entries lists.old.lists works.now rest
+        database.old.records)
+        database.old.records) }
     ensures opened { OnOk result (database.new.closed ≡ false) }
-    ensures left { Leaves result (HasLeft (changes_from name.now yields.now diversions.now.entries lists.old.lists works.now rest) (records_from name.now yields.now diversions.now.entries lists.old.lists works.now rest database.old.records) diversions.now.entries lists.old.lists database.old.records (length others.now) Committed) (H.state host.old) (H.state host.new) }
-    ensures kept { Leaves result (λ old new. IsKept database.new new) (H.state host.old) (H.state host.new) }
-    ensures any_moment { AtEachMoment (MayLeave (changes_from name.now yields.now diversions.now.entries lists.old.lists works.now rest) (records_from name.now yields.now diversions.now.entries lists.old.lists works.now rest database.old.records) diversions.now.entries lists.old.lists database.old.records (length others.now) Committed) (H.state host.old) (H.state host.new) }
+    ensures left { Leaves result
+        (HasLeft
+        (changes_from name.now yields.now diversions.now.entries lists.old.lists works.now rest)
+        (records_from name.now yields.now diversions.now.entries lists.old.lists works.now rest
+        database.old.records)
+        diversions.now.entries lists.old.lists database.old.records (length others.now)
+        Committed)
+        (H.state host.old) (H.state host.new) }
+    ensures kept { Leaves result
+        (λ old new. IsKept database.new new) (H.state host.old) (H.state host.new) }
+    ensures any_moment { AtEachMoment
+        (MayLeave
+        (changes_from name.now yields.now diversions.now.entries lists.old.lists works.now rest)
+        (records_from name.now yields.now diversions.now.entries lists.old.lists works.now rest
+        database.old.records)
+        diversions.now.entries lists.old.lists database.old.records (length others.now)
+        Committed)
+        (H.state host.old) (H.state host.new) }
     ensures silent { Silent (H.state host.old) (H.state host.new) }
     ensures counts { Counts (H.state host.old) (H.state host.new) result }
 {
@@ -178,19 +233,64 @@ pub(crate) fn finish<H: Host>(
     requires spared { SparesAdministration rest.leaving.items }
     requires paths { AreListPaths rest.new_list }
     requires elsewhere { AreElsewhere rest.names.items }
-    requires stands { AreStanding (records_from (own_name rows.now.found rows.now.incoming) rows.now.yields diversions.now.entries lists.old.lists works.now rest database.old.records) }
+    requires stands { AreStanding (records_from
+        (own_name rows.now.found rows.now.incoming) rows.now.yields diversions.now.entries
+        lists.old.lists works.now rest database.old.records) }
     requires info { Needs (H.state host.old) (λ w. IsDirectory (w info_path)) }
     requires loose { Needs (H.state host.old) AreLoose }
     requires kept { Needs (H.state host.old) (IsKept database.old) }
     requires laid { Needs (H.state host.old) (AreLaidOut rest.members) }
     ensures unwinding { IfOk result (λ u. u.unwinding ≡ unwinding) }
-    ensures told { IfOk result (λ u. AreTold (own_name rows.now.found rows.now.incoming) (ended_records (ended_as unwinding) (records_from (own_name rows.now.found rows.now.incoming) rows.now.yields diversions.now.entries lists.old.lists works.now rest database.old.records) ++ deconfigured database.new.records rows.now.others.items) u.touched) }
-    ensures lists { OnOk result (lists.new ≡ record lists.old { lists = ended_lists (ended_as unwinding) (changes_from (own_name rows.now.found rows.now.incoming) rows.now.yields diversions.now.entries lists.old.lists works.now rest) diversions.now.entries lists.old.lists }) }
-    ensures records { OnOk result (database.new.records ≡ ended_table (ended_as unwinding) (records_from (own_name rows.now.found rows.now.incoming) rows.now.yields diversions.now.entries lists.old.lists works.now rest database.old.records) database.old.records) }
+    ensures told { IfOk result (λ u. AreTold
+        (own_name rows.now.found rows.now.incoming)
+        (ended_records
+        (ended_as unwinding)
+        (records_from
+        (own_name rows.now.found rows.now.incoming) rows.now.yields diversions.now.entries
+        lists.old.lists works.now rest database.old.records)
+        ++ deconfigured database.new.records rows.now.others.items)
+        u.touched) }
+    ensures lists { OnOk result (lists.new
+        ≡ record lists.old {
+          lists = ended_lists
+              (ended_as unwinding)
+              (changes_from
+              (own_name rows.now.found rows.now.incoming) rows.now.yields diversions.now.entries
+              lists.old.lists works.now rest)
+              diversions.now.entries lists.old.lists;
+        }) }
+    ensures records { OnOk result (database.new.records
+        ≡ ended_table
+        (ended_as unwinding)
+        (records_from
+        (own_name rows.now.found rows.now.incoming) rows.now.yields diversions.now.entries
+        lists.old.lists works.now rest database.old.records)
+        database.old.records) }
     ensures opened { OnOk result (database.new.closed ≡ false) }
-    ensures left { Leaves result (HasLeft (changes_from (own_name rows.now.found rows.now.incoming) rows.now.yields diversions.now.entries lists.old.lists works.now rest) (records_from (own_name rows.now.found rows.now.incoming) rows.now.yields diversions.now.entries lists.old.lists works.now rest database.old.records) diversions.now.entries lists.old.lists database.old.records (length rows.now.others.items) (ended_as unwinding)) (H.state host.old) (H.state host.new) }
-    ensures kept { Leaves result (λ old new. IsKept database.new new) (H.state host.old) (H.state host.new) }
-    ensures any_moment { AtEachMoment (MayLeave (changes_from (own_name rows.now.found rows.now.incoming) rows.now.yields diversions.now.entries lists.old.lists works.now rest) (records_from (own_name rows.now.found rows.now.incoming) rows.now.yields diversions.now.entries lists.old.lists works.now rest database.old.records) diversions.now.entries lists.old.lists database.old.records (length rows.now.others.items) (ended_as unwinding)) (H.state host.old) (H.state host.new) }
+    ensures left { Leaves result
+        (HasLeft
+        (changes_from
+        (own_name rows.now.found rows.now.incoming) rows.now.yields diversions.now.entries
+        lists.old.lists works.now rest)
+        (records_from
+        (own_name rows.now.found rows.now.incoming) rows.now.yields diversions.now.entries
+        lists.old.lists works.now rest database.old.records)
+        diversions.now.entries lists.old.lists database.old.records
+        (length rows.now.others.items) (ended_as unwinding))
+        (H.state host.old) (H.state host.new) }
+    ensures kept { Leaves result
+        (λ old new. IsKept database.new new) (H.state host.old) (H.state host.new) }
+    ensures any_moment { AtEachMoment
+        (MayLeave
+        (changes_from
+        (own_name rows.now.found rows.now.incoming) rows.now.yields diversions.now.entries
+        lists.old.lists works.now rest)
+        (records_from
+        (own_name rows.now.found rows.now.incoming) rows.now.yields diversions.now.entries
+        lists.old.lists works.now rest database.old.records)
+        diversions.now.entries lists.old.lists database.old.records
+        (length rows.now.others.items) (ended_as unwinding))
+        (H.state host.old) (H.state host.new) }
     ensures silent { Silent (H.state host.old) (H.state host.new) }
     ensures counts { Counts (H.state host.old) (H.state host.new) result }
 {

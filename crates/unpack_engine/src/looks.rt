@@ -23,7 +23,9 @@ fn is_stored<H: Host>(
     script: Script,
 ) -> Result<bool, HostFault>
     requires named { is_package_name name.now ≡ true }
-    ensures found { Tells result (λ is w. is ≡ is_some (w (stored_path name.now script))) (H.state host.old) (H.state host.new) }
+    ensures found { Tells result
+        (λ is w. is ≡ is_some (w (stored_path name.now script)))
+        (H.state host.old) (H.state host.new) }
     ensures reads { Reads (H.state host.old) (H.state host.new) }
     ensures silent { Silent (H.state host.old) (H.state host.new) }
     ensures counts { Counts (H.state host.old) (H.state host.new) result }
@@ -41,7 +43,10 @@ fn look_for_two<H: Host>(
     second: Script,
 ) -> Result<(bool, bool), HostFault>
     requires named { is_package_name name.now ≡ true }
-    ensures found { Tells result (λ both w. (both.0 ≡ is_some (w (stored_path name.now first))) × (both.1 ≡ is_some (w (stored_path name.now second)))) (H.state host.old) (H.state host.new) }
+    ensures found { Tells result
+        (λ both w. (both.0 ≡ is_some (w (stored_path name.now first)))
+        × (both.1 ≡ is_some (w (stored_path name.now second))))
+        (H.state host.old) (H.state host.new) }
     ensures reads { Reads (H.state host.old) (H.state host.new) }
     ensures silent { Silent (H.state host.old) (H.state host.new) }
     ensures counts { Counts (H.state host.old) (H.state host.new) result }
@@ -54,7 +59,10 @@ fn look_for_two<H: Host>(
 #[tactic(auto, using(host_core::specs::Moments::reads_then))]
 fn look_for_scripts<H: Host>(alloc: Global, host: &mut H, name: &Text) -> Result<Present, HostFault>
     requires named { is_package_name name.now ≡ true }
-    ensures found { Tells result (λ stored w. (script : AScript) → is_present stored script ≡ is_some (w (stored_path name.now script))) (H.state host.old) (H.state host.new) }
+    ensures found { Tells result
+        (λ stored w. (script : AScript)
+        → is_present stored script ≡ is_some (w (stored_path name.now script)))
+        (H.state host.old) (H.state host.new) }
     ensures reads { Reads (H.state host.old) (H.state host.new) }
     ensures silent { Silent (H.state host.old) (H.state host.new) }
     ensures counts { Counts (H.state host.old) (H.state host.new) result }
@@ -77,7 +85,9 @@ pub(crate) fn stored_scripts<H: Host>(
     found: Option<&Record>,
 ) -> Result<Present, HostFault>
     requires named { is_package_name name.now ≡ true }
-    ensures seen { Tells result (λ stored w. IsSeen (option_copied found.entry) name.now w stored) (H.state host.old) (H.state host.new) }
+    ensures seen { Tells result
+        (λ stored w. IsSeen (option_copied found.entry) name.now w stored)
+        (H.state host.old) (H.state host.new) }
     ensures reads { Reads (H.state host.old) (H.state host.new) }
     ensures silent { Silent (H.state host.old) (H.state host.new) }
     ensures counts { Counts (H.state host.old) (H.state host.new) result }

@@ -39,9 +39,15 @@ pub(crate) fn begin_and_run<H: Host>(
 ) -> Result<Option<Unwinding>, HostFault>
     requires noting { database.old.closed ≡ false }
     requires listing { lists.old.closed ≡ false }
-    requires sound { IsSound (task_of (H.state host.old) database.old lists.old diversions.now.entries places.old works.old.items rows.now) }
+    requires sound { IsSound (task_of
+        (H.state host.old) database.old lists.old diversions.now.entries places.old works.old.items
+        rows.now) }
     requires kinds { rows.now.kinds.items ≡ (kinds_of rows.now.found rows.now.others.items) }
-    requires rows { Fit (Fits (own_name rows.now.found rows.now.incoming) (kinds_of rows.now.found rows.now.others.items)) calls.items }
+    requires rows { Fit
+        (Fits
+        (own_name rows.now.found rows.now.incoming)
+        (kinds_of rows.now.found rows.now.others.items))
+        calls.items }
     requires length { length calls.items ≡ length (kinds_of rows.now.found rows.now.others.items) }
     requires order { Needs (H.state host.old) (IsInOrder database.old lists.old.lists) }
     ensures ran { IfOk result (λ u. HasRunRows (HasBegun members.now)
@@ -49,7 +55,8 @@ pub(crate) fn begin_and_run<H: Host>(
         (ended_as u) (holding database.new lists.new places.new works.new.items)
         (H.state host.old) (H.state host.new) told.old.items told.new.items) }
     ensures cause { IfOk result (IsCauseOf calls.items) }
-    ensures told { HasCalledRows calls.items (H.state host.old) (H.state host.new) told.old.items told.new.items }
+    ensures told { HasCalledRows calls.items
+        (H.state host.old) (H.state host.new) told.old.items told.new.items }
     ensures any_moment { AtEachMomentOf (IsRunning (HasBegun members.now) IsLaying
         (λ s. task_of s database.old lists.old diversions.now.entries places.old works.old.items rows.now))
         (H.state host.old) (H.state host.new) }

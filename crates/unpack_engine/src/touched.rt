@@ -50,7 +50,10 @@ fn add_deconfigured(
     others: &[Record],
     set: &mut BTreeSet<String>,
 ) -> Result<(), AllocError>
-    ensures { OnOk result ((q : List ℕ) → contains_text set.new q ≡ contains_text set.old q || is_named (deconfigured database.now.records others.now) q) }
+    ensures { OnOk result ((q : List ℕ)
+        → contains_text set.new q
+        ≡ contains_text set.old q || is_named
+        (deconfigured database.now.records others.now) q) }
 {
     for other in others {
         if is_deconfigured(database.get(&other.name), other) {
@@ -68,7 +71,9 @@ fn names_with(
     records: &[Record],
     others: &[Record],
 ) -> Result<BTreeSet<String>, AllocError>
-    ensures { IfOk result (λ set. (q : List ℕ) → contains_text set q ≡ is_touched name.now (records.now ++ deconfigured database.now.records others.now) q) }
+    ensures { IfOk result (λ set. (q : List ℕ)
+        → contains_text set q
+        ≡ is_touched name.now (records.now ++ deconfigured database.now.records others.now) q) }
 {
     let mut set = names_of(alloc, records)?;
     add_deconfigured(alloc, database, others, &mut set)?;
@@ -85,7 +90,8 @@ pub(crate) fn touched_of(
     records: &[Record],
     others: &[Record],
 ) -> Result<Texts, AllocError>
-    ensures { IfOk result (AreTold name.now (records.now ++ deconfigured database.now.records others.now)) }
+    ensures { IfOk result (AreTold name.now (records.now
+        ++ deconfigured database.now.records others.now)) }
 {
     let mut set = names_with(alloc, database, name, records, others)?;
     let mut names = Texts::new(alloc);

@@ -46,16 +46,30 @@ fn run_parts<H: Host>(
 ) -> Result<Unpacked, HostFault>
     requires noting { database.old.closed ≡ false }
     requires listing { lists.old.closed ≡ false }
-    requires plan { IsPlanBy database.old.records (planned_from rows.now works.old.items calls.items rest) }
+    requires plan { IsPlanBy database.old.records (planned_from rows.now works.old.items calls.items
+        rest) }
     requires order { Needs (H.state host.old) (IsInOrder database.old lists.old.lists) }
-    ensures unit { IfOk result (λ u. HasCarriedOut (ground database.old.records lists.old.lists diversions.now.entries places.old rows.now.yields) (planned_from rows.now works.old.items calls.items rest) (ended_as u.unwinding) database.new lists.new.lists (H.state host.old) (H.state host.new) told.old.items told.new.items) }
+    ensures unit { IfOk result (λ u. HasCarriedOut
+        (ground database.old.records lists.old.lists diversions.now.entries places.old
+        rows.now.yields)
+        (planned_from rows.now works.old.items calls.items rest) (ended_as u.unwinding) database.new
+        lists.new.lists (H.state host.old) (H.state host.new) told.old.items told.new.items) }
     ensures cause { IfOk result (λ u. IsCauseOf calls.items u.unwinding) }
-    ensures touched { IfOk result (λ u. IsTouched (own_name rows.now.found rows.now.incoming) database.old.records database.new.records u.touched) }
-    ensures told { HasCalledRows calls.items (H.state host.old) (H.state host.new) told.old.items told.new.items }
-    ensures kept { Leaves result (λ old new. IsKept database.new new) (H.state host.old) (H.state host.new) }
+    ensures touched { IfOk result (λ u. IsTouched
+        (own_name rows.now.found rows.now.incoming) database.old.records database.new.records
+        u.touched) }
+    ensures told { HasCalledRows calls.items
+        (H.state host.old) (H.state host.new) told.old.items told.new.items }
+    ensures kept { Leaves result
+        (λ old new. IsKept database.new new) (H.state host.old) (H.state host.new) }
     ensures noting { OnOk result (database.new.closed ≡ false) }
     ensures listing { OnOk result (lists.new.closed ≡ false) }
-    ensures any_moment { AtEachMomentOf (IsUnderWay (ground database.old.records lists.old.lists diversions.now.entries places.old rows.now.yields) (planned_from rows.now works.old.items calls.items rest)) (H.state host.old) (H.state host.new) }
+    ensures any_moment { AtEachMomentOf
+        (IsUnderWay
+        (ground database.old.records lists.old.lists diversions.now.entries places.old
+        rows.now.yields)
+        (planned_from rows.now works.old.items calls.items rest))
+        (H.state host.old) (H.state host.new) }
     ensures counts { Counts (H.state host.old) (H.state host.new) result }
 {
     database.law();
@@ -96,16 +110,31 @@ fn run_course<H: Host>(
 ) -> Result<Unpacked, HostFault>
     requires noting { database.old.closed ≡ false }
     requires listing { lists.old.closed ≡ false }
-    requires plan { IsPlanBy database.old.records (planned_from course.rows course.works.items course.calls.items course.rest) }
+    requires plan { IsPlanBy database.old.records (planned_from course.rows course.works.items
+        course.calls.items course.rest) }
     requires order { Needs (H.state host.old) (IsInOrder database.old lists.old.lists) }
-    ensures unit { IfOk result (λ u. HasCarriedOut (ground database.old.records lists.old.lists diversions.now.entries places.old course.rows.yields) (planned_from course.rows course.works.items course.calls.items course.rest) (ended_as u.unwinding) database.new lists.new.lists (H.state host.old) (H.state host.new) told.old.items told.new.items) }
+    ensures unit { IfOk result (λ u. HasCarriedOut
+        (ground database.old.records lists.old.lists diversions.now.entries places.old
+        course.rows.yields)
+        (planned_from course.rows course.works.items course.calls.items course.rest)
+        (ended_as u.unwinding) database.new lists.new.lists (H.state host.old) (H.state host.new)
+        told.old.items told.new.items) }
     ensures cause { IfOk result (λ u. IsCauseOf course.calls.items u.unwinding) }
-    ensures touched { IfOk result (λ u. IsTouched (own_name course.rows.found course.rows.incoming) database.old.records database.new.records u.touched) }
-    ensures told { HasCalledRows course.calls.items (H.state host.old) (H.state host.new) told.old.items told.new.items }
-    ensures kept { Leaves result (λ old new. IsKept database.new new) (H.state host.old) (H.state host.new) }
+    ensures touched { IfOk result (λ u. IsTouched
+        (own_name course.rows.found course.rows.incoming) database.old.records database.new.records
+        u.touched) }
+    ensures told { HasCalledRows course.calls.items
+        (H.state host.old) (H.state host.new) told.old.items told.new.items }
+    ensures kept { Leaves result
+        (λ old new. IsKept database.new new) (H.state host.old) (H.state host.new) }
     ensures noting { OnOk result (database.new.closed ≡ false) }
     ensures listing { OnOk result (lists.new.closed ≡ false) }
-    ensures any_moment { AtEachMomentOf (IsUnderWay (ground database.old.records lists.old.lists diversions.now.entries places.old course.rows.yields) (planned_from course.rows course.works.items course.calls.items course.rest)) (H.state host.old) (H.state host.new) }
+    ensures any_moment { AtEachMomentOf
+        (IsUnderWay
+        (ground database.old.records lists.old.lists diversions.now.entries places.old
+        course.rows.yields)
+        (planned_from course.rows course.works.items course.calls.items course.rest))
+        (H.state host.old) (H.state host.new) }
     ensures counts { Counts (H.state host.old) (H.state host.new) result }
 {
     let Course {
@@ -129,7 +158,11 @@ fn plan_unit<H: Host>(
     incoming: Package,
     others: Vec<OtherPackage>,
 ) -> Result<Plan, HostFault>
-    ensures planned { IfOk result (λ plan. (yields : List (List ℕ)) → IsPlanFor (given_beside incoming database.now.records lists.now.lists diversions.now.entries others.items yields) (H.state host.old).world (H.state host.new).honest (planned plan)) }
+    ensures planned { IfOk result (λ plan. (yields : List (List ℕ))
+        → IsPlanFor
+        (given_beside incoming database.now.records lists.now.lists diversions.now.entries
+        others.items yields)
+        (H.state host.old).world (H.state host.new).honest (planned plan)) }
     ensures reads { Reads (H.state host.old) (H.state host.new) }
     ensures silent { Silent (H.state host.old) (H.state host.new) }
     ensures counts { Counts (H.state host.old) (H.state host.new) result }
@@ -160,14 +193,26 @@ fn carry_out<H: Host>(
     requires listing { lists.old.closed ≡ false }
     requires plan { IsPlanBy database.old.records (planned plan) }
     requires order { Needs (H.state host.old) (IsInOrder database.old lists.old.lists) }
-    ensures unit { IfOk result (λ u. HasCarriedOut (ground database.old.records lists.old.lists diversions.now.entries places.old (yields_of database.old.records ++ yields)) (planned plan) (ended_as u.unwinding) database.new lists.new.lists (H.state host.old) (H.state host.new) told.old.items told.new.items) }
+    ensures unit { IfOk result (λ u. HasCarriedOut
+        (ground database.old.records lists.old.lists diversions.now.entries places.old
+        (yields_of database.old.records ++ yields))
+        (planned plan) (ended_as u.unwinding) database.new lists.new.lists
+        (H.state host.old) (H.state host.new) told.old.items told.new.items) }
     ensures cause { IfOk result (λ u. IsCauseOf plan.rows.items u.unwinding) }
-    ensures touched { IfOk result (λ u. IsTouched (own_name plan.found plan.incoming) database.old.records database.new.records u.touched) }
-    ensures told { HasCalledRows plan.rows.items (H.state host.old) (H.state host.new) told.old.items told.new.items }
-    ensures kept { Leaves result (λ old new. IsKept database.new new) (H.state host.old) (H.state host.new) }
+    ensures touched { IfOk result (λ u. IsTouched
+        (own_name plan.found plan.incoming) database.old.records database.new.records u.touched) }
+    ensures told { HasCalledRows plan.rows.items
+        (H.state host.old) (H.state host.new) told.old.items told.new.items }
+    ensures kept { Leaves result
+        (λ old new. IsKept database.new new) (H.state host.old) (H.state host.new) }
     ensures noting { OnOk result (database.new.closed ≡ false) }
     ensures listing { OnOk result (lists.new.closed ≡ false) }
-    ensures any_moment { AtEachMomentOf (IsUnderWay (ground database.old.records lists.old.lists diversions.now.entries places.old (yields_of database.old.records ++ yields)) (planned plan)) (H.state host.old) (H.state host.new) }
+    ensures any_moment { AtEachMomentOf
+        (IsUnderWay
+        (ground database.old.records lists.old.lists diversions.now.entries places.old
+        (yields_of database.old.records ++ yields))
+        (planned plan))
+        (H.state host.old) (H.state host.new) }
     ensures counts { Counts (H.state host.old) (H.state host.new) result }
 {
     match course_of(alloc, plan, database, yields) {
@@ -194,14 +239,31 @@ fn plan_and_carry_out<H: Host>(
     requires listing { lists.old.closed ≡ false }
     requires order { Needs (H.state host.old) (IsInOrder database.old lists.old.lists) }
     requires others { AreOthers incoming.name database.old.records others.packages.items }
-    ensures unit { IfOk result (λ u. HasUnpacked (given_beside incoming database.old.records lists.old.lists diversions.now.entries others.packages.items others.yields) places.old (ended_as u.unwinding) database.new lists.new.lists (H.state host.old) (H.state host.new) told.old.items told.new.items) }
-    ensures cause { IfOk result (λ u. HasFailedFor (given_beside incoming database.old.records lists.old.lists diversions.now.entries others.packages.items others.yields) (H.state host.old) (H.state host.new) u.unwinding) }
-    ensures touched { IfOk result (λ u. IsTouched incoming.name database.old.records database.new.records u.touched) }
-    ensures told { HasCalled (given_beside incoming database.old.records lists.old.lists diversions.now.entries others.packages.items others.yields) (H.state host.old) (H.state host.new) told.old.items told.new.items }
-    ensures order { IfOk result (λ u. Needs (H.state host.new) (IsInOrder database.new lists.new.lists)) }
+    ensures unit { IfOk result (λ u. HasUnpacked
+        (given_beside incoming database.old.records lists.old.lists diversions.now.entries
+        others.packages.items others.yields)
+        places.old (ended_as u.unwinding) database.new lists.new.lists
+        (H.state host.old) (H.state host.new) told.old.items told.new.items) }
+    ensures cause { IfOk result (λ u. HasFailedFor
+        (given_beside incoming database.old.records lists.old.lists diversions.now.entries
+        others.packages.items others.yields)
+        (H.state host.old) (H.state host.new) u.unwinding) }
+    ensures touched { IfOk result (λ u. IsTouched incoming.name database.old.records
+        database.new.records u.touched) }
+    ensures told { HasCalled
+        (given_beside incoming database.old.records lists.old.lists diversions.now.entries
+        others.packages.items others.yields)
+        (H.state host.old) (H.state host.new) told.old.items told.new.items }
+    ensures order { IfOk result (λ u. Needs
+        (H.state host.new) (IsInOrder database.new lists.new.lists)) }
     ensures noting { OnOk result (database.new.closed ≡ false) }
     ensures listing { OnOk result (lists.new.closed ≡ false) }
-    ensures any_moment { AtEachMomentOf (IsAmidUnit (given_beside incoming database.old.records lists.old.lists diversions.now.entries others.packages.items others.yields) places.old) (H.state host.old) (H.state host.new) }
+    ensures any_moment { AtEachMomentOf
+        (IsAmidUnit
+        (given_beside incoming database.old.records lists.old.lists diversions.now.entries
+        others.packages.items others.yields)
+        places.old)
+        (H.state host.old) (H.state host.new) }
     ensures counts { Counts (H.state host.old) (H.state host.new) result }
 {
     let Others { packages, yields } = others;
@@ -250,14 +312,31 @@ pub fn unpack<H: Host>(
     requires listing { lists.old.closed ≡ false }
     requires order { Needs (H.state host.old) (IsInOrder database.old lists.old.lists) }
     requires others { AreOthers incoming.name database.old.records others.packages.items }
-    ensures unit { IfOk result (λ u. HasUnpacked (given_beside incoming database.old.records lists.old.lists diversions.now.entries others.packages.items others.yields) places.old (ended_as u.unwinding) database.new lists.new.lists (H.state host.old) (H.state host.new) told.old.items told.new.items) }
-    ensures cause { IfOk result (λ u. HasFailedFor (given_beside incoming database.old.records lists.old.lists diversions.now.entries others.packages.items others.yields) (H.state host.old) (H.state host.new) u.unwinding) }
-    ensures touched { IfOk result (λ u. IsTouched incoming.name database.old.records database.new.records u.touched) }
-    ensures told { HasCalled (given_beside incoming database.old.records lists.old.lists diversions.now.entries others.packages.items others.yields) (H.state host.old) (H.state host.new) told.old.items told.new.items }
-    ensures order { IfOk result (λ u. Needs (H.state host.new) (IsInOrder database.new lists.new.lists)) }
+    ensures unit { IfOk result (λ u. HasUnpacked
+        (given_beside incoming database.old.records lists.old.lists diversions.now.entries
+        others.packages.items others.yields)
+        places.old (ended_as u.unwinding) database.new lists.new.lists
+        (H.state host.old) (H.state host.new) told.old.items told.new.items) }
+    ensures cause { IfOk result (λ u. HasFailedFor
+        (given_beside incoming database.old.records lists.old.lists diversions.now.entries
+        others.packages.items others.yields)
+        (H.state host.old) (H.state host.new) u.unwinding) }
+    ensures touched { IfOk result (λ u. IsTouched incoming.name database.old.records
+        database.new.records u.touched) }
+    ensures told { HasCalled
+        (given_beside incoming database.old.records lists.old.lists diversions.now.entries
+        others.packages.items others.yields)
+        (H.state host.old) (H.state host.new) told.old.items told.new.items }
+    ensures order { IfOk result (λ u. Needs
+        (H.state host.new) (IsInOrder database.new lists.new.lists)) }
     ensures noting { OnOk result (database.new.closed ≡ false) }
     ensures listing { OnOk result (lists.new.closed ≡ false) }
-    ensures any_moment { AtEachMomentOf (IsAmidUnit (given_beside incoming database.old.records lists.old.lists diversions.now.entries others.packages.items others.yields) places.old) (H.state host.old) (H.state host.new) }
+    ensures any_moment { AtEachMomentOf
+        (IsAmidUnit
+        (given_beside incoming database.old.records lists.old.lists diversions.now.entries
+        others.packages.items others.yields)
+        places.old)
+        (H.state host.old) (H.state host.new) }
     ensures counts { Counts (H.state host.old) (H.state host.new) result }
 {
     index_where_many(alloc, lists, &incoming)?;

@@ -20,8 +20,10 @@ use texts::Text;
 fn drop_list<H: Host>(alloc: Global, host: &mut H, name: &Text) -> Result<(), HostFault>
     requires named { is_package_name name.now ≡ true }
     requires ready { Needs (H.state host.old) (IsListReady name.now) }
-    ensures dropped { Leaves result (IsDropped (list_place name.now)) (H.state host.old) (H.state host.new) }
-    ensures any_moment { AtEachMoment (IsDropping (list_place name.now)) (H.state host.old) (H.state host.new) }
+    ensures dropped { Leaves result
+        (IsDropped (list_place name.now)) (H.state host.old) (H.state host.new) }
+    ensures any_moment { AtEachMoment
+        (IsDropping (list_place name.now)) (H.state host.old) (H.state host.new) }
     ensures silent { Silent (H.state host.old) (H.state host.new) }
     ensures counts { Counts (H.state host.old) (H.state host.new) result }
 {
@@ -39,8 +41,12 @@ fn drop_unrecorded<H: Host>(
 ) -> Result<(), HostFault>
     requires named { is_package_name name.now ≡ true }
     requires ready { Needs (H.state host.old) (IsListReady name.now) }
-    ensures dropped { Leaves result (HasDropped reached (record_in database.now.records name.now) name.now) (H.state host.old) (H.state host.new) }
-    ensures any_moment { AtEachMoment (MayDrop reached (record_in database.now.records name.now) name.now) (H.state host.old) (H.state host.new) }
+    ensures dropped { Leaves result
+        (HasDropped reached (record_in database.now.records name.now) name.now)
+        (H.state host.old) (H.state host.new) }
+    ensures any_moment { AtEachMoment
+        (MayDrop reached (record_in database.now.records name.now) name.now)
+        (H.state host.old) (H.state host.new) }
     ensures silent { Silent (H.state host.old) (H.state host.new) }
     ensures counts { Counts (H.state host.old) (H.state host.new) result }
 {
@@ -67,8 +73,14 @@ pub(crate) fn end_unwound<H: Host>(
     requires ready { Needs (H.state host.old) (IsListReady name.now) }
     requires laid { Needs (H.state host.old) (AreLaidOut members.now) }
     requires kept { Needs (H.state host.old) (IsKept database.now) }
-    ensures left { Leaves result (HasLeftBy (HasDropped reached (record_in database.now.records name.now) name.now)) (H.state host.old) (H.state host.new) }
-    ensures any_moment { AtEachMoment (MayLeaveBy (HasDropped reached (record_in database.now.records name.now) name.now) (MayDrop reached (record_in database.now.records name.now) name.now)) (H.state host.old) (H.state host.new) }
+    ensures left { Leaves result
+        (HasLeftBy (HasDropped reached (record_in database.now.records name.now) name.now))
+        (H.state host.old) (H.state host.new) }
+    ensures any_moment { AtEachMoment
+        (MayLeaveBy
+        (HasDropped reached (record_in database.now.records name.now) name.now)
+        (MayDrop reached (record_in database.now.records name.now) name.now))
+        (H.state host.old) (H.state host.new) }
     ensures silent { Silent (H.state host.old) (H.state host.new) }
     ensures counts { Counts (H.state host.old) (H.state host.new) result }
 {
