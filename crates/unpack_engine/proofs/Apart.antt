@@ -1,15 +1,11 @@
 -- Paths of the administration differ, and which of them no record and no list is written at.
-use Rattle.std.proofs.Common.{◌≡◌, ◌≢◌, inl, inr, ℕ, Bool, true, false, List, ◌∷◌, ◌++◌, codes, get_or, refl, sym, ap, subst, ◌∙◌, arith, ◌⊎◌}
-use Rattle.std.specs.Str.{bytes_eq}
-use Rattle.std.proofs.lemmas.Slice.Eq.{bytes_eq-Decides}
-use Rattle.std.proofs.lemmas.Bool.{false≢true}
+use Rattle.std.proofs.Common.{◌≡◌, ◌≢◌, inl, inr, ℕ, true, ◌∷◌, ◌++◌, get_or, refl, sym, ap, subst, arith}
 use Rattle.host_core.specs.Paths.{Path}
 use Rattle.host_core.specs.World.{World, IsDirectory}
 use Rattle.administration.specs.Files.{NoDirectory}
-use Rattle.administration.specs.Places.{home_path, info_path, list_path, temporary, tmp_path, updates_path, is_within}
+use Rattle.administration.specs.Places.{info_path, list_path, temporary, tmp_path, is_within}
 use Rattle.administration.proofs.Within.{within_is}
 use Rattle.file_lists.specs.Info.{AreLoose}
-use Rattle.file_lists.specs.Writing.{IsListReady}
 use Rattle.unpack_engine.proofs.Frames.{IsBeside}
 
 -- the first byte of a name in the directory of the administration

@@ -1,12 +1,10 @@
 -- What the beginning of a unit leaves alone, and what follows the rows.
-use Rattle.std.proofs.Common.{◌≡◌, ◌≢◌, inl, inr, ℕ, Bool, true, false, List, ◌∷◌, ◌++◌, Option, Some, None, get_or, length, refl, sym, ap, subst, ◌∙◌, arith}
+use Rattle.std.proofs.Common.{◌≡◌, ◌≢◌, inl, inr, ℕ, Bool, true, false, Option, Some, None, get_or, sym, ap}
 use Rattle.std.proofs.lemmas.Bool.{true≢false}
 use Rattle.host_core.specs.Paths.{Path}
-use Rattle.host_core.specs.World.{World, IsDirectory}
-use Rattle.administration.specs.Places.{home_path, info_path, list_path, tmp_path, is_within}
+use Rattle.host_core.specs.World.{World}
+use Rattle.administration.specs.Places.{list_path, tmp_path, is_within}
 use Rattle.administration.proofs.Within.{within_is}
-use Rattle.control_members.specs.Names.{is_member_name}
-use Rattle.control_members.specs.Stored.{stored_member_path}
 use Rattle.status_db.specs.declared.record.Record.{Record}
 use Rattle.unpack_run.specs.Clearing.{IsBesideOwn, IsCleared, MayClear}
 use Rattle.unpack_engine.specs.Units.{HasDropped, MayDrop}

@@ -1,10 +1,12 @@
 -- A unit from its parts.
-use Rattle.std.proofs.Common.{◌≡◌, inl, inr, IsTrue, ℕ, List, [], ◌∷◌, ◌++◌, Option, Some, None, length, map, refl, sym, ap, subst, ◌∙◌}
+use Rattle.std.proofs.Common.{◌≡◌, IsTrue, ℕ, List, Option, Some, None, length, refl, subst, ◌∙◌}
 use Rattle.host_core.specs.Paths.{Path}
-use Rattle.host_core.specs.World.{World}
 use Rattle.host_core.specs.Host.{State, Silent, AtEachMoment}
+<<<<<<< HEAD
 use Rattle.host_core.proofs.Moments.{since_weaker}
 use Rattle.cleanup_stack.specs.Place.{Place}
+=======
+>>>>>>> tmp_ha
 use Rattle.cleanup_stack.specs.Transcripts.{Ended, Committed, Unwound}
 use Rattle.stack_run.specs.Ended.{end_place, ended_as}
 use Rattle.stack_run.specs.declared.unwinding.Unwinding.{Unwinding}
@@ -16,7 +18,7 @@ use Rattle.unwind_stack.specs.declared.rows.Row.{Row}
 use Rattle.diversions.specs.declared.entry.Diversion.{Diversion}
 use Rattle.unpack_rows.specs.EndStates.{end_of, own_name}
 use Rattle.unpack_run.specs.Task.{task_of}
-use Rattle.unpack_run.specs.At.{At, Holding, holding}
+use Rattle.unpack_run.specs.At.{Holding}
 use Rattle.unpack_run.specs.declared.plan.Rows.{Rows}
 use Rattle.unpack_engine.specs.declared.course.Rest.{Rest}
 use Rattle.unpack_engine.specs.Courses.{changes_from, ended_lists, ended_table, planned_from, records_from}

@@ -1,5 +1,5 @@
 -- What the beginning of a unit leaves, and what is left under the package's name then: the records, and no directory in `info`.
-use Rattle.std.proofs.Common.{◌≡◌, ◌≢◌, ◌⊎◌, inl, inr, IsTrue, ℕ, Bool, true, false, List, ◌∷◌, ◌++◌, Option, None, length, refl, sym, ap, subst, ◌∙◌, arith}
+use Rattle.std.proofs.Common.{◌≡◌, ◌⊎◌, inl, inr, IsTrue, Bool, true, false, List, ◌∷◌, ◌++◌, None, length, refl, sym, subst, ◌∙◌, arith}
 use Rattle.texts.specs.PackageNames.{is_package_name}
 use Rattle.host_core.specs.Paths.{Path}
 use Rattle.host_core.specs.World.{World, IsDirectory, KeepsBut}
@@ -23,7 +23,7 @@ use Rattle.unpack_run.specs.Clearing.{IsBesideOwn, IsCleared, IsClearing, MayCle
 use Rattle.unpack_run.proofs.Stays.{clear_here}
 use Rattle.unpack_run.specs.Task.{state_on}
 use Rattle.unpack_engine.specs.Units.{Begins, BeginsAt, Ground, package_name, task_from}
-use Rattle.unpack_engine.proofs.Begun.{byte, may_same, own_beside, tmp_byte}
+use Rattle.unpack_engine.proofs.Begun.{may_same, own_beside, tmp_byte}
 use Rattle.unpack_engine.proofs.Ready.{list_ready, members_ready}
 
 pub gone_at : (w : World) (p q : Path) → w p ≡ None → IsDirectory (w q) → q ≡ p → ⊥

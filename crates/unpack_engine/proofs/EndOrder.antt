@@ -1,5 +1,5 @@
 -- The administration as a unit leaves it.
-use Rattle.std.proofs.Common.{◌≡◌, IsTrue, ℕ, true, nat_le, length, List, [], refl, sym, ap, subst, ◌∙◌}
+use Rattle.std.proofs.Common.{◌≡◌, IsTrue, ℕ, true, nat_le, length, List, refl, sym, ap, subst, ◌∙◌}
 use Rattle.std.specs.Prelude.{Result, Ok, Err, IfOk, OnOk}
 use Rattle.texts.specs.PackageNames.{is_package_name}
 use Rattle.host_core.specs.Paths.{Path}

@@ -1,5 +1,5 @@
 -- While rows run the administration stays as it was, but for records and the package's list.
-use Rattle.std.proofs.Common.{◌≡◌, ◌≢◌, ◌||◌, inl, inr, Bool, true, false, List, ◌∷◌, ◌++◌, refl, sym, ap, subst, ◌∙◌}
+use Rattle.std.proofs.Common.{◌≡◌, ◌≢◌, ◌||◌, inl, inr, true, false, List, ap, ◌∙◌}
 use Rattle.std.specs.List.{list_any}
 use Rattle.host_core.specs.Paths.{Path, is_below_administration, is_named_by, is_own}
 use Rattle.host_core.specs.World.{World, Change, is_kept}
@@ -14,7 +14,7 @@ use Rattle.file_works.specs.Names.{IsNamed}
 use Rattle.file_writing.specs.Back.{CanGoBack}
 use Rattle.status_db.specs.Held.{is_record_place}
 use Rattle.status_db.specs.declared.record.Record.{Record}
-use Rattle.unpack_moves.specs.Listing.{HasListed, HasUnlisted, MayList, MayUnlist}
+use Rattle.unpack_moves.specs.Listing.{MayList, MayUnlist}
 use Rattle.unpack_moves.proofs.Listings.{all_miss}
 use Rattle.unpack_rows.specs.Stages.{Stage, Unwritten, Wrote, Restored}
 use Rattle.unpack_run.specs.Task.{Task, all_places, name}

@@ -39,10 +39,9 @@ use Rattle.status_db.specs.Records.{record_in}
 use Rattle.status_db.specs.declared.record.Record.{Record}
 use Rattle.unpack_commit.specs.Areas.{IsNoMember}
 use Rattle.unpack_commit.specs.Commit.{Changes}
-use Rattle.unpack_commit.specs.Takeover.{put_records, taken_places, yields_of}
+use Rattle.unpack_commit.specs.Takeover.{put_records, taken_places}
 use Rattle.unpack_commit.proofs.Left.{committed_keeps, members_stored}
 use Rattle.unpack_commit.proofs.Stays.{no_leaving_place}
-use Rattle.unpack_commit.proofs.Those.{yields_named}
 use Rattle.unpack_moves.specs.Closing.{SparesAdministration}
 use Rattle.unpack_moves.specs.Concluding.{AreElsewhere}
 use Rattle.unpack_plan.specs.Planned.{Planned}

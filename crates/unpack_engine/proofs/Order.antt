@@ -1,20 +1,18 @@
 -- The administration as a unit finds it, for its beginning and its rows.
-use Rattle.std.proofs.Common.{◌≡◌, ◌≢◌, inl, inr, Bool, true, false, List, ◌∷◌, ◌++◌, Option, Some, None, refl, sym, ap, subst, ◌∙◌}
+use Rattle.std.proofs.Common.{◌≡◌, true, List, Option, Some, None, refl, ap}
 use Rattle.std.proofs.lemmas.Bool.{false≢true}
 use Rattle.texts.specs.PackageNames.{is_package_name}
 use Rattle.host_core.specs.Paths.{Path}
-use Rattle.host_core.specs.World.{World, IsDirectory, KeepsBut, is_directory}
+use Rattle.host_core.specs.World.{World, IsDirectory, is_directory}
 use Rattle.host_core.specs.declared.node.Node.{Node}
 use Rattle.host_core.specs.declared.node.Node.TheVariants.{File, Dir, Link}
-use Rattle.administration.specs.Places.{home_path, info_path, list_path, temporary, tmp_path, is_within}
+use Rattle.administration.specs.Places.{home_path, info_path}
 use Rattle.control_members.specs.Stored.{IsMembersReady}
 use Rattle.control_members.specs.declared.member.Member.{Member}
-use Rattle.file_lists.specs.Info.{AreLoose}
 use Rattle.file_lists.specs.Writing.{IsListReady}
 use Rattle.file_lists.specs.declared.paths.PackageList.{PackageList}
-use Rattle.status_db.specs.Held.{IsKept, is_record_place}
+use Rattle.status_db.specs.Held.{IsKept}
 use Rattle.status_db.specs.Recorded.{Recorded}
-use Rattle.status_db.specs.declared.record.Record.{Record}
 use Rattle.unpack_engine.specs.Order.{IsInOrder}
 use Rattle.unpack_engine.specs.Units.{HasBegun}
 use Rattle.unpack_engine.proofs.Cleared.{laid_info, laid_loose}

@@ -1,5 +1,5 @@
 -- A unit that is planned first: what it only looks at before changes nothing of what is carried out then.
-use Rattle.std.proofs.Common.{◌≡◌, IsTrue, true, List, [], ◌∷◌, ◌++◌, Option, Some, None, inl, inr, refl, sym, ap, subst, ◌∙◌, append_assoc}
+use Rattle.std.proofs.Common.{◌≡◌, IsTrue, true, List, [], ◌∷◌, ◌++◌, inl, inr, refl, sym, ap, subst, ◌∙◌, append_assoc}
 use Rattle.host_core.specs.Paths.{Path}
 use Rattle.host_core.specs.World.{World}
 use Rattle.host_core.specs.Events.{Event, Did, Finished, Cut, Failed, changes_of, scripts_of}
@@ -13,7 +13,6 @@ use Rattle.control_members.proofs.Starting.{since_here}
 use Rattle.file_lists.specs.declared.paths.PackageList.{PackageList}
 use Rattle.status_db.specs.Held.{HasRecords}
 use Rattle.status_db.specs.Recorded.{Recorded}
-use Rattle.status_db.specs.declared.record.Record.{Record}
 use Rattle.unwind_stack.specs.declared.rows.Called.{Called}
 use Rattle.unpack_plan.specs.Planned.{IsPlanned, Job, Planned}
 use Rattle.unpack_run.specs.Trail.{HasCome}

@@ -1,19 +1,17 @@
 -- What is in `info`, where no entry is a directory; and what stays of records that stand.
-use Rattle.std.proofs.Common.{◌≡◌, ◌<◌, ◌≤◌, ◌||◌, ℕ, Bool, true, false, List, ◌∷◌, ◌++◌, codes, refl, sym, ap, subst, ◌∙◌, arith}
+use Rattle.std.proofs.Common.{◌≡◌, true, false, ◌∷◌, ◌++◌, codes, refl, sym, subst, arith}
 use Rattle.texts.specs.PackageNames.{is_package_name}
 use Rattle.texts.proofs.PackageNames.{signs_of_name}
 use Rattle.host_core.specs.Paths.{Path}
 use Rattle.host_core.specs.World.{World, IsDirectory, SameOn}
 use Rattle.host_core.specs.Tree.{has_slash}
-use Rattle.administration.specs.Files.{NoDirectory}
-use Rattle.administration.specs.Places.{home_path, info_path, list_name, list_path, temporary, updates_path}
-use Rattle.control_members.specs.Names.{is_member_name}
-use Rattle.control_members.specs.Stored.{IsMembersReady, stored_member_path}
+use Rattle.administration.specs.Places.{home_path, info_path, list_name, updates_path}
+use Rattle.control_members.specs.Stored.{IsMembersReady}
 use Rattle.control_members.proofs.MemberNames.{plain-append, stored_name_plain}
 use Rattle.file_lists.specs.Info.{AreLoose}
 use Rattle.file_lists.specs.Writing.{IsListReady}
 use Rattle.status_db.specs.Notes.{limit}
-use Rattle.status_db.specs.Held.{CanOpenRecords, HasRecords, IsKept, is_record_place}
+use Rattle.status_db.specs.Held.{CanOpenRecords, IsKept, is_record_place}
 use Rattle.status_db.specs.Recorded.{Recorded}
 use Rattle.status_db.proofs.NotePaths.{signs_no_slash}
 use Rattle.status_db.proofs.NotedWorlds.{kept_on}

@@ -1,5 +1,5 @@
 -- What holds at each moment of a unit, from those of its rows and of what follows them.
-use Rattle.std.proofs.Common.{◌≡◌, IsTrue, true, List, [], ◌++◌, length, refl, sym, ap, subst, ◌∙◌, append_assoc}
+use Rattle.std.proofs.Common.{◌≡◌, IsTrue, true, List, [], ◌++◌, length, refl, sym, ap, ◌∙◌, append_assoc}
 use Rattle.std.proofs.lemmas.List.{append-nil, append_cancel_left}
 use Rattle.texts.specs.PackageNames.{is_package_name}
 use Rattle.host_core.specs.Paths.{Path}

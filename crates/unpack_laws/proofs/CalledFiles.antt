@@ -1,5 +1,5 @@
 -- What stands at the files that the calls of an unpack name, while its rows run.
-use Rattle.std.proofs.Common.{◌≡◌, ◌≢◌, inl, inr, ℕ, Bool, true, false, List, [], ◌∷◌, ◌++◌, Option, Some, None, is_some, IsSome, length, refl, sym, ap, subst, ◌∙◌}
+use Rattle.std.proofs.Common.{◌≡◌, ◌≢◌, inl, inr, ℕ, true, false, List, [], ◌∷◌, ◌++◌, Option, Some, None, IsSome, length, refl, sym, ap, subst, ◌∙◌}
 use Rattle.std.proofs.lemmas.Bool.{true≢false}
 use Rattle.host_core.specs.Paths.{Path}
 use Rattle.host_core.specs.World.{World}
@@ -32,7 +32,7 @@ use Rattle.unpack_rows.specs.declared.rows.Present.{Present}
 use Rattle.unpack_run.specs.At.{Stops}
 use Rattle.unpack_run.specs.Clearing.{MayClear, is_gone, next_ready}
 use Rattle.unpack_run.specs.Task.{state_on}
-use Rattle.unpack_laws.specs.Called.{AreCalling, CallsIncoming, CallsStored, HasScript, IsCallAmong, OthersCallStored}
+use Rattle.unpack_laws.specs.Called.{AreCalling, CallsStored, HasScript, IsCallAmong, OthersCallStored}
 use Rattle.unpack_laws.specs.InHand.{unit_name}
 use Rattle.unpack_laws.proofs.Alone.{Based, based_amid}
 use Rattle.unpack_laws.proofs.CalledRows.{IsOwnCall, own_or_other}

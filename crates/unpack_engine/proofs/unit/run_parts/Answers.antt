@@ -1,5 +1,4 @@
 use Rattle.std.proofs.Common.{◌≡◌, ◌++◌, List, length, sym, ap, subst, ◌∙◌}
-use Rattle.std.specs.Prelude.{IfOk}
 use Rattle.host_core.specs.Host.{AtEachMoment}
 use Rattle.stack_run.specs.Ended.{IsCauseOf, ended_as}
 use Rattle.status_db.specs.Records.{AreStanding}
