@@ -2,11 +2,6 @@
 use Rattle.std.proofs.Common.{◌≡◌, IsTrue, ℕ, List, Option, Some, None, length, refl, subst, ◌∙◌}
 use Rattle.host_core.specs.Paths.{Path}
 use Rattle.host_core.specs.Host.{State, Silent, AtEachMoment}
-<<<<<<< HEAD
-use Rattle.host_core.proofs.Moments.{since_weaker}
-use Rattle.cleanup_stack.specs.Place.{Place}
-=======
->>>>>>> tmp_ha
 use Rattle.cleanup_stack.specs.Transcripts.{Ended, Committed, Unwound}
 use Rattle.stack_run.specs.Ended.{end_place, ended_as}
 use Rattle.stack_run.specs.declared.unwinding.Unwinding.{Unwinding}

@@ -2,10 +2,6 @@
 use Rattle.std.proofs.Common.{inl, ℕ, List, refl}
 use Rattle.host_core.specs.World.{World}
 use Rattle.host_core.specs.Host.{State, AtEachMoment, Needs}
-<<<<<<< HEAD
-use Rattle.host_core.proofs.Moments.{since_start}
-=======
->>>>>>> tmp_ha
 use Rattle.control_members.proofs.Starting.{since_here}
 use Rattle.diversions.specs.declared.entry.Diversion.{Diversion}
 use Rattle.file_lists.specs.declared.paths.PackageList.{PackageList}

@@ -1,11 +1,5 @@
 use Rattle.std.proofs.Common.{length, subst}
-<<<<<<< HEAD
-use Rattle.std.specs.Prelude.{Ok, OnOk}
 use Rattle.host_core.proofs.Moments.{since_now}
-use Rattle.stack_run.specs.Ended.{end_place}
-=======
-use Rattle.host_core.proofs.Moments.{since_now}
->>>>>>> tmp_ha
 use Rattle.control_members.specs.LaidOut.{IsLaying}
 use Rattle.unpack_rows.specs.EndStates.{own_name}
 use Rattle.unpack_run.specs.Task.{task_of}
