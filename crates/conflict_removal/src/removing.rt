@@ -52,14 +52,26 @@ fn remove_one<H: Host>(
     requires noting { database.old.closed ≡ false }
     requires listing { lists.old.closed ≡ false }
     requires kept { places.old ≡ places_in diversions.now.entries lists.old.lists }
-    ensures removed { IfOk result (λ failed. IsRemovedOrGone diversions.now.entries name.now failed (holding database.old lists.old) (holding database.new lists.new) (H.state host.old) (H.state host.new) told.old.items told.new.items) }
-    ensures others { OnOk result ((q : List ℕ) → q ≢ name.now → record_in database.new.records q ≡ record_in database.old.records q) }
-    ensures order { OnOk result (Needs (H.state host.new) (IsInOrder database.new lists.new.lists)) }
+    ensures removed { IfOk result
+        (λ failed. IsRemovedOrGone diversions.now.entries name.now failed
+        (holding database.old lists.old) (holding database.new lists.new)
+        (H.state host.old) (H.state host.new) told.old.items told.new.items) }
+    ensures others { OnOk result
+        ((q : List ℕ)
+        → q ≢ name.now
+        → record_in database.new.records q ≡ record_in database.old.records q) }
+    ensures order { OnOk result
+        (Needs (H.state host.new) (IsInOrder database.new lists.new.lists)) }
     ensures kept { OnOk result (places.new ≡ places_in diversions.now.entries lists.new.lists) }
     ensures noting { OnOk result (database.new.closed ≡ false) }
     ensures listing { OnOk result (lists.new.closed ≡ false) }
-    ensures told { HasCalled (given InFavour name.now diversions.now.entries (holding database.old lists.old)) (H.state host.old) (H.state host.new) told.old.items told.new.items }
-    ensures any_moment { AtEachMomentOf (IsAmidUnit (given InFavour name.now diversions.now.entries (holding database.old lists.old))) (H.state host.old) (H.state host.new) }
+    ensures told { HasCalled
+        (given InFavour name.now diversions.now.entries (holding database.old lists.old))
+        (H.state host.old) (H.state host.new) told.old.items told.new.items }
+    ensures any_moment { AtEachMomentOf
+        (IsAmidUnit
+        (given InFavour name.now diversions.now.entries (holding database.old lists.old)))
+        (H.state host.old) (H.state host.new) }
     ensures counts { Counts (H.state host.old) (H.state host.new) result }
 {
     if can_be_removed(database, name) {
@@ -104,14 +116,25 @@ pub fn remove_in_favour<H: Host>(
     requires noting { database.old.closed ≡ false }
     requires listing { lists.old.closed ≡ false }
     requires kept { places.old ≡ places_in diversions.now.entries lists.old.lists }
-    ensures removed { IfOk result (λ failed. HaveBeenRemoved diversions.now.entries names.now failed (holding database.old lists.old) (holding database.new lists.new) (H.state host.old) (H.state host.new) told.old.items told.new.items) }
-    ensures others { OnOk result ((q : List ℕ) → (Contains names.now q → ⊥) → record_in database.new.records q ≡ record_in database.old.records q) }
-    ensures order { OnOk result (Needs (H.state host.new) (IsInOrder database.new lists.new.lists)) }
+    ensures removed { IfOk result
+        (λ failed. HaveBeenRemoved diversions.now.entries names.now failed
+        (holding database.old lists.old) (holding database.new lists.new)
+        (H.state host.old) (H.state host.new) told.old.items told.new.items) }
+    ensures others { OnOk result
+        ((q : List ℕ)
+        → (Contains names.now q → ⊥)
+        → record_in database.new.records q ≡ record_in database.old.records q) }
+    ensures order { OnOk result
+        (Needs (H.state host.new) (IsInOrder database.new lists.new.lists)) }
     ensures kept { OnOk result (places.new ≡ places_in diversions.now.entries lists.new.lists) }
     ensures noting { OnOk result (database.new.closed ≡ false) }
     ensures listing { OnOk result (lists.new.closed ≡ false) }
-    ensures told { HaveCalled diversions.now.entries names.now (holding database.old lists.old) (H.state host.old) (H.state host.new) told.old.items told.new.items }
-    ensures any_moment { Since (IsAmidRemovals diversions.now.entries names.now (holding database.old lists.old) (H.state host.old)) (H.state host.old) (H.state host.new) }
+    ensures told { HaveCalled diversions.now.entries names.now (holding database.old lists.old)
+        (H.state host.old) (H.state host.new) told.old.items told.new.items }
+    ensures any_moment { Since
+        (IsAmidRemovals diversions.now.entries names.now (holding database.old lists.old)
+        (H.state host.old))
+        (H.state host.old) (H.state host.new) }
     ensures counts { Counts (H.state host.old) (H.state host.new) result }
 {
     let mut failed = None;

@@ -19,17 +19,49 @@ use unit_stages::what_stages_leave;
 /// Packages that disappear leave an administration in order. In the end and at each moment of it a place of the program's own is as
 /// before, unless it is a record's or one of these packages', and the next opening finds records.
 pub fn what_disappearances_leave()
-    ensures later { (incoming version : List ℕ) (entries : List ADiversion) (losing : List ALosing) (names : List (List ℕ)) (failed : Option ACall) (before after : Holding) (s t : State) (told now : List ACalled) → HaveDisappeared incoming version entries losing names failed before after s t told now → IsLater s t }
-    ensures order { (incoming version : List ℕ) (entries : List ADiversion) (losing : List ALosing) (names : List (List ℕ)) (failed : Option ACall) (before after : Holding) (s t : State) (told now : List ACalled) → HaveDisappeared incoming version entries losing names failed before after s t told now → IsTrue t.honest → IsInOrderWith before s.world → IsInOrderWith after t.world }
-    ensures aside { (incoming version : List ℕ) (entries : List ADiversion) (losing : List ALosing) (names : List (List ℕ)) (failed : Option ACall) (before after : Holding) (s t : State) (told now : List ACalled) (q : Path) → IsAsideOfAll losing q → is_own q ≡ true → HaveDisappeared incoming version entries losing names failed before after s t told now → IsTrue t.honest → t.world q ≡ s.world q }
-    ensures amid { (incoming version : List ℕ) (entries : List ADiversion) (losing : List ALosing) (before : Holding) (s : State) (so_far : List Event) (now : World) (q : Path) → IsAsideOfAll losing q → is_own q ≡ true → IsAmidDisappearances incoming version entries losing before s so_far now → now q ≡ s.world q }
-    ensures opens { (incoming version : List ℕ) (entries : List ADiversion) (losing : List ALosing) (before : Holding) (s : State) (so_far : List Event) (now : World) → IsAmidDisappearances incoming version entries losing before s so_far now → CanBeOpened now }
+    ensures later { (incoming version : List ℕ) (entries : List ADiversion) (losing : List ALosing)
+        (names : List (List ℕ)) (failed : Option ACall) (before after : Holding) (s t : State)
+        (told now : List ACalled)
+        → HaveDisappeared incoming version entries losing names failed before after s t told now
+        → IsLater s t }
+    ensures order { (incoming version : List ℕ) (entries : List ADiversion) (losing : List ALosing)
+        (names : List (List ℕ)) (failed : Option ACall) (before after : Holding) (s t : State)
+        (told now : List ACalled)
+        → HaveDisappeared incoming version entries losing names failed before after s t told now
+        → IsTrue t.honest
+        → IsInOrderWith before s.world
+        → IsInOrderWith after t.world }
+    ensures aside { (incoming version : List ℕ) (entries : List ADiversion) (losing : List ALosing)
+        (names : List (List ℕ)) (failed : Option ACall) (before after : Holding) (s t : State)
+        (told now : List ACalled) (q : Path)
+        → IsAsideOfAll losing q
+        → is_own q ≡ true
+        → HaveDisappeared incoming version entries losing names failed before after s t told now
+        → IsTrue t.honest
+        → t.world q ≡ s.world q }
+    ensures amid { (incoming version : List ℕ) (entries : List ADiversion) (losing : List ALosing)
+        (before : Holding) (s : State) (so_far : List Event) (now : World) (q : Path)
+        → IsAsideOfAll losing q
+        → is_own q ≡ true
+        → IsAmidDisappearances incoming version entries losing before s so_far now
+        → now q ≡ s.world q }
+    ensures opens { (incoming version : List ℕ) (entries : List ADiversion) (losing : List ALosing)
+        (before : Holding) (s : State) (so_far : List Event) (now : World)
+        → IsAmidDisappearances incoming version entries losing before s so_far now
+        → CanBeOpened now }
 {
     what_stages_leave();
 }
 
 /// The calls of packages that disappear are those of the host's own list, and each is told, whatever the answer.
 pub fn what_disappearances_call()
-    ensures disappeared { (incoming version : List ℕ) (entries : List ADiversion) (losing : List ALosing) (names : List (List ℕ)) (failed : Option ACall) (before after : Holding) (s t : State) (told now : List ACalled) → HaveDisappeared incoming version entries losing names failed before after s t told now → TellsAll s t told now }
-    ensures called { (incoming version : List ℕ) (entries : List ADiversion) (losing : List ALosing) (before : Holding) (s t : State) (told now : List ACalled) → HaveCalled incoming version entries losing before s t told now → TellsAll s t told now }
+    ensures disappeared { (incoming version : List ℕ) (entries : List ADiversion)
+        (losing : List ALosing) (names : List (List ℕ)) (failed : Option ACall)
+        (before after : Holding) (s t : State) (told now : List ACalled)
+        → HaveDisappeared incoming version entries losing names failed before after s t told now
+        → TellsAll s t told now }
+    ensures called { (incoming version : List ℕ) (entries : List ADiversion) (losing : List ALosing)
+        (before : Holding) (s t : State) (told now : List ACalled)
+        → HaveCalled incoming version entries losing before s t told now
+        → TellsAll s t told now }
 {}

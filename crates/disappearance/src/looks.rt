@@ -51,7 +51,9 @@ fn is_directory_at<H: Host>(
     name: &Text,
     path: &RootPath,
 ) -> Result<bool, HostFault>
-    ensures found { Tells result (λ is w. is ≡ is_directory_node (w (place diversions.now.entries name.now path.now))) (H.state host.old) (H.state host.new) }
+    ensures found { Tells result
+        (λ is w. is ≡ is_directory_node (w (place diversions.now.entries name.now path.now)))
+        (H.state host.old) (H.state host.new) }
     ensures reads { Reads (H.state host.old) (H.state host.new) }
     ensures silent { Silent (H.state host.old) (H.state host.new) }
     ensures counts { Counts (H.state host.old) (H.state host.new) result }
@@ -69,7 +71,9 @@ fn are_directories<H: Host>(
     name: &Text,
     paths: &[RootPath],
 ) -> Result<bool, HostFault>
-    ensures found { Tells result (λ are w. are ≡ are_directories diversions.now.entries name.now w paths.now) (H.state host.old) (H.state host.new) }
+    ensures found { Tells result
+        (λ are w. are ≡ are_directories diversions.now.entries name.now w paths.now)
+        (H.state host.old) (H.state host.new) }
     ensures reads { Reads (H.state host.old) (H.state host.new) }
     ensures silent { Silent (H.state host.old) (H.state host.new) }
     ensures counts { Counts (H.state host.old) (H.state host.new) result }
@@ -96,7 +100,9 @@ pub(crate) fn look<H: Host>(
     losing: &Losing,
 ) -> Result<bool, HostFault>
     requires indexed { ArePackagesOf database.now.records packages.now }
-    ensures verdict { IfOk result (IsVerdict incoming.now diversions.now.entries losing.now (holding database.now lists.now) (H.state host.old).world (H.state host.new).honest) }
+    ensures verdict { IfOk result
+        (IsVerdict incoming.now diversions.now.entries losing.now (holding database.now lists.now)
+        (H.state host.old).world (H.state host.new).honest) }
     ensures reads { Reads (H.state host.old) (H.state host.new) }
     ensures silent { Silent (H.state host.old) (H.state host.new) }
     ensures counts { Counts (H.state host.old) (H.state host.new) result }

@@ -39,7 +39,8 @@ fn supplied(alloc: Global, packages: &[Package], incoming: &Text) -> Result<Vec<
 
 // The number of the package of this name.
 fn number_of(packages: &[Package], name: &Text) -> Option<usize>
-    ensures { MatchOption result ((x : ℕ) → HasNumber packages.now name.now x → ⊥) (HasNumber packages.now name.now) }
+    ensures { MatchOption result ((x : ℕ) → HasNumber packages.now name.now x → ⊥)
+        (HasNumber packages.now name.now) }
 {
     for number in 0..packages.len() {
         if is_called(&packages[number], name) {
@@ -58,7 +59,10 @@ pub(crate) fn is_needed(
     name: &Text,
 ) -> Result<bool, AllocError>
     requires known { (x : ℕ) × HasNumber packages.now name.now x }
-    ensures { IfOk result (λ needed. (records : List ARecord) → ArePackagesOf records packages.now → IsNeedOf incoming.now records name.now needed) }
+    ensures { IfOk result
+        (λ needed. (records : List ARecord)
+        → ArePackagesOf records packages.now
+        → IsNeedOf incoming.now records name.now needed) }
 {
     let list = packages.as_slice();
     let installed = supplied(alloc, list, incoming)?;

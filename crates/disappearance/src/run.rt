@@ -51,16 +51,28 @@ pub fn disappear_packages<H: Host>(
     requires kept { places.old ≡ places_in diversions.now.entries lists.old.lists }
     requires order { Needs (H.state host.old) (IsInOrder database.old lists.old.lists) }
     requires indexed { ArePackagesOf database.old.records packages.old }
-    ensures disappeared { IfOk result (λ d. HaveDisappeared incoming.now version.now diversions.now.entries losing.now d.names d.failed (holding database.old lists.old) (holding database.new lists.new) (H.state host.old) (H.state host.new) told.old.items told.new.items) }
+    ensures disappeared { IfOk result
+        (λ d. HaveDisappeared incoming.now version.now diversions.now.entries losing.now d.names
+        d.failed (holding database.old lists.old) (holding database.new lists.new)
+        (H.state host.old) (H.state host.new) told.old.items told.new.items) }
     ensures left { IfOk result (λ d. AreLeft d.names database.old.records database.new.records) }
-    ensures others { OnOk result ((q : List ℕ) → (Contains (map (λ l. l.name) losing.now) q → ⊥) → record_in database.new.records q ≡ record_in database.old.records q) }
-    ensures order { OnOk result (Needs (H.state host.new) (IsInOrder database.new lists.new.lists)) }
+    ensures others { OnOk result
+        ((q : List ℕ)
+        → (Contains (map (λ l. l.name) losing.now) q → ⊥)
+        → record_in database.new.records q ≡ record_in database.old.records q) }
+    ensures order { OnOk result
+        (Needs (H.state host.new) (IsInOrder database.new lists.new.lists)) }
     ensures kept { OnOk result (places.new ≡ places_in diversions.now.entries lists.new.lists) }
     ensures noting { OnOk result (database.new.closed ≡ false) }
     ensures listing { OnOk result (lists.new.closed ≡ false) }
     ensures indexed { OnOk result (ArePackagesOf database.new.records packages.new) }
-    ensures told { HaveCalled incoming.now version.now diversions.now.entries losing.now (holding database.old lists.old) (H.state host.old) (H.state host.new) told.old.items told.new.items }
-    ensures any_moment { Since (IsAmidDisappearances incoming.now version.now diversions.now.entries losing.now (holding database.old lists.old) (H.state host.old)) (H.state host.old) (H.state host.new) }
+    ensures told { HaveCalled incoming.now version.now diversions.now.entries losing.now
+        (holding database.old lists.old) (H.state host.old) (H.state host.new)
+        told.old.items told.new.items }
+    ensures any_moment { Since
+        (IsAmidDisappearances incoming.now version.now diversions.now.entries losing.now
+        (holding database.old lists.old) (H.state host.old))
+        (H.state host.old) (H.state host.new) }
     ensures counts { Counts (H.state host.old) (H.state host.new) result }
 {
     let mut names = Texts::new(alloc);

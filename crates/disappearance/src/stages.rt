@@ -24,7 +24,8 @@ use version_order::Version;
 // Whether the postrm is stored with a package.
 fn has_postrm<H: Host>(alloc: Global, host: &mut H, name: &Text) -> Result<bool, HostFault>
     requires named { is_package_name name.now ≡ true }
-    ensures found { Tells result (λ stored w. stored ≡ is_some (w (stored_path name.now Postrm))) (H.state host.old) (H.state host.new) }
+    ensures found { Tells result (λ stored w. stored ≡ is_some (w (stored_path name.now Postrm)))
+        (H.state host.old) (H.state host.new) }
     ensures reads { Reads (H.state host.old) (H.state host.new) }
     ensures silent { Silent (H.state host.old) (H.state host.new) }
     ensures counts { Counts (H.state host.old) (H.state host.new) result }
@@ -74,7 +75,8 @@ fn row_of(name: &Text, forward: Option<Call>) -> Result<Row, AllocError>
 
 // One stage, behind which nothing is restored.
 fn one_stage(alloc: Global, parts: Vec<Part>, row: Row) -> Result<Vec<Stage>, AllocError>
-    ensures { IfOk result (λ stages. map planned stages.items ≡ stage_of (map deed parts.items) row ∷ []) }
+    ensures { IfOk result
+        (λ stages. map planned stages.items ≡ stage_of (map deed parts.items) row ∷ []) }
 {
     let mut stages = Vec::new(alloc);
     stages.push(Stage {
@@ -94,7 +96,9 @@ fn call_stages(
     stored: bool,
 ) -> Result<Vec<Stage>, AllocError>
     requires named { is_package_name name.now ≡ true }
-    ensures { IfOk result (λ stages. map planned stages.items ≡ stage_of [] (disappear_row name.now incoming.now version.now stored) ∷ []) }
+    ensures { IfOk result
+        (λ stages. map planned stages.items
+        ≡ stage_of [] (disappear_row name.now incoming.now version.now stored) ∷ []) }
 {
     let call = disappear_call(alloc, name, incoming, version, stored)?;
     let row = row_of(name, call)?;
@@ -139,7 +143,9 @@ fn plan_of(
     stored: bool,
 ) -> Result<Plan, AllocError>
     requires named { is_package_name entry.now.name ≡ true }
-    ensures calls { IfOk result (λ plan. map planned plan.call.items ≡ stage_of [] (disappear_row entry.now.name incoming.now version.now stored) ∷ []) }
+    ensures calls { IfOk result
+        (λ plan. map planned plan.call.items
+        ≡ stage_of [] (disappear_row entry.now.name incoming.now version.now stored) ∷ []) }
     ensures goes { IfOk result (λ plan. map planned plan.gone.items ≡ gone_stage entry.now ∷ []) }
 {
     let call = call_stages(alloc, &entry.name, incoming, version, stored)?;
@@ -158,7 +164,11 @@ pub(crate) fn plan_stages<H: Host>(
     name: &Text,
 ) -> Result<Plan, HostFault>
     requires known { is_some (record_in database.now.records name.now) ≡ true }
-    ensures plan { IfOk result (λ plan. (lists : List APackageList) → IsPlan incoming.now version.now name.now (record { records = database.now.records; lists = lists }) (H.state host.old).world (H.state host.new).honest plan.call.items plan.gone.items) }
+    ensures plan { IfOk result
+        (λ plan. (lists : List APackageList)
+        → IsPlan incoming.now version.now name.now
+        (record { records = database.now.records; lists = lists }) (H.state host.old).world
+        (H.state host.new).honest plan.call.items plan.gone.items) }
     ensures reads { Reads (H.state host.old) (H.state host.new) }
     ensures silent { Silent (H.state host.old) (H.state host.new) }
     ensures counts { Counts (H.state host.old) (H.state host.new) result }

@@ -54,15 +54,21 @@ fn take_away<H: Host>(
     requires named { is_package_name name.now ≡ true }
     requires fit { AreStagesFit name.now gone.items database.old.records lists.old.lists }
     requires quiet { (r : ARecord) × (map planned gone.items ≡ gone_stage r ∷ []) }
-    ensures taken { OnOk result (HaveRun name.now diversions.now.entries gone.items None (holding database.old lists.old) (holding database.new lists.new) (H.state host.old) (H.state host.new) told.new.items told.new.items) }
-    ensures order { OnOk result (Needs (H.state host.new) (IsInOrder database.new lists.new.lists)) }
+    ensures taken { OnOk result
+        (HaveRun name.now diversions.now.entries gone.items None (holding database.old lists.old)
+        (holding database.new lists.new) (H.state host.old) (H.state host.new) told.new.items
+        told.new.items) }
+    ensures order { OnOk result
+        (Needs (H.state host.new) (IsInOrder database.new lists.new.lists)) }
     ensures kept { OnOk result (places.new ≡ places_in diversions.now.entries lists.new.lists) }
     ensures noting { OnOk result (database.new.closed ≡ false) }
     ensures listing { OnOk result (lists.new.closed ≡ false) }
     ensures indexed { OnOk result (ArePackagesOf database.new.records packages.new) }
     ensures untold { told.new.items ≡ told.old.items }
     ensures silent { Silent (H.state host.old) (H.state host.new) }
-    ensures any_moment { AtEachMomentOf (AreRunning name.now diversions.now.entries gone.items (holding database.old lists.old)) (H.state host.old) (H.state host.new) }
+    ensures any_moment { AtEachMomentOf
+        (AreRunning name.now diversions.now.entries gone.items (holding database.old lists.old))
+        (H.state host.old) (H.state host.new) }
     ensures counts { Counts (H.state host.old) (H.state host.new) result }
 {
     database.law();
@@ -91,15 +97,24 @@ fn run_both<H: Host>(
     requires kept { places.old ≡ places_in diversions.now.entries lists.old.lists }
     requires order { Needs (H.state host.old) (IsInOrder database.old lists.old.lists) }
     requires indexed { ArePackagesOf database.old.records packages.old }
-    requires planned { (row : ARow) × ArePlanned name.now (holding database.old lists.old) row plan.call.items plan.gone.items }
-    ensures ran { IfOk result (λ failed. HaveRunBoth name.now diversions.now.entries plan.call.items plan.gone.items failed (holding database.old lists.old) (holding database.new lists.new) (H.state host.old) (H.state host.new) told.old.items told.new.items) }
-    ensures order { OnOk result (Needs (H.state host.new) (IsInOrder database.new lists.new.lists)) }
+    requires planned { (row : ARow)
+        × ArePlanned name.now (holding database.old lists.old) row plan.call.items plan.gone.items }
+    ensures ran { IfOk result
+        (λ failed. HaveRunBoth name.now diversions.now.entries plan.call.items plan.gone.items
+        failed (holding database.old lists.old) (holding database.new lists.new)
+        (H.state host.old) (H.state host.new) told.old.items told.new.items) }
+    ensures order { OnOk result
+        (Needs (H.state host.new) (IsInOrder database.new lists.new.lists)) }
     ensures kept { OnOk result (places.new ≡ places_in diversions.now.entries lists.new.lists) }
     ensures noting { OnOk result (database.new.closed ≡ false) }
     ensures listing { OnOk result (lists.new.closed ≡ false) }
     ensures indexed { OnOk result (ArePackagesOf database.new.records packages.new) }
-    ensures told { Begun (MayRunStages plan.call.items) (H.state host.old) (H.state host.new) told.old.items told.new.items }
-    ensures any_moment { Since (IsAmidBoth name.now diversions.now.entries plan.call.items plan.gone.items (holding database.old lists.old) (H.state host.old)) (H.state host.old) (H.state host.new) }
+    ensures told { Begun (MayRunStages plan.call.items) (H.state host.old) (H.state host.new)
+        told.old.items told.new.items }
+    ensures any_moment { Since
+        (IsAmidBoth name.now diversions.now.entries plan.call.items plan.gone.items
+        (holding database.old lists.old) (H.state host.old))
+        (H.state host.old) (H.state host.new) }
     ensures counts { Counts (H.state host.old) (H.state host.new) result }
 {
     let Plan { call, gone } = plan;
@@ -130,7 +145,14 @@ fn decide<H: Host>(
     losing: &Losing,
 ) -> Result<Option<Plan>, HostFault>
     requires indexed { ArePackagesOf database.now.records packages.now }
-    ensures decision { IfOk result (λ found. MatchOption found (Stays incoming.now diversions.now.entries losing.now (holding database.now lists.now) (H.state host.old).world (H.state host.new).honest) (λ p. Goes incoming.now diversions.now.entries losing.now (holding database.now lists.now) (H.state host.old).world (H.state host.new).honest × IsPlan incoming.now version.now losing.now.name (holding database.now lists.now) (H.state host.old).world (H.state host.new).honest p.call.items p.gone.items)) }
+    ensures decision { IfOk result
+        (λ found. MatchOption found
+        (Stays incoming.now diversions.now.entries losing.now (holding database.now lists.now)
+        (H.state host.old).world (H.state host.new).honest)
+        (λ p. Goes incoming.now diversions.now.entries losing.now (holding database.now lists.now)
+        (H.state host.old).world (H.state host.new).honest
+        × IsPlan incoming.now version.now losing.now.name (holding database.now lists.now)
+        (H.state host.old).world (H.state host.new).honest p.call.items p.gone.items)) }
     ensures reads { Reads (H.state host.old) (H.state host.new) }
     ensures silent { Silent (H.state host.old) (H.state host.new) }
     ensures counts { Counts (H.state host.old) (H.state host.new) result }
@@ -173,14 +195,25 @@ pub(crate) fn disappear<H: Host>(
     requires kept { places.old ≡ places_in diversions.now.entries lists.old.lists }
     requires order { Needs (H.state host.old) (IsInOrder database.old lists.old.lists) }
     requires indexed { ArePackagesOf database.old.records packages.old }
-    ensures decided { IfOk result (λ failed. (own : List (List ℕ)) × (names.new ≡ names.old ++ own) × IsDecided incoming.now version.now diversions.now.entries losing.now own failed (holding database.old lists.old) (holding database.new lists.new) (H.state host.old) (H.state host.new) told.old.items told.new.items) }
-    ensures order { OnOk result (Needs (H.state host.new) (IsInOrder database.new lists.new.lists)) }
+    ensures decided { IfOk result
+        (λ failed. (own : List (List ℕ))
+        × (names.new ≡ names.old ++ own)
+        × IsDecided incoming.now version.now diversions.now.entries losing.now own failed
+        (holding database.old lists.old) (holding database.new lists.new)
+        (H.state host.old) (H.state host.new) told.old.items told.new.items) }
+    ensures order { OnOk result
+        (Needs (H.state host.new) (IsInOrder database.new lists.new.lists)) }
     ensures kept { OnOk result (places.new ≡ places_in diversions.now.entries lists.new.lists) }
     ensures noting { OnOk result (database.new.closed ≡ false) }
     ensures listing { OnOk result (lists.new.closed ≡ false) }
     ensures indexed { OnOk result (ArePackagesOf database.new.records packages.new) }
-    ensures told { HasCalledOne incoming.now version.now diversions.now.entries losing.now (holding database.old lists.old) (H.state host.old) (H.state host.new) told.old.items told.new.items }
-    ensures any_moment { Since (IsAmidUnit incoming.now version.now diversions.now.entries losing.now (holding database.old lists.old) (H.state host.old)) (H.state host.old) (H.state host.new) }
+    ensures told { HasCalledOne incoming.now version.now diversions.now.entries losing.now
+        (holding database.old lists.old) (H.state host.old) (H.state host.new)
+        told.old.items told.new.items }
+    ensures any_moment { Since
+        (IsAmidUnit incoming.now version.now diversions.now.entries losing.now
+        (holding database.old lists.old) (H.state host.old))
+        (H.state host.old) (H.state host.new) }
     ensures counts { Counts (H.state host.old) (H.state host.new) result }
 {
     match decide(

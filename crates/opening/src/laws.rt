@@ -16,15 +16,34 @@ ghost use Rattle.status_db.specs.declared.record.Record.{Record};
 
 /// Where all parts can be read, none of them is told as damage.
 pub fn what_is_fine_has_no_fault()
-    ensures { (w : World) (file : Path) (line : ℕ) → IsTree w → AllByRecursion (IsFine w) parts → IsFirstFault parts w file line → ⊥ }
+    ensures { (w : World) (file : Path) (line : ℕ)
+        → IsTree w
+        → AllByRecursion (IsFine w) parts
+        → IsFirstFault parts w file line
+        → ⊥ }
 {}
 
 /// An opening of an administration that isn't damaged changes none of its records, lists and
 /// diversions, wherever it is broken off, and the next opening finds no damage.
 pub fn a_stopped_opening_can_be_opened()
-    ensures undamaged { (old now : World) → IsOpeningOrMerging old now → IsUndamaged old → IsUndamaged now }
-    ensures no_fault { (w : World) (file : Path) (line : ℕ) → IsUndamaged w → IsFirstFault parts w file line → ⊥ }
-    ensures records { (old now : World) (table : List Record) → IsOpeningOrMerging old now → HasRecords old table → HasRecords now table }
-    ensures lists { (old now : World) (names : List (List ℕ)) (lists : List PackageList) → IsOpeningOrMerging old now → HasLists old names lists → HasLists now names lists }
-    ensures diversions { (old now : World) (entries : List Diversion) → IsOpeningOrMerging old now → HasDiversions old entries → HasDiversions now entries }
+    ensures undamaged { (old now : World)
+        → IsOpeningOrMerging old now
+        → IsUndamaged old
+        → IsUndamaged now }
+    ensures no_fault { (w : World) (file : Path) (line : ℕ)
+        → IsUndamaged w
+        → IsFirstFault parts w file line
+        → ⊥ }
+    ensures records { (old now : World) (table : List Record)
+        → IsOpeningOrMerging old now
+        → HasRecords old table
+        → HasRecords now table }
+    ensures lists { (old now : World) (names : List (List ℕ)) (lists : List PackageList)
+        → IsOpeningOrMerging old now
+        → HasLists old names lists
+        → HasLists now names lists }
+    ensures diversions { (old now : World) (entries : List Diversion)
+        → IsOpeningOrMerging old now
+        → HasDiversions old entries
+        → HasDiversions now entries }
 {}

@@ -48,7 +48,9 @@ fn damaged(file: RootPath, line: u64) -> AdministrationFault
 fn make_way<H: Host>(alloc: Global, host: &mut H, place: &str) -> Result<(), AdministrationFault>
     requires parent { Needs (H.state host.old) (λ w. HasParent w place.now) }
     requires way { is_way place.now ≡ true }
-    ensures opens { IsTrue (H.state host.new).honest → Opens (Way place.now ∷ []) (fault_in result) (H.state host.old).world (H.state host.new).world }
+    ensures opens { IsTrue (H.state host.new).honest
+        → Opens (Way place.now ∷ []) (fault_in result)
+        (H.state host.old).world (H.state host.new).world }
     ensures any_moment { AtEachMoment IsOpening (H.state host.old) (H.state host.new) }
     ensures silent { Silent (H.state host.old) (H.state host.new) }
     ensures counts { CountsAdministration (H.state host.old) (H.state host.new) result }
@@ -62,7 +64,9 @@ fn make_way<H: Host>(alloc: Global, host: &mut H, place: &str) -> Result<(), Adm
 
 // Whether a directory stands there.
 fn is_directory<H: Host>(host: &mut H, path: &RootPath) -> Result<bool, HostFault>
-    ensures found { Tells result (λ there w. MatchBool there (IsDirectory (w path.now)) (NoDirectory (w path.now))) (H.state host.old) (H.state host.new) }
+    ensures found { Tells result
+        (λ there w. MatchBool there (IsDirectory (w path.now)) (NoDirectory (w path.now)))
+        (H.state host.old) (H.state host.new) }
     ensures reads { Reads (H.state host.old) (H.state host.new) }
     ensures silent { Silent (H.state host.old) (H.state host.new) }
     ensures counts { Counts (H.state host.old) (H.state host.new) result }
@@ -75,7 +79,8 @@ fn is_directory<H: Host>(host: &mut H, path: &RootPath) -> Result<bool, HostFaul
 
 // The root has to be a directory.
 fn check_root<H: Host>(alloc: Global, host: &mut H) -> Result<(), AdministrationFault>
-    ensures opens { IsTrue (H.state host.new).honest → Opens (Root ∷ []) (fault_in result) (H.state host.old).world (H.state host.new).world }
+    ensures opens { IsTrue (H.state host.new).honest
+        → Opens (Root ∷ []) (fault_in result) (H.state host.old).world (H.state host.new).world }
     ensures reads { Reads (H.state host.old) (H.state host.new) }
     ensures silent { Silent (H.state host.old) (H.state host.new) }
     ensures counts { CountsAdministration (H.state host.old) (H.state host.new) result }
@@ -89,7 +94,9 @@ fn check_root<H: Host>(alloc: Global, host: &mut H) -> Result<(), Administration
 
 // The root, and the directories from it to the administration.
 fn open_ways<H: Host>(alloc: Global, host: &mut H) -> Result<(), AdministrationFault>
-    ensures opens { IsTrue (H.state host.new).honest → Opens (Root ∷ Way var_path ∷ Way lib_path ∷ Way home_path ∷ []) (fault_in result) (H.state host.old).world (H.state host.new).world }
+    ensures opens { IsTrue (H.state host.new).honest
+        → Opens (Root ∷ Way var_path ∷ Way lib_path ∷ Way home_path ∷ []) (fault_in result)
+        (H.state host.old).world (H.state host.new).world }
     ensures any_moment { AtEachMoment IsOpening (H.state host.old) (H.state host.new) }
     ensures silent { Silent (H.state host.old) (H.state host.new) }
     ensures counts { CountsAdministration (H.state host.old) (H.state host.new) result }
@@ -102,7 +109,9 @@ fn open_ways<H: Host>(alloc: Global, host: &mut H) -> Result<(), AdministrationF
 
 fn check_spare<H: Host>(alloc: Global, host: &mut H, place: &str) -> Result<(), AdministrationFault>
     requires { is_path place.now ≡ true }
-    ensures opens { IsTrue (H.state host.new).honest → Opens (Spare place.now ∷ []) (fault_in result) (H.state host.old).world (H.state host.new).world }
+    ensures opens { IsTrue (H.state host.new).honest
+        → Opens (Spare place.now ∷ []) (fault_in result)
+        (H.state host.old).world (H.state host.new).world }
     ensures reads { Reads (H.state host.old) (H.state host.new) }
     ensures silent { Silent (H.state host.old) (H.state host.new) }
     ensures counts { CountsAdministration (H.state host.old) (H.state host.new) result }
@@ -133,8 +142,12 @@ fn open_info<H: Host>(
 ) -> Result<FileLists, AdministrationFault>
     requires home { Needs (H.state host.old) (λ w. IsDirectory (w home_path)) }
     requires table { Needs (H.state host.old) (λ w. IsTable w database.now.records) }
-    ensures opens { IsTrue (H.state host.new).honest → Opens (Way info_path ∷ Info ∷ []) (fault_in result) (H.state host.old).world (H.state host.new).world }
-    ensures listed { Gives result (λ f old new. IsListed new (names_of database.now.records) f.lists) (H.state host.old) (H.state host.new) }
+    ensures opens { IsTrue (H.state host.new).honest
+        → Opens (Way info_path ∷ Info ∷ []) (fault_in result)
+        (H.state host.old).world (H.state host.new).world }
+    ensures listed { Gives result
+        (λ f old new. IsListed new (names_of database.now.records) f.lists)
+        (H.state host.old) (H.state host.new) }
     ensures listing { IfOk result (λ f. f.closed ≡ false) }
     ensures any_moment { AtEachMoment IsOpening (H.state host.old) (H.state host.new) }
     ensures silent { Silent (H.state host.old) (H.state host.new) }
@@ -149,7 +162,9 @@ fn open_info<H: Host>(
 fn clear_directory<H: Host>(host: &mut H, path: RootPath) -> Result<(), AdministrationFault>
     requires place { path ≡ tmp_path }
     requires there { Needs (H.state host.old) (λ w. IsDirectory (w tmp_path)) }
-    ensures opens { IsTrue (H.state host.new).honest → Opens (Leftovers ∷ []) (fault_in result) (H.state host.old).world (H.state host.new).world }
+    ensures opens { IsTrue (H.state host.new).honest
+        → Opens (Leftovers ∷ []) (fault_in result)
+        (H.state host.old).world (H.state host.new).world }
     ensures any_moment { AtEachMoment IsOpening (H.state host.old) (H.state host.new) }
     ensures silent { Silent (H.state host.old) (H.state host.new) }
     ensures counts { CountsAdministration (H.state host.old) (H.state host.new) result }
@@ -169,7 +184,9 @@ fn clear_directory<H: Host>(host: &mut H, path: RootPath) -> Result<(), Administ
 }
 
 fn clear_leftovers<H: Host>(alloc: Global, host: &mut H) -> Result<(), AdministrationFault>
-    ensures opens { IsTrue (H.state host.new).honest → Opens (Leftovers ∷ []) (fault_in result) (H.state host.old).world (H.state host.new).world }
+    ensures opens { IsTrue (H.state host.new).honest
+        → Opens (Leftovers ∷ []) (fault_in result)
+        (H.state host.old).world (H.state host.new).world }
     ensures any_moment { AtEachMoment IsOpening (H.state host.old) (H.state host.new) }
     ensures silent { Silent (H.state host.old) (H.state host.new) }
     ensures counts { CountsAdministration (H.state host.old) (H.state host.new) result }
@@ -190,7 +207,9 @@ fn clear_leftovers<H: Host>(alloc: Global, host: &mut H) -> Result<(), Administr
 
 // Nothing may be in the way of the file of diversions; then what a unit left behind is removed.
 fn settle_rest<H: Host>(alloc: Global, host: &mut H) -> Result<(), AdministrationFault>
-    ensures opens { IsTrue (H.state host.new).honest → Opens (Spare (temporary diversions_path) ∷ Leftovers ∷ []) (fault_in result) (H.state host.old).world (H.state host.new).world }
+    ensures opens { IsTrue (H.state host.new).honest
+        → Opens (Spare (temporary diversions_path) ∷ Leftovers ∷ []) (fault_in result)
+        (H.state host.old).world (H.state host.new).world }
     ensures any_moment { AtEachMoment IsOpening (H.state host.old) (H.state host.new) }
     ensures silent { Silent (H.state host.old) (H.state host.new) }
     ensures counts { CountsAdministration (H.state host.old) (H.state host.new) result }
@@ -205,7 +224,9 @@ fn settle_with<H: Host>(
     host: &mut H,
     diversions: Diversions,
 ) -> Result<Diversions, AdministrationFault>
-    ensures opens { IsTrue (H.state host.new).honest → Opens (Spare (temporary diversions_path) ∷ Leftovers ∷ []) (fault_in result) (H.state host.old).world (H.state host.new).world }
+    ensures opens { IsTrue (H.state host.new).honest
+        → Opens (Spare (temporary diversions_path) ∷ Leftovers ∷ []) (fault_in result)
+        (H.state host.old).world (H.state host.new).world }
     ensures diversions { IfOk result (λ kept. kept ≡ diversions) }
     ensures any_moment { AtEachMoment IsOpening (H.state host.old) (H.state host.new) }
     ensures silent { Silent (H.state host.old) (H.state host.new) }
@@ -223,8 +244,11 @@ fn settle_with<H: Host>(
 
 // The diversions, and after them what a unit left behind.
 fn settle<H: Host>(alloc: Global, host: &mut H) -> Result<Diversions, AdministrationFault>
-    ensures opens { IsTrue (H.state host.new).honest → Opens (ItsDiversions ∷ Spare (temporary diversions_path) ∷ Leftovers ∷ []) (fault_in result) (H.state host.old).world (H.state host.new).world }
-    ensures diverted { Gives result (λ d old new. HasDiversions new d.entries) (H.state host.old) (H.state host.new) }
+    ensures opens { IsTrue (H.state host.new).honest
+        → Opens (ItsDiversions ∷ Spare (temporary diversions_path) ∷ Leftovers ∷ [])
+        (fault_in result) (H.state host.old).world (H.state host.new).world }
+    ensures diverted { Gives result (λ d old new. HasDiversions new d.entries)
+        (H.state host.old) (H.state host.new) }
     ensures writable { IfOk result (λ d. d.closed ≡ false) }
     ensures any_moment { AtEachMoment IsOpening (H.state host.old) (H.state host.new) }
     ensures silent { Silent (H.state host.old) (H.state host.new) }
@@ -240,9 +264,12 @@ fn open_settled<H: Host>(
     host: &mut H,
     lists: FileLists,
 ) -> Result<(FileLists, Diversions), AdministrationFault>
-    ensures opens { IsTrue (H.state host.new).honest → Opens (ItsDiversions ∷ Spare (temporary diversions_path) ∷ Leftovers ∷ []) (fault_in result) (H.state host.old).world (H.state host.new).world }
+    ensures opens { IsTrue (H.state host.new).honest
+        → Opens (ItsDiversions ∷ Spare (temporary diversions_path) ∷ Leftovers ∷ [])
+        (fault_in result) (H.state host.old).world (H.state host.new).world }
     ensures lists { IfOk result (λ read. read.0 ≡ lists) }
-    ensures diverted { Gives result (λ read old new. HasDiversions new read.1.entries) (H.state host.old) (H.state host.new) }
+    ensures diverted { Gives result (λ read old new. HasDiversions new read.1.entries)
+        (H.state host.old) (H.state host.new) }
     ensures writable { IfOk result (λ read. read.1.closed ≡ false) }
     ensures any_moment { AtEachMoment IsOpening (H.state host.old) (H.state host.new) }
     ensures silent { Silent (H.state host.old) (H.state host.new) }
@@ -266,10 +293,17 @@ fn open_rest<H: Host>(
 ) -> Result<(FileLists, Diversions), AdministrationFault>
     requires home { Needs (H.state host.old) (λ w. IsDirectory (w home_path)) }
     requires table { Needs (H.state host.old) (λ w. IsTable w database.now.records) }
-    ensures opens { IsTrue (H.state host.new).honest → Opens (Spare (temporary status_path) ∷ Way updates_path ∷ Way info_path ∷ Info ∷ ItsDiversions ∷ Spare (temporary diversions_path) ∷ Leftovers ∷ []) (fault_in result) (H.state host.old).world (H.state host.new).world }
-    ensures listed { Gives result (λ read old new. IsListed new (names_of database.now.records) read.0.lists) (H.state host.old) (H.state host.new) }
+    ensures opens { IsTrue (H.state host.new).honest
+        → Opens
+        (Spare (temporary status_path) ∷ Way updates_path ∷ Way info_path ∷ Info ∷ ItsDiversions
+        ∷ Spare (temporary diversions_path) ∷ Leftovers ∷ [])
+        (fault_in result) (H.state host.old).world (H.state host.new).world }
+    ensures listed { Gives result
+        (λ read old new. IsListed new (names_of database.now.records) read.0.lists)
+        (H.state host.old) (H.state host.new) }
     ensures listing { IfOk result (λ read. read.0.closed ≡ false) }
-    ensures diverted { Gives result (λ read old new. HasDiversions new read.1.entries) (H.state host.old) (H.state host.new) }
+    ensures diverted { Gives result (λ read old new. HasDiversions new read.1.entries)
+        (H.state host.old) (H.state host.new) }
     ensures writable { IfOk result (λ read. read.1.closed ≡ false) }
     ensures any_moment { AtEachMoment IsOpening (H.state host.old) (H.state host.new) }
     ensures silent { Silent (H.state host.old) (H.state host.new) }
@@ -288,11 +322,18 @@ fn open_with<H: Host>(
 ) -> Result<Opened, AdministrationFault>
     requires home { Needs (H.state host.old) (λ w. IsDirectory (w home_path)) }
     requires table { Needs (H.state host.old) (λ w. IsTable w database.records) }
-    ensures opens { IsTrue (H.state host.new).honest → Opens (Spare (temporary status_path) ∷ Way updates_path ∷ Way info_path ∷ Info ∷ ItsDiversions ∷ Spare (temporary diversions_path) ∷ Leftovers ∷ []) (fault_in result) (H.state host.old).world (H.state host.new).world }
+    ensures opens { IsTrue (H.state host.new).honest
+        → Opens
+        (Spare (temporary status_path) ∷ Way updates_path ∷ Way info_path ∷ Info ∷ ItsDiversions
+        ∷ Spare (temporary diversions_path) ∷ Leftovers ∷ [])
+        (fault_in result) (H.state host.old).world (H.state host.new).world }
     ensures database { IfOk result (λ opened. opened.database ≡ database) }
-    ensures listed { Gives result (λ opened old new. IsListed new (names_of opened.database.records) opened.lists.lists) (H.state host.old) (H.state host.new) }
+    ensures listed { Gives result
+        (λ opened old new. IsListed new (names_of opened.database.records) opened.lists.lists)
+        (H.state host.old) (H.state host.new) }
     ensures listing { IfOk result (λ opened. opened.lists.closed ≡ false) }
-    ensures diverted { Gives result (λ opened old new. HasDiversions new opened.diversions.entries) (H.state host.old) (H.state host.new) }
+    ensures diverted { Gives result (λ opened old new. HasDiversions new opened.diversions.entries)
+        (H.state host.old) (H.state host.new) }
     ensures writable { IfOk result (λ opened. opened.diversions.closed ≡ false) }
     ensures any_moment { AtEachMoment IsOpening (H.state host.old) (H.state host.new) }
     ensures silent { Silent (H.state host.old) (H.state host.new) }
@@ -314,9 +355,13 @@ fn open_with<H: Host>(
 
 // Reads the administration below `/var/lib/dpkg`, with its notes.
 fn read_administration<H: Host>(alloc: Global, host: &mut H) -> Result<Opened, AdministrationFault>
-    ensures opens { IsTrue (H.state host.new).honest → Opens parts (fault_in result) (H.state host.old).world (H.state host.new).world }
+    ensures opens { IsTrue (H.state host.new).honest
+        → Opens parts (fault_in result) (H.state host.old).world (H.state host.new).world }
     ensures listing { IfOk result (λ opened. opened.lists.closed ≡ false) }
-    ensures found { Gives result (λ opened old new. IsFound opened.database.records opened.database.notes opened.lists.lists opened.diversions.entries new) (H.state host.old) (H.state host.new) }
+    ensures found { Gives result
+        (λ opened old new. IsFound opened.database.records opened.database.notes opened.lists.lists
+        opened.diversions.entries new)
+        (H.state host.old) (H.state host.new) }
     ensures open { IfOk result (λ opened. opened.database.closed ≡ false) }
     ensures writable { IfOk result (λ opened. opened.diversions.closed ≡ false) }
     ensures any_moment { AtEachMoment IsOpening (H.state host.old) (H.state host.new) }
@@ -351,8 +396,10 @@ fn merge_notes<H: Host>(
     ensures number { OnOk result (database.new.notes ≡ 0) }
     ensures open { OnOk result (database.new.closed ≡ false) }
     ensures sound { IsDamaged (fault_in result) → ⊥ }
-    ensures merged { Leaves result (AreNoted database.old.records 0) (H.state host.old) (H.state host.new) }
-    ensures any_moment { AtEachMoment (IsMerging database.old.records) (H.state host.old) (H.state host.new) }
+    ensures merged { Leaves result (AreNoted database.old.records 0)
+        (H.state host.old) (H.state host.new) }
+    ensures any_moment { AtEachMoment (IsMerging database.old.records)
+        (H.state host.old) (H.state host.new) }
     ensures silent { Silent (H.state host.old) (H.state host.new) }
     ensures counts { CountsAdministration (H.state host.old) (H.state host.new) result }
 {
@@ -375,15 +422,21 @@ fn settle_notes<H: Host>(
     host: &mut H,
     opened: Opened,
 ) -> Result<Opened, AdministrationFault>
-    requires found { Needs (H.state host.old) (IsFound opened.database.records opened.database.notes opened.lists.lists opened.diversions.entries) }
+    requires found { Needs (H.state host.old)
+        (IsFound opened.database.records opened.database.notes opened.lists.lists
+        opened.diversions.entries) }
     requires open { opened.database.closed ≡ false }
-    ensures opened { Gives result (λ kept old new. IsOpened kept.database.records kept.lists.lists kept.diversions.entries new) (H.state host.old) (H.state host.new) }
+    ensures opened { Gives result
+        (λ kept old new. IsOpened kept.database.records kept.lists.lists kept.diversions.entries
+        new)
+        (H.state host.old) (H.state host.new) }
     ensures number { IfOk result (λ kept. kept.database.notes ≡ 0) }
     ensures open { IfOk result (λ kept. kept.database.closed ≡ false) }
     ensures listing { IfOk result (λ kept. kept.lists ≡ opened.lists) }
     ensures writable { IfOk result (λ kept. kept.diversions ≡ opened.diversions) }
     ensures sound { IsDamaged (fault_in result) → ⊥ }
-    ensures any_moment { AtEachMoment (IsMerging opened.database.records) (H.state host.old) (H.state host.new) }
+    ensures any_moment { AtEachMoment (IsMerging opened.database.records)
+        (H.state host.old) (H.state host.new) }
     ensures silent { Silent (H.state host.old) (H.state host.new) }
     ensures counts { CountsAdministration (H.state host.old) (H.state host.new) result }
 {
@@ -413,8 +466,12 @@ pub fn open_administration<H: Host>(
     alloc: Global,
     host: &mut H,
 ) -> Result<Opened, AdministrationFault>
-    ensures opens { IsTrue (H.state host.new).honest → OpensAndMerges (fault_in result) (H.state host.old).world (H.state host.new).world }
-    ensures opened { Gives result (λ opened old new. IsOpened opened.database.records opened.lists.lists opened.diversions.entries new) (H.state host.old) (H.state host.new) }
+    ensures opens { IsTrue (H.state host.new).honest
+        → OpensAndMerges (fault_in result) (H.state host.old).world (H.state host.new).world }
+    ensures opened { Gives result
+        (λ opened old new. IsOpened opened.database.records opened.lists.lists
+        opened.diversions.entries new)
+        (H.state host.old) (H.state host.new) }
     ensures number { IfOk result (λ opened. opened.database.notes ≡ 0) }
     ensures open { IfOk result (λ opened. opened.database.closed ≡ false) }
     ensures listing { IfOk result (λ opened. opened.lists.closed ≡ false) }

@@ -1,6 +1,6 @@
 -- Names of which some are chosen, one after another.
-use Rattle.std.proofs.Common.{◌≡◌, ℕ, ◌+◌, ◌<◌, Bool, true, false, not, cond, List, [], ◌∷◌, ◌++◌, map, take, length, get_or, refl, sym, ap, ◌∙◌, append_assoc}
-use Rattle.std.specs.Prelude.{◌&&◌, filter}
+use Rattle.std.proofs.Common.{◌≡◌, ℕ, ◌+◌, ◌<◌, Bool, true, false, not, cond, List, [], ◌∷◌, ◌++◌, map, take, length, get_or, sym, ap, ◌∙◌, append_assoc}
+use Rattle.std.specs.Prelude.{filter}
 use Rattle.std.specs.List.{flat_map}
 use Rattle.std.proofs.lemmas.Grind.{flat_map-append}
 use Rattle.std.proofs.lemmas.List.{take_more, append-nil, map_more, map-append}
@@ -12,10 +12,6 @@ use Rattle.file_lists.specs.Owners.{has_other_owner}
 use Rattle.file_lists.specs.declared.paths.PackageList.{PackageList}
 use Rattle.list_changes.specs.Clearable.{clearable, is_clearable}
 use Rattle.removal_engine.specs.Names.{ownerless}
-
-pub not_both : (a b : Bool) → b ≡ true → a && not b ≡ false
-not_both true b is = ap not is
-not_both false b is = refl
 
 -- one more of what is chosen name by name
 pub gathered : (F : List Path → List Path) → ((xs ys : List Path) → F (xs ++ ys) ≡ F xs ++ F ys) → (done : List Path) (p q : Path) (base mid new : List Path) → mid ≡ base ++ F done → new ≡ mid ++ F (q ∷ []) → q ≡ p → new ≡ base ++ F (done ++ p ∷ [])

@@ -1,11 +1,10 @@
 -- Names that are cleared lie outside the administration.
-use Rattle.std.proofs.Common.{◌≡◌, ℕ, Bool, true, false, not, cond, List, [], ◌∷◌, ◌++◌, codes, refl, sym, ap, ◌∙◌}
-use Rattle.std.specs.Prelude.{◌||◌, ◌&&◌, filter}
+use Rattle.std.proofs.Common.{◌≡◌, ℕ, Bool, true, false, not, cond, List, [], ◌∷◌, ◌++◌, refl, ap, ◌∙◌}
+use Rattle.std.specs.Prelude.{◌||◌, filter}
 use Rattle.std.specs.List.{flat_map, list_any}
 use Rattle.std.specs.Str.{bytes_eq}
-use Rattle.std.proofs.lemmas.Bool.{true≢false, false_from_ne_true, or_parts}
-use Rattle.std.proofs.lemmas.Slice.Eq.{bytes_eq-Decides}
-use Rattle.host_core.specs.Paths.{Path, is_path_text}
+use Rattle.std.proofs.lemmas.Bool.{or_parts}
+use Rattle.host_core.specs.Paths.{Path}
 use Rattle.administration.specs.Places.{home_path, is_within}
 use Rattle.diversions.specs.Places.{place}
 use Rattle.diversions.specs.declared.entry.Diversion.{Diversion}

@@ -7,6 +7,10 @@ use Rattle.removal_engine.specs.Stages.{Planned, planned}
 pub pushed : (base mid : List Stage) (s : Stage) (p : Planned) → mid ≡ base ++ s ∷ [] → planned s ≡ p → map planned mid ≡ map planned base ++ p ∷ []
 pushed base mid s p more is = ap (map planned) more ∙ map-append planned base (s ∷ []) ∙ ap (λ (x : Planned). map planned base ++ x ∷ []) is
 
+-- more behind one that was added
+pub behind : (base mid : List Stage) (s : Stage) (p : Planned) (new further : List Planned) → mid ≡ base ++ s ∷ [] → planned s ≡ p → new ≡ map planned mid ++ further → new ≡ map planned base ++ p ∷ further
+behind base mid s p new further more is rest = rest ∙ ap (λ (l : List Planned). l ++ further) (pushed base mid s p more is) ∙ append_assoc (map planned base) (p ∷ []) further
+
 -- of those behind the files, where a purge goes on
 pub goes_on : (base new mid : List Planned) (at_once purge : Bool) (gone left : Planned) (further : List Planned) → at_once ≡ false → purge ≡ true → mid ≡ base ++ left ∷ [] → new ≡ mid ++ further
     → new ≡ base ++ cond at_once (gone ∷ []) (left ∷ cond purge further [])

@@ -50,7 +50,9 @@ pub(crate) fn leaving_files(
     entry: &Record,
     to_come: &[RootPath],
 ) -> Result<Vec<Leaving>, AllocError>
-    ensures leaving { IfOk result (λ leaving. leaving.items ≡ leaving_files diversions.now.entries lists.now.lists entry.now to_come.now) }
+    ensures leaving { IfOk result
+        (λ leaving. leaving.items
+        ≡ leaving_files diversions.now.entries lists.now.lists entry.now to_come.now) }
     ensures spares { IfOk result (λ leaving. SparesAdministration leaving.items) }
 {
     let conffiles = conffile_paths(alloc, entry.conffiles.as_slice())?;
@@ -75,7 +77,9 @@ pub(crate) fn leaving_directories(
     entry: &Record,
     listed: &[RootPath],
 ) -> Result<Vec<Leaving>, AllocError>
-    ensures leaving { IfOk result (λ leaving. leaving.items ≡ leaving_directories diversions.now.entries lists.now.lists entry.now listed.now) }
+    ensures leaving { IfOk result
+        (λ leaving. leaving.items
+        ≡ leaving_directories diversions.now.entries lists.now.lists entry.now listed.now) }
     ensures spares { IfOk result (λ leaving. SparesAdministration leaving.items) }
 {
     let conffiles = conffile_paths(alloc, entry.conffiles.as_slice())?;

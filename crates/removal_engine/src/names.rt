@@ -26,7 +26,8 @@ fn push_name(
     ending: &str,
     names: &mut Vec<RootPath>,
 ) -> Result<(), AllocError>
-    ensures { OnOk result (names.new.items ≡ names.old.items ++ clearable ((at.now ++ ending.now) ∷ [])) }
+    ensures { OnOk result
+        (names.new.items ≡ names.old.items ++ clearable ((at.now ++ ending.now) ∷ [])) }
 {
     if let Some(name) = clearable_name(alloc, at, ending)? {
         names.push(name)?;
@@ -49,7 +50,8 @@ fn push_unpack_names(
 
 // The texts of conffiles' paths.
 fn texts_of(alloc: Global, conffiles: &[ShipPath]) -> Result<BTreeSet<String>, AllocError>
-    ensures { IfOk result (λ set. (q : Path) → contains_text set q ≡ list_any (bytes_eq q) conffiles.now) }
+    ensures { IfOk result
+        (λ set. (q : Path) → contains_text set q ≡ list_any (bytes_eq q) conffiles.now) }
 {
     let mut set = BTreeSet::new(alloc);
     for path in conffiles {
@@ -67,7 +69,11 @@ fn push_stopped(
     path: &RootPath,
     names: &mut Vec<RootPath>,
 ) -> Result<(), AllocError>
-    ensures { OnOk result (names.new.items ≡ names.old.items ++ cond (contains_text conffiles.now path.now) [] (clearable (unpack_names (place diversions.now.entries name.now path.now)))) }
+    ensures { OnOk result
+        (names.new.items
+        ≡ names.old.items
+        ++ cond (contains_text conffiles.now path.now) []
+        (clearable (unpack_names (place diversions.now.entries name.now path.now)))) }
 {
     if conffiles.contains(path.as_str()) {
         return Ok(());
@@ -85,7 +91,10 @@ fn push_all_stopped(
     listed: &[RootPath],
     names: &mut Vec<RootPath>,
 ) -> Result<(), AllocError>
-    ensures { OnOk result (names.new.items ≡ names.old.items ++ stopped_names diversions.now.entries name.now conffiles.now listed.now) }
+    ensures { OnOk result
+        (names.new.items
+        ≡ names.old.items
+        ++ stopped_names diversions.now.entries name.now conffiles.now listed.now) }
 {
     let set = texts_of(alloc, conffiles)?;
     for path in listed {
@@ -102,7 +111,9 @@ fn push_waiting(
     pending: &[PendingDigest],
     names: &mut Vec<RootPath>,
 ) -> Result<(), AllocError>
-    ensures { OnOk result (names.new.items ≡ names.old.items ++ waiting_names diversions.now.entries name.now pending.now) }
+    ensures { OnOk result
+        (names.new.items
+        ≡ names.old.items ++ waiting_names diversions.now.entries name.now pending.now) }
 {
     for digest in pending {
         let place = diversions.ship_place(name, &digest.path);
@@ -117,7 +128,9 @@ pub(crate) fn waiting_names(
     diversions: &Diversions,
     entry: &Record,
 ) -> Result<Vec<RootPath>, AllocError>
-    ensures names { IfOk result (λ names. names.items ≡ waiting_names diversions.now.entries entry.now.name entry.now.pending) }
+    ensures names { IfOk result
+        (λ names. names.items
+        ≡ waiting_names diversions.now.entries entry.now.name entry.now.pending) }
     ensures elsewhere { IfOk result (λ names. AreElsewhere names.items) }
 {
     let mut names = Vec::new(alloc);
@@ -133,7 +146,8 @@ pub(crate) fn cleared_names(
     diversions: &Diversions,
     entry: &Record,
 ) -> Result<Vec<RootPath>, AllocError>
-    ensures names { IfOk result (λ names. names.items ≡ cleared_names diversions.now.entries lists.now.lists entry.now) }
+    ensures names { IfOk result
+        (λ names. names.items ≡ cleared_names diversions.now.entries lists.now.lists entry.now) }
     ensures elsewhere { IfOk result (λ names. AreElsewhere names.items) }
 {
     let conffiles = conffile_paths(alloc, entry.conffiles.as_slice())?;

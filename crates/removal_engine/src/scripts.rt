@@ -27,7 +27,8 @@ fn is_stored<H: Host>(
     script: Script,
 ) -> Result<bool, HostFault>
     requires named { is_package_name name.now ≡ true }
-    ensures found { Tells result (λ is w. is ≡ is_some (w (stored_path name.now script))) (H.state host.old) (H.state host.new) }
+    ensures found { Tells result (λ is w. is ≡ is_some (w (stored_path name.now script)))
+        (H.state host.old) (H.state host.new) }
     ensures reads { Reads (H.state host.old) (H.state host.new) }
     ensures silent { Silent (H.state host.old) (H.state host.new) }
     ensures counts { Counts (H.state host.old) (H.state host.new) result }
@@ -44,7 +45,8 @@ pub(crate) fn stored_scripts<H: Host>(
     name: &Text,
 ) -> Result<Stored, HostFault>
     requires named { is_package_name name.now ≡ true }
-    ensures found { Tells result (λ stored w. AreStored name.now w stored) (H.state host.old) (H.state host.new) }
+    ensures found { Tells result (λ stored w. AreStored name.now w stored)
+        (H.state host.old) (H.state host.new) }
     ensures reads { Reads (H.state host.old) (H.state host.new) }
     ensures silent { Silent (H.state host.old) (H.state host.new) }
     ensures counts { Counts (H.state host.old) (H.state host.new) result }

@@ -24,7 +24,11 @@ fn push_ownerless(
     ending: &str,
     names: &mut Vec<RootPath>,
 ) -> Result<(), AllocError>
-    ensures { OnOk result (names.new.items ≡ names.old.items ++ ownerless diversions.now.entries lists.now.lists name.now ((at.now ++ ending.now) ∷ [])) }
+    ensures { OnOk result
+        (names.new.items
+        ≡ names.old.items
+        ++ ownerless diversions.now.entries lists.now.lists name.now
+        ((at.now ++ ending.now) ∷ [])) }
 {
     let Some(beside) = clearable_name(alloc, at, ending)? else {
         return Ok(());
@@ -37,7 +41,9 @@ fn push_ownerless(
 }
 
 fn cut_last(path: &str) -> Option<(&str, &str)>
-    ensures { MatchOption result ((i : ℕ) → i < length path.now → get_or path.now i 0 ≢ 47) (λ x. (path.now ≡ x.0.now ++ 47 ∷ x.1.now) × ((i : ℕ) → i < length x.1.now → get_or x.1.now i 0 ≢ 47)) }
+    ensures { MatchOption result ((i : ℕ) → i < length path.now → get_or path.now i 0 ≢ 47)
+        (λ x. (path.now ≡ x.0.now ++ 47 ∷ x.1.now)
+        × ((i : ℕ) → i < length x.1.now → get_or x.1.now i 0 ≢ 47)) }
 {
     path.rsplit_once('/')
 }
@@ -62,7 +68,12 @@ fn push_edited(
     at: &str,
     names: &mut Vec<RootPath>,
 ) -> Result<(), AllocError>
-    ensures { OnOk result (names.new.items ≡ names.old.items ++ ownerless diversions.now.entries lists.now.lists name.now (at.now ∷ (at.now ++ codes "~") ∷ (at.now ++ codes "%") ∷ (signed at.now ++ codes "#") ∷ [])) }
+    ensures { OnOk result
+        (names.new.items
+        ≡ names.old.items
+        ++ ownerless diversions.now.entries lists.now.lists name.now
+        (at.now ∷ (at.now ++ codes "~") ∷ (at.now ++ codes "%") ∷ (signed at.now ++ codes "#")
+        ∷ [])) }
 {
     push_ownerless(alloc, lists, diversions, name, at, "", names)?;
     push_ownerless(alloc, lists, diversions, name, at, "~", names)?;
@@ -82,7 +93,11 @@ fn push_suffixed(
     suffix: Suffix,
     names: &mut Vec<RootPath>,
 ) -> Result<(), AllocError>
-    ensures { OnOk result (names.new.items ≡ names.old.items ++ ownerless diversions.now.entries lists.now.lists name.now ((at.now ++ suffix_text suffix) ∷ [])) }
+    ensures { OnOk result
+        (names.new.items
+        ≡ names.old.items
+        ++ ownerless diversions.now.entries lists.now.lists name.now
+        ((at.now ++ suffix_text suffix) ∷ [])) }
 {
     push_ownerless(alloc, lists, diversions, name, at, suffix.text(), names)
 }
@@ -96,7 +111,11 @@ fn push_reserved(
     at: &str,
     names: &mut Vec<RootPath>,
 ) -> Result<(), AllocError>
-    ensures { OnOk result (names.new.items ≡ names.old.items ++ ownerless diversions.now.entries lists.now.lists name.now (map (λ suffix. at.now ++ suffix) reserved_suffixes)) }
+    ensures { OnOk result
+        (names.new.items
+        ≡ names.old.items
+        ++ ownerless diversions.now.entries lists.now.lists name.now
+        (map (λ suffix. at.now ++ suffix) reserved_suffixes)) }
 {
     push_suffixed(alloc, lists, diversions, name, at, Suffix::New, names)?;
     push_suffixed(alloc, lists, diversions, name, at, Suffix::Old, names)?;
@@ -115,7 +134,11 @@ fn push_side_names(
     path: &ShipPath,
     names: &mut Vec<RootPath>,
 ) -> Result<(), AllocError>
-    ensures { OnOk result (names.new.items ≡ names.old.items ++ side_names_at diversions.now.entries lists.now.lists name.now (place diversions.now.entries name.now path.now)) }
+    ensures { OnOk result
+        (names.new.items
+        ≡ names.old.items
+        ++ side_names_at diversions.now.entries lists.now.lists name.now
+        (place diversions.now.entries name.now path.now)) }
 {
     let place = diversions.ship_place(name, path);
     let at = place.at()?;
@@ -136,7 +159,8 @@ pub(crate) fn purged_names(
     diversions: &Diversions,
     entry: &Record,
 ) -> Result<Vec<RootPath>, AllocError>
-    ensures names { IfOk result (λ names. names.items ≡ purged_names diversions.now.entries lists.now.lists entry.now) }
+    ensures names { IfOk result
+        (λ names. names.items ≡ purged_names diversions.now.entries lists.now.lists entry.now) }
     ensures elsewhere { IfOk result (λ names. AreElsewhere names.items) }
 {
     let mut names = Vec::new(alloc);

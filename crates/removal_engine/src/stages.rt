@@ -81,7 +81,9 @@ fn files_stage(
     to_come: &[RootPath],
 ) -> Result<Stage, AllocError>
     requires named { is_package_name entry.now.name ≡ true }
-    ensures { IfOk result (λ s. planned s ≡ files_stage diversions.now.entries lists.now.lists entry.now stored to_come.now) }
+    ensures { IfOk result
+        (λ s. planned s
+        ≡ files_stage diversions.now.entries lists.now.lists entry.now stored to_come.now) }
 {
     let waiting = waiting_names(alloc, diversions, entry)?;
     let leaving = leaving_files(alloc, lists, diversions, entry, to_come)?;
@@ -131,7 +133,8 @@ fn purge_stage(
     stored: Stored,
 ) -> Result<Stage, AllocError>
     requires named { is_package_name entry.now.name ≡ true }
-    ensures { IfOk result (λ s. planned s ≡ purge_stage diversions.now.entries lists.now.lists entry.now stored) }
+    ensures { IfOk result
+        (λ s. planned s ≡ purge_stage diversions.now.entries lists.now.lists entry.now stored) }
 {
     let names = purged_names(alloc, lists, diversions, entry)?;
     let mut parts = Vec::new(alloc);
@@ -149,7 +152,8 @@ fn last_stage(
     entry: &Record,
     listed: &[RootPath],
 ) -> Result<Stage, AllocError>
-    ensures { IfOk result (λ s. planned s ≡ last_stage diversions.now.entries lists.now.lists entry.now listed.now) }
+    ensures { IfOk result
+        (λ s. planned s ≡ last_stage diversions.now.entries lists.now.lists entry.now listed.now) }
 {
     let leaving = leaving_directories(alloc, lists, diversions, entry, listed)?;
     let mut parts = Vec::new(alloc);
@@ -173,7 +177,10 @@ fn push_purge(
     stages: &mut Vec<Stage>,
 ) -> Result<(), AllocError>
     requires named { is_package_name entry.now.name ≡ true }
-    ensures { OnOk result (map planned stages.new.items ≡ map planned stages.old.items ++ purge_stages diversions.now.entries lists.now.lists entry.now stored listed.now) }
+    ensures { OnOk result
+        (map planned stages.new.items
+        ≡ map planned stages.old.items
+        ++ purge_stages diversions.now.entries lists.now.lists entry.now stored listed.now) }
 {
     stages.push(purge_stage(alloc, lists, diversions, entry, stored)?)?;
     stages.push(last_stage(alloc, lists, diversions, entry, listed)?)?;
@@ -192,7 +199,10 @@ fn push_end(
     stages: &mut Vec<Stage>,
 ) -> Result<(), AllocError>
     requires named { is_package_name entry.now.name ≡ true }
-    ensures { OnOk result (map planned stages.new.items ≡ map planned stages.old.items ++ end_stages diversions.now.entries lists.now.lists entry.now stored purge to_come.now) }
+    ensures { OnOk result
+        (map planned stages.new.items
+        ≡ map planned stages.old.items
+        ++ end_stages diversions.now.entries lists.now.lists entry.now stored purge to_come.now) }
 {
     if goes_at_once(entry, stored) {
         stages.push(gone_stage(alloc, entry)?)?;
@@ -219,7 +229,10 @@ fn push_files(
     stages: &mut Vec<Stage>,
 ) -> Result<(), AllocError>
     requires named { is_package_name entry.now.name ≡ true }
-    ensures { OnOk result (map planned stages.new.items ≡ map planned stages.old.items ++ files_stages diversions.now.entries lists.now.lists entry.now stored purge to_come.now) }
+    ensures { OnOk result
+        (map planned stages.new.items
+        ≡ map planned stages.old.items
+        ++ files_stages diversions.now.entries lists.now.lists entry.now stored purge to_come.now) }
 {
     stages.push(files_stage(alloc, lists, diversions, entry, stored, to_come)?)?;
     push_end(
@@ -240,7 +253,11 @@ fn push_from(
     stages: &mut Vec<Stage>,
 ) -> Result<(), AllocError>
     requires named { is_package_name entry.now.name ≡ true }
-    ensures { OnOk result (map planned stages.new.items ≡ map planned stages.old.items ++ stages_from diversions.now.entries lists.now.lists entry.now.state entry.now stored purge to_come.now) }
+    ensures { OnOk result
+        (map planned stages.new.items
+        ≡ map planned stages.old.items
+        ++ stages_from diversions.now.entries lists.now.lists entry.now.state entry.now stored purge
+        to_come.now) }
 {
     match entry.state {
         State::ConfigFiles => {
@@ -270,7 +287,10 @@ pub(crate) fn removal_stages(
     to_come: &[RootPath],
 ) -> Result<Vec<Stage>, AllocError>
     requires named { is_package_name entry.now.name ≡ true }
-    ensures { IfOk result (λ stages. map planned stages.items ≡ removal_stages diversions.now.entries lists.now.lists extent entry.now stored to_come.now) }
+    ensures { IfOk result
+        (λ stages. map planned stages.items
+        ≡ removal_stages diversions.now.entries lists.now.lists extent entry.now stored
+        to_come.now) }
 {
     let purge = extent.is_purge();
     let mut stages = Vec::new(alloc);

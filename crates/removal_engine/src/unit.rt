@@ -30,7 +30,9 @@ fn plan<H: Host>(
     extent: Extent,
 ) -> Result<Vec<Stage>, HostFault>
     requires named { is_package_name entry.now.name ≡ true }
-    ensures planned { IfOk result (λ stages. IsPlanFor diversions.now.entries lists.now.lists entry.now extent (H.state host.old).world (H.state host.new).honest stages.items) }
+    ensures planned { IfOk result
+        (λ stages. IsPlanFor diversions.now.entries lists.now.lists entry.now extent
+        (H.state host.old).world (H.state host.new).honest stages.items) }
     ensures reads { Reads (H.state host.old) (H.state host.new) }
     ensures silent { Silent (H.state host.old) (H.state host.new) }
     ensures counts { Counts (H.state host.old) (H.state host.new) result }
@@ -64,14 +66,24 @@ pub fn remove<H: Host>(
     requires removable { IsRemovable extent database.old.records name.now }
     requires kept { places.old ≡ places_in diversions.now.entries lists.old.lists }
     requires order { Needs (H.state host.old) (IsInOrder database.old lists.old.lists) }
-    ensures unit { IfOk result (λ failed. HasRemoved (given extent name.now diversions.now.entries (holding database.old lists.old)) failed (holding database.new lists.new) (H.state host.old) (H.state host.new) told.old.items told.new.items) }
-    ensures end { IfOk result (λ failed. HasEnded extent name.now failed database.old.records database.new.records) }
-    ensures order { IfOk result (λ failed. Needs (H.state host.new) (IsInOrder database.new lists.new.lists)) }
+    ensures unit { IfOk result
+        (λ failed. HasRemoved
+        (given extent name.now diversions.now.entries (holding database.old lists.old)) failed
+        (holding database.new lists.new) (H.state host.old) (H.state host.new)
+        told.old.items told.new.items) }
+    ensures end { IfOk result
+        (λ failed. HasEnded extent name.now failed database.old.records database.new.records) }
+    ensures order { IfOk result
+        (λ failed. Needs (H.state host.new) (IsInOrder database.new lists.new.lists)) }
     ensures kept { OnOk result (places.new ≡ places_in diversions.now.entries lists.new.lists) }
     ensures noting { OnOk result (database.new.closed ≡ false) }
     ensures listing { OnOk result (lists.new.closed ≡ false) }
-    ensures told { HasCalled (given extent name.now diversions.now.entries (holding database.old lists.old)) (H.state host.old) (H.state host.new) told.old.items told.new.items }
-    ensures any_moment { AtEachMomentOf (IsAmidUnit (given extent name.now diversions.now.entries (holding database.old lists.old))) (H.state host.old) (H.state host.new) }
+    ensures told { HasCalled
+        (given extent name.now diversions.now.entries (holding database.old lists.old))
+        (H.state host.old) (H.state host.new) told.old.items told.new.items }
+    ensures any_moment { AtEachMomentOf
+        (IsAmidUnit (given extent name.now diversions.now.entries (holding database.old lists.old)))
+        (H.state host.old) (H.state host.new) }
     ensures counts { Counts (H.state host.old) (H.state host.new) result }
 {
     lists.index(alloc)?;

@@ -18,10 +18,33 @@ ghost use Rattle.stop_laws.specs.Configuring.{HasRecordsAmid, IsOwnList, is_sett
 /// the package's list is that of before, or that without the paths that go. What stands at any other path is changed by script calls
 /// alone, but at names of conffiles that are to be settled.
 pub fn what_configuring_leaves_at_each_moment()
-    ensures records { (g : Given) (r : ARecord) (d : Recorded) (old now : World) (so_far : List Event) → record_in g.before.records g.name ≡ Some r → IsInOrder d g.before.lists old → d.records ≡ g.before.records → IsAmidUnit g old so_far now → HasRecordsAmid g r now }
-    ensures lists { (g : Given) (old now : World) (so_far : List Event) (q : List ℕ) → q ≢ g.name → IsAmidUnit g old so_far now → now (list_path q) ≡ old (list_path q) }
-    ensures members { (g : Given) (old now : World) (so_far : List Event) (q : List ℕ) (member : Path) → is_member_name member ≡ true → IsAmidUnit g old so_far now → now (stored_member_path q member) ≡ old (stored_member_path q member) }
-    ensures diversions { (g : Given) (old now : World) (so_far : List Event) → IsAmidUnit g old so_far now → now diversions_path ≡ old diversions_path }
-    ensures own_list { (g : Given) (r : ARecord) (old now : World) (so_far : List Event) → record_in g.before.records g.name ≡ Some r → IsAmidUnit g old so_far now → IsOwnList g r (old (list_path g.name)) (now (list_path g.name)) }
-    ensures paths { (g : Given) (r : ARecord) (old now : World) (so_far : List Event) (q : Path) → record_in g.before.records g.name ≡ Some r → is_below_administration q ≡ false → is_settling_name r q ≡ false → IsAmidUnit g old so_far now → now q ≡ changed (changes_of so_far) old q }
+    ensures records { (g : Given) (r : ARecord) (d : Recorded) (old now : World)
+        (so_far : List Event)
+        → record_in g.before.records g.name ≡ Some r
+        → IsInOrder d g.before.lists old
+        → d.records ≡ g.before.records
+        → IsAmidUnit g old so_far now
+        → HasRecordsAmid g r now }
+    ensures lists { (g : Given) (old now : World) (so_far : List Event) (q : List ℕ)
+        → q ≢ g.name
+        → IsAmidUnit g old so_far now
+        → now (list_path q) ≡ old (list_path q) }
+    ensures members { (g : Given) (old now : World) (so_far : List Event) (q : List ℕ)
+        (member : Path)
+        → is_member_name member ≡ true
+        → IsAmidUnit g old so_far now
+        → now (stored_member_path q member) ≡ old (stored_member_path q member) }
+    ensures diversions { (g : Given) (old now : World) (so_far : List Event)
+        → IsAmidUnit g old so_far now
+        → now diversions_path ≡ old diversions_path }
+    ensures own_list { (g : Given) (r : ARecord) (old now : World) (so_far : List Event)
+        → record_in g.before.records g.name ≡ Some r
+        → IsAmidUnit g old so_far now
+        → IsOwnList g r (old (list_path g.name)) (now (list_path g.name)) }
+    ensures paths { (g : Given) (r : ARecord) (old now : World) (so_far : List Event) (q : Path)
+        → record_in g.before.records g.name ≡ Some r
+        → is_below_administration q ≡ false
+        → is_settling_name r q ≡ false
+        → IsAmidUnit g old so_far now
+        → now q ≡ changed (changes_of so_far) old q }
 {}

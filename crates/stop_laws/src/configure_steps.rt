@@ -21,8 +21,24 @@ use conffiles::settling_again_ends_alike;
 /// or they are settled and noted so, and script calls alone changed anything since. Until the postinst has changed anything, deciding
 /// again by what is there then, and settling, leaves a conffile's files as the unit would have left them without the stop.
 pub fn what_each_step_of_configuring_leaves()
-    ensures steps { (g : Given) (r : ARecord) (d : Recorded) (old now : World) (so_far : List Event) → record_in g.before.records g.name ≡ Some r → IsInOrder d g.before.lists old → d.records ≡ g.before.records → IsAmidUnit g old so_far now → IsAtStep g r old (changes_of so_far) now }
-    ensures again { (g : Given) (r : ARecord) (old now : World) (so_far : List Event) (x : Path) (first again : ADecision) → record_in g.before.records g.name ≡ Some r → changes_of so_far ≡ [] → Contains (settling_paths r) x → IsShippedAs (pending_digest r.pending x) (files_at old x) → IsDecided (recorded_digest r.conffiles x) (pending_digest r.pending x) g.policy (files_at old x) first → IsDecided (recorded_digest r.conffiles x) (pending_digest r.pending x) g.policy (files_at now x) again → IsAmidUnit g old so_far now → settled_files again (files_at now x) ≡ settled_files first (files_at old x) }
+    ensures steps { (g : Given) (r : ARecord) (d : Recorded) (old now : World) (so_far : List Event)
+        → record_in g.before.records g.name ≡ Some r
+        → IsInOrder d g.before.lists old
+        → d.records ≡ g.before.records
+        → IsAmidUnit g old so_far now
+        → IsAtStep g r old (changes_of so_far) now }
+    ensures again { (g : Given) (r : ARecord) (old now : World) (so_far : List Event) (x : Path)
+        (first again : ADecision)
+        → record_in g.before.records g.name ≡ Some r
+        → changes_of so_far ≡ []
+        → Contains (settling_paths r) x
+        → IsShippedAs (pending_digest r.pending x) (files_at old x)
+        → IsDecided (recorded_digest r.conffiles x) (pending_digest r.pending x) g.policy
+        (files_at old x) first
+        → IsDecided (recorded_digest r.conffiles x) (pending_digest r.pending x) g.policy
+        (files_at now x) again
+        → IsAmidUnit g old so_far now
+        → settled_files again (files_at now x) ≡ settled_files first (files_at old x) }
 {
     settling_again_ends_alike();
 }

@@ -18,10 +18,36 @@ ghost use Rattle.stop_laws.specs.Disappearing.{HasRecordsAmid};
 /// as before. The diversions, and lists and stored control files of other packages, are as they were. What stands anywhere else is
 /// changed by script calls alone, and not at a place that another package's list has.
 pub fn what_a_disappearance_leaves_at_each_moment()
-    ensures records { (incoming version : List ℕ) (entries : List ADiversion) (l : ALosing) (h : Holding) (s : HostState) (so_far : List Event) (now : World) → IsInOrderWith h s.world → IsAmidUnit incoming version entries l h s so_far now → HasRecordsAmid l.name h.records now }
-    ensures lists { (incoming version : List ℕ) (entries : List ADiversion) (l : ALosing) (h : Holding) (s : HostState) (so_far : List Event) (now : World) (q : List ℕ) → q ≢ l.name → IsAmidOne incoming version entries l h s so_far now → now (list_path q) ≡ s.world (list_path q) }
-    ensures members { (incoming version : List ℕ) (entries : List ADiversion) (l : ALosing) (h : Holding) (s : HostState) (so_far : List Event) (now : World) (q : List ℕ) (member : Path) → q ≢ l.name → is_member_name member ≡ true → IsAmidOne incoming version entries l h s so_far now → now (stored_member_path q member) ≡ s.world (stored_member_path q member) }
-    ensures diversions { (incoming version : List ℕ) (entries : List ADiversion) (l : ALosing) (h : Holding) (s : HostState) (so_far : List Event) (now : World) → IsAmidOne incoming version entries l h s so_far now → now diversions_path ≡ s.world diversions_path }
-    ensures paths { (incoming version : List ℕ) (entries : List ADiversion) (l : ALosing) (h : Holding) (s : HostState) (so_far : List Event) (now : World) (q : Path) → is_below_administration q ≡ false → IsAmidOne incoming version entries l h s so_far now → now q ≡ changed (changes_of so_far) s.world q }
-    ensures owned { (incoming version : List ℕ) (entries : List ADiversion) (l : ALosing) (h : Holding) (s : HostState) (so_far : List Event) (now : World) (q : Path) → is_below_administration q ≡ false → has_other_owner entries h.lists l.name q ≡ true → IsAmidOne incoming version entries l h s so_far now → now q ≡ s.world q }
+    ensures records { (incoming version : List ℕ) (entries : List ADiversion) (l : ALosing)
+        (h : Holding) (s : HostState) (so_far : List Event) (now : World)
+        → IsInOrderWith h s.world
+        → IsAmidUnit incoming version entries l h s so_far now
+        → HasRecordsAmid l.name h.records now }
+    ensures lists { (incoming version : List ℕ) (entries : List ADiversion) (l : ALosing)
+        (h : Holding) (s : HostState) (so_far : List Event) (now : World) (q : List ℕ)
+        → q ≢ l.name
+        → IsAmidOne incoming version entries l h s so_far now
+        → now (list_path q) ≡ s.world (list_path q) }
+    ensures members { (incoming version : List ℕ) (entries : List ADiversion) (l : ALosing)
+        (h : Holding) (s : HostState) (so_far : List Event) (now : World) (q : List ℕ)
+        (member : Path)
+        → q ≢ l.name
+        → is_member_name member ≡ true
+        → IsAmidOne incoming version entries l h s so_far now
+        → now (stored_member_path q member) ≡ s.world (stored_member_path q member) }
+    ensures diversions { (incoming version : List ℕ) (entries : List ADiversion) (l : ALosing)
+        (h : Holding) (s : HostState) (so_far : List Event) (now : World)
+        → IsAmidOne incoming version entries l h s so_far now
+        → now diversions_path ≡ s.world diversions_path }
+    ensures paths { (incoming version : List ℕ) (entries : List ADiversion) (l : ALosing)
+        (h : Holding) (s : HostState) (so_far : List Event) (now : World) (q : Path)
+        → is_below_administration q ≡ false
+        → IsAmidOne incoming version entries l h s so_far now
+        → now q ≡ changed (changes_of so_far) s.world q }
+    ensures owned { (incoming version : List ℕ) (entries : List ADiversion) (l : ALosing)
+        (h : Holding) (s : HostState) (so_far : List Event) (now : World) (q : Path)
+        → is_below_administration q ≡ false
+        → has_other_owner entries h.lists l.name q ≡ true
+        → IsAmidOne incoming version entries l h s so_far now
+        → now q ≡ s.world q }
 {}

@@ -15,6 +15,19 @@ ghost use Rattle.stop_laws.specs.Configuring.{is_settling_name};
 /// list has is as it was: neither the unit nor a script call changes what stands there. A removal may take away what stands at a name
 /// with an ending that the installer keeps for itself, and configuring what stands at a name of a conffile that is to be settled.
 pub fn what_stands_at_places_of_other_packages()
-    ensures removing { (g : Removing) (removable : IsRemovable g.extent g.before.records g.name) (old now : World) (so_far : List Event) (q : Path) → has_other_owner g.entries g.before.lists g.name q ≡ true → has_reserved_suffix q ≡ false → is_within home_path q ≡ false → IsAmidRemoving g old so_far now → now q ≡ old q }
-    ensures configuring { (g : Configuring) (r : ARecord) (old now : World) (so_far : List Event) (q : Path) → record_in g.before.records g.name ≡ Some r → has_other_owner g.entries g.before.lists g.name q ≡ true → is_settling_name r q ≡ false → is_below_administration q ≡ false → IsAmidConfiguring g old so_far now → now q ≡ old q }
+    ensures removing { (g : Removing) (removable : IsRemovable g.extent g.before.records g.name)
+        (old now : World) (so_far : List Event) (q : Path)
+        → has_other_owner g.entries g.before.lists g.name q ≡ true
+        → has_reserved_suffix q ≡ false
+        → is_within home_path q ≡ false
+        → IsAmidRemoving g old so_far now
+        → now q ≡ old q }
+    ensures configuring { (g : Configuring) (r : ARecord) (old now : World) (so_far : List Event)
+        (q : Path)
+        → record_in g.before.records g.name ≡ Some r
+        → has_other_owner g.entries g.before.lists g.name q ≡ true
+        → is_settling_name r q ≡ false
+        → is_below_administration q ≡ false
+        → IsAmidConfiguring g old so_far now
+        → now q ≡ old q }
 {}

@@ -16,10 +16,35 @@ ghost use Rattle.stop_laws.specs.Removing.{IsOwnList, IsOwnMember, MayGo};
 /// and script calls alone have made what stands there since. The package's list is that of before, that of the conffiles that stay
 /// and of the directories above all conffiles, one without a path, or none; each of its stored control files is that of before, or none.
 pub fn what_a_removal_leaves_at_each_moment()
-    ensures lists { (g : Given) (removable : IsRemovable g.extent g.before.records g.name) (old now : World) (so_far : List Event) (q : List ℕ) → q ≢ g.name → IsAmidUnit g old so_far now → now (list_path q) ≡ old (list_path q) }
-    ensures members { (g : Given) (removable : IsRemovable g.extent g.before.records g.name) (old now : World) (so_far : List Event) (q : List ℕ) (member : Path) → q ≢ g.name → is_member_name member ≡ true → IsAmidUnit g old so_far now → now (stored_member_path q member) ≡ old (stored_member_path q member) }
-    ensures diversions { (g : Given) (removable : IsRemovable g.extent g.before.records g.name) (old now : World) (so_far : List Event) → IsAmidUnit g old so_far now → now diversions_path ≡ old diversions_path }
-    ensures paths { (g : Given) (removable : IsRemovable g.extent g.before.records g.name) (old now : World) (so_far : List Event) (q : Path) → is_within home_path q ≡ false → IsAmidUnit g old so_far now → IsLeft q (MayGo g removable.entry (stored_in g.name old) q) (changes_of so_far) old now }
-    ensures own_list { (g : Given) (removable : IsRemovable g.extent g.before.records g.name) (old now : World) (so_far : List Event) → IsAmidUnit g old so_far now → IsOwnList g removable.entry (stored_in g.name old) (old (list_path g.name)) (now (list_path g.name)) }
-    ensures own_members { (g : Given) (removable : IsRemovable g.extent g.before.records g.name) (old now : World) (so_far : List Event) (member : Path) → is_member_name member ≡ true → IsAmidUnit g old so_far now → IsOwnMember (old (stored_member_path g.name member)) (now (stored_member_path g.name member)) }
+    ensures lists { (g : Given) (removable : IsRemovable g.extent g.before.records g.name)
+        (old now : World) (so_far : List Event) (q : List ℕ)
+        → q ≢ g.name
+        → IsAmidUnit g old so_far now
+        → now (list_path q) ≡ old (list_path q) }
+    ensures members { (g : Given) (removable : IsRemovable g.extent g.before.records g.name)
+        (old now : World) (so_far : List Event) (q : List ℕ) (member : Path)
+        → q ≢ g.name
+        → is_member_name member ≡ true
+        → IsAmidUnit g old so_far now
+        → now (stored_member_path q member) ≡ old (stored_member_path q member) }
+    ensures diversions { (g : Given) (removable : IsRemovable g.extent g.before.records g.name)
+        (old now : World) (so_far : List Event)
+        → IsAmidUnit g old so_far now
+        → now diversions_path ≡ old diversions_path }
+    ensures paths { (g : Given) (removable : IsRemovable g.extent g.before.records g.name)
+        (old now : World) (so_far : List Event) (q : Path)
+        → is_within home_path q ≡ false
+        → IsAmidUnit g old so_far now
+        → IsLeft q (MayGo g removable.entry (stored_in g.name old) q) (changes_of so_far) old now }
+    ensures own_list { (g : Given) (removable : IsRemovable g.extent g.before.records g.name)
+        (old now : World) (so_far : List Event)
+        → IsAmidUnit g old so_far now
+        → IsOwnList g removable.entry (stored_in g.name old) (old (list_path g.name))
+        (now (list_path g.name)) }
+    ensures own_members { (g : Given) (removable : IsRemovable g.extent g.before.records g.name)
+        (old now : World) (so_far : List Event) (member : Path)
+        → is_member_name member ≡ true
+        → IsAmidUnit g old so_far now
+        → IsOwnMember (old (stored_member_path g.name member))
+        (now (stored_member_path g.name member)) }
 {}

@@ -12,5 +12,10 @@ ghost use Rattle.stop_laws.specs.RemovalSteps.{IsAtStep};
 /// the package is half-installed and to be installed again; or they are gone; or it is being purged, and conffiles and directories
 /// alone have gone since, until its record goes.
 pub fn what_each_step_of_a_removal_leaves()
-    ensures { (g : Given) (removable : IsRemovable g.extent g.before.records g.name) (d : Recorded) (old now : World) (so_far : List Event) → IsInOrder d g.before.lists old → d.records ≡ g.before.records → IsAmidUnit g old so_far now → IsAtStep g removable.entry (stored_in g.name old) old (changes_of so_far) now }
+    ensures { (g : Given) (removable : IsRemovable g.extent g.before.records g.name) (d : Recorded)
+        (old now : World) (so_far : List Event)
+        → IsInOrder d g.before.lists old
+        → d.records ≡ g.before.records
+        → IsAmidUnit g old so_far now
+        → IsAtStep g removable.entry (stored_in g.name old) old (changes_of so_far) now }
 {}

@@ -30,13 +30,17 @@ pub fn do_each<H: Host>(
     requires fit { AreFit name.now parts.now database.old.records lists.old.lists }
     requires order { Needs (H.state host.old) (IsInOrder database.old lists.old.lists) }
     requires settleable { Needs (H.state host.old) (AreSettleable parts.now) }
-    ensures records { OnOk result (database.new.records ≡ parts_records name.now parts.now database.old.records) }
+    ensures records { OnOk result
+        (database.new.records ≡ parts_records name.now parts.now database.old.records) }
     ensures lists { OnOk result (lists.new.lists ≡ parts_lists name.now parts.now lists.old.lists) }
     ensures noting { OnOk result (database.new.closed ≡ false) }
     ensures listing { OnOk result (lists.new.closed ≡ false) }
-    ensures done { Leaves result (HaveDone name.now parts.now database.old.records) (H.state host.old) (H.state host.new) }
-    ensures order { Leaves result (λ old new. IsInOrder database.new lists.new.lists new) (H.state host.old) (H.state host.new) }
-    ensures any_moment { AtEachMoment (AreDoing name.now parts.now database.old.records) (H.state host.old) (H.state host.new) }
+    ensures done { Leaves result (HaveDone name.now parts.now database.old.records)
+        (H.state host.old) (H.state host.new) }
+    ensures order { Leaves result (λ old new. IsInOrder database.new lists.new.lists new)
+        (H.state host.old) (H.state host.new) }
+    ensures any_moment { AtEachMoment (AreDoing name.now parts.now database.old.records)
+        (H.state host.old) (H.state host.new) }
     ensures silent { Silent (H.state host.old) (H.state host.new) }
     ensures counts { Counts (H.state host.old) (H.state host.new) result }
 {
@@ -61,13 +65,18 @@ pub fn do_parts<H: Host>(
     requires fit { AreFit name.now parts.items database.old.records lists.old.lists }
     requires order { Needs (H.state host.old) (IsInOrder database.old lists.old.lists) }
     requires settleable { Needs (H.state host.old) (AreSettleable parts.items) }
-    ensures records { OnOk result (database.new.records ≡ parts_records name.now parts.items database.old.records) }
-    ensures lists { OnOk result (lists.new.lists ≡ parts_lists name.now parts.items lists.old.lists) }
+    ensures records { OnOk result
+        (database.new.records ≡ parts_records name.now parts.items database.old.records) }
+    ensures lists { OnOk result
+        (lists.new.lists ≡ parts_lists name.now parts.items lists.old.lists) }
     ensures noting { OnOk result (database.new.closed ≡ false) }
     ensures listing { OnOk result (lists.new.closed ≡ false) }
-    ensures done { Leaves result (HaveDone name.now parts.items database.old.records) (H.state host.old) (H.state host.new) }
-    ensures order { Leaves result (λ old new. IsInOrder database.new lists.new.lists new) (H.state host.old) (H.state host.new) }
-    ensures any_moment { AtEachMoment (AreDoing name.now parts.items database.old.records) (H.state host.old) (H.state host.new) }
+    ensures done { Leaves result (HaveDone name.now parts.items database.old.records)
+        (H.state host.old) (H.state host.new) }
+    ensures order { Leaves result (λ old new. IsInOrder database.new lists.new.lists new)
+        (H.state host.old) (H.state host.new) }
+    ensures any_moment { AtEachMoment (AreDoing name.now parts.items database.old.records)
+        (H.state host.old) (H.state host.new) }
     ensures silent { Silent (H.state host.old) (H.state host.new) }
     ensures counts { Counts (H.state host.old) (H.state host.new) result }
 {

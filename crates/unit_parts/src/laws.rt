@@ -13,8 +13,18 @@ ghost use Rattle.unit_parts.specs.declared.part.Part.{Part};
 /// In the end and at each moment of parts that fit, a place of the administration is as before, unless it is a record's or the
 /// package's own.
 pub fn what_parts_leave()
-    ensures done { (name : Path) (parts : List Part) (records : List Record) (lists : List PackageList) (old new : World) (q : Path) → IsAside name q → AreFit name parts records lists → HaveDone name parts records old new → new q ≡ old q }
-    ensures doing { (name : Path) (parts : List Part) (records : List Record) (lists : List PackageList) (old now : World) (q : Path) → IsAside name q → AreFit name parts records lists → AreDoing name parts records old now → now q ≡ old q }
+    ensures done { (name : Path) (parts : List Part) (records : List Record)
+        (lists : List PackageList) (old new : World) (q : Path)
+        → IsAside name q
+        → AreFit name parts records lists
+        → HaveDone name parts records old new
+        → new q ≡ old q }
+    ensures doing { (name : Path) (parts : List Part) (records : List Record)
+        (lists : List PackageList) (old now : World) (q : Path)
+        → IsAside name q
+        → AreFit name parts records lists
+        → AreDoing name parts records old now
+        → now q ≡ old q }
 {}
 
 /// Parts of which none settles conffiles can be done in each world.

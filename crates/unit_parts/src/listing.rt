@@ -53,9 +53,12 @@ fn replace_list<H: Host>(
     requires named { is_package_name name.now ≡ true }
     requires paths { AreListPaths paths }
     requires ready { Needs (H.state host.old) (IsListReady name.now) }
-    ensures lists { OnOk result (lists.new ≡ record lists.old { lists = with_list name.now paths lists.old.lists }) }
-    ensures replaced { Leaves result (IsReplaced (list_place name.now) (list_file paths)) (H.state host.old) (H.state host.new) }
-    ensures any_moment { AtEachMoment (IsReplacing (list_place name.now) (list_file paths)) (H.state host.old) (H.state host.new) }
+    ensures lists { OnOk result
+        (lists.new ≡ record lists.old { lists = with_list name.now paths lists.old.lists }) }
+    ensures replaced { Leaves result (IsReplaced (list_place name.now) (list_file paths))
+        (H.state host.old) (H.state host.new) }
+    ensures any_moment { AtEachMoment (IsReplacing (list_place name.now) (list_file paths))
+        (H.state host.old) (H.state host.new) }
     ensures silent { Silent (H.state host.old) (H.state host.new) }
     ensures counts { Counts (H.state host.old) (H.state host.new) result }
 {
@@ -79,9 +82,12 @@ pub(crate) fn write_list<H: Host>(
     requires named { is_package_name name.now ≡ true }
     requires paths { AreListPaths paths.now }
     requires ready { Needs (H.state host.old) (IsListReady name.now) }
-    ensures lists { OnOk result (lists.new ≡ record lists.old { lists = with_list name.now paths.now lists.old.lists }) }
-    ensures replaced { Leaves result (IsReplaced (list_place name.now) (list_file paths.now)) (H.state host.old) (H.state host.new) }
-    ensures any_moment { AtEachMoment (IsReplacing (list_place name.now) (list_file paths.now)) (H.state host.old) (H.state host.new) }
+    ensures lists { OnOk result
+        (lists.new ≡ record lists.old { lists = with_list name.now paths.now lists.old.lists }) }
+    ensures replaced { Leaves result (IsReplaced (list_place name.now) (list_file paths.now))
+        (H.state host.old) (H.state host.new) }
+    ensures any_moment { AtEachMoment (IsReplacing (list_place name.now) (list_file paths.now))
+        (H.state host.old) (H.state host.new) }
     ensures silent { Silent (H.state host.old) (H.state host.new) }
     ensures counts { Counts (H.state host.old) (H.state host.new) result }
 {
@@ -93,8 +99,10 @@ pub(crate) fn write_list<H: Host>(
 pub(crate) fn drop_list<H: Host>(alloc: Global, host: &mut H, name: &Text) -> Result<(), HostFault>
     requires named { is_package_name name.now ≡ true }
     requires ready { Needs (H.state host.old) (IsListReady name.now) }
-    ensures dropped { Leaves result (IsDropped (list_place name.now)) (H.state host.old) (H.state host.new) }
-    ensures any_moment { AtEachMoment (IsDropping (list_place name.now)) (H.state host.old) (H.state host.new) }
+    ensures dropped { Leaves result (IsDropped (list_place name.now))
+        (H.state host.old) (H.state host.new) }
+    ensures any_moment { AtEachMoment (IsDropping (list_place name.now))
+        (H.state host.old) (H.state host.new) }
     ensures silent { Silent (H.state host.old) (H.state host.new) }
     ensures counts { Counts (H.state host.old) (H.state host.new) result }
 {

@@ -20,8 +20,10 @@ pub(crate) fn drop_members<H: Host>(
 ) -> Result<(), HostFault>
     requires named { is_package_name name.now ≡ true }
     requires ready { Needs (H.state host.old) (IsMembersReady name.now) }
-    ensures dropped { Leaves result (HasDropped name.now keep_postrm) (H.state host.old) (H.state host.new) }
-    ensures any_moment { AtEachMoment (MayDrop name.now keep_postrm) (H.state host.old) (H.state host.new) }
+    ensures dropped { Leaves result (HasDropped name.now keep_postrm)
+        (H.state host.old) (H.state host.new) }
+    ensures any_moment { AtEachMoment (MayDrop name.now keep_postrm)
+        (H.state host.old) (H.state host.new) }
     ensures silent { Silent (H.state host.old) (H.state host.new) }
     ensures counts { Counts (H.state host.old) (H.state host.new) result }
 {

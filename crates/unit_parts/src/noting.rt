@@ -21,10 +21,13 @@ pub(crate) fn note_copy<H: Host>(
     requires opened { database.old.closed ≡ false }
     requires stands { is_not_installed entry.now.state ≡ false }
     requires kept { Needs (H.state host.old) (IsKept database.old) }
-    ensures records { OnOk result (database.new.records ≡ put_record entry.now database.old.records) }
+    ensures records { OnOk result
+        (database.new.records ≡ put_record entry.now database.old.records) }
     ensures opened { OnOk result (database.new.closed ≡ false) }
     ensures kept { Leaves result (IsNoted database.new) (H.state host.old) (H.state host.new) }
-    ensures any_moment { AtEachMoment (IsNoting database.old.records (put_record entry.now database.old.records)) (H.state host.old) (H.state host.new) }
+    ensures any_moment { AtEachMoment
+        (IsNoting database.old.records (put_record entry.now database.old.records))
+        (H.state host.old) (H.state host.new) }
     ensures silent { Silent (H.state host.old) (H.state host.new) }
     ensures counts { Counts (H.state host.old) (H.state host.new) result }
 {

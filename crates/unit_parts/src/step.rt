@@ -35,13 +35,17 @@ pub(crate) fn do_part<H: Host>(
     requires fit { IsFit name.now part.now database.old.records lists.old.lists }
     requires order { Needs (H.state host.old) (IsInOrder database.old lists.old.lists) }
     requires settleable { Needs (H.state host.old) (AreSettleable (part.now ∷ [])) }
-    ensures records { OnOk result (database.new.records ≡ part_records name.now part.now database.old.records) }
+    ensures records { OnOk result
+        (database.new.records ≡ part_records name.now part.now database.old.records) }
     ensures lists { OnOk result (lists.new.lists ≡ part_lists name.now part.now lists.old.lists) }
     ensures noting { OnOk result (database.new.closed ≡ false) }
     ensures listing { OnOk result (lists.new.closed ≡ false) }
-    ensures done { Leaves result (HasDone name.now part.now database.old.records) (H.state host.old) (H.state host.new) }
-    ensures order { Leaves result (λ old new. IsInOrder database.new lists.new.lists new) (H.state host.old) (H.state host.new) }
-    ensures any_moment { AtEachMoment (IsDoing name.now part.now database.old.records) (H.state host.old) (H.state host.new) }
+    ensures done { Leaves result (HasDone name.now part.now database.old.records)
+        (H.state host.old) (H.state host.new) }
+    ensures order { Leaves result (λ old new. IsInOrder database.new lists.new.lists new)
+        (H.state host.old) (H.state host.new) }
+    ensures any_moment { AtEachMoment (IsDoing name.now part.now database.old.records)
+        (H.state host.old) (H.state host.new) }
     ensures silent { Silent (H.state host.old) (H.state host.new) }
     ensures counts { Counts (H.state host.old) (H.state host.new) result }
 {

@@ -31,9 +31,13 @@ fn try_call<H: Host>(
     row: &Row,
     told: &mut Vec<Called>,
 ) -> Result<bool, HostFault>
-    ensures calls { IfOk result (λ ok. Makes (is_kept places.now) (λ ts. Tries row.now ts ok) (H.state host.old) (H.state host.new) told.old.items told.new.items) }
-    ensures told { Begins (is_kept places.now) (TriesRow row.now) (H.state host.old) (H.state host.new) told.old.items told.new.items }
-    ensures any_moment { AtEachMomentOf (OnlyScripts (is_kept places.now)) (H.state host.old) (H.state host.new) }
+    ensures calls { IfOk result
+        (λ ok. Makes (is_kept places.now) (λ ts. Tries row.now ts ok)
+        (H.state host.old) (H.state host.new) told.old.items told.new.items) }
+    ensures told { Begins (is_kept places.now) (TriesRow row.now)
+        (H.state host.old) (H.state host.new) told.old.items told.new.items }
+    ensures any_moment { AtEachMomentOf (OnlyScripts (is_kept places.now))
+        (H.state host.old) (H.state host.new) }
     ensures counts { Counts (H.state host.old) (H.state host.new) result }
 {
     let keep = Keep { places };
@@ -48,9 +52,16 @@ fn undo_call<H: Host>(
     row: &Row,
     told: &mut Vec<Called>,
 ) -> Result<bool, HostFault>
-    ensures calls { IfOk result (λ fails. (owners : List AnOwner) × (fails ≡ false → owners ≡ []) × (fails ≡ true → owners ≢ []) × Makes (is_kept places.now) (λ ts. UndoesRow row.now [] ts owners) (H.state host.old) (H.state host.new) told.old.items told.new.items) }
-    ensures told { Begins (is_kept places.now) (UndoesAny row.now []) (H.state host.old) (H.state host.new) told.old.items told.new.items }
-    ensures any_moment { AtEachMomentOf (OnlyScripts (is_kept places.now)) (H.state host.old) (H.state host.new) }
+    ensures calls { IfOk result
+        (λ fails. (owners : List AnOwner)
+        × (fails ≡ false → owners ≡ [])
+        × (fails ≡ true → owners ≢ [])
+        × Makes (is_kept places.now) (λ ts. UndoesRow row.now [] ts owners)
+        (H.state host.old) (H.state host.new) told.old.items told.new.items) }
+    ensures told { Begins (is_kept places.now) (UndoesAny row.now [])
+        (H.state host.old) (H.state host.new) told.old.items told.new.items }
+    ensures any_moment { AtEachMomentOf (OnlyScripts (is_kept places.now))
+        (H.state host.old) (H.state host.new) }
     ensures counts { Counts (H.state host.old) (H.state host.new) result }
 {
     let keep = Keep { places };
@@ -79,13 +90,20 @@ fn undo_stage<H: Host>(
     requires settled { Needs (H.state host.old) (λ w. HaveNoSettle restore.items) }
     requires kept { places.old ≡ places_in diversions.now.entries lists.old.lists }
     requires order { Needs (H.state host.old) (IsInOrder database.old lists.old.lists) }
-    ensures undone { OnOk result (HasUndone name.now diversions.now.entries row.now restore.items (holding database.old lists.old) (holding database.new lists.new) (H.state host.old) (H.state host.new) told.old.items told.new.items) }
-    ensures order { OnOk result (Needs (H.state host.new) (IsInOrder database.new lists.new.lists)) }
+    ensures undone { OnOk result
+        (HasUndone name.now diversions.now.entries row.now restore.items
+        (holding database.old lists.old) (holding database.new lists.new)
+        (H.state host.old) (H.state host.new) told.old.items told.new.items) }
+    ensures order { OnOk result
+        (Needs (H.state host.new) (IsInOrder database.new lists.new.lists)) }
     ensures kept { OnOk result (places.new ≡ places_in diversions.now.entries lists.new.lists) }
     ensures noting { OnOk result (database.new.closed ≡ false) }
     ensures listing { OnOk result (lists.new.closed ≡ false) }
-    ensures told { Begun (UndoesAny row.now []) (H.state host.old) (H.state host.new) told.old.items told.new.items }
-    ensures any_moment { AtEachMomentOf (AreCalled name.now diversions.now.entries restore.items (holding database.old lists.old)) (H.state host.old) (H.state host.new) }
+    ensures told { Begun (UndoesAny row.now []) (H.state host.old) (H.state host.new)
+        told.old.items told.new.items }
+    ensures any_moment { AtEachMomentOf
+        (AreCalled name.now diversions.now.entries restore.items (holding database.old lists.old))
+        (H.state host.old) (H.state host.new) }
     ensures counts { Counts (H.state host.old) (H.state host.new) result }
 {
     match undo_call(alloc, host, places, row, told) {
@@ -117,13 +135,20 @@ pub(crate) fn call_stage<H: Host>(
     requires settled { Needs (H.state host.old) (λ w. HaveNoSettle restore.items) }
     requires kept { places.old ≡ places_in diversions.now.entries lists.old.lists }
     requires order { Needs (H.state host.old) (IsInOrder database.old lists.old.lists) }
-    ensures called { IfOk result (λ failed. HasCalled name.now diversions.now.entries row restore.items failed (holding database.old lists.old) (holding database.new lists.new) (H.state host.old) (H.state host.new) told.old.items told.new.items) }
-    ensures order { OnOk result (Needs (H.state host.new) (IsInOrder database.new lists.new.lists)) }
+    ensures called { IfOk result
+        (λ failed. HasCalled name.now diversions.now.entries row restore.items failed
+        (holding database.old lists.old) (holding database.new lists.new)
+        (H.state host.old) (H.state host.new) told.old.items told.new.items) }
+    ensures order { OnOk result
+        (Needs (H.state host.new) (IsInOrder database.new lists.new.lists)) }
     ensures kept { OnOk result (places.new ≡ places_in diversions.now.entries lists.new.lists) }
     ensures noting { OnOk result (database.new.closed ≡ false) }
     ensures listing { OnOk result (lists.new.closed ≡ false) }
-    ensures told { Begun (MayCallRow row) (H.state host.old) (H.state host.new) told.old.items told.new.items }
-    ensures any_moment { AtEachMomentOf (AreCalled name.now diversions.now.entries restore.items (holding database.old lists.old)) (H.state host.old) (H.state host.new) }
+    ensures told { Begun (MayCallRow row) (H.state host.old) (H.state host.new)
+        told.old.items told.new.items }
+    ensures any_moment { AtEachMomentOf
+        (AreCalled name.now diversions.now.entries restore.items (holding database.old lists.old))
+        (H.state host.old) (H.state host.new) }
     ensures counts { Counts (H.state host.old) (H.state host.new) result }
 {
     match try_call(host, places, &row, told) {

@@ -25,22 +25,54 @@ use unit_parts::what_parts_leave;
 /// the one that failed, with what was done then. Its calls are those that are legal for the stages, each was told, and the host's own
 /// list of calls has grown by them.
 pub fn what_a_run_of_stages_leaves()
-    ensures left { (name : List ℕ) (entries : List ADiversion) (stages : List AStage) (failed : Option ACall) (before after : Holding) (s t : State) (told now : List ACalled) → HaveRun name entries stages failed before after s t told now → IsLeftBy name stages failed before after }
-    ensures made { (name : List ℕ) (entries : List ADiversion) (stages : List AStage) (failed : Option ACall) (before after : Holding) (s t : State) (told now : List ACalled) → HaveRun name entries stages failed before after s t told now → Made (AreCallsOf stages failed) s t told now }
-    ensures calls { (name : List ℕ) (entries : List ADiversion) (stages : List AStage) (failed : Option ACall) (before after : Holding) (s t : State) (told now : List ACalled) → HaveRun name entries stages failed before after s t told now → (ts : List Ran) × (calls t ≡ calls s ++ ts) × (AreCallsOf stages failed ts × Tells ts told now) }
-    ensures later { (name : List ℕ) (entries : List ADiversion) (stages : List AStage) (failed : Option ACall) (before after : Holding) (s t : State) (told now : List ACalled) → HaveRun name entries stages failed before after s t told now → IsLater s t }
+    ensures left { (name : List ℕ) (entries : List ADiversion) (stages : List AStage)
+        (failed : Option ACall) (before after : Holding) (s t : State) (told now : List ACalled)
+        → HaveRun name entries stages failed before after s t told now
+        → IsLeftBy name stages failed before after }
+    ensures made { (name : List ℕ) (entries : List ADiversion) (stages : List AStage)
+        (failed : Option ACall) (before after : Holding) (s t : State) (told now : List ACalled)
+        → HaveRun name entries stages failed before after s t told now
+        → Made (AreCallsOf stages failed) s t told now }
+    ensures calls { (name : List ℕ) (entries : List ADiversion) (stages : List AStage)
+        (failed : Option ACall) (before after : Holding) (s t : State) (told now : List ACalled)
+        → HaveRun name entries stages failed before after s t told now
+        → (ts : List Ran)
+        × (calls t ≡ calls s ++ ts)
+        × (AreCallsOf stages failed ts × Tells ts told now) }
+    ensures later { (name : List ℕ) (entries : List ADiversion) (stages : List AStage)
+        (failed : Option ACall) (before after : Holding) (s t : State) (told now : List ACalled)
+        → HaveRun name entries stages failed before after s t told now
+        → IsLater s t }
 {}
 
 /// Where a run is broken off, the calls that were made and told are the first of some that are legal for its stages.
 pub fn what_is_broken_off_begins_a_run_of_stages()
-    ensures calls { (stages : List AStage) (a b : State) (told now : List ACalled) → Begun (MayRunStages stages) a b told now → (ts more : List Ran) × (calls b ≡ calls a ++ ts) × (MayRunStages stages (ts ++ more) × Tells ts told now) }
+    ensures calls { (stages : List AStage) (a b : State) (told now : List ACalled)
+        → Begun (MayRunStages stages) a b told now
+        → (ts more : List Ran)
+        × (calls b ≡ calls a ++ ts)
+        × (MayRunStages stages (ts ++ more) × Tells ts told now) }
 {}
 
 /// In the end and at each moment of stages that fit, a place of the program's own is as before, unless it is a record's or the
 /// package's.
 pub fn what_stages_leave()
-    ensures run { (name : Path) (entries : List ADiversion) (stages : List AStage) (failed : Option ACall) (before after : Holding) (s t : State) (told now : List ACalled) (q : Path) → IsAside name q → is_own q ≡ true → AreStagesFit name stages before.records before.lists → HaveRun name entries stages failed before after s t told now → IsTrue t.honest → t.world q ≡ s.world q }
-    ensures running { (name : Path) (entries : List ADiversion) (stages : List AStage) (h : Holding) (old now : World) (so_far : List Event) (q : Path) → IsAside name q → is_own q ≡ true → AreStagesFit name stages h.records h.lists → AreRunning name entries stages h old so_far now → now q ≡ old q }
+    ensures run { (name : Path) (entries : List ADiversion) (stages : List AStage)
+        (failed : Option ACall) (before after : Holding) (s t : State) (told now : List ACalled)
+        (q : Path)
+        → IsAside name q
+        → is_own q ≡ true
+        → AreStagesFit name stages before.records before.lists
+        → HaveRun name entries stages failed before after s t told now
+        → IsTrue t.honest
+        → t.world q ≡ s.world q }
+    ensures running { (name : Path) (entries : List ADiversion) (stages : List AStage) (h : Holding)
+        (old now : World) (so_far : List Event) (q : Path)
+        → IsAside name q
+        → is_own q ≡ true
+        → AreStagesFit name stages h.records h.lists
+        → AreRunning name entries stages h old so_far now
+        → now q ≡ old q }
 {
     what_parts_leave();
 }

@@ -45,7 +45,8 @@ fn keep_places(
     written: bool,
 ) -> Result<(), AllocError>
     requires had { HadPlaces diversions.now.entries name.now lists.now.lists places.old }
-    requires unwritten { written ≡ false → places.old ≡ places_in diversions.now.entries lists.now.lists }
+    requires unwritten { written ≡ false
+        → places.old ≡ places_in diversions.now.entries lists.now.lists }
     ensures { OnOk result (places.new ≡ places_in diversions.now.entries lists.now.lists) }
 {
     if !written {
@@ -73,13 +74,19 @@ pub(crate) fn do_and_keep<H: Host>(
     requires kept { places.old ≡ places_in diversions.now.entries lists.old.lists }
     requires order { Needs (H.state host.old) (IsInOrder database.old lists.old.lists) }
     requires settleable { Needs (H.state host.old) (AreSettleable parts.items) }
-    ensures left { OnOk result (holding database.new lists.new ≡ after_parts name.now parts.items (holding database.old lists.old)) }
+    ensures left { OnOk result
+        (holding database.new lists.new
+        ≡ after_parts name.now parts.items (holding database.old lists.old)) }
     ensures noting { OnOk result (database.new.closed ≡ false) }
     ensures listing { OnOk result (lists.new.closed ≡ false) }
     ensures kept { OnOk result (places.new ≡ places_in diversions.now.entries lists.new.lists) }
-    ensures done { OnOk result (DoesParts name.now parts.items (holding database.old lists.old) (H.state host.old) (H.state host.new)) }
-    ensures order { OnOk result (Needs (H.state host.new) (IsInOrder database.new lists.new.lists)) }
-    ensures any_moment { AtEachMoment (AreDoing name.now parts.items database.old.records) (H.state host.old) (H.state host.new) }
+    ensures done { OnOk result
+        (DoesParts name.now parts.items (holding database.old lists.old)
+        (H.state host.old) (H.state host.new)) }
+    ensures order { OnOk result
+        (Needs (H.state host.new) (IsInOrder database.new lists.new.lists)) }
+    ensures any_moment { AtEachMoment (AreDoing name.now parts.items database.old.records)
+        (H.state host.old) (H.state host.new) }
     ensures silent { Silent (H.state host.old) (H.state host.new) }
     ensures counts { Counts (H.state host.old) (H.state host.new) result }
 {

@@ -43,13 +43,20 @@ fn run_stage<H: Host>(
     requires order { Needs (H.state host.old) (IsInOrder database.old lists.old.lists) }
     requires settleable { Needs (H.state host.old) (AreSettleable stage.parts.items) }
     requires settled { Needs (H.state host.old) (λ w. HaveNoSettle stage.restore.items) }
-    ensures ran { IfOk result (λ failed. HaveRun name.now diversions.now.entries (stage ∷ []) failed (holding database.old lists.old) (holding database.new lists.new) (H.state host.old) (H.state host.new) told.old.items told.new.items) }
-    ensures order { OnOk result (Needs (H.state host.new) (IsInOrder database.new lists.new.lists)) }
+    ensures ran { IfOk result
+        (λ failed. HaveRun name.now diversions.now.entries (stage ∷ []) failed
+        (holding database.old lists.old) (holding database.new lists.new)
+        (H.state host.old) (H.state host.new) told.old.items told.new.items) }
+    ensures order { OnOk result
+        (Needs (H.state host.new) (IsInOrder database.new lists.new.lists)) }
     ensures kept { OnOk result (places.new ≡ places_in diversions.now.entries lists.new.lists) }
     ensures noting { OnOk result (database.new.closed ≡ false) }
     ensures listing { OnOk result (lists.new.closed ≡ false) }
-    ensures told { Begun (MayRunStages (stage ∷ [])) (H.state host.old) (H.state host.new) told.old.items told.new.items }
-    ensures any_moment { AtEachMomentOf (IsAmidStage name.now diversions.now.entries stage (holding database.old lists.old)) (H.state host.old) (H.state host.new) }
+    ensures told { Begun (MayRunStages (stage ∷ [])) (H.state host.old) (H.state host.new)
+        told.old.items told.new.items }
+    ensures any_moment { AtEachMomentOf
+        (IsAmidStage name.now diversions.now.entries stage (holding database.old lists.old))
+        (H.state host.old) (H.state host.new) }
     ensures counts { Counts (H.state host.old) (H.state host.new) result }
 {
     let Stage {
@@ -87,13 +94,20 @@ pub fn run_stages<H: Host>(
     requires kept { places.old ≡ places_in diversions.now.entries lists.old.lists }
     requires order { Needs (H.state host.old) (IsInOrder database.old lists.old.lists) }
     requires settleable { Needs (H.state host.old) (AreStagesSettleable stages.items) }
-    ensures ran { IfOk result (λ failed. HaveRun name.now diversions.now.entries stages.items failed (holding database.old lists.old) (holding database.new lists.new) (H.state host.old) (H.state host.new) told.old.items told.new.items) }
-    ensures order { IfOk result (λ failed. Needs (H.state host.new) (IsInOrder database.new lists.new.lists)) }
+    ensures ran { IfOk result
+        (λ failed. HaveRun name.now diversions.now.entries stages.items failed
+        (holding database.old lists.old) (holding database.new lists.new)
+        (H.state host.old) (H.state host.new) told.old.items told.new.items) }
+    ensures order { IfOk result
+        (λ failed. Needs (H.state host.new) (IsInOrder database.new lists.new.lists)) }
     ensures kept { OnOk result (places.new ≡ places_in diversions.now.entries lists.new.lists) }
     ensures noting { OnOk result (database.new.closed ≡ false) }
     ensures listing { OnOk result (lists.new.closed ≡ false) }
-    ensures told { Begun (MayRunStages stages.items) (H.state host.old) (H.state host.new) told.old.items told.new.items }
-    ensures any_moment { AtEachMomentOf (AreRunning name.now diversions.now.entries stages.items (holding database.old lists.old)) (H.state host.old) (H.state host.new) }
+    ensures told { Begun (MayRunStages stages.items) (H.state host.old) (H.state host.new)
+        told.old.items told.new.items }
+    ensures any_moment { AtEachMomentOf
+        (AreRunning name.now diversions.now.entries stages.items (holding database.old lists.old))
+        (H.state host.old) (H.state host.new) }
     ensures counts { Counts (H.state host.old) (H.state host.new) result }
 {
     for stage in stages {
