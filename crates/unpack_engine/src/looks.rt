@@ -15,7 +15,7 @@ use std::alloc::Global;
 use texts::Text;
 use unpack_rows::Present;
 
-#[tactic(auto, using(host_core::specs::Moments::reads_then))]
+#[tactic(auto, using(host_core::proofs::Moments::reads_then))]
 fn is_stored<H: Host>(
     alloc: Global,
     host: &mut H,
@@ -34,7 +34,7 @@ fn is_stored<H: Host>(
     Ok(host.kind(&path)?.is_some())
 }
 
-#[tactic(auto, using(host_core::specs::Moments::reads_then))]
+#[tactic(auto, using(host_core::proofs::Moments::reads_then))]
 fn look_for_two<H: Host>(
     alloc: Global,
     host: &mut H,
@@ -56,7 +56,7 @@ fn look_for_two<H: Host>(
     Ok((one, other))
 }
 
-#[tactic(auto, using(host_core::specs::Moments::reads_then))]
+#[tactic(auto, using(host_core::proofs::Moments::reads_then))]
 fn look_for_scripts<H: Host>(alloc: Global, host: &mut H, name: &Text) -> Result<Present, HostFault>
     requires named { is_package_name name.now ≡ true }
     ensures found { Tells result

@@ -1,5 +1,5 @@
 use Rattle.std.proofs.Common.{length, subst}
-use Rattle.host_core.specs.Moments.{since_now}
+use Rattle.host_core.proofs.Moments.{since_now}
 use Rattle.control_members.specs.LaidOut.{IsLaying}
 use Rattle.unpack_rows.specs.EndStates.{own_name}
 use Rattle.unpack_run.specs.Task.{task_of}
