@@ -4,3 +4,4 @@ pub mod Rowwise
 pub mod Undone
 pub mod Growth
 pub mod Runs
+pub mod Stops

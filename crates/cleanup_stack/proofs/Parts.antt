@@ -4,7 +4,8 @@ use Rattle.host_core.specs.Paths.{Path}
 use Rattle.host_core.specs.World.{World}
 use Rattle.host_core.specs.Events.{Event}
 use Rattle.host_core.specs.Host.{State, Silent, Since, OnlyScripts}
-use Rattle.cleanup_stack.specs.Stops.{AtEachStop, stops_scripts, stops_then}
+use Rattle.cleanup_stack.specs.Stops.{AtEachStop}
+use Rattle.cleanup_stack.proofs.Stops.{stops_scripts, stops_then}
 
 pub nothing_done : (a : State) → Silent a a
 nothing_done a = record { honest = λ h. h; scripts = λ i. Rattle.host_core.specs.Events.scripts_of a.events }

@@ -4,8 +4,8 @@ use Rattle.std.proofs.lemmas.List.{append-nil, map-append}
 use Rattle.host_core.specs.Paths.{Path}
 use Rattle.host_core.specs.Events.{Ran, Event, Finished, Cut, scripts_of, calls_of}
 use Rattle.host_core.specs.Host.{State, Silent, Falls, Calls, calls, finished}
-use Rattle.host_core.specs.Moments.{scripts_of-append}
-use Rattle.host_core.specs.Scripts.{calls_of-append, calls_of-finished, calls_of-scripts}
+use Rattle.host_core.proofs.Moments.{scripts_of-append}
+use Rattle.host_core.proofs.Scripts.{calls_of-append, calls_of-finished, calls_of-scripts}
 use Rattle.unwind_stack.specs.declared.rows.Called.{Called}
 use Rattle.unwind_stack.specs.Transcript.{told_of, BrokeOff, Begins, Makes, Tells}
 use Rattle.cleanup_stack.specs.Telling.{Begun, IsCutShort, Made}

@@ -9,7 +9,7 @@ use Rattle.host_core.proofs.ShipNames.{same_name}
 use Rattle.host_core.specs.Paths.{Path}
 use Rattle.host_core.specs.Suffixes.{suffix_text}
 use Rattle.host_core.specs.World.{World, put, moved, KeepsBut}
-use Rattle.host_core.specs.Laws.{put_same, put_other, put_here}
+use Rattle.host_core.proofs.WorldLaws.{put_same, put_other, put_here}
 use Rattle.host_core.specs.declared.node.Node.{Node}
 use Rattle.host_core.specs.declared.suffix.Suffix.{Suffix}
 use Rattle.host_core.specs.declared.suffix.Suffix.TheVariants as suffix

@@ -13,7 +13,7 @@ use Rattle.host_core.specs.Paths.{Path, has_reserved_suffix}
 use Rattle.host_core.specs.Suffixes.{suffix_text}
 use Rattle.host_core.specs.World.{World, KeepsBut}
 use Rattle.host_core.specs.Host.{State, Since}
-use Rattle.host_core.specs.Moments.{since_start, since_weaker_if}
+use Rattle.host_core.proofs.Moments.{since_start, since_weaker_if}
 use Rattle.host_core.specs.declared.suffix.Suffix.{Suffix}
 use Rattle.host_core.specs.declared.suffix.Suffix.TheVariants as suffix
 use Rattle.administration.specs.Files.{NoDirectory}

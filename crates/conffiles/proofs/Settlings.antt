@@ -5,7 +5,7 @@ use Rattle.host_core.proofs.Nodes.{none_stands}
 use Rattle.host_core.specs.Paths.{Path}
 use Rattle.host_core.specs.World.{World, put, moved, kind_of, IsFile, HasParent, KeepsBut, Step, Move, Take, after}
 use Rattle.host_core.specs.Host.{State, Does, Reads, Since}
-use Rattle.host_core.specs.Moments.{since_does, since_reads, since_then, since_weaker_if}
+use Rattle.host_core.proofs.Moments.{since_does, since_reads, since_then, since_weaker_if}
 use Rattle.host_core.specs.declared.fault.HostFault.{HostFault}
 use Rattle.host_core.specs.declared.node.Kind.{Kind}
 use Rattle.host_core.specs.declared.node.Node.{Node}

@@ -29,7 +29,7 @@ fn look_at<H: Host>(host: &mut H, name: RootPath) -> Result<Option<RootPath>, Ho
     Ok(None)
 }
 
-#[tactic(auto, using(host_core::specs::Moments::reads_then))]
+#[tactic(auto, using(host_core::proofs::Moments::reads_then))]
 fn look_at_old<H: Host>(host: &mut H, path: &ShipPath) -> Result<Option<RootPath>, HostFault>
     ensures found { Tells result (λ found w. found ≡ obstacle_of w (shipped_name path.now ∷ backup_name path.now ∷ [])) (H.state host.old) (H.state host.new) }
     ensures reads { Reads (H.state host.old) (H.state host.new) }
@@ -44,7 +44,7 @@ fn look_at_old<H: Host>(host: &mut H, path: &ShipPath) -> Result<Option<RootPath
     look_at(host, backup)
 }
 
-#[tactic(auto, using(host_core::specs::Moments::reads_then))]
+#[tactic(auto, using(host_core::proofs::Moments::reads_then))]
 fn look_beside<H: Host>(host: &mut H, path: &ShipPath) -> Result<Option<RootPath>, HostFault>
     ensures found { Tells result (λ found w. found ≡ obstacle_of w (dist_name path.now ∷ spare_name path.now ∷ shipped_name path.now ∷ backup_name path.now ∷ [])) (H.state host.old) (H.state host.new) }
     ensures reads { Reads (H.state host.old) (H.state host.new) }
@@ -62,7 +62,7 @@ fn look_beside<H: Host>(host: &mut H, path: &ShipPath) -> Result<Option<RootPath
     look_at_old(host, path)
 }
 
-#[tactic(auto, using(host_core::specs::Moments::reads_then))]
+#[tactic(auto, using(host_core::proofs::Moments::reads_then))]
 fn look_at_all<H: Host>(host: &mut H, path: &ShipPath) -> Result<Option<RootPath>, HostFault>
     ensures found { Tells result (λ found w. found ≡ obstacle_of w (ordered_names path.now)) (H.state host.old) (H.state host.new) }
     ensures reads { Reads (H.state host.old) (H.state host.new) }

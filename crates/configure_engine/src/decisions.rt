@@ -47,7 +47,7 @@ fn digest_of(node: &Option<Node>) -> Option<Digest>
 }
 
 // The digest of the file that is there now.
-#[tactic(auto, using(host_core::specs::Moments::reads_then))]
+#[tactic(auto, using(host_core::proofs::Moments::reads_then))]
 fn digest_now<H: Host>(host: &mut H, path: &ShipPath) -> Result<Option<Digest>, HostFault>
     ensures found { Tells result (λ digest w. digest ≡ digest_at (w path.now)) (H.state host.old) (H.state host.new) }
     ensures reads { Reads (H.state host.old) (H.state host.new) }

@@ -24,7 +24,7 @@ use texts::Text;
 use unit_stages::{Stage, run_stages};
 use unwind_stack::Called;
 
-#[tactic(auto, using(host_core::specs::Moments::reads_then))]
+#[tactic(auto, using(host_core::proofs::Moments::reads_then))]
 fn has_postinst<H: Host>(alloc: Global, host: &mut H, name: &Text) -> Result<bool, HostFault>
     requires named { is_package_name name.now ≡ true }
     ensures found { Tells result (λ is w. is ≡ is_some (w (stored_path name.now Postinst))) (H.state host.old) (H.state host.new) }

@@ -6,8 +6,8 @@ use Rattle.configure_engine.specs.Units.{IsAmidUnit as IsAmidConfiguring}
 use Rattle.host_core.specs.Events.{Event, Did, Failed, follow, scripts_of}
 use Rattle.host_core.specs.Host.{State, AllFailed, Does, Happens, Needs, Reads, Silent, Since, Stops}
 use Rattle.host_core.specs.Loss.{IsAnswered, IsOnDisk}
-use Rattle.host_core.specs.Moments.{ThroughEvent, faults_then, reads_then, scripts_of-append, since_failed, since_fails, since_goes, since_now, since_reads, since_start, since_then, since_weaker}
-use Rattle.host_core.specs.Scripts.{silent_added}
+use Rattle.host_core.proofs.Moments.{ThroughEvent, faults_then, reads_then, scripts_of-append, since_failed, since_fails, since_goes, since_now, since_reads, since_start, since_then, since_weaker}
+use Rattle.host_core.proofs.Scripts.{silent_added}
 use Rattle.host_core.specs.World.{World, Step, Barrier}
 use Rattle.host_core.specs.declared.fault.HostFault.{HostFault}
 use Rattle.host_core.specs.declared.fault.HostFault.TheVariants.{Device, NoMemory}

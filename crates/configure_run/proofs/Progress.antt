@@ -11,7 +11,7 @@ use Rattle.dependency_check.specs.Waiting.{Waiting}
 use Rattle.dependency_sets.proofs.StrikingLaws.{in_range}
 use Rattle.dependency_sets.specs.Sets.{has}
 use Rattle.host_core.specs.Host.{State, Since}
-use Rattle.host_core.specs.Moments.{since_then, since_weaker_if}
+use Rattle.host_core.proofs.Moments.{since_then, since_weaker_if}
 use Rattle.unit_reports.specs.Held.{Held}
 use Rattle.unit_reports.specs.declared.report.Unit.{Unit as AUnit}
 use Rattle.configure_run.specs.Taking.{TakesOne}

@@ -5,7 +5,7 @@ use Rattle.std.proofs.lemmas.List.{append-nil}
 use Rattle.conffiles.specs.declared.decisions.ConfPolicy.{ConfPolicy}
 use Rattle.dependency_check.specs.Waiting.{Waiting}
 use Rattle.host_core.specs.Host.{State, Reads, Since}
-use Rattle.host_core.specs.Moments.{since_start, since_then, since_weaker, since_weaker_if}
+use Rattle.host_core.proofs.Moments.{since_start, since_then, since_weaker, since_weaker_if}
 use Rattle.unit_reports.specs.Held.{Held}
 use Rattle.unit_reports.specs.declared.report.Unit.{Unit as AUnit}
 use Rattle.configure_run.specs.Run.{Begins, HasRun, IsAmidRun, IsConfigureRun}

@@ -7,7 +7,7 @@ use Rattle.cleanup_stack.proofs.Tellings.{begun_calls}
 use Rattle.dependency_check.specs.Waiting.{Waiting}
 use Rattle.host_core.specs.Events.{calls_of as calls_in}
 use Rattle.host_core.specs.Host.{State, Silent, calls}
-use Rattle.host_core.specs.Scripts.{calls_of-scripts}
+use Rattle.host_core.proofs.Scripts.{calls_of-scripts}
 use Rattle.unit_reports.specs.Held.{Held}
 use Rattle.unit_reports.specs.Units.{HasNoCalls, calls_of}
 use Rattle.unit_reports.specs.declared.report.Unit.{Unit as AUnit}

@@ -44,7 +44,7 @@ pub(crate) fn waiting_of(
 }
 
 // Whether no postinst is stored with a package.
-#[tactic(auto, using(host_core::specs::Moments::reads_then))]
+#[tactic(auto, using(host_core::proofs::Moments::reads_then))]
 fn is_silent<H: Host>(alloc: Global, host: &mut H, name: &Text) -> Result<bool, HostFault>
     requires named { is_package_name name.now ≡ true }
     ensures found { Tells result (λ is w. is ≡ is_silent w name.now) (H.state host.old) (H.state host.new) }

@@ -3,7 +3,7 @@ use Rattle.std.proofs.Common.{◌≡◌, ◌++◌, ℕ, List, [], ◌∷◌, Opt
 use Rattle.cleanup_stack.specs.Telling.{Begun}
 use Rattle.host_core.specs.Events.{Ran, calls_of}
 use Rattle.host_core.specs.Host.{Silent, State, calls}
-use Rattle.host_core.specs.Scripts.{calls_of-scripts}
+use Rattle.host_core.proofs.Scripts.{calls_of-scripts}
 use Rattle.host_core.specs.declared.call.Call.{Call}
 use Rattle.diversions.specs.declared.entry.Diversion.{Diversion}
 use Rattle.removal_engine.specs.Units.{Given, HasCalled, given}

@@ -5,7 +5,7 @@ use Rattle.host_core.specs.World.{World}
 use Rattle.host_core.specs.Events.{Event}
 use Rattle.host_core.specs.Host.{State}
 use Rattle.host_core.specs.Loss.{IsLater}
-use Rattle.host_core.specs.Moments.{since_start, since_then}
+use Rattle.host_core.proofs.Moments.{since_start, since_then}
 use Rattle.host_core.specs.declared.call.Call.{Call}
 use Rattle.diversions.specs.declared.entry.Diversion.{Diversion}
 use Rattle.removal_engine.proofs.Deeds.{ArePlannedFit, stages_fit}

@@ -1,7 +1,7 @@
 -- One package is removed in favour of another, or passed over.
 use Rattle.std.proofs.Common.{◌≡◌, ◌≢◌, inl, ℕ, List, None, Option, Result, Ok, Err, IfOk, OnOk, refl}
 use Rattle.host_core.specs.Host.{AtEachMomentOf, Needs, State}
-use Rattle.host_core.specs.Moments.{since_start}
+use Rattle.host_core.proofs.Moments.{since_start}
 use Rattle.host_core.specs.declared.call.Call.{Call}
 use Rattle.host_core.specs.declared.fault.HostFault.{HostFault}
 use Rattle.diversions.specs.declared.entry.Diversion.{Diversion}

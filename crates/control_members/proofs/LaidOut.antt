@@ -8,7 +8,7 @@ use Rattle.host_core.specs.Paths.{Path}
 use Rattle.host_core.specs.World.{World, IsDirectory, IsLoose, IsBare, KeepsBut, HasParent}
 use Rattle.host_core.specs.Tree.{IsTree}
 use Rattle.host_core.specs.Host.{State, Since}
-use Rattle.host_core.specs.Moments.{since_then, since_weaker_if, since_now}
+use Rattle.host_core.proofs.Moments.{since_then, since_weaker_if, since_now}
 use Rattle.administration.specs.Places.{tmp_path, home_path, temporary, is_within}
 use Rattle.administration.specs.Files.{NoDirectory, IsReplaced, IsReplacing}
 use Rattle.administration.specs.Directories.{IsMade, IsMaking, IsTaking, IsFlat}

@@ -5,7 +5,7 @@ use Rattle.host_core.proofs.Nodes.{none_there}
 use Rattle.host_core.specs.Paths.{Path}
 use Rattle.host_core.specs.World.{World, IsDirectory}
 use Rattle.host_core.specs.Host.{State, Since}
-use Rattle.host_core.specs.Moments.{since_then, since_weaker, since_weaker_if}
+use Rattle.host_core.proofs.Moments.{since_then, since_weaker, since_weaker_if}
 use Rattle.host_core.specs.declared.node.Node.{Node}
 use Rattle.administration.specs.Places.{info_path, temporary}
 use Rattle.administration.specs.Files.{NoDirectory}

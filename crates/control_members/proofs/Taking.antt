@@ -10,7 +10,7 @@ use Rattle.host_core.proofs.Paths.{decide}
 use Rattle.host_core.specs.Paths.{Path}
 use Rattle.host_core.specs.World.{World, IsDirectory}
 use Rattle.host_core.specs.Host.{State, Since}
-use Rattle.host_core.specs.Moments.{since_then, since_weaker_if, since_now}
+use Rattle.host_core.proofs.Moments.{since_then, since_weaker_if, since_now}
 use Rattle.host_core.specs.declared.node.Node.{Node}
 use Rattle.administration.specs.Places.{info_path, temporary}
 use Rattle.administration.specs.Files.{NoDirectory, IsDropped, IsDropping}

@@ -3,7 +3,7 @@ use Rattle.std.proofs.Common.{◌≡◌, true, IsTrue, ℕ, List, [], ◌∷◌,
 use Rattle.host_core.specs.Events.{Event}
 use Rattle.host_core.specs.Host.{State}
 use Rattle.host_core.specs.Loss.{IsLater}
-use Rattle.host_core.specs.Moments.{since_reads, since_start, since_then}
+use Rattle.host_core.proofs.Moments.{since_reads, since_start, since_then}
 use Rattle.host_core.specs.Paths.{Path, is_own}
 use Rattle.host_core.specs.World.{World}
 use Rattle.host_core.specs.declared.call.Call.{Call}

@@ -2,7 +2,7 @@
 use Rattle.std.proofs.Common.{◌≡◌, ℕ, List, [], ◌∷◌, ◌++◌, map, Option, None, refl, sym, subst}
 use Rattle.host_core.specs.Events.{Event}
 use Rattle.host_core.specs.Host.{State, AtEachMomentOf, Silent, Since}
-use Rattle.host_core.specs.Moments.{since_then, since_weaker_if, since_weaker}
+use Rattle.host_core.proofs.Moments.{since_then, since_weaker_if, since_weaker}
 use Rattle.host_core.specs.World.{World}
 use Rattle.host_core.specs.declared.call.Call.{Call}
 use Rattle.cleanup_stack.proofs.Tellings.{begun_weaker, begun_whole, made_behind}

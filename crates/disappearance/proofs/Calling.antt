@@ -3,7 +3,7 @@ use Rattle.std.proofs.Common.{◌≡◌, ℕ, List, [], ◌∷◌, Option, None,
 use Rattle.cleanup_stack.proofs.Tellings.{begun_calls, made_calls}
 use Rattle.host_core.specs.Events.{calls_of}
 use Rattle.host_core.specs.Host.{State, Silent, calls}
-use Rattle.host_core.specs.Scripts.{calls_of-scripts}
+use Rattle.host_core.proofs.Scripts.{calls_of-scripts}
 use Rattle.host_core.specs.declared.call.Call.{Call}
 use Rattle.diversions.specs.declared.entry.Diversion.{Diversion}
 use Rattle.unit_stages.proofs.RunLaws.{run_made}

@@ -2,11 +2,11 @@
 use Rattle.std.proofs.Common.{◌≡◌, inl, inr, IsTrue, ℕ, Bool, true, false, not, List, [], ◌∷◌, ◌++◌, map, Option, None, refl, sym, ap, subst, ◌∙◌, arith}
 use Rattle.std.specs.Prelude.{Result, Ok, Err, IfOk, OnOk}
 use Rattle.std.proofs.lemmas.List.{append-nil, append_cancel_left}
-use Rattle.host_core.specs.Counted.{faults_of-append}
+use Rattle.host_core.proofs.Counted.{faults_of-append}
 use Rattle.host_core.specs.Events.{Event, Did, Finished, Cut, Failed, faults_of, scripts_of}
 use Rattle.host_core.specs.Host.{State, AllFailed, Reads, Silent, Since, faults}
 use Rattle.host_core.specs.Loss.{IsLater}
-use Rattle.host_core.specs.Moments.{since_reads, since_then, since_weaker_if, silent_then}
+use Rattle.host_core.proofs.Moments.{since_reads, since_then, since_weaker_if, silent_then}
 use Rattle.host_core.specs.World.{World}
 use Rattle.host_core.specs.declared.call.Call.{Call}
 use Rattle.diversions.specs.declared.entry.Diversion.{Diversion}

@@ -64,7 +64,7 @@ fn is_directory_at<H: Host>(
 }
 
 // The same of each of these paths.
-#[tactic(auto, using(host_core::specs::Moments::reads_then))]
+#[tactic(auto, using(host_core::proofs::Moments::reads_then))]
 fn are_directories<H: Host>(
     host: &mut H,
     diversions: &Diversions,

@@ -154,7 +154,7 @@ fn plan_of(
 }
 
 /// Plans: nothing but looking.
-#[tactic(auto, using(host_core::specs::Moments::reads_then))]
+#[tactic(auto, using(host_core::proofs::Moments::reads_then))]
 pub(crate) fn plan_stages<H: Host>(
     alloc: Global,
     host: &mut H,

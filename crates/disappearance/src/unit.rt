@@ -132,7 +132,7 @@ fn run_both<H: Host>(
 }
 
 // Looks whether a package disappears, and plans what is run then.
-#[tactic(auto, using(host_core::specs::Moments::reads_then))]
+#[tactic(auto, using(host_core::proofs::Moments::reads_then))]
 fn decide<H: Host>(
     alloc: Global,
     host: &mut H,

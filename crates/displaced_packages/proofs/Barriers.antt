@@ -10,7 +10,7 @@ use Rattle.host_core.specs.World.{World, Step, Barrier}
 use Rattle.host_core.specs.Events.{Event, Did, Failed, scripts_of, follow}
 use Rattle.host_core.specs.Host.{State, Does, Happens, Needs, Since, Stops}
 use Rattle.host_core.specs.Loss.{IsAnswered}
-use Rattle.host_core.specs.Moments.{ThroughEvent, since_failed, since_fails, since_goes, since_now, since_then}
+use Rattle.host_core.proofs.Moments.{ThroughEvent, since_failed, since_fails, since_goes, since_now, since_then}
 use Rattle.host_core.specs.declared.call.Call.{Call}
 use Rattle.host_core.specs.declared.fault.HostFault.{HostFault}
 use Rattle.host_core.specs.declared.fault.HostFault.TheVariants.{Device, NoMemory}

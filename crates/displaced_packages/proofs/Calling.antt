@@ -8,7 +8,7 @@ use Rattle.disappearance.specs.declared.losing.Losing.{Losing}
 use Rattle.diversions.specs.declared.entry.Diversion.{Diversion}
 use Rattle.host_core.specs.Events.{calls_of}
 use Rattle.host_core.specs.Host.{Silent, State, calls}
-use Rattle.host_core.specs.Scripts.{calls_of-scripts}
+use Rattle.host_core.proofs.Scripts.{calls_of-scripts}
 use Rattle.host_core.specs.declared.call.Call.{Call}
 use Rattle.removal_engine.specs.Units.{Given, HasCalled as HasCalledRemoval, given}
 use Rattle.removal_engine.specs.declared.extent.Extent.TheVariants.{InFavour}

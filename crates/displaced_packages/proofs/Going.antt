@@ -9,7 +9,7 @@ use Rattle.disappearance.specs.declared.losing.Losing.{Losing}
 use Rattle.diversions.specs.declared.entry.Diversion.{Diversion}
 use Rattle.host_core.specs.Events.{Event, scripts_of}
 use Rattle.host_core.specs.Host.{Does, Silent, Since, State}
-use Rattle.host_core.specs.Moments.{scripts_of-append, since_then, since_weaker, since_weaker_if}
+use Rattle.host_core.proofs.Moments.{scripts_of-append, since_then, since_weaker, since_weaker_if}
 use Rattle.host_core.specs.World.{World, Barrier}
 use Rattle.host_core.specs.declared.call.Call.{Call}
 use Rattle.host_core.specs.declared.fault.HostFault.{HostFault}

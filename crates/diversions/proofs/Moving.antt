@@ -4,8 +4,8 @@ use Rattle.std.proofs.lemmas.Bool.{true≢false}
 use Rattle.host_core.specs.Paths.{Path, is_ship_text}
 use Rattle.host_core.specs.World.{World, put, moved, IsDirectory, IsFile, HasParent, Move}
 use Rattle.host_core.specs.Host.{State, Does, Reads, Since}
-use Rattle.host_core.specs.Laws.{put_same, put_other}
-use Rattle.host_core.specs.Moments.{since_does, since_reads, since_then, since_weaker_if}
+use Rattle.host_core.proofs.WorldLaws.{put_same, put_other}
+use Rattle.host_core.proofs.Moments.{since_does, since_reads, since_then, since_weaker_if}
 use Rattle.host_core.specs.declared.fault.HostFault.{HostFault}
 use Rattle.host_core.specs.Nodes.{own_access}
 use Rattle.host_core.specs.declared.node.Node.{Node}

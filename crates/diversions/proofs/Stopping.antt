@@ -5,7 +5,7 @@ use Rattle.std.proofs.lemmas.Bool.{and_right, and_from, or_from, or_parts, trueâ
 use Rattle.std.proofs.lemmas.Slice.Eq.{bytes_eq-Decides}
 use Rattle.host_core.specs.Paths.{Path, is_ship_text}
 use Rattle.host_core.specs.World.{World, put, kind_of}
-use Rattle.host_core.specs.Laws.{put_same, put_other}
+use Rattle.host_core.proofs.WorldLaws.{put_same, put_other}
 use Rattle.administration.specs.Files.{KeepsBesideFile}
 use Rattle.administration.specs.Places.{diversions_path, temporary}
 use Rattle.diversions.specs.Again.{IsFinishedAgain}

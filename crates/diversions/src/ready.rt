@@ -35,7 +35,7 @@ fn is_clear(home: bool, file: bool, spare: bool) -> bool
 }
 
 /// Whether the file can be written: its directory is there, and none stands in its place or at its temporary name.
-#[tactic(auto, using(host_core::specs::Moments::reads_then))]
+#[tactic(auto, using(host_core::proofs::Moments::reads_then))]
 pub fn can_write_table<H: Host>(alloc: Global, host: &mut H) -> Result<bool, HostFault>
     ensures ready { Tells result (λ ready w. IsTrue ready → IsTableReady w) (H.state host.old)
         (H.state host.new) }

@@ -61,7 +61,7 @@ fn kind_above<H: Host>(
 }
 
 /// What stands at two paths, and above the second.
-#[tactic(auto, using(host_core::specs::Moments::reads_then))]
+#[tactic(auto, using(host_core::proofs::Moments::reads_then))]
 pub(crate) fn look_around<H: Host>(
     alloc: Global,
     host: &mut H,

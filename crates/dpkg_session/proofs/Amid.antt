@@ -8,7 +8,7 @@ use Rattle.host_core.specs.Paths.{Path}
 use Rattle.host_core.specs.World.{World}
 use Rattle.host_core.specs.Events.{Event}
 use Rattle.host_core.specs.Host.{State, Since}
-use Rattle.host_core.specs.Moments.{grown, since_start, since_then, since_weaker, since_weaker_if}
+use Rattle.host_core.proofs.Moments.{grown, since_start, since_then, since_weaker, since_weaker_if}
 use Rattle.package_tree.specs.declared.package.Package.{Package}
 use Rattle.package_tree.specs.declared.fault.TreeFault.{TreeFault}
 use Rattle.removal_run.specs.Units.{holding_of}

@@ -9,7 +9,7 @@ use Rattle.host_core.specs.World.{World, Step, Barrier}
 use Rattle.host_core.specs.Events.{Event, Ran, Did, Failed, scripts_of, follow, follow_all}
 use Rattle.host_core.specs.Host.{State, Does, Falls, Happens, Needs, Silent, Since, Stops}
 use Rattle.host_core.specs.Loss.{IsAnswered, IsLater, IsOnDisk}
-use Rattle.host_core.specs.Moments.{ThroughEvent, since_failed, since_fails, since_goes, since_now, since_then, silent_then}
+use Rattle.host_core.proofs.Moments.{ThroughEvent, since_failed, since_fails, since_goes, since_now, since_then, silent_then}
 use Rattle.host_core.specs.declared.fault.HostFault.{HostFault}
 use Rattle.host_core.specs.declared.fault.HostFault.TheVariants.{Device, NoMemory}
 use Rattle.cleanup_stack.specs.Transcripts.{Ended, MayRun}

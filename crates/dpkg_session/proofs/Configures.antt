@@ -12,7 +12,7 @@ use Rattle.configure_engine.specs.Stages.{AreConfigureStages, AreFirstParts, Set
 use Rattle.configure_engine.specs.Waiting.{going_paths}
 use Rattle.host_core.specs.Paths.{Path}
 use Rattle.host_core.specs.Host.{State, Reads, Since}
-use Rattle.host_core.specs.Moments.{since_start}
+use Rattle.host_core.proofs.Moments.{since_start}
 use Rattle.relation_index.specs.declared.package.Package.{Package}
 use Rattle.status_db.specs.Records.{record_in}
 use Rattle.status_db.specs.declared.record.Record.{Record}

@@ -5,7 +5,7 @@ use Rattle.conffiles.specs.declared.decisions.ConfPolicy.{ConfPolicy}
 use Rattle.configure_run.specs.Run.{HasRun as HasConfigured, IsAmidRun as IsAmidConfigure, IsConfigureRun}
 use Rattle.host_core.specs.Host.{State, Since}
 use Rattle.host_core.specs.Loss.{IsAnswered}
-use Rattle.host_core.specs.Moments.{since_then, since_weaker, since_weaker_if}
+use Rattle.host_core.proofs.Moments.{since_then, since_weaker, since_weaker_if}
 use Rattle.host_core.specs.Unsynced.{IsSettled}
 use Rattle.unit_reports.specs.Held.{Held}
 use Rattle.unit_reports.specs.Units.{CountsLast, TellsCalls, calls_of, calls_told, last_calls}

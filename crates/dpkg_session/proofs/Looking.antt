@@ -7,8 +7,8 @@ use Rattle.host_core.specs.Paths.{Path}
 use Rattle.host_core.specs.World.{World}
 use Rattle.host_core.specs.Events.{Event, Did, Finished, Cut, Failed, scripts_of}
 use Rattle.host_core.specs.Host.{State, AllFailed, Reads, Silent, Since}
-use Rattle.host_core.specs.Moments.{scripts_of-append, since_reads, since_then, since_weaker_if, silent_then}
-use Rattle.host_core.specs.Scripts.{silent_added}
+use Rattle.host_core.proofs.Moments.{scripts_of-append, since_reads, since_then, since_weaker_if, silent_then}
+use Rattle.host_core.proofs.Scripts.{silent_added}
 use Rattle.package_tree.specs.declared.package.Package.{Package}
 use Rattle.stack_run.specs.Ended.{ended_as}
 use Rattle.stack_run.specs.declared.unwinding.Unwinding.{Unwinding}

@@ -4,8 +4,8 @@ use Rattle.host_core.specs.World.{World, Barrier}
 use Rattle.host_core.specs.Events.{Event, Did, changes_of}
 use Rattle.host_core.specs.Host.{State, Since}
 use Rattle.host_core.specs.Loss.{IsAnswered, IsOnDisk, unwritten}
-use Rattle.host_core.specs.Losses.{avoid_session, loses_in_part, since_loss_one}
-use Rattle.host_core.specs.Moments.{faults_then, reads_then, since_weaker}
+use Rattle.host_core.proofs.Losses.{avoid_session, loses_in_part, since_loss_one}
+use Rattle.host_core.proofs.Moments.{faults_then, reads_then, since_weaker}
 use Rattle.host_core.specs.Unsynced.{IsSettled}
 use Rattle.unit_reports.specs.Held.{Held}
 use Rattle.dpkg_session.specs.declared.report.Candidate.{Candidate}

@@ -5,7 +5,7 @@ use Rattle.host_core.specs.Paths.{Path, is_named_by, is_own}
 use Rattle.host_core.specs.World.{World, Change, Avoids, SameOn, changed, is_kept}
 use Rattle.host_core.specs.Events.{Ran, changes_of, follow_all}
 use Rattle.host_core.specs.Host.{State, CallsSome, finished}
-use Rattle.host_core.specs.Scripts.{Avoids-front, changed_kept}
+use Rattle.host_core.proofs.Scripts.{Avoids-front, changed_kept}
 use Rattle.host_core.specs.declared.call.Call.{Call}
 use Rattle.diversions.specs.declared.entry.Diversion.{Diversion}
 use Rattle.file_lists.specs.declared.paths.PackageList.{PackageList}

@@ -10,7 +10,7 @@ use Rattle.diversions.specs.Changes.{OnRefused}
 use Rattle.diversions.specs.declared.fault.DiversionFault.{DiversionFault}
 use Rattle.diversions.specs.declared.refusal.Answer.{Answer}
 use Rattle.diversions.specs.declared.refusal.Answer.TheVariants as answered
-use Rattle.host_core.specs.Moments.{since_now, since_then, since_weaker_if}
+use Rattle.host_core.proofs.Moments.{since_now, since_then, since_weaker_if}
 use Rattle.diversions.specs.Entries.{IsTable, entry_of}
 use Rattle.diversions.specs.Places.{target_of, truename}
 use Rattle.diversions.specs.declared.entry.Diversion.{Diversion}

@@ -67,7 +67,7 @@ fn kind_at_place<H: Host>(host: &mut H, shipped: &Work) -> Result<Option<Kind>, 
 }
 
 /// Looks at the place of a shipped path and at the names beside it.
-#[tactic(auto, using(host_core::specs::Moments::reads_then))]
+#[tactic(auto, using(host_core::proofs::Moments::reads_then))]
 pub(crate) fn look_around<H: Host>(host: &mut H, shipped: &Work) -> Result<Sight, HostFault>
     requires seen { Needs (H.state host.old) (λ w. IsSeen w shipped.now) }
     ensures found { Tells result (λ sight w. sight ≡ sight_of w shipped.now) (H.state host.old)

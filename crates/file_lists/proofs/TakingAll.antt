@@ -15,7 +15,7 @@ use Rattle.std.proofs.lemmas.Slice.Eq.{bytes_eq-Decides}
 use Rattle.host_core.specs.Paths.{Path}
 use Rattle.host_core.specs.World.{World, IsDirectory}
 use Rattle.host_core.specs.Host.{State, Since}
-use Rattle.host_core.specs.Moments.{since_now, since_then, since_weaker_if}
+use Rattle.host_core.proofs.Moments.{since_now, since_then, since_weaker_if}
 use Rattle.administration.specs.Files.{NoDirectory, IsReplacing, IsReplaced}
 use Rattle.administration.specs.Places.{info_path, list_path, list_name, temporary}
 use Rattle.diversions.specs.declared.entry.Diversion.{Diversion}

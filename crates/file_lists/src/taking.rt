@@ -100,7 +100,7 @@ pub(crate) fn take_paths<H: Host>(
 }
 
 /// The same of each of these packages.
-#[tactic(auto, using(host_core::specs::Moments::silent_then))]
+#[tactic(auto, using(host_core::proofs::Moments::silent_then))]
 pub(crate) fn take_all<H: Host>(
     alloc: Global,
     host: &mut H,

@@ -8,8 +8,8 @@ use Rattle.std.proofs.lemmas.List.Folds.{list_any-append}
 use Rattle.host_core.specs.Paths.{Path}
 use Rattle.host_core.specs.World.{World, put, Take, IsLoose}
 use Rattle.host_core.specs.Host.{State, Does, Since}
-use Rattle.host_core.specs.Laws.{put_same, put_other}
-use Rattle.host_core.specs.Moments.{since_does, since_weaker_if}
+use Rattle.host_core.proofs.WorldLaws.{put_same, put_other}
+use Rattle.host_core.proofs.Moments.{since_does, since_weaker_if}
 use Rattle.host_core.specs.declared.fault.HostFault.{HostFault}
 use Rattle.host_core.proofs.Paths.{decide}
 use Rattle.std.proofs.lemmas.Slice.Eq.{bytes_eq-Decides}

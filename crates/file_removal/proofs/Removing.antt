@@ -7,7 +7,7 @@ use Rattle.std.proofs.Math.Numerals.{add-one}
 use Rattle.host_core.specs.Paths.{Path}
 use Rattle.host_core.specs.World.{World, IsBare, IsDirectory, IsLoose}
 use Rattle.host_core.specs.Host.{State, Since}
-use Rattle.host_core.specs.Moments.{since_weaker_if}
+use Rattle.host_core.proofs.Moments.{since_weaker_if}
 use Rattle.host_core.proofs.Nodes.{none_there, none_stands}
 use Rattle.host_core.proofs.Paths.{decide}
 use Rattle.file_removal.specs.declared.leaving.Leaving.{Leaving}

@@ -2,8 +2,8 @@
 use Rattle.std.proofs.Common.{◌≡◌, inl, inr, Bool, Option, None, refl, sym, ap, subst, ◌∙◌, IsTrue, Result}
 use Rattle.host_core.specs.World.{World, put, Step, after, IsPart}
 use Rattle.host_core.specs.Host.{State, Does, Since}
-use Rattle.host_core.specs.Laws.{put_same, put_other}
-use Rattle.host_core.specs.Moments.{since_does}
+use Rattle.host_core.proofs.WorldLaws.{put_same, put_other}
+use Rattle.host_core.proofs.Moments.{since_does}
 use Rattle.host_core.specs.declared.fault.HostFault.{HostFault}
 use Rattle.host_core.specs.declared.node.Node.{Node}
 use Rattle.administration.specs.Directories.{IsStanding}

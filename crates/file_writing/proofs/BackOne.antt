@@ -5,7 +5,7 @@ use Rattle.std.proofs.lemmas.Bool.{true≢false}
 use Rattle.host_core.specs.Paths.{Path}
 use Rattle.host_core.specs.World.{World, put, moved, IsDirectory, IsLoose, IsBare, HasParent, is_directory, kind_of}
 use Rattle.host_core.specs.Tree.{IsTree}
-use Rattle.host_core.specs.Laws.{put_same, put_other}
+use Rattle.host_core.proofs.WorldLaws.{put_same, put_other}
 use Rattle.host_core.specs.Suffixes.{suffix_text}
 use Rattle.host_core.specs.declared.node.Access.{Access}
 use Rattle.host_core.specs.declared.node.Kind.{Kind}

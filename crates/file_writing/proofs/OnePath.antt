@@ -3,7 +3,7 @@ use Rattle.std.proofs.Common.{◌≡◌, ◌≢◌, ◌⊎◌, Bool, true, false
 use Rattle.std.specs.Prelude.{IsSome}
 use Rattle.host_core.specs.Paths.{Path}
 use Rattle.host_core.specs.World.{World, put, moved, HasParent, is_directory, kind_of}
-use Rattle.host_core.specs.Laws.{put_same, put_other}
+use Rattle.host_core.proofs.WorldLaws.{put_same, put_other}
 use Rattle.host_core.specs.declared.node.Access.{Access}
 use Rattle.host_core.specs.declared.node.Kind.TheVariants as kind
 use Rattle.host_core.specs.declared.node.Node.TheVariants.{Dir}

@@ -17,7 +17,7 @@ use Rattle.host_core.specs.Paths.{Path, is_ship_text, is_own, is_named_by}
 use Rattle.host_core.specs.Suffixes.{suffix_text}
 use Rattle.host_core.specs.Unsynced.{is_temporary}
 use Rattle.host_core.specs.World.{World, HasParent, is_kept}
-use Rattle.host_core.specs.Losses.{temporary_suffix}
+use Rattle.host_core.proofs.Losses.{temporary_suffix}
 use Rattle.host_core.specs.declared.suffix.Suffix.{Suffix}
 use Rattle.host_core.specs.declared.suffix.Suffix.TheVariants.{New, Old, Dist, Tmp, Inst}
 use Rattle.host_core.proofs.ShipNames.{ships, same_name, plain_other, plain_proper, beside_proper}

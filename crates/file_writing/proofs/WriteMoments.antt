@@ -5,9 +5,9 @@ use Rattle.host_core.specs.Paths.{Path}
 use Rattle.host_core.specs.World.{World, put, moved, Step, Write, Move, Take, MakeDir, RemoveDir, HardLink, MakeLink, Sync, after, IsPart}
 use Rattle.host_core.specs.Events.{Did}
 use Rattle.host_core.specs.Host.{State, Reads, Happens, Does, Since}
-use Rattle.host_core.specs.Laws.{put_same, put_other}
-use Rattle.host_core.specs.Losses.{still_synced, marked_other}
-use Rattle.host_core.specs.Moments.{since_does, since_reads}
+use Rattle.host_core.proofs.WorldLaws.{put_same, put_other}
+use Rattle.host_core.proofs.Losses.{still_synced, marked_other}
+use Rattle.host_core.proofs.Moments.{since_does, since_reads}
 use Rattle.host_core.specs.Unsynced.{unsynced}
 use Rattle.host_core.specs.declared.fault.HostFault.{HostFault}
 use Rattle.host_core.specs.declared.node.Access.{Access}

@@ -7,7 +7,7 @@ use Rattle.std.specs.Fs.{metadata_mode}
 use Rattle.host_core.specs.Paths.{Path}
 use Rattle.host_core.specs.Tree.{IsTree, IsBelow}
 use Rattle.host_core.specs.World.{World, IsDirectory, kind_of, put}
-use Rattle.host_core.specs.Laws.{put_same, put_other}
+use Rattle.host_core.proofs.WorldLaws.{put_same, put_other}
 use Rattle.host_core.specs.declared.node.Kind.TheVariants as kind
 use Rattle.host_core.specs.declared.node.Node.{Node}
 use Rattle.host_core.specs.declared.node.Node.TheVariants.{File, Dir, Link}

@@ -5,9 +5,9 @@ use Rattle.std.proofs.lemmas.List.{append-nil}
 use Rattle.host_core.specs.World.{Step, IsPart, is_kept}
 use Rattle.host_core.specs.Events.{Event, Did, Finished, Cut, Failed}
 use Rattle.host_core.specs.Unsynced.{IsSettled, KeepsSettled}
-use Rattle.host_core.specs.Losses.{settled_none, settled_event, keeps_part}
+use Rattle.host_core.proofs.Losses.{settled_none, settled_event, keeps_part}
 use Rattle.host_core.specs.Host.{Same, Happens, Reads, Silent, Counts, Stops, Does, Runs, faults}
-use Rattle.host_core.specs.Counted.{has_failed, silent_failed, silent_same}
+use Rattle.host_core.proofs.Counted.{has_failed, silent_failed, silent_same}
 use Rattle.host_core.specs.declared.call.Call.{Call}
 use Rattle.host_core.specs.declared.call.Outcome.{Outcome}
 use Rattle.host_core.specs.declared.fault.HostFault.{HostFault}

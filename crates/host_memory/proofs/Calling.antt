@@ -2,7 +2,7 @@
 use Rattle.std.proofs.Common.{Bool, inl, inr, Result, Ok, Err}
 use Rattle.host_core.specs.Paths.{Path}
 use Rattle.host_core.specs.Host.{Runs, Counts}
-use Rattle.host_core.specs.Counted.{counts_runs}
+use Rattle.host_core.proofs.Counted.{counts_runs}
 use Rattle.host_core.specs.declared.call.Call.{Call}
 use Rattle.host_core.specs.declared.call.Outcome.{Outcome}
 use Rattle.host_core.specs.declared.fault.HostFault.{HostFault}

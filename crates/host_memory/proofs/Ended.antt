@@ -3,7 +3,7 @@ use Rattle.std.proofs.Common.{◌≡◌, List, false, refl}
 use Rattle.host_core.specs.World.{World, Change, changed}
 use Rattle.host_core.specs.Events.{Event, follow}
 use Rattle.host_core.specs.Loss.{is_barrier}
-use Rattle.host_core.specs.Losses.{EventKeepsSettled}
+use Rattle.host_core.proofs.Losses.{EventKeepsSettled}
 use Rattle.host_core.specs.declared.call.Call.{Call}
 use Rattle.host_memory.specs.declared.change.Ending.{Ending}
 use Rattle.host_memory.specs.declared.change.Ending.TheVariants.{Ended, CutOff}

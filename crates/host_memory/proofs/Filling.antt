@@ -12,7 +12,7 @@ use Rattle.host_core.specs.World.{World, put, IsDirectory, Step, Write, Move, Ta
 use Rattle.host_core.specs.Events.{Event, Did, Finished, Cut, Failed}
 use Rattle.host_core.specs.Tree.{IsTree}
 use Rattle.host_core.specs.Unsynced.{unsynced, unsynced_all, unsynced_after, unsynced_step, marked}
-use Rattle.host_core.specs.Losses.{unsynced_more}
+use Rattle.host_core.proofs.Losses.{unsynced_more}
 use Rattle.host_core.specs.declared.node.Node.{Node}
 use Rattle.host_core.specs.declared.node.Node.TheVariants.{File, Dir, Link}
 use Rattle.host_memory.specs.declared.done.Done.{Done}

@@ -8,11 +8,11 @@ use Rattle.std.proofs.Math.Seq.{take-append_seam, take-append-add}
 use Rattle.host_core.specs.World.{World}
 use Rattle.host_core.specs.Events.{Event, follow, follow_all}
 use Rattle.host_core.specs.Loss.{is_barrier}
-use Rattle.host_core.specs.Moments.{follow_all-append}
+use Rattle.host_core.proofs.Moments.{follow_all-append}
 use Rattle.host_memory.specs.declared.past.Past.{Past}
 use Rattle.std.proofs.lemmas.List.{length-drop}
 use Rattle.std.proofs.Math.Seq.{drop-length, take-length}
-use Rattle.host_core.specs.Losses.{EventKeepsSettled, settled_still}
+use Rattle.host_core.proofs.Losses.{EventKeepsSettled, settled_still}
 use Rattle.host_core.specs.Unsynced.{IsSettled}
 use Rattle.host_memory.specs.declared.done.Done.{Done}
 use Rattle.host_memory.specs.declared.history.History.{History}

@@ -3,7 +3,7 @@ use Rattle.std.proofs.Common.{ℕ, IsTrue, List, ◌∷◌, ◌++◌, Option, So
 use Rattle.std.specs.Prelude.{IsSome}
 use Rattle.host_core.specs.World.{World, IsDirectory}
 use Rattle.host_core.specs.Host.{State, Falls, Since}
-use Rattle.host_core.specs.Moments.{since_now, since_then, since_weaker, since_weaker_if}
+use Rattle.host_core.proofs.Moments.{since_now, since_then, since_weaker, since_weaker_if}
 use Rattle.administration.specs.Places.{info_path, diversions_path, tmp_path, list_path, temporary}
 use Rattle.administration.specs.declared.fault.AdministrationFault.{AdministrationFault}
 use Rattle.administration.proofs.WholeFiles.{no_directory_at}

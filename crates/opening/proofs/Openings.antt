@@ -10,7 +10,7 @@ use Rattle.host_core.proofs.Nodes.{none_stands}
 use Rattle.host_core.specs.Paths.{Path, is_path}
 use Rattle.host_core.specs.World.{World, HasParent, IsDirectory, IsLoose, SameOn}
 use Rattle.host_core.specs.Host.{State, Reads, Since}
-use Rattle.host_core.specs.Moments.{since_reads, since_then, since_weaker, since_weaker_if, since_now}
+use Rattle.host_core.proofs.Moments.{since_reads, since_then, since_weaker, since_weaker_if, since_now}
 use Rattle.host_core.specs.declared.fault.HostFault.{HostFault}
 use Rattle.host_core.specs.declared.fault.HostFault.TheVariants as host
 use Rattle.host_core.specs.Nodes.{own_access}

@@ -17,7 +17,7 @@ pub(crate) struct Stored {
     pub postinst: bool,
 }
 
-#[tactic(auto, using(host_core::specs::Moments::reads_then))]
+#[tactic(auto, using(host_core::proofs::Moments::reads_then))]
 fn is_stored<H: Host>(
     alloc: Global,
     host: &mut H,
@@ -35,7 +35,7 @@ fn is_stored<H: Host>(
 }
 
 /// Which of a package's scripts are there. Only the two that a row calls are looked for.
-#[tactic(auto, using(host_core::specs::Moments::reads_then))]
+#[tactic(auto, using(host_core::proofs::Moments::reads_then))]
 pub(crate) fn look_for_scripts<H: Host>(
     alloc: Global,
     host: &mut H,

@@ -79,7 +79,7 @@ fn add<H: Host>(
 
 /// Collects what stands at the shipped paths, or tells the first of them that is more than a tree
 /// may hold. Each file is read once, and none behind that path.
-#[tactic(auto, using(host_core::specs::Moments::reads_then))]
+#[tactic(auto, using(host_core::proofs::Moments::reads_then))]
 pub(crate) fn collect<H: Host>(
     alloc: Global,
     host: &mut H,

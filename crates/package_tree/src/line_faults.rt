@@ -125,7 +125,7 @@ fn name_of(alloc: Global, entry: &Entry, number: u64) -> Result<LineName, AllocE
 
 /// What the first line names that isn't the path of a shipped file, or whose flagged path isn't one
 /// that a package may ship.
-#[tactic(auto, using(host_core::specs::Moments::reads_then))]
+#[tactic(auto, using(host_core::proofs::Moments::reads_then))]
 pub(crate) fn first_astray<H: Host>(
     alloc: Global,
     host: &mut H,

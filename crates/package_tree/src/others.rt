@@ -87,7 +87,7 @@ fn add<H: Host>(
 }
 
 // Looks at all of these.
-#[tactic(auto, using(host_core::specs::Moments::reads_then))]
+#[tactic(auto, using(host_core::proofs::Moments::reads_then))]
 fn add_all<H: Host>(
     host: &mut H,
     directory: &RootPath,
@@ -112,7 +112,7 @@ fn add_all<H: Host>(
 }
 
 /// Reads the files of `DEBIAN` that are stored as they are.
-#[tactic(auto, using(host_core::specs::Moments::reads_then))]
+#[tactic(auto, using(host_core::proofs::Moments::reads_then))]
 pub(crate) fn read_others<H: Host>(
     alloc: Global,
     host: &mut H,

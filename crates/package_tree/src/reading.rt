@@ -235,7 +235,7 @@ fn look_at<H: Host>(
 }
 
 // Looks at all of them.
-#[tactic(auto, using(host_core::specs::Moments::reads_then))]
+#[tactic(auto, using(host_core::proofs::Moments::reads_then))]
 fn look<H: Host>(alloc: Global, host: &mut H, contents: &mut Contents) -> Result<(), HostFault>
     ensures found { Leaves result (λ w now. AreContents w contents.new) (H.state host.old)
         (H.state host.new) }
@@ -309,7 +309,7 @@ fn read_control_file<H: Host>(alloc: Global, host: &mut H) -> Result<ControlFile
 }
 
 // The first bad path; where none is bad, the paths that are shipped.
-#[tactic(auto, using(host_core::specs::Moments::reads_then))]
+#[tactic(auto, using(host_core::proofs::Moments::reads_then))]
 fn first_bad<H: Host>(
     alloc: Global,
     host: &mut H,
@@ -339,7 +339,7 @@ fn first_bad<H: Host>(
 }
 
 // Finds the paths that are shipped, where none is bad or reserved.
-#[tactic(auto, using(host_core::specs::Moments::reads_then))]
+#[tactic(auto, using(host_core::proofs::Moments::reads_then))]
 fn read_paths<H: Host>(
     alloc: Global,
     host: &mut H,
@@ -369,7 +369,7 @@ fn read_paths<H: Host>(
 }
 
 // Reads what stands beside a control file in which nothing is wrong.
-#[tactic(auto, using(host_core::specs::Moments::reads_then))]
+#[tactic(auto, using(host_core::proofs::Moments::reads_then))]
 fn read_contents<H: Host>(
     alloc: Global,
     host: &mut H,
@@ -420,7 +420,7 @@ fn lines_at(alloc: Global, conffiles: &Option<Node>) -> Result<Lines, AllocError
 }
 
 // Finds what is wrong with a line, if anything.
-#[tactic(auto, using(host_core::specs::Moments::reads_then))]
+#[tactic(auto, using(host_core::proofs::Moments::reads_then))]
 fn check_lines<H: Host>(
     alloc: Global,
     host: &mut H,
@@ -503,7 +503,7 @@ impl Found {
 }
 
 // Reads what the paths and the lines name.
-#[tactic(auto, using(host_core::specs::Moments::reads_then))]
+#[tactic(auto, using(host_core::proofs::Moments::reads_then))]
 fn read_found<H: Host>(
     alloc: Global,
     host: &mut H,
@@ -568,7 +568,7 @@ fn assemble(
 }
 
 /// Reads the tree that the host was opened on.
-#[tactic(auto, using(host_core::specs::Moments::reads_then))]
+#[tactic(auto, using(host_core::proofs::Moments::reads_then))]
 pub fn read_tree<H: Host>(alloc: Global, host: &mut H) -> Result<Package, TreeFault>
     ensures read { Tells result (λ found w. IsTreeOf w found) (H.state host.old)
         (H.state host.new) }

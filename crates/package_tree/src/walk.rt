@@ -112,7 +112,7 @@ fn is_directory(kind: Option<Kind>) -> bool
 }
 
 // Looks at a path, and adds what stands in it.
-#[tactic(auto, using(host_core::specs::Moments::reads_then))]
+#[tactic(auto, using(host_core::proofs::Moments::reads_then))]
 fn look<H: Host>(
     alloc: Global,
     host: &mut H,
@@ -169,7 +169,7 @@ fn take(found: &mut Vec<RootPath>, path: RootPath, sight: Sight) -> Result<(), A
 }
 
 /// Finds all paths that a tree ships, or the first bad one.
-#[tactic(auto, using(host_core::specs::Moments::reads_then))]
+#[tactic(auto, using(host_core::proofs::Moments::reads_then))]
 pub(crate) fn walk<H: Host>(
     alloc: Global,
     host: &mut H,

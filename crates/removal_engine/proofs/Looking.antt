@@ -4,11 +4,11 @@ use Rattle.std.specs.Prelude.{Result, Ok, Err, IfOk}
 use Rattle.std.proofs.lemmas.List.{append_cancel_left}
 use Rattle.texts.specs.PackageNames.{is_package_name}
 use Rattle.host_core.specs.World.{World}
-use Rattle.host_core.specs.Counted.{faults_of-append}
+use Rattle.host_core.proofs.Counted.{faults_of-append}
 use Rattle.host_core.specs.Events.{Event, Ran, Did, Finished, Cut, Failed, faults_of, scripts_of}
 use Rattle.host_core.specs.Host.{State, AllFailed, AtEachMomentOf, Reads, Silent, faults, finished}
 use Rattle.host_core.specs.Loss.{IsLater}
-use Rattle.host_core.specs.Moments.{since_reads, since_then, since_weaker_if, silent_then}
+use Rattle.host_core.proofs.Moments.{since_reads, since_then, since_weaker_if, silent_then}
 use Rattle.host_core.specs.declared.call.Call.{Call}
 use Rattle.cleanup_stack.specs.Telling.{Begun}
 use Rattle.diversions.specs.declared.entry.Diversion.{Diversion}

@@ -19,7 +19,7 @@ pub struct Stored {
     pub postrm: bool,
 }
 
-#[tactic(auto, using(host_core::specs::Moments::reads_then))]
+#[tactic(auto, using(host_core::proofs::Moments::reads_then))]
 fn is_stored<H: Host>(
     alloc: Global,
     host: &mut H,
@@ -38,7 +38,7 @@ fn is_stored<H: Host>(
 }
 
 /// Which scripts are stored.
-#[tactic(auto, using(host_core::specs::Moments::reads_then))]
+#[tactic(auto, using(host_core::proofs::Moments::reads_then))]
 pub(crate) fn stored_scripts<H: Host>(
     alloc: Global,
     host: &mut H,

@@ -5,7 +5,7 @@ use Rattle.host_core.specs.World.{World, Step, Barrier}
 use Rattle.host_core.specs.Events.{Event, Did, Failed, scripts_of, follow}
 use Rattle.host_core.specs.Host.{State, Does, Happens, Needs, Reads, Since, Stops}
 use Rattle.host_core.specs.Loss.{IsAnswered, IsOnDisk}
-use Rattle.host_core.specs.Moments.{ThroughEvent, faults_then, reads_then, since_failed, since_fails, since_goes, since_now, since_then}
+use Rattle.host_core.proofs.Moments.{ThroughEvent, faults_then, reads_then, since_failed, since_fails, since_goes, since_now, since_then}
 use Rattle.host_core.specs.declared.fault.HostFault.{HostFault}
 use Rattle.host_core.specs.declared.fault.HostFault.TheVariants.{Device, NoMemory}
 use Rattle.file_lists.specs.declared.paths.PackageList.{PackageList}

@@ -3,8 +3,8 @@ use Rattle.std.proofs.Common.{◌≡◌, ◌⊎◌, inl, ℕ, Bool, List, [], �
 use Rattle.std.proofs.lemmas.List.{append-nil}
 use Rattle.host_core.specs.Events.{Event, scripts_of, calls_of as calls_in}
 use Rattle.host_core.specs.Host.{State, Does, Needs, Silent, Since, calls}
-use Rattle.host_core.specs.Moments.{scripts_of-append, since_start, since_weaker}
-use Rattle.host_core.specs.Scripts.{calls_of-scripts}
+use Rattle.host_core.proofs.Moments.{scripts_of-append, since_start, since_weaker}
+use Rattle.host_core.proofs.Scripts.{calls_of-scripts}
 use Rattle.host_core.specs.World.{World, Barrier}
 use Rattle.host_core.specs.declared.call.Call.{Call}
 use Rattle.host_core.specs.declared.fault.HostFault.{HostFault}

@@ -5,7 +5,7 @@ use Rattle.texts.specs.PackageNames.{is_package_name}
 use Rattle.host_core.specs.Paths.{Path, is_below_administration, is_named_by, is_own}
 use Rattle.host_core.specs.Events.{Event}
 use Rattle.host_core.specs.Host.{OnlyScripts}
-use Rattle.host_core.specs.Scripts.{only_kept}
+use Rattle.host_core.proofs.Scripts.{only_kept}
 use Rattle.host_core.specs.World.{World, KeepsBut, is_kept}
 use Rattle.host_core.specs.declared.call.Script.{Script}
 use Rattle.administration.specs.Places.{list_path, script_path, temporary, tmp_path, is_within}

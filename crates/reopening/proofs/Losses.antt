@@ -7,8 +7,8 @@ use Rattle.std.proofs.lemmas.Slice.Eq.{bytes_eq-Decides}
 use Rattle.host_core.specs.Events.{Event, changes_of}
 use Rattle.host_core.specs.Host.{State}
 use Rattle.host_core.specs.Loss.{IsBlurred, IsLike, LosesSince}
-use Rattle.host_core.specs.Losses.{avoid_added, since_loss_one}
-use Rattle.host_core.specs.Moments.{since_start}
+use Rattle.host_core.proofs.Losses.{avoid_added, since_loss_one}
+use Rattle.host_core.proofs.Moments.{since_start}
 use Rattle.host_core.specs.Outcome.{script_name}
 use Rattle.host_core.specs.Paths.{Path, is_own}
 use Rattle.host_core.specs.Unsynced.{IsSettled, is_temporary}

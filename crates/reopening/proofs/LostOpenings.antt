@@ -4,8 +4,8 @@ use Rattle.std.specs.Prelude.{IsSome}
 use Rattle.host_core.specs.Events.{Event, changes_of}
 use Rattle.host_core.specs.Host.{AtEachMoment, Needs, State}
 use Rattle.host_core.specs.Loss.{IsBlurred, IsLike, LosesSince}
-use Rattle.host_core.specs.Losses.{avoid_added, since_loss_one}
-use Rattle.host_core.specs.Moments.{since_weaker_if}
+use Rattle.host_core.proofs.Losses.{avoid_added, since_loss_one}
+use Rattle.host_core.proofs.Moments.{since_weaker_if}
 use Rattle.host_core.specs.Paths.{Path}
 use Rattle.host_core.specs.Unsynced.{IsSettled, is_temporary}
 use Rattle.host_core.specs.World.{Avoids, World, IsDirectory, IsLoose}

@@ -4,7 +4,7 @@ use Rattle.std.specs.Prelude.{IsSome}
 use Rattle.std.proofs.lemmas.Bool.{true≢false}
 use Rattle.host_core.proofs.Nodes.{none_stands}
 use Rattle.host_core.specs.Host.{AtEachMoment, Needs, State}
-use Rattle.host_core.specs.Moments.{since_weaker_if}
+use Rattle.host_core.proofs.Moments.{since_weaker_if}
 use Rattle.host_core.specs.Paths.{Path}
 use Rattle.host_core.specs.World.{World, IsDirectory, IsLoose}
 use Rattle.host_core.specs.declared.node.Node.{Node}

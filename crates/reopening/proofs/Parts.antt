@@ -8,7 +8,7 @@ use Rattle.texts.specs.PackageNames.{is_package_name}
 use Rattle.host_core.specs.Events.{Event}
 use Rattle.host_core.specs.Host.{OnlyScripts}
 use Rattle.host_core.specs.Paths.{Path, is_below_administration, is_own}
-use Rattle.host_core.specs.Scripts.{only_kept}
+use Rattle.host_core.proofs.Scripts.{only_kept}
 use Rattle.host_core.specs.World.{World, is_kept}
 use Rattle.administration.proofs.Within.{within_is}
 use Rattle.administration.specs.Places.{home_path, is_within, list_path, temporary, tmp_path}

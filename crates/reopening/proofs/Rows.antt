@@ -3,7 +3,7 @@ use Rattle.std.proofs.Common.{◌≡◌, ◌≢◌, inl, inr, true, List, refl, 
 use Rattle.texts.specs.PackageNames.{is_package_name}
 use Rattle.host_core.proofs.Paths.{decide}
 use Rattle.host_core.specs.Paths.{Path}
-use Rattle.host_core.specs.Scripts.{changed_kept}
+use Rattle.host_core.proofs.Scripts.{changed_kept}
 use Rattle.host_core.specs.World.{Change, World, is_kept}
 use Rattle.administration.specs.Places.{list_path, script_path, temporary}
 use Rattle.cleanup_stack.specs.Place.{Place}

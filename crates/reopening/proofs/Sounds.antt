@@ -4,7 +4,7 @@ use Rattle.std.proofs.Math.Logic.{∥∥₁_map}
 use Rattle.std.proofs.lemmas.List.{append-nil}
 use Rattle.host_core.specs.Events.{Event, Did, Finished, Cut, Failed}
 use Rattle.host_core.specs.Host.{AllFailed, Happens, Needs, Reads, Since, State, Throughout}
-use Rattle.host_core.specs.Moments.{since_then, unmoved}
+use Rattle.host_core.proofs.Moments.{since_then, unmoved}
 use Rattle.host_core.specs.World.{Barrier, World}
 use Rattle.host_core.specs.declared.call.Call.{Call}
 use Rattle.diversions.specs.declared.entry.Diversion.{Diversion}

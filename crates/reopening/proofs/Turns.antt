@@ -7,7 +7,7 @@ use Rattle.dependency_check.specs.Waiting.{Waiting}
 use Rattle.file_lists.specs.Owners.{paths_of}
 use Rattle.host_core.specs.Events.{Event}
 use Rattle.host_core.specs.Host.{State}
-use Rattle.host_core.specs.Moments.{since_weaker_if}
+use Rattle.host_core.proofs.Moments.{since_weaker_if}
 use Rattle.host_core.specs.World.{World}
 use Rattle.relation_index.specs.declared.package.Package.{Package}
 use Rattle.removal_engine.proofs.Tables.{is_named}

@@ -11,7 +11,8 @@ use Rattle.unwind_stack.specs.declared.fall.StepFault.{StepFault}
 use Rattle.unwind_stack.specs.declared.fall.Fall.{Fall}
 use Rattle.unwind_stack.specs.Transcript.{Goes, Tries}
 use Rattle.cleanup_stack.specs.Place.{Fit}
-use Rattle.cleanup_stack.specs.Stops.{AtEachStop, stops_then}
+use Rattle.cleanup_stack.specs.Stops.{AtEachStop}
+use Rattle.cleanup_stack.proofs.Stops.{stops_then}
 use Rattle.stack_run.specs.declared.stopped.Stopped.{Stopped}
 use Rattle.stack_run.specs.declared.unwinding.Unwinding.{Unwinding}
 use Rattle.stack_run.specs.Ended.{IsCauseOf, cause_of, failure_of, forward_of, row_at}

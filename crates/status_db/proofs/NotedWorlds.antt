@@ -14,7 +14,7 @@ use Rattle.std.proofs.lemmas.Bool.{cases_lt, cases_eq, lt-ltb, le-ltb, eq-eqb, n
 use Rattle.host_core.specs.Paths.{Path}
 use Rattle.host_core.specs.World.{World, IsDirectory, IsFile, HasParent, KeepsBut, SameOn}
 use Rattle.host_core.specs.Host.{State, AtEachMoment, Needs, Since}
-use Rattle.host_core.specs.Moments.{since_then, since_weaker_if}
+use Rattle.host_core.proofs.Moments.{since_then, since_weaker_if}
 use Rattle.host_core.specs.Nodes.{own_access}
 use Rattle.host_core.specs.declared.node.Node.{Node}
 use Rattle.host_core.specs.declared.node.Node.TheVariants.{File, Dir, Link}

@@ -3,7 +3,7 @@ use Rattle.std.proofs.Common.{◌≡◌, ◌≢◌, inl, inr, ℕ, ◌+◌, ◌<
 use Rattle.std.proofs.lemmas.Bool.{cases_eq}
 use Rattle.host_core.specs.World.{World}
 use Rattle.host_core.specs.Host.{State, AtEachMoment}
-use Rattle.host_core.specs.Moments.{since_weaker_if}
+use Rattle.host_core.proofs.Moments.{since_weaker_if}
 use Rattle.host_core.specs.declared.node.Node.{Node}
 use Rattle.administration.specs.Places.{status_path, temporary}
 use Rattle.administration.specs.Files.{NoDirectory, IsReplaced, IsReplacing, IsDropped, IsDropping}

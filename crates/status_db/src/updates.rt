@@ -140,7 +140,7 @@ fn check_aside<H: Host>(host: &mut H, path: RootPath) -> Result<(), Administrati
 }
 
 // Takes the note of a number into the table.
-#[tactic(auto, using(host_core::specs::Moments::reads_then))]
+#[tactic(auto, using(host_core::proofs::Moments::reads_then))]
 fn read_number<H: Host>(
     alloc: Global,
     host: &mut H,
@@ -188,7 +188,7 @@ fn read_if_marked<H: Host>(
 
 // Takes all notes into the table, the greater number over the smaller, and tells the number of the
 // next one.
-#[tactic(auto, using(host_core::specs::Moments::reads_then))]
+#[tactic(auto, using(host_core::proofs::Moments::reads_then))]
 fn read_marked<H: Host>(
     alloc: Global,
     host: &mut H,
@@ -213,7 +213,7 @@ fn read_marked<H: Host>(
 }
 
 /// Takes all notes into a table, and tells the number of the next one.
-#[tactic(auto, using(host_core::specs::Moments::reads_then))]
+#[tactic(auto, using(host_core::proofs::Moments::reads_then))]
 pub(crate) fn read_notes<H: Host>(
     alloc: Global,
     host: &mut H,

@@ -87,7 +87,7 @@ fn is_free<H: Host>(host: &mut H, path: &RootPath) -> Result<bool, HostFault>
 }
 
 // Whether a file may come to stand at a path right below a directory.
-#[tactic(auto, using(host_core::specs::Moments::reads_then))]
+#[tactic(auto, using(host_core::proofs::Moments::reads_then))]
 fn is_ready<H: Host>(
     host: &mut H,
     top: &RootPath,

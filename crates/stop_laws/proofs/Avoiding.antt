@@ -6,7 +6,7 @@ use Rattle.host_core.specs.Paths.{Path, is_named_by, is_own}
 use Rattle.host_core.specs.World.{World, Avoids, Change, is_kept}
 use Rattle.host_core.specs.Events.{Event, changes_of}
 use Rattle.host_core.specs.Host.{OnlyScripts}
-use Rattle.host_core.specs.Scripts.{Avoids-append, changes_of-append, no_change}
+use Rattle.host_core.proofs.Scripts.{Avoids-append, changes_of-append, no_change}
 use Rattle.diversions.specs.declared.entry.Diversion.{Diversion}
 use Rattle.file_lists.specs.Owners.{places_in}
 use Rattle.file_lists.specs.Writing.{with_list}

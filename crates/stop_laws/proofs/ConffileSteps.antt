@@ -6,7 +6,7 @@ use Rattle.std.proofs.lemmas.List.Elements.{All-contains, Contains-append_cases,
 use Rattle.host_core.specs.Paths.{Path, is_below_administration}
 use Rattle.host_core.specs.World.{World, Change, changed}
 use Rattle.host_core.specs.Events.{Event, changes_of}
-use Rattle.host_core.specs.Scripts.{changed-append, changed_at, no_change}
+use Rattle.host_core.proofs.Scripts.{changed-append, changed_at, no_change}
 use Rattle.host_core.specs.Suffixes.{suffix_text}
 use Rattle.host_core.specs.declared.suffix.Suffix.TheVariants.{New, Old, Dist}
 use Rattle.conffiles.specs.Settling.{AreSettled, AreSettling, ConffileFiles, HasSettled, IsBetween, IsDecided, IsFirstSettling, IsShippedAs, IsUntouched, files_at, is_conffile_name, is_name_of_some, settled_files}

@@ -5,7 +5,7 @@ use Rattle.std.proofs.lemmas.Bool.{false_from_ne_true, true≢false}
 use Rattle.host_core.specs.Paths.{Path, is_below_administration, is_own}
 use Rattle.host_core.specs.World.{World, Avoids, changed}
 use Rattle.host_core.specs.Events.{Event, changes_of}
-use Rattle.host_core.specs.Scripts.{changed_kept, no_change}
+use Rattle.host_core.proofs.Scripts.{changed_kept, no_change}
 use Rattle.host_core.specs.declared.node.Node.{Node}
 use Rattle.administration.specs.Places.{diversions_path, list_path, temporary}
 use Rattle.conffiles.specs.Settling.{is_conffile_name, is_name_of_some}

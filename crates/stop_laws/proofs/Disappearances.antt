@@ -6,7 +6,7 @@ use Rattle.host_core.specs.Paths.{Path, is_below_administration, is_own}
 use Rattle.host_core.specs.World.{World, Avoids, Change, changed}
 use Rattle.host_core.specs.Events.{Event, changes_of}
 use Rattle.host_core.specs.Host.{State}
-use Rattle.host_core.specs.Scripts.{Avoids-append, changed-append, changed_at, changed_kept, changes_of-append, no_change}
+use Rattle.host_core.proofs.Scripts.{Avoids-append, changed-append, changed_at, changed_kept, changes_of-append, no_change}
 use Rattle.administration.specs.Places.{diversions_path, list_path}
 use Rattle.control_members.specs.Names.{is_member_name}
 use Rattle.control_members.specs.Stored.{stored_member_path}

@@ -3,7 +3,7 @@ use Rattle.std.proofs.Common.{◌≡◌, ◌⊎◌, inl, inr, ℕ, List, [], ◌
 use Rattle.std.proofs.lemmas.List.{append-nil}
 use Rattle.host_core.specs.World.{World, Change, changed}
 use Rattle.host_core.specs.Events.{Event, changes_of}
-use Rattle.host_core.specs.Scripts.{changes_of-append, no_change}
+use Rattle.host_core.proofs.Scripts.{changes_of-append, no_change}
 use Rattle.administration.specs.Files.{IsDropped, IsDropping, IsReplaced, IsReplacing}
 use Rattle.administration.specs.Places.{list_path}
 use Rattle.conffiles.specs.Settling.{AreSettled, AreSettling}

@@ -8,7 +8,7 @@ use Rattle.std.proofs.lemmas.Slice.Eq.{bytes_eq-Decides}
 use Rattle.host_core.specs.Paths.{Path, has_reserved_suffix}
 use Rattle.host_core.specs.World.{World, changed}
 use Rattle.host_core.specs.Events.{Event, changes_of}
-use Rattle.host_core.specs.Scripts.{changed_kept}
+use Rattle.host_core.proofs.Scripts.{changed_kept}
 use Rattle.host_core.specs.Suffixes.{suffix_text}
 use Rattle.host_core.specs.declared.suffix.Suffix.TheVariants.{New, Tmp, Inst}
 use Rattle.host_core.proofs.ShipNames.{plain_other}

@@ -5,7 +5,7 @@ use Rattle.host_core.specs.Paths.{Path}
 use Rattle.host_core.specs.World.{Avoids, Change, changed}
 use Rattle.host_core.specs.Events.{Event, Ran, changes_of}
 use Rattle.host_core.specs.Host.{Calls, State, finished}
-use Rattle.host_core.specs.Scripts.{Avoids-append, changed-append, changes_of-append, no_change, silent_added}
+use Rattle.host_core.proofs.Scripts.{Avoids-append, changed-append, changes_of-append, no_change, silent_added}
 use Rattle.host_core.specs.declared.call.Call.{Call}
 use Rattle.diversions.specs.declared.entry.Diversion.{Diversion}
 use Rattle.unwind_stack.specs.declared.rows.Called.{Called}

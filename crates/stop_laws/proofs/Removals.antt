@@ -4,7 +4,7 @@ use Rattle.std.proofs.lemmas.Bool.{true≢false}
 use Rattle.host_core.specs.Paths.{Path, is_own}
 use Rattle.host_core.specs.World.{World, Avoids, changed}
 use Rattle.host_core.specs.Events.{Event, changes_of}
-use Rattle.host_core.specs.Scripts.{no_change}
+use Rattle.host_core.proofs.Scripts.{no_change}
 use Rattle.host_core.specs.declared.node.Node.{Node}
 use Rattle.administration.specs.Places.{diversions_path, home_path, is_within, list_path}
 use Rattle.control_members.specs.Names.{is_member_name}

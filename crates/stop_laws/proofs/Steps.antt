@@ -4,7 +4,7 @@ use Rattle.std.proofs.lemmas.Bool.{true≢false}
 use Rattle.host_core.specs.Paths.{Path}
 use Rattle.host_core.specs.World.{World, Change, changed}
 use Rattle.host_core.specs.Events.{Event, changes_of}
-use Rattle.host_core.specs.Scripts.{changed-append, changed_at, no_change}
+use Rattle.host_core.proofs.Scripts.{changed-append, changed_at, no_change}
 use Rattle.host_core.specs.declared.node.Node.{Node}
 use Rattle.administration.specs.Places.{home_path, is_within}
 use Rattle.file_lists.specs.Owners.{paths_of}

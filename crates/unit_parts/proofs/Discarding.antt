@@ -1,7 +1,7 @@
 -- Stored control files are looked for, and then they go.
 use Rattle.std.proofs.Common.{inl, inr, Bool, List, IsTrue, refl, subst}
 use Rattle.host_core.specs.Host.{State, AtEachMoment, Reads}
-use Rattle.host_core.specs.Moments.{since_reads}
+use Rattle.host_core.proofs.Moments.{since_reads}
 use Rattle.host_core.specs.Paths.{Path}
 use Rattle.control_members.specs.Stored.{AreStoredNames, AreTaken, AreTaking, goes}
 use Rattle.unpack_moves.proofs.Moments.{then_at_each}

@@ -2,7 +2,7 @@
 use Rattle.std.proofs.Common.{◌≡◌, inl, inr, ℕ, Bool, true, List, [], ◌∷◌, IsTrue, refl, sym, subst, arith}
 use Rattle.texts.specs.PackageNames.{is_package_name}
 use Rattle.host_core.specs.Host.{State, AtEachMoment, Needs}
-use Rattle.host_core.specs.Moments.{since_weaker_if}
+use Rattle.host_core.proofs.Moments.{since_weaker_if}
 use Rattle.host_core.specs.World.{World}
 use Rattle.conffiles.specs.Settling.{AreSettling, CanSettle, HasSettled, IsFirstSettling}
 use Rattle.conffiles.specs.declared.entries.Settled.{Settled}

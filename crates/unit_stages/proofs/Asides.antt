@@ -4,7 +4,7 @@ use Rattle.host_core.specs.Paths.{Path, is_own}
 use Rattle.host_core.specs.World.{World}
 use Rattle.host_core.specs.Events.{Event, Ran, changes_of}
 use Rattle.host_core.specs.Host.{State, Calls, OnlyScripts, finished}
-use Rattle.host_core.specs.Scripts.{changed_kept, only_kept}
+use Rattle.host_core.proofs.Scripts.{changed_kept, only_kept}
 use Rattle.host_core.specs.declared.call.Call.{Call}
 use Rattle.unwind_stack.specs.declared.rows.Called.{Called}
 use Rattle.unwind_stack.specs.declared.rows.Owner.{Owner}

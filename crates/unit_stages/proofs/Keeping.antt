@@ -8,8 +8,8 @@ use Rattle.std.proofs.lemmas.Slice.Eq.{bytes_eq-Decides}
 use Rattle.host_core.specs.Paths.{Path, is_named_by, is_own, is_owned_by, own_places}
 use Rattle.host_core.specs.World.{World, IsDirectory, SameOn, is_directory, is_kept}
 use Rattle.host_core.specs.Host.{State, Needs, AtEachMomentOf, OnlyScripts}
-use Rattle.host_core.specs.Moments.{since_now}
-use Rattle.host_core.specs.Scripts.{only_kept}
+use Rattle.host_core.proofs.Moments.{since_now}
+use Rattle.host_core.proofs.Scripts.{only_kept}
 use Rattle.administration.specs.Places.{home_path, info_path, list_path, status_path, temporary, tmp_path, updates_path}
 use Rattle.file_lists.specs.Beside.{AreSameBeside}
 use Rattle.file_lists.specs.Lists.{HasLists, IsReadable, Lists}

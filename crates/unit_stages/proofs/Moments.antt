@@ -4,8 +4,8 @@ use Rattle.host_core.specs.Paths.{Path}
 use Rattle.host_core.specs.World.{World, Avoids, changed}
 use Rattle.host_core.specs.Events.{Event, changes_of, scripts_of}
 use Rattle.host_core.specs.Host.{State, Needs, Silent, AtEachMoment, AtEachMomentOf, OnlyScripts}
-use Rattle.host_core.specs.Moments.{Throughout-weaker, since_now, since_then, since_weaker, since_weaker_if}
-use Rattle.host_core.specs.Scripts.{Avoids-append, changed-append, changes_of-append, only_kept, since_silent, silent_added}
+use Rattle.host_core.proofs.Moments.{Throughout-weaker, since_now, since_then, since_weaker, since_weaker_if}
+use Rattle.host_core.proofs.Scripts.{Avoids-append, changed-append, changes_of-append, only_kept, since_silent, silent_added}
 use Rattle.diversions.specs.declared.entry.Diversion.{Diversion}
 use Rattle.file_lists.specs.Filed.{Filed}
 use Rattle.status_db.specs.Recorded.{Recorded}

@@ -7,8 +7,8 @@ use Rattle.host_core.specs.World.{World, changed}
 use Rattle.host_core.specs.Events.{Event, Ran, changes_of, follow, follow_all}
 use Rattle.host_core.specs.Host.{State, Silent, Since, Throughout, Calls, finished}
 use Rattle.host_core.specs.Loss.{IsLater}
-use Rattle.host_core.specs.Moments.{since_start, since_then, since_weaker}
-use Rattle.host_core.specs.Scripts.{calls_of-finished, changed-append, silent_added}
+use Rattle.host_core.proofs.Moments.{since_start, since_then, since_weaker}
+use Rattle.host_core.proofs.Scripts.{calls_of-finished, changed-append, silent_added}
 use Rattle.host_core.specs.declared.call.Call.{Call}
 use Rattle.unwind_stack.specs.Transcript.{Makes, Tries, UndoesAny, UndoesRow}
 use Rattle.unwind_stack.specs.declared.rows.Called.{Called}

@@ -3,7 +3,7 @@ use Rattle.std.proofs.Common.{◌≡◌, inl, inr, ℕ, zero, suc, ◌+◌, ◌<
 use Rattle.std.proofs.lemmas.List.{take-append-drop}
 use Rattle.host_core.specs.World.{World, KeepsBut}
 use Rattle.host_core.specs.Host.{State, AtEachMoment}
-use Rattle.host_core.specs.Moments.{since_then, since_weaker_if}
+use Rattle.host_core.proofs.Moments.{since_then, since_weaker_if}
 use Rattle.administration.proofs.Within.{taken_more}
 use Rattle.status_db.specs.Held.{HasRecords, is_record_place}
 use Rattle.status_db.specs.Noting.{IsNoting}

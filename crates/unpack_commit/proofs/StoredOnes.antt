@@ -3,7 +3,7 @@ use Rattle.std.proofs.Common.{◌≡◌, inl, [], IsTrue, List, Option, Some, No
 use Rattle.host_core.specs.Paths.{Path}
 use Rattle.host_core.specs.World.{World}
 use Rattle.host_core.specs.Host.{State, AtEachMoment, Reads}
-use Rattle.host_core.specs.Moments.{since_reads, since_then, since_weaker_if}
+use Rattle.host_core.proofs.Moments.{since_reads, since_then, since_weaker_if}
 use Rattle.host_core.specs.declared.node.Node.{Node}
 use Rattle.administration.specs.Files.{NoDirectory}
 use Rattle.administration.specs.Places.{temporary}

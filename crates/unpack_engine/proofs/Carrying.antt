@@ -3,7 +3,7 @@ use Rattle.std.proofs.Common.{◌≡◌, inl, inr, IsTrue, ℕ, List, [], ◌∷
 use Rattle.host_core.specs.Paths.{Path}
 use Rattle.host_core.specs.World.{World}
 use Rattle.host_core.specs.Host.{State, Silent, AtEachMoment}
-use Rattle.host_core.specs.Moments.{since_weaker}
+use Rattle.host_core.proofs.Moments.{since_weaker}
 use Rattle.cleanup_stack.specs.Place.{Place}
 use Rattle.cleanup_stack.specs.Transcripts.{Ended, Committed, Unwound}
 use Rattle.stack_run.specs.Ended.{end_place, ended_as}

@@ -12,7 +12,7 @@ use Rattle.host_core.specs.Paths.{Path}
 use Rattle.host_core.specs.World.{World, is_kept}
 use Rattle.host_core.specs.Events.{changes_of}
 use Rattle.host_core.specs.Host.{State, Needs}
-use Rattle.host_core.specs.Scripts.{changed_kept}
+use Rattle.host_core.proofs.Scripts.{changed_kept}
 use Rattle.host_core.proofs.Paths.{decide}
 use Rattle.administration.specs.Places.{list_path}
 use Rattle.unwind_stack.specs.declared.fall.Fall.{Fall}

@@ -3,7 +3,7 @@ use Rattle.std.proofs.Common.{◌≡◌, ◌≢◌, ◌||◌, inl, inr, Bool, tr
 use Rattle.std.specs.List.{list_any}
 use Rattle.host_core.specs.Paths.{Path, is_below_administration, is_named_by, is_own}
 use Rattle.host_core.specs.World.{World, Change, is_kept}
-use Rattle.host_core.specs.Scripts.{changed_kept}
+use Rattle.host_core.proofs.Scripts.{changed_kept}
 use Rattle.administration.specs.Places.{list_path, temporary}
 use Rattle.cleanup_stack.specs.Place.{Place}
 use Rattle.file_lists.specs.Writing.{list_file}

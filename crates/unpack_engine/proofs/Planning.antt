@@ -4,8 +4,8 @@ use Rattle.host_core.specs.Paths.{Path}
 use Rattle.host_core.specs.World.{World}
 use Rattle.host_core.specs.Events.{Event, Did, Finished, Cut, Failed, changes_of, scripts_of}
 use Rattle.host_core.specs.Host.{State, AllFailed, AtEachMomentOf, Needs, Reads, Silent}
-use Rattle.host_core.specs.Moments.{scripts_of-append, since_reads, since_then, since_weaker_if, silent_then}
-use Rattle.host_core.specs.Scripts.{changes_of-append, no_change, silent_added}
+use Rattle.host_core.proofs.Moments.{scripts_of-append, since_reads, since_then, since_weaker_if, silent_then}
+use Rattle.host_core.proofs.Scripts.{changes_of-append, no_change, silent_added}
 use Rattle.host_core.specs.Tree.{IsTree}
 use Rattle.cleanup_stack.specs.Transcripts.{Ended}
 use Rattle.control_members.proofs.LaidOut.{incoming_absent}

@@ -4,8 +4,8 @@ use Rattle.std.proofs.lemmas.List.{append-nil}
 use Rattle.host_core.specs.Paths.{Path}
 use Rattle.host_core.specs.World.{World}
 use Rattle.host_core.specs.Events.{Event, changes_of, scripts_of}
-use Rattle.host_core.specs.Moments.{scripts_of-append}
-use Rattle.host_core.specs.Scripts.{changes_of-append, no_change}
+use Rattle.host_core.proofs.Moments.{scripts_of-append}
+use Rattle.host_core.proofs.Scripts.{changes_of-append, no_change}
 use Rattle.status_db.specs.Held.{HasRecords}
 use Rattle.unpack_plan.specs.Planned.{Planned}
 use Rattle.unpack_rows.specs.Kinds.{kinds_of}

@@ -6,8 +6,8 @@ use Rattle.host_core.specs.World.{World}
 use Rattle.host_core.specs.Events.{Event, Ran, scripts_of, changes_of}
 use Rattle.host_core.specs.Host.{State, Silent, Since, AtEachMoment, AtEachMomentOf, finished}
 use Rattle.host_core.specs.Loss.{IsLater}
-use Rattle.host_core.specs.Moments.{since_now, since_then, since_weaker, since_weaker_if, silent_then}
-use Rattle.host_core.specs.Scripts.{silent_added, since_silent}
+use Rattle.host_core.proofs.Moments.{since_now, since_then, since_weaker, since_weaker_if, silent_then}
+use Rattle.host_core.proofs.Scripts.{silent_added, since_silent}
 use Rattle.cleanup_stack.specs.Stops.{AtEachStop}
 use Rattle.cleanup_stack.specs.Telling.{Begun}
 use Rattle.unwind_stack.specs.declared.rows.Called.{Called}

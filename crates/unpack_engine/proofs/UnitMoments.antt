@@ -6,8 +6,8 @@ use Rattle.host_core.specs.Paths.{Path}
 use Rattle.host_core.specs.World.{Change, World}
 use Rattle.host_core.specs.Events.{Event, changes_of, scripts_of}
 use Rattle.host_core.specs.Host.{State, Silent, AtEachMoment, AtEachMomentOf, Needs}
-use Rattle.host_core.specs.Moments.{since_then, since_weaker_if}
-use Rattle.host_core.specs.Scripts.{changes_of-append, no_change, silent_added, since_silent}
+use Rattle.host_core.proofs.Moments.{since_then, since_weaker_if}
+use Rattle.host_core.proofs.Scripts.{changes_of-append, no_change, silent_added, since_silent}
 use Rattle.host_core.specs.Tree.{IsTree}
 use Rattle.unwind_stack.specs.declared.rows.Called.{Called}
 use Rattle.unwind_stack.specs.declared.rows.Row.{Row}

@@ -15,7 +15,7 @@ use std::alloc::Global;
 use texts::Text;
 use unpack_rows::Present;
 
-#[tactic(auto, using(host_core::specs::Moments::reads_then))]
+#[tactic(auto, using(host_core::proofs::Moments::reads_then))]
 fn is_stored<H: Host>(
     alloc: Global,
     host: &mut H,
@@ -32,7 +32,7 @@ fn is_stored<H: Host>(
     Ok(host.kind(&path)?.is_some())
 }
 
-#[tactic(auto, using(host_core::specs::Moments::reads_then))]
+#[tactic(auto, using(host_core::proofs::Moments::reads_then))]
 fn look_for_two<H: Host>(
     alloc: Global,
     host: &mut H,
@@ -51,7 +51,7 @@ fn look_for_two<H: Host>(
     Ok((one, other))
 }
 
-#[tactic(auto, using(host_core::specs::Moments::reads_then))]
+#[tactic(auto, using(host_core::proofs::Moments::reads_then))]
 fn look_for_scripts<H: Host>(alloc: Global, host: &mut H, name: &Text) -> Result<Present, HostFault>
     requires named { is_package_name name.now ≡ true }
     ensures found { Tells result (λ stored w. (script : AScript) → is_present stored script ≡ is_some (w (stored_path name.now script))) (H.state host.old) (H.state host.new) }

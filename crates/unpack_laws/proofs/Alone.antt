@@ -6,7 +6,7 @@ use Rattle.host_core.specs.Paths.{Path}
 use Rattle.host_core.specs.World.{World, Avoids, Change, changed, is_kept}
 use Rattle.host_core.specs.Events.{Event, changes_of, scripts_of}
 use Rattle.host_core.specs.Host.{State}
-use Rattle.host_core.specs.Scripts.{changed_at, changes_of-append, no_change}
+use Rattle.host_core.proofs.Scripts.{changed_at, changes_of-append, no_change}
 use Rattle.administration.specs.Places.{list_path, temporary, tmp_path, is_within}
 use Rattle.cleanup_stack.specs.Place.{Place, Forward}
 use Rattle.control_members.specs.LaidOut.{IsLaying}

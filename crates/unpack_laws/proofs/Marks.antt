@@ -4,7 +4,7 @@ use Rattle.std.proofs.lemmas.List.Elements.{Contains-append_right}
 use Rattle.host_core.specs.Paths.{Path, is_named_by}
 use Rattle.host_core.specs.World.{World, Change, changed, is_kept}
 use Rattle.host_core.specs.Host.{State}
-use Rattle.host_core.specs.Scripts.{changed_at, changed_kept}
+use Rattle.host_core.proofs.Scripts.{changed_at, changed_kept}
 use Rattle.host_core.proofs.Paths.{decide}
 use Rattle.administration.specs.Places.{home_path, is_within, list_path}
 use Rattle.diversions.specs.declared.entry.Diversion.{Diversion}

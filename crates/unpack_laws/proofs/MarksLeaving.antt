@@ -12,7 +12,7 @@ use Rattle.host_core.specs.Paths.{Path}
 use Rattle.host_core.specs.World.{World, Change, changed}
 use Rattle.host_core.specs.Events.{Event, changes_of}
 use Rattle.host_core.specs.Host.{State}
-use Rattle.host_core.specs.Scripts.{no_change}
+use Rattle.host_core.proofs.Scripts.{no_change}
 use Rattle.host_core.specs.Suffixes.{suffix_text}
 use Rattle.host_core.specs.declared.suffix.Suffix.TheVariants.{New}
 use Rattle.host_core.specs.declared.node.Node.{Node}

@@ -5,7 +5,7 @@ use Rattle.std.proofs.lemmas.List.{append-nil}
 use Rattle.std.proofs.lemmas.List.Sorted.{IsPermutation-sym}
 use Rattle.host_core.specs.Paths.{Path}
 use Rattle.host_core.specs.World.{World, Change, changed}
-use Rattle.host_core.specs.Scripts.{changed_at}
+use Rattle.host_core.proofs.Scripts.{changed_at}
 use Rattle.host_core.specs.declared.node.Node.{Node}
 use Rattle.administration.specs.Files.{IsReplacing}
 use Rattle.administration.specs.Places.{is_within, list_path, temporary, tmp_path}

@@ -3,7 +3,7 @@ use Rattle.std.proofs.Common.{◌≡◌, ◌≢◌, inl, inr, ℕ, true, List, g
 use Rattle.host_core.specs.Paths.{Path}
 use Rattle.host_core.specs.World.{World, changed, is_kept}
 use Rattle.host_core.specs.Events.{Event, changes_of}
-use Rattle.host_core.specs.Scripts.{changed_kept, no_change}
+use Rattle.host_core.proofs.Scripts.{changed_kept, no_change}
 use Rattle.administration.specs.Places.{diversions_path, list_path, temporary}
 use Rattle.control_members.specs.Names.{is_member_name}
 use Rattle.control_members.specs.Stored.{stored_member_path}

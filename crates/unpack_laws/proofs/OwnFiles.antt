@@ -7,7 +7,7 @@ use Rattle.std.proofs.lemmas.Slice.Eq.{bytes_eq-Decides}
 use Rattle.host_core.specs.Paths.{Path, is_below_administration}
 use Rattle.host_core.specs.World.{World, Change, changed}
 use Rattle.host_core.specs.Events.{Event, changes_of}
-use Rattle.host_core.specs.Scripts.{changed_at, no_change}
+use Rattle.host_core.proofs.Scripts.{changed_at, no_change}
 use Rattle.host_core.specs.Suffixes.{suffix_text}
 use Rattle.host_core.specs.declared.node.Node.{Node}
 use Rattle.host_core.specs.declared.suffix.Suffix.{Suffix}

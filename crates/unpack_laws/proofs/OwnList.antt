@@ -6,7 +6,7 @@ use Rattle.host_core.specs.Paths.{Path}
 use Rattle.host_core.specs.World.{World, Change, is_kept}
 use Rattle.host_core.specs.Events.{Event}
 use Rattle.host_core.specs.Host.{State}
-use Rattle.host_core.specs.Scripts.{changed_kept}
+use Rattle.host_core.proofs.Scripts.{changed_kept}
 use Rattle.host_core.specs.declared.node.Node.{Node}
 use Rattle.administration.specs.Places.{list_path}
 use Rattle.cleanup_stack.specs.Place.{Place}

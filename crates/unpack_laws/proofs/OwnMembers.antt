@@ -3,7 +3,7 @@ use Rattle.std.proofs.Common.{◌≡◌, ◌≢◌, ◌⊎◌, inl, inr, ℕ, Bo
 use Rattle.host_core.specs.Paths.{Path}
 use Rattle.host_core.specs.World.{World, is_kept}
 use Rattle.host_core.specs.Events.{Event, changes_of}
-use Rattle.host_core.specs.Scripts.{changed_kept}
+use Rattle.host_core.proofs.Scripts.{changed_kept}
 use Rattle.host_core.specs.declared.node.Node.{Node}
 use Rattle.administration.specs.Places.{list_path, temporary}
 use Rattle.cleanup_stack.specs.Transcripts.{Ended, Committed, Unwound}

@@ -4,7 +4,7 @@ use Rattle.std.specs.List.{list_any}
 use Rattle.std.proofs.lemmas.List.Folds.{list_any-append}
 use Rattle.host_core.specs.Paths.{Path, is_named_by, is_own}
 use Rattle.host_core.specs.World.{World, Avoids, Change, changed, is_kept}
-use Rattle.host_core.specs.Scripts.{Avoids-append, changed-append, changed_at}
+use Rattle.host_core.proofs.Scripts.{Avoids-append, changed-append, changed_at}
 use Rattle.administration.specs.Places.{list_path, temporary}
 use Rattle.cleanup_stack.specs.Place.{Place}
 use Rattle.file_lists.specs.Writing.{list_file}

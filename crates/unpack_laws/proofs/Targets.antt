@@ -5,7 +5,7 @@ use Rattle.std.proofs.lemmas.List.{append-nil}
 use Rattle.std.proofs.lemmas.List.Sorted.{IsPermutation-sym}
 use Rattle.host_core.specs.Paths.{Path, is_below_administration}
 use Rattle.host_core.specs.World.{World, Change, changed, is_kept}
-use Rattle.host_core.specs.Scripts.{changed-append, changed_at, changed_kept}
+use Rattle.host_core.proofs.Scripts.{changed-append, changed_at, changed_kept}
 use Rattle.host_core.specs.declared.node.Node.{Node}
 use Rattle.host_core.specs.declared.node.Node.TheVariants.{File, Dir, Link}
 use Rattle.administration.specs.Files.{IsReplacing}

@@ -2,7 +2,7 @@
 use Rattle.std.proofs.Common.{IsTrue}
 use Rattle.host_core.specs.World.{World}
 use Rattle.host_core.specs.Host.{State, AtEachMoment}
-use Rattle.host_core.specs.Moments.{since_then, since_weaker, since_weaker_if}
+use Rattle.host_core.proofs.Moments.{since_then, since_weaker, since_weaker_if}
 
 -- what holds at each moment of the first and of the second holds at each moment of both
 pub then_at_each : (P Q R : World → World → Type 0) (a b c : State) → ((now : World) → P a.world now → R a.world now) → (IsTrue c.honest → (now : World) → Q b.world now → R a.world now)

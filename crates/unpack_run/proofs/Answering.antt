@@ -7,7 +7,7 @@ use Rattle.host_core.specs.Paths.{Path}
 use Rattle.host_core.specs.World.{World, kind_of}
 use Rattle.host_core.specs.Events.{Event}
 use Rattle.host_core.specs.Host.{State, AtEachMoment, Reads, Gives, Leaves, Silent, Since, Tells, calls}
-use Rattle.host_core.specs.Moments.{since_reads, since_then, since_weaker}
+use Rattle.host_core.proofs.Moments.{since_reads, since_then, since_weaker}
 use Rattle.host_core.specs.declared.fault.HostFault.{HostFault}
 use Rattle.host_core.specs.declared.node.Node.{Node}
 use Rattle.administration.specs.Files.{KeepsBesideFile}

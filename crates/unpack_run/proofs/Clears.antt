@@ -9,14 +9,15 @@ use Rattle.host_core.specs.Events.{Event, changes_of, scripts_of}
 use Rattle.host_core.specs.Host.{State, AtEachMoment, Leaves, Silent, Since}
 use Rattle.host_core.specs.declared.fault.HostFault.{HostFault}
 use Rattle.host_core.specs.declared.node.Node.{Node}
-use Rattle.host_core.specs.Moments.{scripts_of-append}
-use Rattle.host_core.specs.Scripts.{changed_at, changed_kept, changes_of-append, no_change, silent_added}
+use Rattle.host_core.proofs.Moments.{scripts_of-append}
+use Rattle.host_core.proofs.Scripts.{changed_at, changed_kept, changes_of-append, no_change, silent_added}
 use Rattle.administration.specs.Files.{NoDirectory}
 use Rattle.administration.specs.Places.{home_path, info_path, list_path, temporary, updates_path, is_within}
 use Rattle.administration.proofs.WholeFiles.{no_directory_at, no_directory_none}
 use Rattle.administration.proofs.Within.{within_is}
 use Rattle.cleanup_stack.specs.Place.{Forward, Ready}
-use Rattle.cleanup_stack.specs.Stops.{AtEachStop, stops_quiet}
+use Rattle.cleanup_stack.specs.Stops.{AtEachStop}
+use Rattle.cleanup_stack.proofs.Stops.{stops_quiet}
 use Rattle.control_members.specs.Names.{is_member_name}
 use Rattle.control_members.specs.Stored.{IsMembersReady, stored_member_path}
 use Rattle.control_members.proofs.Apart.{info_other, no_list_temporary, no_temporary}
@@ -28,7 +29,7 @@ use Rattle.unpack_rows.specs.Stages.{Unwritten, stage_of}
 use Rattle.unpack_rows.specs.declared.kinds.RowKind.{RowKind}
 use Rattle.unpack_run.specs.At.{At, Holding, IsAt, IsThere, Stops}
 use Rattle.unpack_run.specs.Clearing.{HasCleared, IsBesideOwn, IsCleared, IsClearing, MayClear, clears_before}
-use Rattle.unpack_run.specs.Stays.{clear_here, stop_at}
+use Rattle.unpack_run.proofs.Stays.{clear_here, stop_at}
 use Rattle.unpack_run.specs.Task.{Task, based_on, has_gone, kinds, name}
 use Rattle.unpack_run.specs.Trail.{Follows, HasCome}
 use Rattle.unpack_run.proofs.Going.{goes_there, stays_there}

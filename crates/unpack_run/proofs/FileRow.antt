@@ -6,12 +6,13 @@ use Rattle.host_core.specs.Paths.{Path}
 use Rattle.host_core.specs.World.{World, Change, IsFile}
 use Rattle.host_core.specs.Events.{Event, Did, Finished, Cut, Failed as AFailure, Ran, calls_of, changes_of, scripts_of}
 use Rattle.host_core.specs.Host.{State, AtEachMoment, Silent, Since, calls, finished}
-use Rattle.host_core.specs.Moments.{scripts_of-append}
+use Rattle.host_core.proofs.Moments.{scripts_of-append}
 use Rattle.host_core.specs.Nodes.{own_access}
-use Rattle.host_core.specs.Scripts.{calls_of-append, calls_of-finished, calls_of-scripts, changes_of-append, no_change, silent_added}
+use Rattle.host_core.proofs.Scripts.{calls_of-append, calls_of-finished, calls_of-scripts, changes_of-append, no_change, silent_added}
 use Rattle.administration.specs.Places.{list_path}
 use Rattle.cleanup_stack.specs.Place.{Back, Forward, Place, worked}
-use Rattle.cleanup_stack.specs.Stops.{AtEachStop, stops_quiet}
+use Rattle.cleanup_stack.specs.Stops.{AtEachStop}
+use Rattle.cleanup_stack.proofs.Stops.{stops_quiet}
 use Rattle.cleanup_stack.specs.declared.failed.Failed.{Failed}
 use Rattle.file_check.specs.Clashes.{owning}
 use Rattle.file_check.specs.Sound.{AllSound, IsFirstFault}
@@ -37,8 +38,8 @@ use Rattle.unwind_stack.specs.declared.fall.StepFault.{StepFault}
 use Rattle.unpack_run.specs.At.{AreWorksAt, At, HasFault, IsAmid, IsFileFault, IsMarked, IsWithin, Stops, holding, table_at}
 use Rattle.unpack_run.specs.FileMoves.{HasWrittenRow, MayWriteRow, places_before, places_of}
 use Rattle.unpack_run.specs.Clearing.{HasCleared, next_ready}
-use Rattle.unpack_run.specs.Follows.{follows_none}
-use Rattle.unpack_run.specs.Stays.{clear_here}
+use Rattle.unpack_run.proofs.Follows.{follows_none}
+use Rattle.unpack_run.proofs.Stays.{clear_here}
 use Rattle.unpack_run.specs.Task.{IsFileRow, Task, all_places, based_on, has_gone, kinds, lists_at, name, places_at}
 use Rattle.unpack_run.specs.Trail.{AreOrdered, Follows, HasCome, HasFiles}
 use Rattle.unpack_run.proofs.FileWorlds.{home_before, still_written}

@@ -3,7 +3,7 @@ use Rattle.std.proofs.Common.{◌≡◌, List, true, false, Contains, refl, sym,
 use Rattle.std.proofs.lemmas.Bool.{false_from_ne_true}
 use Rattle.host_core.specs.Paths.{Path}
 use Rattle.host_core.specs.World.{World, Change, IsDirectory, is_kept}
-use Rattle.host_core.specs.Scripts.{changed_kept}
+use Rattle.host_core.proofs.Scripts.{changed_kept}
 use Rattle.administration.specs.Places.{home_path, list_path, temporary}
 use Rattle.file_steps.specs.Unpacked.{IsRearranged}
 use Rattle.file_works.specs.declared.work.Work.{Work}

@@ -4,10 +4,11 @@ use Rattle.std.proofs.lemmas.List.{append-nil}
 use Rattle.host_core.specs.World.{Change, World, is_kept}
 use Rattle.host_core.specs.Events.{Event, changes_of, scripts_of}
 use Rattle.host_core.specs.Host.{State, AtEachMoment, Silent, Since}
-use Rattle.host_core.specs.Moments.{scripts_of-append}
-use Rattle.host_core.specs.Scripts.{changes_of-append, no_change, only_start, silent_added}
+use Rattle.host_core.proofs.Moments.{scripts_of-append}
+use Rattle.host_core.proofs.Scripts.{changes_of-append, no_change, only_start, silent_added}
 use Rattle.cleanup_stack.specs.Place.{Place}
-use Rattle.cleanup_stack.specs.Stops.{AtEachStop, stops_quiet}
+use Rattle.cleanup_stack.specs.Stops.{AtEachStop}
+use Rattle.cleanup_stack.proofs.Stops.{stops_quiet}
 use Rattle.file_works.specs.declared.work.Work.{Work}
 use Rattle.status_db.specs.Held.{HasRecords}
 use Rattle.status_db.specs.Noting.{IsNoted, IsNoting}
@@ -20,8 +21,8 @@ use Rattle.unpack_rows.specs.declared.notes.Note.{Note}
 use Rattle.unpack_rows.specs.declared.notes.Note.TheVariants.{Put, Drop}
 use Rattle.unpack_run.specs.At.{AreFound, AreWorksAt, At, Holding, IsAt, IsWithin, Stops, table_at}
 use Rattle.unpack_run.specs.Clearing.{HasCleared, MayClear, next_ready}
-use Rattle.unpack_run.specs.Follows.{come_noted, ready_noted}
-use Rattle.unpack_run.specs.Stays.{holds_at, stop_at}
+use Rattle.unpack_run.proofs.Follows.{come_noted, ready_noted}
+use Rattle.unpack_run.proofs.Stays.{holds_at, stop_at}
 use Rattle.unpack_run.specs.Task.{Task, based_on, has_gone, kinds, lists_at, name, places_at}
 use Rattle.unpack_run.specs.Trail.{HasCome}
 

@@ -12,7 +12,7 @@ use Rattle.control_members.specs.Stored.{AreStoredNames, AreTaken, AreTaking, go
 use Rattle.control_members.proofs.Apart.{no_list}
 use Rattle.control_members.proofs.Drawn.{contains_any}
 use Rattle.host_core.specs.Host.{State, AtEachMoment, Reads}
-use Rattle.host_core.specs.Moments.{since_reads}
+use Rattle.host_core.proofs.Moments.{since_reads}
 use Rattle.unpack_moves.proofs.Moments.{then_at_each}
 use Rattle.unpack_run.specs.Clearing.{IsBesideOwn, IsCleared, IsClearing}
 

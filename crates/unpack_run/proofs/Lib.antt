@@ -11,3 +11,5 @@ pub mod HookRows
 pub mod Leftovers
 pub mod Clears
 pub mod Begins
+pub mod Stays
+pub mod Follows

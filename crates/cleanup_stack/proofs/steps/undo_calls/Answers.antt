@@ -1,7 +1,7 @@
 use Rattle.std.proofs.Common.{refl, subst}
 use Rattle.host_core.specs.World.{is_kept}
 use Rattle.host_core.specs.Host.{Since, OnlyScripts}
-use Rattle.cleanup_stack.specs.Stops.{stops_scripts}
+use Rattle.cleanup_stack.proofs.Stops.{stops_scripts}
 use Rattle.cleanup_stack.specs.Undoing.{Undoes}
 use Rattle.cleanup_stack.specs.Transcripts.{MayUndo}
 use Rattle.cleanup_stack.proofs.Parts.{next_part, nothing_done}

@@ -1,5 +1,5 @@
 use Rattle.std.proofs.Common.{rules}
-use Rattle.host_core.specs.Moments.{since_then, since_weaker_if}
+use Rattle.host_core.proofs.Moments.{since_then, since_weaker_if}
 use Rattle.conffiles.specs.Settling.{AreSettling}
 use Rattle.conffiles.proofs.SettlingLists.{far_start, far_more, amid, can_at, since_settling}
 use Rattle.conffiles.proofs.settling.apply.Goals as goal

@@ -1,6 +1,6 @@
 use Rattle.std.proofs.Common.{sym, subst, ap, ◌∙◌, not}
 use Rattle.std.specs.Prelude.{IsSome}
-use Rattle.host_core.specs.Moments.{since_then, since_weaker_if}
+use Rattle.host_core.proofs.Moments.{since_then, since_weaker_if}
 use Rattle.conffiles.specs.declared.decisions.Decision.TheVariants.{BackupOld}
 use Rattle.conffiles.specs.Settling.{settled_files, backed_up, shipped_name, HasChanged, IsChanging, CanSettle}
 use Rattle.conffiles.proofs.Settlings.{on_ok, reads_changing, reads_then_changing, shipped_some, copy_on_way, take_on_way, take_done, can_after}

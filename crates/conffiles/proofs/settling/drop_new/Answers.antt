@@ -1,4 +1,4 @@
-use Rattle.host_core.specs.Moments.{since_weaker_if}
+use Rattle.host_core.proofs.Moments.{since_weaker_if}
 use Rattle.conffiles.proofs.Settlings.{on_ok, dropped_new, dropping_new}
 use Rattle.conffiles.proofs.settling.drop_new.Goals as goal
 

@@ -1,5 +1,5 @@
 use Rattle.std.proofs.Common.{ap, ◌∙◌, is_some}
-use Rattle.host_core.specs.Moments.{since_then, since_weaker_if}
+use Rattle.host_core.proofs.Moments.{since_then, since_weaker_if}
 use Rattle.host_core.specs.World.{Move}
 use Rattle.host_core.specs.declared.suffix.Suffix.TheVariants as suffix
 use Rattle.host_core.proofs.ShipNames.{parent_beside_home}

@@ -1,8 +1,8 @@
 use Rattle.std.proofs.Common.{inl, inr, sym, subst, ap, refl, ◌∙◌}
 use Rattle.std.specs.Prelude.{IsSome}
 use Rattle.host_core.specs.World.{moved}
-use Rattle.host_core.specs.Losses.{proper_synced}
-use Rattle.host_core.specs.Moments.{since_reads, since_then}
+use Rattle.host_core.proofs.Losses.{proper_synced}
+use Rattle.host_core.proofs.Moments.{since_reads, since_then}
 use Rattle.conffiles.proofs.Settlings.{since_move, kind_some}
 use Rattle.conffiles.proofs.settling.move_file.Goals as goal
 

@@ -1,5 +1,5 @@
 use Rattle.std.proofs.Common.{ap, ◌∙◌}
-use Rattle.host_core.specs.Moments.{since_weaker_if}
+use Rattle.host_core.proofs.Moments.{since_weaker_if}
 use Rattle.host_core.specs.Unsynced.{is_temporary}
 use Rattle.host_core.proofs.ShipNames.{ships, plain_proper, parent_beside_home}
 use Rattle.conffiles.proofs.Settlings.{on_ok, rename_done, rename_changing, parent_at, some_at}

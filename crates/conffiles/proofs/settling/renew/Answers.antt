@@ -1,5 +1,5 @@
 use Rattle.std.proofs.Common.{ap, ◌∙◌}
-use Rattle.host_core.specs.Moments.{since_then, since_weaker_if}
+use Rattle.host_core.proofs.Moments.{since_then, since_weaker_if}
 use Rattle.host_core.specs.Paths.{is_path}
 use Rattle.host_core.specs.World.{Take}
 use Rattle.host_core.specs.declared.suffix.Suffix.TheVariants as suffix

@@ -1,5 +1,5 @@
 use Rattle.std.proofs.Common.{ap, ◌∙◌}
-use Rattle.host_core.specs.Losses.{proper_synced}
+use Rattle.host_core.proofs.Losses.{proper_synced}
 use Rattle.host_core.specs.Unsynced.{is_temporary}
 use Rattle.host_core.specs.World.{Move}
 use Rattle.host_core.specs.declared.suffix.Suffix.TheVariants as suffix

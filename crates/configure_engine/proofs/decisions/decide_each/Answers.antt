@@ -4,7 +4,7 @@ use Rattle.std.proofs.lemmas.List.{map-append, take_more}
 use Rattle.std.proofs.lemmas.List.Elements.{All-push}
 use Rattle.host_core.specs.Paths.{Path}
 use Rattle.host_core.specs.World.{World}
-use Rattle.host_core.specs.Moments.{reads_then, silent_then}
+use Rattle.host_core.proofs.Moments.{reads_then, silent_then}
 use Rattle.conffiles.specs.declared.entries.Settled.{Settled}
 use Rattle.configure_engine.specs.Decided.{decided_paths, IsDecidedOf}
 use Rattle.configure_engine.proofs.decisions.decide_each.Goals as goal

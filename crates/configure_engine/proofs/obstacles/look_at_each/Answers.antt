@@ -4,7 +4,7 @@ use Rattle.std.proofs.lemmas.List.{take_all}
 use Rattle.std.proofs.lemmas.List.Elements.{All-more}
 use Rattle.host_core.specs.Paths.{Path}
 use Rattle.host_core.specs.World.{World}
-use Rattle.host_core.specs.Moments.{reads_then, silent_then}
+use Rattle.host_core.proofs.Moments.{reads_then, silent_then}
 use Rattle.conffiles.specs.Settling.{CanSettle, obstacle_of, ordered_names}
 use Rattle.configure_engine.specs.Obstacles.{names_of_all, IsObstacle}
 use Rattle.configure_engine.proofs.Least.{least_more, least_passed, still_some}

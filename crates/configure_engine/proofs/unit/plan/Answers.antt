@@ -1,4 +1,4 @@
-use Rattle.host_core.specs.Moments.{reads_then}
+use Rattle.host_core.proofs.Moments.{reads_then}
 use Rattle.configure_engine.proofs.unit.plan.Goals as goal
 
 pub returns-in_err-stages_of-in-Ok-clause-reads : goal.returns-in_err-stages_of-in-Ok-clause-reads

@@ -1,5 +1,5 @@
 use Rattle.std.proofs.Common.{◌∙◌, ap, rules}
-use Rattle.host_core.specs.Moments.{reads_then, silent_then}
+use Rattle.host_core.proofs.Moments.{reads_then, silent_then}
 use Rattle.configure_run.specs.Starting.{is_silent}
 use Rattle.configure_run.proofs.Silence.{silent_more}
 use Rattle.configure_run.proofs.starting.silent_of.Goals as goal

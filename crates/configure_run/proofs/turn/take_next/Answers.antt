@@ -2,7 +2,7 @@ use Rattle.std.proofs.Common.{[], inl, refl, subst}
 use Rattle.dependency_check.specs.Waiting.{IsConfigurableNow, IsNextOfConfigurable}
 use Rattle.std.specs.Prelude.{IfSome}
 use Rattle.dependency_sets.specs.Sets.{has}
-use Rattle.host_core.specs.Moments.{since_start, since_weaker}
+use Rattle.host_core.proofs.Moments.{since_start, since_weaker}
 use Rattle.unit_reports.specs.Held.{held}
 use Rattle.configure_run.specs.Taking.{IsAmidTurn}
 use Rattle.configure_run.specs.Turns.{IsAmidNext}

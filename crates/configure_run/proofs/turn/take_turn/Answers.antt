@@ -1,7 +1,7 @@
 use Rattle.std.proofs.Common.{◌≡◌, ◌<◌, ◌++◌, ◌∷◌, [], List, length, ◌⊎◌, inl, inr, refl, subst, sym, ◌∙◌, rules}
 use Rattle.configure_engine.specs.Units.{IsWaiting}
 use Rattle.dependency_sets.proofs.StrikingLaws.{in_range}
-use Rattle.host_core.specs.Moments.{since_start, since_weaker}
+use Rattle.host_core.proofs.Moments.{since_start, since_weaker}
 use Rattle.relation_index.specs.declared.package.Package.{Package}
 use Rattle.unit_reports.specs.Held.{held}
 use Rattle.unit_reports.specs.Units.{IsBroken}

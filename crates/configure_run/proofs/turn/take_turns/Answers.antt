@@ -5,7 +5,7 @@ use Rattle.dependency_check.specs.Waiting.{Waiting, IsConfigurableNow}
 use Rattle.dependency_sets.specs.Sets.{has}
 use Rattle.host_core.specs.Host.{State}
 use Rattle.host_core.specs.Loss.{IsAnswered}
-use Rattle.host_core.specs.Moments.{since_start}
+use Rattle.host_core.proofs.Moments.{since_start}
 use Rattle.unit_reports.specs.Held.{held}
 use Rattle.unit_reports.specs.Units.{calls_of}
 use Rattle.unit_reports.specs.declared.report.Unit.{Unit as AUnit}

@@ -1,7 +1,7 @@
 use Rattle.std.proofs.Common.{◌∙◌, sym, subst}
 use Rattle.administration.specs.Places.{tmp_path}
 use Rattle.host_core.specs.Host.{Since}
-use Rattle.host_core.specs.Moments.{since_weaker_if}
+use Rattle.host_core.proofs.Moments.{since_weaker_if}
 use Rattle.administration.specs.Directories.{IsFlat, IsTaking}
 use Rattle.control_members.proofs.LaidOut.{laid_flat, laid_incoming, laying_same, laying_taking}
 use Rattle.control_members.proofs.incoming.clear_away.Goals as goal

@@ -1,7 +1,7 @@
 use Rattle.std.proofs.Common.{sym, subst}
 use Rattle.host_core.specs.World.{HasParent}
 use Rattle.host_core.specs.Host.{Since}
-use Rattle.host_core.specs.Moments.{since_weaker_if}
+use Rattle.host_core.proofs.Moments.{since_weaker_if}
 use Rattle.administration.specs.Directories.{IsMaking}
 use Rattle.control_members.proofs.LaidOut.{home_parent, incoming_absent, laying_making, laying_same, made_absent}
 use Rattle.control_members.proofs.incoming.make_tmp.Goals as goal

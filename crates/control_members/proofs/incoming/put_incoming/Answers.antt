@@ -2,7 +2,7 @@ use Rattle.std.proofs.Common.{◌≡◌, sym, subst, true}
 use Rattle.host_core.specs.Paths.{is_path}
 use Rattle.host_core.specs.World.{HasParent}
 use Rattle.host_core.specs.Host.{Since}
-use Rattle.host_core.specs.Moments.{since_weaker_if}
+use Rattle.host_core.proofs.Moments.{since_weaker_if}
 use Rattle.administration.specs.Places.{temporary}
 use Rattle.administration.specs.Files.{NoDirectory, IsReplacing}
 use Rattle.control_members.proofs.MemberNames.{laid_spare_is_path}

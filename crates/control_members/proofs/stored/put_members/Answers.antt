@@ -1,5 +1,5 @@
 use Rattle.std.proofs.Common.{◌+◌, drop, take, sym, subst, rules}
-use Rattle.host_core.specs.Moments.{since_now}
+use Rattle.host_core.proofs.Moments.{since_now}
 use Rattle.administration.proofs.Within.{taken_more}
 use Rattle.control_members.specs.Members.{AreInOrder, names_of}
 use Rattle.control_members.specs.Written.{AreWritten}

@@ -1,7 +1,7 @@
 use Rattle.std.proofs.Common.{sym, subst}
 use Rattle.std.proofs.lemmas.Result.{on_ok_weaker}
 use Rattle.host_core.specs.Host.{Since}
-use Rattle.host_core.specs.Moments.{since_now}
+use Rattle.host_core.proofs.Moments.{since_now}
 use Rattle.control_members.specs.Members.{AreInOrder, names_of}
 use Rattle.control_members.specs.Written.{AreWritten, AreWriting}
 use Rattle.control_members.proofs.Replacing.{replaced_both, since_first, since_both}

@@ -1,5 +1,5 @@
 use Rattle.std.proofs.Common.{◌≡◌, ◌++◌, ◌∷◌, [], None, inl, refl, sym, subst, ◌∙◌}
-use Rattle.host_core.specs.Moments.{since_reads}
+use Rattle.host_core.proofs.Moments.{since_reads}
 use Rattle.diversions.specs.Changes.{CanMove, diverted, moved_if}
 use Rattle.diversions.specs.Refusals.{first_holding, move_conditions}
 use Rattle.diversions.proofs.Moving.{since_sight}

@@ -1,5 +1,5 @@
 use Rattle.std.proofs.Common.{false, inl, refl, sym, subst, ◌∙◌}
-use Rattle.host_core.specs.Moments.{since_reads}
+use Rattle.host_core.proofs.Moments.{since_reads}
 use Rattle.diversions.specs.Changes.{CanMove, moved_if, restored}
 use Rattle.diversions.specs.Entries.{without}
 use Rattle.diversions.proofs.Moving.{since_sight}

@@ -1,5 +1,5 @@
 use Rattle.std.proofs.Common.{◌≡◌, ◌⊎◌, inl, inr, sym, subst}
-use Rattle.host_core.specs.Moments.{since_then, since_weaker_if}
+use Rattle.host_core.proofs.Moments.{since_then, since_weaker_if}
 use Rattle.host_core.specs.World.{World}
 use Rattle.host_core.specs.declared.node.Node.{Node}
 use Rattle.administration.specs.Files.{IsReplacing}

@@ -1,5 +1,5 @@
 use Rattle.std.proofs.Common.{◌≡◌, true, inl, inr, refl, ap, ◌∙◌, rules}
-use Rattle.host_core.specs.Losses.{proper_synced}
+use Rattle.host_core.proofs.Losses.{proper_synced}
 use Rattle.host_core.specs.Unsynced.{is_temporary}
 use Rattle.host_core.proofs.ShipNames.{ships, plain_proper}
 use Rattle.diversions.proofs.Moving.{since_move, moved_is}

@@ -1,5 +1,5 @@
 use Rattle.std.proofs.Common.{◌++◌, ◌∷◌, []}
-use Rattle.host_core.specs.Moments.{since_weaker_if}
+use Rattle.host_core.proofs.Moments.{since_weaker_if}
 use Rattle.diversions.specs.Changes.{moved_if}
 use Rattle.diversions.proofs.Moving.{file_is, home_stays, on_ok, ready_moved, recorded_by, under_way_by}
 use Rattle.diversions.proofs.writing.record_new.Goals as goal

@@ -1,5 +1,5 @@
 use Rattle.std.proofs.Common.{◌∙◌, ap}
-use Rattle.host_core.specs.Moments.{since_weaker_if}
+use Rattle.host_core.proofs.Moments.{since_weaker_if}
 use Rattle.host_core.specs.Paths.{Path}
 use Rattle.diversions.specs.Changes.{moved_if}
 use Rattle.diversions.specs.Entries.{without}

@@ -1,6 +1,6 @@
 use Rattle.dpkg_session.proofs.Barriers.{called_behind, failed_behind, on_disk, order_behind, since_to_disk, unpacked_to_disk}
 use Rattle.unpack_engine.proofs.Quiet.{amid_unit_still}
-use Rattle.host_core.specs.Moments.{since_barrier}
+use Rattle.host_core.proofs.Moments.{since_barrier}
 use Rattle.dpkg_session.proofs.unpacking.unpack_to_disk.Goals as goal
 
 pub returns-in-Ok-barrier-clause-unit : goal.returns-in-Ok-barrier-clause-unit

@@ -2,7 +2,7 @@ use Rattle.std.proofs.Common.{sym, ap, subst, ◌∙◌, rules}
 use Rattle.std.specs.BTreeSet.{contains_text}
 use Rattle.host_core.specs.Paths.{is_path}
 use Rattle.host_core.specs.World.{World, IsDirectory}
-use Rattle.host_core.specs.Moments.{reads_then, silent_then}
+use Rattle.host_core.proofs.Moments.{reads_then, silent_then}
 use Rattle.host_core.proofs.PathLaws.{front_is_path}
 use Rattle.diversions.specs.Sights.{is_directory_kind}
 use Rattle.file_check.specs.Above.{IsAbove, IsLink, is_link_kind}

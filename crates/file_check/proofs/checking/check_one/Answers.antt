@@ -2,7 +2,7 @@ use Rattle.std.proofs.Common.{◌≡◌, ap, subst, ◌∙◌}
 use Rattle.std.specs.BTreeSet.{contains_text}
 use Rattle.host_core.specs.Paths.{Path}
 use Rattle.host_core.specs.World.{World}
-use Rattle.host_core.specs.Moments.{reads_then}
+use Rattle.host_core.proofs.Moments.{reads_then}
 use Rattle.file_check.specs.declared.sight.Sight.{Sight}
 use Rattle.file_check.specs.Above.{IsAbove}
 use Rattle.file_check.specs.Ways.{sight_of, in_way_by, in_way_at}

@@ -2,7 +2,7 @@ use Rattle.std.proofs.Common.{◌<◌, length, take, sym, subst, ◌∙◌, arit
 use Rattle.std.proofs.Math.Seq.{map-set_same}
 use Rattle.std.proofs.lemmas.List.{take_more_set}
 use Rattle.host_core.specs.World.{World}
-use Rattle.host_core.specs.Moments.{reads_then, silent_then}
+use Rattle.host_core.proofs.Moments.{reads_then, silent_then}
 use Rattle.file_works.specs.Files.{Each}
 use Rattle.file_works.specs.Free.{IsSeen}
 use Rattle.file_check.specs.Ready.{unseen}

@@ -1,4 +1,4 @@
-use Rattle.host_core.specs.Moments.{reads_then}
+use Rattle.host_core.proofs.Moments.{reads_then}
 use Rattle.file_check.proofs.Readiness.{told_free, told_homed, told_in}
 use Rattle.file_check.proofs.Unseen.{told_fault}
 use Rattle.file_check.proofs.WorkLists.{named_still, fitting_still}

@@ -4,7 +4,7 @@ use Rattle.std.specs.String.{string_bytes}
 use Rattle.std.proofs.lemmas.Map.Text.{btree_set_updates_text}
 use Rattle.host_core.specs.Paths.{Path, is_path}
 use Rattle.host_core.specs.World.{World}
-use Rattle.host_core.specs.Moments.{reads_then}
+use Rattle.host_core.proofs.Moments.{reads_then}
 use Rattle.file_lists.specs.Info.{IsSound, entry_path}
 use Rattle.file_lists.specs.Owners.{names_of}
 use Rattle.file_lists.specs.Reading.{HasTaken, IsFaultAmong, IsFaultAt}

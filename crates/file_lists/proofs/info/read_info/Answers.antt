@@ -1,7 +1,7 @@
 use Rattle.std.proofs.Common.{subst}
 use Rattle.std.specs.BTreeSet.{contains_text}
 use Rattle.host_core.specs.World.{World}
-use Rattle.host_core.specs.Moments.{reads_then}
+use Rattle.host_core.proofs.Moments.{reads_then}
 use Rattle.file_lists.specs.Info.{IsInfoDamage}
 use Rattle.file_lists.specs.Owners.{names_of}
 use Rattle.file_lists.specs.Reading.{IsFaultAmong, AreSoundAmong, HaveTaken}

@@ -2,7 +2,7 @@ use Rattle.std.proofs.Common.{◌≡◌, ◌∙◌, ℕ, List, Some, refl, sym, 
 use Rattle.std.specs.List.{fold}
 use Rattle.std.proofs.lemmas.List.{take_all}
 use Rattle.host_core.specs.Paths.{Path}
-use Rattle.host_core.specs.Moments.{silent_then, since_now}
+use Rattle.host_core.proofs.Moments.{silent_then, since_now}
 use Rattle.administration.specs.Files.{IsReplaced}
 use Rattle.administration.specs.Places.{list_path}
 use Rattle.administration.proofs.Within.{taken_more}

@@ -1,4 +1,4 @@
-use Rattle.host_core.specs.Moments.{since_reads, since_then}
+use Rattle.host_core.proofs.Moments.{since_reads, since_then}
 use Rattle.file_removal.proofs.Visiting.{standing_is}
 use Rattle.file_removal.proofs.Clears.{clearing_start, clearing_does}
 use Rattle.file_removal.proofs.clearing.clear_name.Goals as goal

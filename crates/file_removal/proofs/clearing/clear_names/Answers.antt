@@ -1,5 +1,5 @@
 use Rattle.std.proofs.Common.{rules}
-use Rattle.host_core.specs.Moments.{since_then}
+use Rattle.host_core.proofs.Moments.{since_then}
 use Rattle.file_removal.proofs.Clears.{next_cleared, next_clearing}
 use Rattle.file_removal.proofs.clearing.clear_names.Goals as goal
 

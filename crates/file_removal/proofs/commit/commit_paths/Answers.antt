@@ -1,5 +1,5 @@
 use Rattle.std.proofs.Common.{inl, inr}
-use Rattle.host_core.specs.Moments.{since_then, since_weaker, since_weaker_if}
+use Rattle.host_core.proofs.Moments.{since_then, since_weaker, since_weaker_if}
 use Rattle.file_removal.specs.Committing.{IsCommitting}
 use Rattle.file_removal.proofs.commit.commit_paths.Goals as goal
 

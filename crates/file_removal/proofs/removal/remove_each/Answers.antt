@@ -1,5 +1,5 @@
 use Rattle.std.proofs.Common.{◌≡◌, ◌<◌, ◌+◌, ◌-◌, IsTrue, length, drop, sym, subst, arith, rules}
-use Rattle.host_core.specs.Moments.{since_then}
+use Rattle.host_core.proofs.Moments.{since_then}
 use Rattle.file_removal.specs.Removal.{RemovedBy}
 use Rattle.file_removal.proofs.Removing.{next_removed, next_moments}
 use Rattle.file_removal.proofs.removal.remove_each.Goals as goal

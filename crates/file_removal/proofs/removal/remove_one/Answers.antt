@@ -1,6 +1,6 @@
 use Rattle.std.proofs.Common.{inl, inr, refl, subst}
 use Rattle.host_core.specs.World.{Take, RemoveDir, IsBare}
-use Rattle.host_core.specs.Moments.{since_reads, since_then, reads_then}
+use Rattle.host_core.proofs.Moments.{since_reads, since_then, reads_then}
 use Rattle.file_removal.proofs.Visiting.{standing_is, visiting_start, taking_moments}
 use Rattle.file_removal.proofs.removal.remove_one.Goals as goal
 

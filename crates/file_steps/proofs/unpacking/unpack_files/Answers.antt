@@ -2,7 +2,7 @@ use Rattle.std.proofs.Common.{List, sym, subst, rules}
 use Rattle.std.specs.List.Sorted.{IsPermutation}
 use Rattle.host_core.specs.World.{World}
 use Rattle.host_core.specs.Host.{Since}
-use Rattle.host_core.specs.Moments.{since_reads, since_then}
+use Rattle.host_core.proofs.Moments.{since_reads, since_then}
 use Rattle.file_works.specs.declared.work.Work.{Work}
 use Rattle.file_works.specs.Files.{Each, IsAmid, Written}
 use Rattle.file_works.specs.Names.{IsNamed}

@@ -1,6 +1,6 @@
 use Rattle.std.proofs.Common.{◌≡◌, [], ◌∷◌, Some, refl, subst}
 use Rattle.host_core.specs.declared.node.Kind.{Kind}
-use Rattle.host_core.specs.Moments.{since_start}
+use Rattle.host_core.proofs.Moments.{since_start}
 use Rattle.file_writing.specs.Back.{IsGoingBack}
 use Rattle.file_writing.proofs.BackOne.{going_back_same, left_back_directory, left_back_link}
 use Rattle.file_writing.proofs.putting_back.put_back_directory.Goals as goal

@@ -1,5 +1,5 @@
 use Rattle.std.proofs.Common.{◌≡◌, ◌+◌, ◌-◌, ◌<◌, [], ◌∷◌, length, take, drop, sym, subst, rules, arith}
-use Rattle.host_core.specs.Moments.{since_start, since_then, since_weaker_if}
+use Rattle.host_core.proofs.Moments.{since_start, since_then, since_weaker_if}
 use Rattle.file_works.specs.Files.{PutBack}
 use Rattle.file_writing.specs.Back.{IsGoingBack}
 use Rattle.file_writing.proofs.WriteLists.{all_is}

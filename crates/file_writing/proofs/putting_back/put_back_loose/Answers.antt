@@ -1,7 +1,7 @@
 use Rattle.std.proofs.Common.{◌≡◌, ◌⊎◌, [], ◌∷◌, Some, refl, sym, subst}
 use Rattle.host_core.specs.declared.node.Kind.{Kind}
 use Rattle.host_core.specs.declared.node.Kind.TheVariants as kind
-use Rattle.host_core.specs.Moments.{since_start, since_weaker}
+use Rattle.host_core.proofs.Moments.{since_start, since_weaker}
 use Rattle.file_writing.specs.Back.{GoesBack, IsGoingBack, restored}
 use Rattle.file_writing.proofs.BackOne.{none_there, none_back, none_going, going_back_same, had_file, had_link, loose_can, loose_back, loose_going, left_back_directory}
 use Rattle.file_writing.proofs.WriteMoments.{on_ok, since_gone, gone_by}

@@ -1,5 +1,5 @@
 use Rattle.std.proofs.Common.{◌≡◌, ◌⊎◌, inl, inr, refl, sym, ap, subst}
-use Rattle.host_core.specs.Losses.{proper_synced}
+use Rattle.host_core.proofs.Losses.{proper_synced}
 use Rattle.file_writing.specs.Back.{CanRestore, restored}
 use Rattle.file_writing.proofs.WorkNames.{backup_proper}
 use Rattle.file_writing.proofs.BackOne.{home_by_backup}

@@ -1,6 +1,6 @@
 use Rattle.std.proofs.Common.{◌≡◌, ◌⊎◌, [], ◌∷◌, None, refl, sym, ap, subst, ◌∙◌}
 use Rattle.host_core.specs.World.{put}
-use Rattle.host_core.specs.Moments.{since_reads, since_then, since_weaker_if}
+use Rattle.host_core.proofs.Moments.{since_reads, since_then, since_weaker_if}
 use Rattle.file_writing.specs.Back.{GoesBack, IsGoingBack, restored}
 use Rattle.file_writing.proofs.BackOne.{going_back_same, unmade_going, unmade_can, unmade_back, unmade_restored}
 use Rattle.file_writing.proofs.WriteMoments.{on_ok, since_dir_gone}

@@ -1,4 +1,4 @@
-use Rattle.host_core.specs.Moments.{since_then}
+use Rattle.host_core.proofs.Moments.{since_then}
 use Rattle.administration.specs.Files.{KeepsBeside}
 use Rattle.file_writing.proofs.WriteMoments.{looked, keeps_looked, since_take}
 use Rattle.file_writing.proofs.writing.clear_name.Goals as goal

@@ -1,4 +1,4 @@
-use Rattle.host_core.specs.Moments.{since_then, since_weaker, since_weaker_if}
+use Rattle.host_core.proofs.Moments.{since_then, since_weaker, since_weaker_if}
 use Rattle.administration.specs.Files.{KeepsBeside}
 use Rattle.file_writing.specs.Steps.{IsCleared, AreCleared, KeepsBesideSpares}
 use Rattle.file_writing.proofs.WorkNames.{named_apart}

@@ -1,6 +1,6 @@
 use Rattle.std.proofs.Common.{[], ◌∷◌, sym, ap, ◌∙◌}
 use Rattle.host_core.specs.World.{kind_of, is_directory}
-use Rattle.host_core.specs.Moments.{since_then, since_weaker, since_weaker_if, since_now}
+use Rattle.host_core.proofs.Moments.{since_then, since_weaker, since_weaker_if, since_now}
 use Rattle.administration.specs.Files.{KeepsBeside}
 use Rattle.file_works.specs.Files.{Written, IsAmid}
 use Rattle.file_writing.proofs.WorkNames.{home_of, target_name, home_stays}

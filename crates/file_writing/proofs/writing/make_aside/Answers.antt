@@ -1,5 +1,5 @@
 use Rattle.std.proofs.Common.{refl}
-use Rattle.host_core.specs.Moments.{since_then, since_sync, since_now}
+use Rattle.host_core.proofs.Moments.{since_then, since_sync, since_now}
 use Rattle.administration.specs.Files.{KeepsBeside}
 use Rattle.file_writing.proofs.WorkNames.{fresh_temporary, home_of, fresh_name}
 use Rattle.file_writing.proofs.WriteMoments.{since_write, since_make_link, wrote_by, linked_by}

@@ -1,6 +1,6 @@
 use Rattle.std.proofs.Common.{[], ◌∷◌, sym, ap, subst, ◌∙◌}
-use Rattle.host_core.specs.Losses.{proper_synced}
-use Rattle.host_core.specs.Moments.{since_then}
+use Rattle.host_core.proofs.Losses.{proper_synced}
+use Rattle.host_core.proofs.Moments.{since_then}
 use Rattle.file_works.specs.Files.{Written, IsAmid}
 use Rattle.file_writing.proofs.WorkNames.{target_proper, home_of, backup_name, target_name, home_stays}
 use Rattle.file_writing.proofs.OnePath.{IsVacant, amid_same, over_wrote, over_vacant, over_between, amid_made, made}

@@ -1,5 +1,5 @@
 use Rattle.std.proofs.Common.{refl, sym, ◌∙◌}
-use Rattle.host_core.specs.Losses.{proper_synced}
+use Rattle.host_core.proofs.Losses.{proper_synced}
 use Rattle.file_writing.proofs.WorkNames.{target_proper, home_of, backup_name, named_apart}
 use Rattle.file_writing.proofs.Written.{kind_loose}
 use Rattle.file_writing.proofs.WriteMoments.{since_hard_link, link_synced, saved_by}

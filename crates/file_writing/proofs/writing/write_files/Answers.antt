@@ -1,6 +1,6 @@
 use Rattle.std.proofs.Common.{◌+◌, [], ◌∷◌, ◌++◌, take, drop, sym, subst, rules, arith}
 use Rattle.std.proofs.lemmas.List.{take_all}
-use Rattle.host_core.specs.Moments.{since_start, since_then, since_weaker_if}
+use Rattle.host_core.proofs.Moments.{since_start, since_then, since_weaker_if}
 use Rattle.file_works.specs.Files.{Each, Written, IsAmid}
 use Rattle.file_works.specs.Free.{IsFreeIn}
 use Rattle.file_works.specs.Names.{AllInOrder, IsHomed, IsNamed}

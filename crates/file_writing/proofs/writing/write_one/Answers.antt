@@ -1,6 +1,6 @@
 use Rattle.std.proofs.Common.{[], ◌∷◌, OnOk, sym, ap, subst, ◌∙◌}
 use Rattle.host_core.specs.World.{HasParent, kind_of}
-use Rattle.host_core.specs.Moments.{since_reads, since_then, since_weaker, since_weaker_if}
+use Rattle.host_core.proofs.Moments.{since_reads, since_then, since_weaker, since_weaker_if}
 use Rattle.file_works.specs.Files.{Written, IsAmid}
 use Rattle.file_works.specs.Free.{IsFreeIn}
 use Rattle.file_writing.specs.Steps.{AreCleared, KeepsBesideSpares}

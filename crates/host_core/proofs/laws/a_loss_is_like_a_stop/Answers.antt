@@ -1,4 +1,4 @@
-use Rattle.host_core.specs.Losses.{avoid_session, loss_is_like_a_stop, loses_behind_barrier, loses_in_part}
+use Rattle.host_core.proofs.Losses.{avoid_session, loss_is_like_a_stop, loses_behind_barrier, loses_in_part}
 use Rattle.host_core.proofs.laws.a_loss_is_like_a_stop.Goals as goal
 
 pub returns-clause-stop : goal.returns-clause-stop

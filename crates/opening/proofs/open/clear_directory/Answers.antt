@@ -1,5 +1,5 @@
 use Rattle.std.proofs.Common.{◌∷◌, [], subst}
-use Rattle.host_core.specs.Moments.{since_now}
+use Rattle.host_core.proofs.Moments.{since_now}
 use Rattle.administration.specs.Directories.{HasFlatness}
 use Rattle.opening.specs.Parts.{Leftovers}
 use Rattle.opening.proofs.Openings.{leftovers_bad, leftovers_held, leftovers_removed, leftovers_stopped, moments_clearing, moments_read, stopped_read}

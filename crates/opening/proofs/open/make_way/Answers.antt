@@ -1,6 +1,6 @@
 use Rattle.std.proofs.Common.{◌≡◌, true, sym, subst, ◌∷◌, []}
 use Rattle.std.proofs.lemmas.Bool.{MatchBool-at_true, MatchBool-at_false}
-use Rattle.host_core.specs.Moments.{since_now}
+use Rattle.host_core.proofs.Moments.{since_now}
 use Rattle.opening.specs.Leaving.{is_way}
 use Rattle.opening.specs.Parts.{Way}
 use Rattle.opening.proofs.Openings.{moments_making, stopped_memory, way_is_path, way_loose, way_made, way_stopped}

@@ -1,4 +1,4 @@
-use Rattle.host_core.specs.Moments.{since_now}
+use Rattle.host_core.proofs.Moments.{since_now}
 use Rattle.opening.specs.Parts.{fault_in}
 use Rattle.opening.proofs.Merging.{moments_merging, moments_opening, opens_failed, opens_merged}
 use Rattle.opening.proofs.open.open_administration.Goals as goal

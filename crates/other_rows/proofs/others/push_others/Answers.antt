@@ -1,7 +1,7 @@
 use Rattle.std.proofs.Common.{◌≡◌, ◌<◌, length, ap, subst, sym, ◌∙◌}
 use Rattle.std.proofs.lemmas.List.{map-append}
 use Rattle.host_core.specs.World.{World}
-use Rattle.host_core.specs.Moments.{reads_then, silent_then}
+use Rattle.host_core.proofs.Moments.{reads_then, silent_then}
 use Rattle.status_db.specs.declared.record.Record.{Record}
 use Rattle.unwind_stack.specs.declared.rows.Owner.TheVariants.{Package as OfPackage}
 use Rattle.unpack_rows.specs.ForwardRows.{records_of}

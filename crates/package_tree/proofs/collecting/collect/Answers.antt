@@ -1,5 +1,5 @@
 use Rattle.std.proofs.Common.{sym, subst, inl, inr, rules, arith}
-use Rattle.host_core.specs.Moments.{reads_then}
+use Rattle.host_core.proofs.Moments.{reads_then}
 use Rattle.package_tree.specs.ShipMap.{IsTooLarge}
 use Rattle.package_tree.specs.Shipped.{IsFirstPath}
 use Rattle.package_tree.proofs.Collected.{first_at_index, large_told, small_told, pushed_told, paths_more, nodes_more, small_more, all_collected}

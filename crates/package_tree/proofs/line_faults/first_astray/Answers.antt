@@ -1,6 +1,6 @@
 use Rattle.std.proofs.Common.{◌+◌, rules, subst}
 use Rattle.host_core.specs.World.{World}
-use Rattle.host_core.specs.Moments.{reads_then}
+use Rattle.host_core.proofs.Moments.{reads_then}
 use Rattle.package_tree.specs.ConffileFaults.{IsAstray}
 use Rattle.package_tree.proofs.Astray.{none_more, told_true}
 use Rattle.package_tree.proofs.Entries.{first_at}

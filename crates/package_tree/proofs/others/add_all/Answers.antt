@@ -2,7 +2,7 @@ use Rattle.std.proofs.Common.{false, subst, rules, List, ℕ}
 use Rattle.std.specs.BTreeSet.{contains_text}
 use Rattle.std.specs.String.{string_bytes}
 use Rattle.std.proofs.lemmas.Map.Text.{btree_set_updates_text}
-use Rattle.host_core.specs.Moments.{reads_then}
+use Rattle.host_core.proofs.Moments.{reads_then}
 use Rattle.host_core.specs.World.{World}
 use Rattle.package_tree.specs.OtherFiles.{control_member, HasTakenOther}
 use Rattle.package_tree.proofs.Sets.{above_text}

@@ -3,7 +3,7 @@ use Rattle.std.specs.Prelude.{Option}
 use Rattle.host_core.specs.Paths.{Path}
 use Rattle.host_core.specs.World.{World}
 use Rattle.host_core.specs.Host.{State, Reads}
-use Rattle.host_core.specs.Moments.{reads_then}
+use Rattle.host_core.proofs.Moments.{reads_then}
 use Rattle.host_core.specs.declared.node.Node.{Node}
 use Rattle.package_tree.specs.Debian.{Ships}
 use Rattle.package_tree.proofs.reading.look.Goals as goal

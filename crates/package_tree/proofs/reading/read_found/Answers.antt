@@ -4,7 +4,7 @@ use Rattle.std.specs.BTreeSet.{contains_text}
 use Rattle.host_core.specs.Paths.{Path}
 use Rattle.host_core.specs.World.{World}
 use Rattle.host_core.specs.Host.{State, Reads}
-use Rattle.host_core.specs.Moments.{reads_then}
+use Rattle.host_core.proofs.Moments.{reads_then}
 use Rattle.package_tree.specs.ConffileFaults.{IsOfBoth}
 use Rattle.package_tree.specs.OtherFiles.{AreOthers}
 use Rattle.package_tree.specs.ShipMap.{paths_of, is_file_in, AreFiles, IsTooLarge}

@@ -1,7 +1,7 @@
 use Rattle.std.proofs.Common.{◌∙◌, sym, subst, inr}
 use Rattle.host_core.specs.World.{World}
 use Rattle.host_core.specs.Host.{State, Reads}
-use Rattle.host_core.specs.Moments.{reads_then}
+use Rattle.host_core.proofs.Moments.{reads_then}
 use Rattle.package_tree.specs.Conffiles.{entries_at}
 use Rattle.package_tree.specs.Debian.{AreContents}
 use Rattle.package_tree.specs.PathFaults.{HasGoodPaths}

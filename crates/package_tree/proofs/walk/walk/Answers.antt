@@ -5,7 +5,7 @@ use Rattle.std.proofs.lemmas.Bool.{false≢true}
 use Rattle.std.proofs.lemmas.Str.{IsUtf8-string_bytes}
 use Rattle.std.proofs.lemmas.Map.Text.{btree_set_updates_text}
 use Rattle.host_core.specs.Paths.{Path}
-use Rattle.host_core.specs.Moments.{reads_then}
+use Rattle.host_core.proofs.Moments.{reads_then}
 use Rattle.package_tree.specs.Shipped.{AreInOrder, ArePathTexts}
 use Rattle.package_tree.specs.Walk.{AreChildren, IsAmid, IsOrderly, Takes}
 use Rattle.package_tree.proofs.Sets.{above_text, no_keys, nothing_left}

@@ -1,4 +1,4 @@
-use Rattle.host_core.specs.Moments.{since_weaker_if}
+use Rattle.host_core.proofs.Moments.{since_weaker_if}
 use Rattle.dpkg_session.specs.Diversions.{asked_entry}
 use Rattle.reopening.proofs.Diverts.{adding_opens, removing_opens}
 use Rattle.reopening.proofs.Standings.{finds_sound}

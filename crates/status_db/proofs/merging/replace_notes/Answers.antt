@@ -1,6 +1,6 @@
 use Rattle.std.proofs.Common.{◌≡◌, true, refl, sym, subst}
 use Rattle.host_core.specs.Host.{AtEachMoment}
-use Rattle.host_core.specs.Moments.{since_then, since_weaker, since_weaker_if}
+use Rattle.host_core.proofs.Moments.{since_then, since_weaker, since_weaker_if}
 use Rattle.host_core.specs.Paths.{is_path}
 use Rattle.host_core.specs.World.{HasParent}
 use Rattle.administration.specs.Files.{NoDirectory, IsReplaced, IsReplacing}

@@ -1,5 +1,5 @@
 use Rattle.std.proofs.Common.{rules, arith}
-use Rattle.host_core.specs.Moments.{since_then}
+use Rattle.host_core.proofs.Moments.{since_then}
 use Rattle.status_db.specs.Notes.{below_limit}
 use Rattle.status_db.proofs.Taken.{since_taking, took_one, still_no_directory}
 use Rattle.status_db.proofs.merging.take_notes.Goals as goal

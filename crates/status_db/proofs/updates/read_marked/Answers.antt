@@ -1,5 +1,5 @@
 use Rattle.std.proofs.Common.{subst, rules}
-use Rattle.host_core.specs.Moments.{reads_then}
+use Rattle.host_core.proofs.Moments.{reads_then}
 use Rattle.host_core.specs.World.{World}
 use Rattle.status_db.specs.Notes.{below_limit}
 use Rattle.status_db.specs.NoteReading.{IsNext}

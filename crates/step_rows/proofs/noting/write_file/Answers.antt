@@ -1,4 +1,4 @@
-use Rattle.host_core.specs.Moments.{since_reads, since_start, since_then, since_weaker}
+use Rattle.host_core.proofs.Moments.{since_reads, since_start, since_then, since_weaker}
 use Rattle.step_rows.proofs.noting.write_file.Goals as goal
 
 pub returns-in_err-top-clause-any_moment : goal.returns-in_err-top-clause-any_moment

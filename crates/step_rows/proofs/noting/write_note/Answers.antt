@@ -1,4 +1,4 @@
-use Rattle.host_core.specs.Moments.{since_start}
+use Rattle.host_core.proofs.Moments.{since_start}
 use Rattle.step_rows.proofs.noting.write_note.Goals as goal
 
 pub returns-in_default-clause-any_moment : goal.returns-in_default-clause-any_moment

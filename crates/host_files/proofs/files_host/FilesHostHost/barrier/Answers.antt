@@ -1,4 +1,4 @@
-use Rattle.host_core.specs.Counted.{counts_does, silent_does}
+use Rattle.host_core.proofs.Counted.{counts_does, silent_does}
 use Rattle.host_files.specs.declared.record.Asked.TheVariants.{Barrier}
 use Rattle.host_files.specs.Replay.{replay, step_of}
 use Rattle.host_files.proofs.Replayed.{does_by}

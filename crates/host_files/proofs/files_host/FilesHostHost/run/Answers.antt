@@ -1,6 +1,6 @@
 use Rattle.std.proofs.Common.{Ok, Err, ◌∷◌, ap, ◌∙◌}
 use Rattle.host_core.specs.World.{is_kept}
-use Rattle.host_core.specs.Counted.{counts_runs}
+use Rattle.host_core.proofs.Counted.{counts_runs}
 use Rattle.host_files.specs.Replay.{replay}
 use Rattle.host_files.specs.declared.record.Noted.TheVariants.{Ended, Broke}
 use Rattle.host_files.proofs.Replayed.{ended, broken}

@@ -1,7 +1,7 @@
 use Rattle.std.proofs.Common.{◌≡◌, length, refl, arith}
 use Rattle.std.specs.BTreeMap.{get_by_text}
 use Rattle.host_core.specs.Events.{Did}
-use Rattle.host_core.specs.Losses.{settled_by}
+use Rattle.host_core.proofs.Losses.{settled_by}
 use Rattle.host_core.specs.World.{Barrier}
 use Rattle.host_memory.specs.declared.done.DeviceStep.TheVariants as device
 use Rattle.host_memory.specs.declared.done.Done.TheVariants as done

@@ -1,6 +1,6 @@
 use Rattle.std.proofs.Common.{List, length, map, sym, ap, subst}
 use Rattle.std.specs.BTreeMap.{get_by_text}
-use Rattle.host_core.specs.Losses.{settled_none}
+use Rattle.host_core.proofs.Losses.{settled_none}
 use Rattle.host_core.specs.Unsynced.{IsSettled}
 use Rattle.host_memory.specs.Doings.{event_of}
 use Rattle.host_memory.specs.declared.done.Done.{Done}

@@ -1,5 +1,5 @@
 use Rattle.std.proofs.Common.{subst, sym}
-use Rattle.host_core.specs.Moments.{reads_then}
+use Rattle.host_core.proofs.Moments.{reads_then}
 use Rattle.host_core.specs.World.{World}
 use Rattle.administration.specs.Directories.{HasBadName}
 use Rattle.administration.specs.Places.{updates_path}

@@ -1,4 +1,4 @@
-use Rattle.host_core.specs.Moments.{since_start}
+use Rattle.host_core.proofs.Moments.{since_start}
 use Rattle.step_rows.proofs.noting.NotingAround.conclude.Goals as goal
 
 pub returns-clause-any_moment : goal.returns-clause-any_moment

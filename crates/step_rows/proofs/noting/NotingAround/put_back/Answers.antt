@@ -1,4 +1,4 @@
-use Rattle.host_core.specs.Moments.{since_start}
+use Rattle.host_core.proofs.Moments.{since_start}
 use Rattle.step_rows.proofs.noting.NotingAround.put_back.Goals as goal
 
 pub returns-then-fall-index-clause-any_moment : goal.returns-then-fall-index-clause-any_moment

@@ -1,4 +1,4 @@
-use Rattle.host_core.specs.Moments.{since_start}
+use Rattle.host_core.proofs.Moments.{since_start}
 use Rattle.step_rows.proofs.noting.NotingAround.undone.Goals as goal
 
 pub returns-then-fails-clause-any_moment : goal.returns-then-fails-clause-any_moment

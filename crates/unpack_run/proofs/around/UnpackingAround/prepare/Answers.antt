@@ -1,7 +1,7 @@
 use Rattle.std.proofs.Common.{◌≡◌, IsTrue, List, get_or, sym, subst, rules}
 use Rattle.host_core.specs.Host.{State}
 use Rattle.cleanup_stack.specs.Place.{Forward, Ready}
-use Rattle.cleanup_stack.specs.Stops.{stops_then}
+use Rattle.cleanup_stack.proofs.Stops.{stops_then}
 use Rattle.unpack_rows.specs.Notes.{note_before}
 use Rattle.unpack_run.specs.Notable.{IsNotable}
 use Rattle.unpack_run.proofs.Clears.{clear_place, clear_stops, members_needed}

@@ -5,9 +5,9 @@ use Rattle.std.proofs.lemmas.List.{append-nil}
 use Rattle.host_core.specs.World.{World}
 use Rattle.host_core.specs.Events.{Event, follow_all}
 use Rattle.host_core.specs.Host.{State}
-use Rattle.host_core.specs.Moments.{since_then}
+use Rattle.host_core.proofs.Moments.{since_then}
 use Rattle.host_core.specs.Loss.{IsLater, LosesSince, IsMoment, HasNoBarrier, IsAnswered}
-use Rattle.host_core.specs.Losses.{blurred_same, loses_in_part}
+use Rattle.host_core.proofs.Losses.{blurred_same, loses_in_part}
 
 -- so many commands, one after another, each of which is as U says
 abbrev pub HasRun : (State → State → Type 0) → ℕ → State → State → Type 0

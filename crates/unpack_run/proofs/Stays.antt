@@ -5,9 +5,9 @@ use Rattle.std.proofs.lemmas.List.{map-append}
 use Rattle.host_core.specs.World.{World, Avoids, Change, SameOn, changed, is_kept}
 use Rattle.host_core.specs.Events.{Event, Finished, Ran, changes_of, scripts_of}
 use Rattle.host_core.specs.Host.{State, Calls, OnlyScripts, finished}
-use Rattle.host_core.specs.Moments.{scripts_of-append}
+use Rattle.host_core.proofs.Moments.{scripts_of-append}
 use Rattle.host_core.specs.Paths.{Path}
-use Rattle.host_core.specs.Scripts.{changed_kept, changes_of-append}
+use Rattle.host_core.proofs.Scripts.{changed_kept, changes_of-append}
 use Rattle.administration.specs.Places.{list_path}
 use Rattle.cleanup_stack.specs.Place.{Place}
 use Rattle.control_members.specs.Stored.{stored_member_path}
@@ -18,7 +18,7 @@ use Rattle.status_db.specs.declared.record.Record.{Record}
 use Rattle.unpack_rows.specs.Stages.{Stage, Unwritten, Wrote, Restored, stage_of}
 use Rattle.unpack_rows.proofs.Staging.{marked}
 use Rattle.unpack_run.specs.At.{AreWorksAt, At, Holding, IsAmid, IsAt, IsMarked, IsThere, IsWithin, Stops, table_at}
-use Rattle.unpack_run.specs.Follows.{come_then, follow_finished, follows_scripts, ready_kept, records_kept, scripts_of-finished}
+use Rattle.unpack_run.proofs.Follows.{come_then, follow_finished, follows_scripts, ready_kept, records_kept, scripts_of-finished}
 use Rattle.unpack_run.specs.Clearing.{HasCleared, MayClear, next_ready}
 use Rattle.unpack_run.specs.Task.{Task, based_on, has_gone, kinds, name, places_at}
 use Rattle.unpack_run.specs.Trail.{Follows, HasCome}

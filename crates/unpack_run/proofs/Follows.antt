@@ -10,7 +10,7 @@ use Rattle.host_core.specs.Paths.{Path, is_named_by, is_own, is_owned_by, own_pl
 use Rattle.host_core.specs.World.{World, Change, changed, Avoids, IsDirectory, KeepsBut, SameOn, is_kept}
 use Rattle.host_core.specs.Events.{Event, Finished, Ran, changes_of, follow_all, scripts_of}
 use Rattle.host_core.specs.Host.{finished}
-use Rattle.host_core.specs.Scripts.{Avoids-append, changed-append, changed_at}
+use Rattle.host_core.proofs.Scripts.{Avoids-append, changed-append, changed_at}
 use Rattle.administration.specs.Files.{NoDirectory}
 use Rattle.administration.specs.Places.{home_path, info_path, list_path, status_path, temporary, updates_path}
 use Rattle.file_lists.specs.Writing.{IsListReady}

@@ -11,12 +11,12 @@ use Rattle.host_core.specs.World.{World, Change, Avoids, Step, Write, Move, Take
 use Rattle.host_core.specs.Events.{Event, Did, Finished, Cut, Failed, follow, follow_all, IsCutOf, Ran, scripts_of, changes_of}
 use Rattle.host_core.specs.Unsynced.{unsynced, unsynced_all, unsynced_after, unsynced_step, marked, is_temporary, IsSettled, KeepsSettled}
 use Rattle.host_core.specs.Host.{State, AllFailed, Throughout, Since, Silent, Runs, Calls, finished, ScriptsBut, OnlyScripts}
-use Rattle.host_core.specs.Scripts.{Avoids-front, Avoids-append, changes_of-append, changed_kept}
+use Rattle.host_core.proofs.Scripts.{Avoids-front, Avoids-append, changes_of-append, changed_kept}
 use Rattle.host_core.specs.declared.call.Call.{Call}
 use Rattle.host_core.specs.declared.call.Outcome.{Outcome}
 use Rattle.host_core.specs.declared.fault.HostFault.{HostFault}
 use Rattle.host_core.specs.declared.fault.HostFault.TheVariants.{Device, NoMemory}
-use Rattle.host_core.specs.Moments.{follow_all-append, unmoved, since_now}
+use Rattle.host_core.proofs.Moments.{follow_all-append, unmoved, since_now}
 use Rattle.host_core.specs.Loss.{writes, HasNoBarrier, IsOnDisk, IsBlurred, IsMoment, IsLoss, LosesSince, IsLike, IsBlind, unwritten, ScriptsAvoid, IsLikeAStop, LosesBehind, IsLikeOne, IsAnswered, IsLater}
 use Rattle.host_core.specs.declared.node.Node.{Node}
 use Rattle.host_core.specs.declared.node.Node.TheVariants.{File, Dir, Link}
