@@ -1,5 +1,5 @@
 -- What a list says of the paths that go by it.
-use Rattle.std.proofs.Common.{◌≡◌, ◌⊎◌, inl, inr, ℕ, zero, suc, Bool, true, false, cond, List, [], ◌∷◌, ◌++◌, Option, None, Contains, refl, sym, ap, subst, ◌∙◌, IsTrue, arith}
+use Rattle.std.proofs.Common.{◌≡◌, ◌⊎◌, inl, inr, ℕ, zero, suc, Bool, true, false, List, [], ◌∷◌, ◌++◌, None, Contains, refl, sym, ap, subst, ◌∙◌, IsTrue, arith}
 use Rattle.std.specs.Prelude.{IsSome}
 use Rattle.std.proofs.lemmas.Bool.{true≢false}
 use Rattle.std.proofs.lemmas.List.Elements.{Contains-append_right}
@@ -11,13 +11,10 @@ use Rattle.std.specs.declared.cmp.Ordering.TheVariants.{Less, Equal, Greater}
 use Rattle.host_core.specs.Paths.{Path}
 use Rattle.host_core.specs.Tree.{IsBelow}
 use Rattle.host_core.specs.World.{World, IsBare, IsDirectory, IsLoose}
-use Rattle.host_core.specs.declared.node.Node.{Node}
 use Rattle.host_core.proofs.Nodes.{directory_stands, none_stands}
 use Rattle.administration.proofs.Within.{directory_differs}
 use Rattle.file_removal.specs.declared.leaving.Leaving.{Leaving}
 use Rattle.file_removal.specs.Removal.{GoesBy, RemovedBy, IsRemovingBy, IsSpared, AllAboveFirst, AreInOrder}
-use Rattle.file_removal.specs.Clearing.{cleared, is_among}
-use Rattle.file_removal.specs.Committing.{Committed}
 use Rattle.file_removal.proofs.Removing.{removed_removing}
 
 first_or_later : (x : Leaving) (xs : List Leaving) (y : Leaving) → Contains (x ∷ xs) y → (x ≡ y) ⊎ Contains xs y
@@ -184,10 +181,3 @@ in_order (x ∷ xs) order = (
       less_greater (slice_cmp nat_cmp x.place y.place) (order.0 y has) (ap (λ p. slice_cmp nat_cmp p y.place) below.1 ∙ behind y.place below.0),
   in_order xs order.1,
 )
-
-unnamed : (b : Bool) (m n : Option Node) → b ≡ false → cond b m n ≡ n
-unnamed b m n e = ap (λ t. cond t m n) e
-
-pub both_spare : (leaving : List Leaving) (names : List Path) (old new : World) (q : Path) → Committed leaving names old new → IsSpared leaving q → is_among names q ≡ false → new q ≡ old q
-both_spare leaving names old new q committed spared out =
-    committed.2.each q ∙ unnamed (is_among names q) (cleared (committed.0 q)) (committed.0 q) out ∙ spared_stays false old leaving committed.0 q committed.1 spared

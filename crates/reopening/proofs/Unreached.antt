@@ -91,5 +91,5 @@ enough n m e = grind arith
 
 pub rows_behind : (found : Option Record) → found ≡ None → (others : List Record) (rows : ℕ) → rows ≡ length (kinds_of found others) → is_gone found (length others) (Forward rows) ≡ true
 rows_behind None none others rows many =
-    enough (length others) rows (many ∙ length-append (others_kinds others) (last_kinds false) ∙ ap (λ n. n + 2) (length-map (λ r. Other r) others))
+    enough (length others) rows (many ∙ length-append (others_kinds others) (last_kinds false) ∙ ap (λ n. n + 2) (length-map others (λ (r : Record). Other r)))
 rows_behind (Some r) none others rows many = absurd cc

@@ -20,7 +20,7 @@ use Rattle.unpack_rows.specs.Kinds.{kinds_of}
 use Rattle.unpack_rows.specs.Stages.{Stage, Unwritten, Wrote, Restored, stage_of}
 use Rattle.unpack_run.specs.At.{AreFound, AreWorksAt, At, Holding}
 use Rattle.unpack_run.specs.Clearing.{IsBesideOwn, IsCleared, IsClearing, MayClear, is_gone, next_ready}
-use Rattle.unpack_run.proofs.Stays.{clear_here}
+use Rattle.unpack_run.specs.Stays.{clear_here}
 use Rattle.unpack_run.specs.Task.{state_on}
 use Rattle.unpack_engine.specs.Units.{Begins, BeginsAt, Ground, package_name, task_from}
 use Rattle.unpack_engine.proofs.Begun.{may_same, own_beside, tmp_byte}

@@ -11,7 +11,7 @@ use Rattle.status_db.specs.Recorded.{Recorded}
 use Rattle.status_db.specs.declared.record.Record.{Record}
 use Rattle.unpack_run.specs.declared.plan.Rows.{Rows}
 use Rattle.unpack_run.specs.At.{At, IsBegun, holding}
-use Rattle.unpack_run.proofs.Follows.{follows_none}
+use Rattle.unpack_run.specs.Follows.{follows_none}
 use Rattle.unpack_run.specs.Clearing.{HasCleared, is_gone}
 use Rattle.unpack_run.specs.Task.{IsSound, name, task_of}
 

@@ -29,7 +29,7 @@ use Rattle.unpack_rows.specs.Stages.{Unwritten, stage_of}
 use Rattle.unpack_rows.specs.declared.kinds.RowKind.{RowKind}
 use Rattle.unpack_run.specs.At.{At, Holding, IsAt, IsThere, Stops}
 use Rattle.unpack_run.specs.Clearing.{HasCleared, IsBesideOwn, IsCleared, IsClearing, MayClear, clears_before}
-use Rattle.unpack_run.proofs.Stays.{clear_here, stop_at}
+use Rattle.unpack_run.specs.Stays.{clear_here, stop_at}
 use Rattle.unpack_run.specs.Task.{Task, based_on, has_gone, kinds, name}
 use Rattle.unpack_run.specs.Trail.{Follows, HasCome}
 use Rattle.unpack_run.proofs.Going.{goes_there, stays_there}

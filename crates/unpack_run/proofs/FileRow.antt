@@ -38,8 +38,8 @@ use Rattle.unwind_stack.specs.declared.fall.StepFault.{StepFault}
 use Rattle.unpack_run.specs.At.{AreWorksAt, At, HasFault, IsAmid, IsFileFault, IsMarked, IsWithin, Stops, holding, table_at}
 use Rattle.unpack_run.specs.FileMoves.{HasWrittenRow, MayWriteRow, places_before, places_of}
 use Rattle.unpack_run.specs.Clearing.{HasCleared, next_ready}
-use Rattle.unpack_run.proofs.Follows.{follows_none}
-use Rattle.unpack_run.proofs.Stays.{clear_here}
+use Rattle.unpack_run.specs.Follows.{follows_none}
+use Rattle.unpack_run.specs.Stays.{clear_here}
 use Rattle.unpack_run.specs.Task.{IsFileRow, Task, all_places, based_on, has_gone, kinds, lists_at, name, places_at}
 use Rattle.unpack_run.specs.Trail.{AreOrdered, Follows, HasCome, HasFiles}
 use Rattle.unpack_run.proofs.FileWorlds.{home_before, still_written}

@@ -24,7 +24,7 @@ use Rattle.unpack_rows.proofs.Staging.{stage_called, stage_spared, stage_undone}
 use Rattle.unpack_run.specs.At.{AreFound, At, Holding, IsAt, IsWithin, Stops}
 use Rattle.unpack_run.specs.Clearing.{HasCleared, MayClear}
 use Rattle.unpack_run.specs.Notable.{IsNotable}
-use Rattle.unpack_run.proofs.Stays.{clear_here}
+use Rattle.unpack_run.specs.Stays.{clear_here}
 use Rattle.unpack_run.specs.Task.{IsFileRow, Task, has_gone, kinds, name}
 use Rattle.unpack_run.proofs.Going.{gone_called, gone_prepared}
 use Rattle.unpack_run.proofs.Hooks.{Agrees, at_moves, at_noted, noting_stops}

@@ -21,8 +21,8 @@ use Rattle.unpack_rows.specs.declared.notes.Note.{Note}
 use Rattle.unpack_rows.specs.declared.notes.Note.TheVariants.{Put, Drop}
 use Rattle.unpack_run.specs.At.{AreFound, AreWorksAt, At, Holding, IsAt, IsWithin, Stops, table_at}
 use Rattle.unpack_run.specs.Clearing.{HasCleared, MayClear, next_ready}
-use Rattle.unpack_run.proofs.Follows.{come_noted, ready_noted}
-use Rattle.unpack_run.proofs.Stays.{holds_at, stop_at}
+use Rattle.unpack_run.specs.Follows.{come_noted, ready_noted}
+use Rattle.unpack_run.specs.Stays.{holds_at, stop_at}
 use Rattle.unpack_run.specs.Task.{Task, based_on, has_gone, kinds, lists_at, name, places_at}
 use Rattle.unpack_run.specs.Trail.{HasCome}
 

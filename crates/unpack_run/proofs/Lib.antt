@@ -11,5 +11,3 @@ pub mod HookRows
 pub mod Leftovers
 pub mod Clears
 pub mod Begins
-pub mod Stays
-pub mod Follows

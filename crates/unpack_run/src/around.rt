@@ -3,7 +3,7 @@ ghost use Rattle.std.specs.Prelude.{◌≡◌, ◌∷◌, []};
 ghost use Rattle.unpack_rows.specs.ForwardRows.{Fits};
 ghost use Rattle.unpack_rows.specs.Kinds.{kinds_of};
 ghost use Rattle.unpack_run.specs.At.{At, IsFileFault, Stops, holding};
-ghost use Rattle.unpack_run.proofs.Stays.{holds_at, stays_at};
+ghost use Rattle.unpack_run.specs.Stays.{holds_at, stays_at};
 ghost use Rattle.unpack_run.specs.Task.{Task, kinds, name, task_of};
 
 use crate::clearing::clear_left;

@@ -18,7 +18,7 @@ use Rattle.status_db.specs.declared.record.Record.{Record}
 use Rattle.unpack_rows.specs.Stages.{Stage, Unwritten, Wrote, Restored, stage_of}
 use Rattle.unpack_rows.proofs.Staging.{marked}
 use Rattle.unpack_run.specs.At.{AreWorksAt, At, Holding, IsAmid, IsAt, IsMarked, IsThere, IsWithin, Stops, table_at}
-use Rattle.unpack_run.proofs.Follows.{come_then, follow_finished, follows_scripts, ready_kept, records_kept, scripts_of-finished}
+use Rattle.unpack_run.specs.Follows.{come_then, follow_finished, follows_scripts, ready_kept, records_kept, scripts_of-finished}
 use Rattle.unpack_run.specs.Clearing.{HasCleared, MayClear, next_ready}
 use Rattle.unpack_run.specs.Task.{Task, based_on, has_gone, kinds, name, places_at}
 use Rattle.unpack_run.specs.Trail.{Follows, HasCome}
