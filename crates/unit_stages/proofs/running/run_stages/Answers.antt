@@ -18,7 +18,7 @@ loop-stage-init g c =
       left = search rules;
       ran = (refl, refl {a = holding d f}, refl {a = a}, refl {a = c.args.told.now.items});
       order = c.requires.order;
-      open = c.requires.open;
+      is_open = c.requires.open;
       any_moment = run_starts c.args.name.now c.args.diversions.now.entries c.args.stages.items (holding d f) d f a refl c.requires.order;
       counts = refl;
     }
@@ -135,7 +135,7 @@ loop-stage-preserved g c =
       left = walk ∙ sym (append_assoc c.loop-stage.yielded (stage ∷ []) c.next.new.self.rest.items);
       ran = run_on name entries c.loop-stage.yielded (stage ∷ []) None before mid after a b d told more now inv.ran one;
       order = c.in_ok-call.ensures.order;
-      open = c.in_ok-call.ensures.open;
+      is_open = c.in_ok-call.ensures.open;
       any_moment = run_goes_on name entries c.args.stages.items before c.loop-stage.yielded c.next.new.self.rest.items stage walk mid a b d told more inv.ran inv.any_moment c.run_stage.ensures.any_moment;
       counts = c.in_ok-call.ensures.counts ∙ inv.counts;
     }

@@ -17,7 +17,7 @@ invariant-loop-stage g l =
       left : l.fn.stages.items ≡ l.yielded ++ l.stage-iterator.rest.items;
       ran : HaveRun name entries l.yielded None (holding_of l.fn.administration) (holding_of l.administration) old now l.fn.told.items l.told.items;
       order : Needs now (IsInOrder l.administration.database l.administration.lists.lists);
-      open : IsOpen entries l.administration;
+      is_open : IsOpen entries l.administration;
       any_moment : AtEachMomentOf (AreRunning name entries l.fn.stages.items (holding_of l.fn.administration)) old now;
       counts : faults now ≡ faults old;
     }
