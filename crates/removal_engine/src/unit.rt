@@ -1,10 +1,10 @@
 // The unit that removes or purges a package.
-ghost use Rattle.std.specs.Prelude.{◌≡◌, true, false, IfOk, OnOk};
+ghost use Rattle.std.specs.Prelude.{◌≡◌, true, IfOk, OnOk};
 ghost use Rattle.texts.specs.PackageNames.{is_package_name};
 ghost use Rattle.host_core.specs.Host.{AtEachMomentOf, Counts, Needs, Reads, Silent};
-ghost use Rattle.file_lists.specs.Owners.{places_in};
+ghost use Rattle.held_administration.specs.Open.{IsOpen};
 ghost use Rattle.unit_parts.specs.Order.{IsInOrder};
-ghost use Rattle.unit_stages.specs.Holding.{holding};
+ghost use Rattle.unit_stages.specs.Holding.{holding_of};
 ghost use Rattle.removal_engine.specs.Units.{HasCalled, HasEnded, HasRemoved, IsAmidUnit, IsPlanFor, IsRemovable, given};
 
 use crate::extent::Extent;
@@ -13,8 +13,9 @@ use crate::scripts::{Stored, stored_scripts};
 use crate::stages::removal_stages;
 use diversions::Diversions;
 use file_lists::FileLists;
-use host_core::{Call, Host, HostFault, Places};
-use status_db::{NotedDatabase, Record};
+use held_administration::Administration;
+use host_core::{Call, Host, HostFault};
+use status_db::Record;
 use std::alloc::Global;
 use texts::Text;
 use unit_stages::{Stage, run_stages};
@@ -68,7 +69,8 @@ pub fn remove<H: Host>(
         (holding_of administration.new) (H.state host.old) (H.state host.new)
         told.old.items told.new.items) }
     ensures end { IfOk result
-        (λ failed. HasEnded extent name.now failed administration.old.database.records administration.new.database.records) }
+        (λ failed. HasEnded extent name.now failed
+        administration.old.database.records administration.new.database.records) }
     ensures order { IfOk result
         (λ failed. Needs (H.state host.new)
         (IsInOrder administration.new.database administration.new.lists.lists)) }
@@ -81,12 +83,18 @@ pub fn remove<H: Host>(
         (H.state host.old) (H.state host.new) }
     ensures counts { Counts (H.state host.old) (H.state host.new) result }
 {
-    lists.index(alloc)?;
-    let entry = database.get(name).unwrap();
-    match plan(alloc, host, lists, diversions, entry, extent) {
-        Ok(stages) => run_stages(
-            host, administration, diversions, name, stages, told,
-        ),
+    let alloc = administration.alloc;
+    administration.lists.index(alloc)?;
+    let entry = administration.database.get(name).unwrap();
+    match plan(
+        alloc,
+        host,
+        &administration.lists,
+        diversions,
+        entry,
+        extent,
+    ) {
+        Ok(stages) => run_stages(host, administration, diversions, name, stages, told),
         Err(fault) => Err(fault),
     }
 }
