@@ -18,11 +18,9 @@ invariant_of-self g c =
       ready = λ open_still h.
           let whole = installed.run.2.whole (sym c.is_broken-self.ensures ∙ open_still) in
           install_standing _ _ _ _ _ _ _ _ _ whole h (c.args.self.now.ready c.if-self.false (install_falls _ _ _ _ _ _ _ _ _ whole h));
-      kept = λ open_still. installed.kept (sym c.is_broken-self.ensures ∙ open_still);
+      opened = λ open_still. installed.open (sym c.is_broken-self.ensures ∙ open_still);
       indexed = λ open_still. packages_kept _ _ (installed.indexed (sym c.is_broken-self.ensures ∙ open_still));
       writable = λ open_still. c.args.self.now.writable c.if-self.false;
-      noting = λ open_still. installed.noting (sym c.is_broken-self.ensures ∙ open_still);
-      listing = λ open_still. installed.listing (sym c.is_broken-self.ensures ∙ open_still);
     }
 
 pub returns-clause-stands : goal.returns-clause-stands
