@@ -8,6 +8,9 @@ use Rattle.dpkg_session.proofs.session.Session.configure.Goals as goal
 pub configure_on-report-requires-clause-order : goal.configure_on-report-requires-clause-order
 configure_on-report-requires-clause-order g c = λ h. parts_standing _ _ (c.args.self.now.ready c.if-self.false h)
 
+pub configure_on-report-requires-clause-open : goal.configure_on-report-requires-clause-open
+configure_on-report-requires-clause-open g c = c.args.self.now.opened c.if-self.false
+
 pub configure_on-report-requires-clause-indexed : goal.configure_on-report-requires-clause-indexed
 configure_on-report-requires-clause-indexed g c = packages_known _ _ (c.args.self.now.indexed c.if-self.false)
 

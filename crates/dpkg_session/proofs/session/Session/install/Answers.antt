@@ -8,6 +8,9 @@ use Rattle.dpkg_session.proofs.session.Session.install.Goals as goal
 pub unpack_and_configure-installed-requires-clause-order : goal.unpack_and_configure-installed-requires-clause-order
 unpack_and_configure-installed-requires-clause-order g c = λ h. parts_standing _ _ (c.args.self.now.ready c.if-self.false h)
 
+pub unpack_and_configure-installed-requires-clause-open : goal.unpack_and_configure-installed-requires-clause-open
+unpack_and_configure-installed-requires-clause-open g c = c.args.self.now.opened c.if-self.false
+
 pub unpack_and_configure-installed-requires-clause-indexed : goal.unpack_and_configure-installed-requires-clause-indexed
 unpack_and_configure-installed-requires-clause-indexed g c = packages_known _ _ (c.args.self.now.indexed c.if-self.false)
 

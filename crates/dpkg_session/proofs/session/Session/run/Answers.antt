@@ -8,6 +8,9 @@ use Rattle.dpkg_session.proofs.session.Session.run.Goals as goal
 pub run_units-report-requires-clause-order : goal.run_units-report-requires-clause-order
 run_units-report-requires-clause-order g c = λ h. order_standing _ _ (c.args.self.now.ready c.if-self.false h)
 
+pub run_units-report-requires-clause-open : goal.run_units-report-requires-clause-open
+run_units-report-requires-clause-open g c = c.args.self.now.opened c.if-self.false
+
 pub run_units-report-requires-clause-indexed : goal.run_units-report-requires-clause-indexed
 run_units-report-requires-clause-indexed g c = packages_known _ _ (c.args.self.now.indexed c.if-self.false)
 

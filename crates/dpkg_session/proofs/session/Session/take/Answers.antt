@@ -8,6 +8,9 @@ use Rattle.dpkg_session.proofs.session.Session.take.Goals as goal
 pub remove_named-report-requires-clause-order : goal.remove_named-report-requires-clause-order
 remove_named-report-requires-clause-order g c = λ h. parts_standing _ _ (c.args.self.now.ready c.if-self.false h)
 
+pub remove_named-report-requires-clause-open : goal.remove_named-report-requires-clause-open
+remove_named-report-requires-clause-open g c = c.args.self.now.opened c.if-self.false
+
 pub remove_named-report-requires-clause-indexed : goal.remove_named-report-requires-clause-indexed
 remove_named-report-requires-clause-indexed g c = packages_known _ _ (c.args.self.now.indexed c.if-self.false)
 
