@@ -9,3 +9,8 @@ pub record IsOpen (entries : List Diversion) (a : Administration) : Type 0 where
   pub noting : a.database.closed ≡ false
   pub listing : a.lists.closed ≡ false
   pub kept : a.places ≡ places_in entries a.lists.lists
+
+-- records and lists can be written; nothing is said of its places, which grow and shrink while a unit runs
+pub record CanWrite (a : Administration) : Type 0 where
+  pub noting : a.database.closed ≡ false
+  pub listing : a.lists.closed ≡ false

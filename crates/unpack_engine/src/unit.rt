@@ -1,6 +1,7 @@
 // The unit of an unpack.
-ghost use Rattle.std.specs.Prelude.{◌≡◌, ◌++◌, ℕ, List, false, IfOk, OnOk};
+ghost use Rattle.std.specs.Prelude.{◌≡◌, ◌++◌, ℕ, List, IfOk, OnOk};
 ghost use Rattle.host_core.specs.Host.{AtEachMomentOf, Counts, Leaves, Needs, Reads, Silent};
+ghost use Rattle.held_administration.specs.Open.{CanWrite};
 ghost use Rattle.stack_run.specs.Ended.{IsCauseOf, ended_as};
 ghost use Rattle.status_db.specs.Held.{IsKept};
 ghost use Rattle.unpack_commit.specs.Takeover.{yields_of};
@@ -9,7 +10,7 @@ ghost use Rattle.unpack_rows.specs.EndStates.{own_name};
 ghost use Rattle.unpack_engine.specs.Courses.{planned_from};
 ghost use Rattle.unpack_engine.specs.Order.{IsInOrder};
 ghost use Rattle.unpack_engine.specs.Others.{AreOthers};
-ghost use Rattle.unpack_engine.specs.Units.{HasCalled, HasCalledRows, HasCarriedOut, HasFailedFor, HasUnpacked, IsAmidUnit, IsPlanBy, IsPlanFor, IsTouched, IsUnderWay, given_beside, ground};
+ghost use Rattle.unpack_engine.specs.Units.{HasCalled, HasCalledRows, HasCarriedOut, HasFailedFor, HasUnpacked, IsAmidUnit, IsPlanBy, IsPlanFor, IsTouched, IsUnderWay, given_beside, given_from, ground_by};
 
 use crate::course::{Course, Rest, course_of};
 use crate::finishing::{Unpacked, finish};
@@ -20,7 +21,8 @@ use crate::running::begin_and_run;
 use diversions::Diversions;
 use file_lists::FileLists;
 use file_works::Work;
-use host_core::{Host, HostFault, Places};
+use held_administration::Administration;
+use host_core::{Host, HostFault};
 use package_tree::Package;
 use status_db::NotedDatabase;
 use std::alloc::{AllocError, Global};
@@ -32,11 +34,8 @@ use unwind_stack::{Called, Row};
 
 // Begins a unit, runs its rows, and does what follows them.
 fn run_parts<H: Host>(
-    alloc: Global,
     host: &mut H,
-    database: &mut NotedDatabase,
-    lists: &mut FileLists,
-    places: &mut Places,
+    administration: &mut Administration,
     diversions: &Diversions,
     rows: &Rows,
     works: &mut Vec<Work>,
@@ -44,41 +43,36 @@ fn run_parts<H: Host>(
     rest: Rest,
     told: &mut Vec<Called>,
 ) -> Result<Unpacked, HostFault>
-    requires noting { database.old.closed ≡ false }
-    requires listing { lists.old.closed ≡ false }
-    requires plan { IsPlanBy database.old.records (planned_from rows.now works.old.items calls.items
-        rest) }
-    requires order { Needs (H.state host.old) (IsInOrder database.old lists.old.lists) }
+    requires open { CanWrite administration.old }
+    requires plan { IsPlanBy administration.old.database.records
+        (planned_from rows.now works.old.items calls.items rest) }
+    requires order { Needs (H.state host.old)
+        (IsInOrder administration.old.database administration.old.lists.lists) }
     ensures unit { IfOk result (λ u. HasCarriedOut
-        (ground database.old.records lists.old.lists diversions.now.entries places.old
-        rows.now.yields)
-        (planned_from rows.now works.old.items calls.items rest) (ended_as u.unwinding) database.new
-        lists.new.lists (H.state host.old) (H.state host.new) told.old.items told.new.items) }
+        (ground_by administration.old diversions.now.entries rows.now.yields)
+        (planned_from rows.now works.old.items calls.items rest) (ended_as u.unwinding)
+        administration.new.database administration.new.lists.lists
+        (H.state host.old) (H.state host.new) told.old.items told.new.items) }
     ensures cause { IfOk result (λ u. IsCauseOf calls.items u.unwinding) }
     ensures touched { IfOk result (λ u. IsTouched
-        (own_name rows.now.found rows.now.incoming) database.old.records database.new.records
-        u.touched) }
+        (own_name rows.now.found rows.now.incoming)
+        administration.old.database.records administration.new.database.records u.touched) }
     ensures told { HasCalledRows calls.items
         (H.state host.old) (H.state host.new) told.old.items told.new.items }
     ensures kept { Leaves result
-        (λ old new. IsKept database.new new) (H.state host.old) (H.state host.new) }
-    ensures noting { OnOk result (database.new.closed ≡ false) }
-    ensures listing { OnOk result (lists.new.closed ≡ false) }
+        (λ old new. IsKept administration.new.database new) (H.state host.old) (H.state host.new) }
+    ensures open { OnOk result (CanWrite administration.new) }
     ensures any_moment { AtEachMomentOf
         (IsUnderWay
-        (ground database.old.records lists.old.lists diversions.now.entries places.old
-        rows.now.yields)
+        (ground_by administration.old diversions.now.entries rows.now.yields)
         (planned_from rows.now works.old.items calls.items rest))
         (H.state host.old) (H.state host.new) }
     ensures counts { Counts (H.state host.old) (H.state host.new) result }
 {
-    database.law();
+    administration.database.law();
     match begin_and_run(
-        alloc,
         host,
-        database,
-        lists,
-        places,
+        administration,
         diversions,
         rows,
         works,
@@ -87,10 +81,18 @@ fn run_parts<H: Host>(
         told,
     ) {
         Ok(unwinding) => {
-            database.law();
+            administration.database.law();
             let shipped = works.as_slice();
             finish(
-                alloc, host, database, lists, diversions, rows, shipped, rest, unwinding,
+                administration.alloc,
+                host,
+                &mut administration.database,
+                &mut administration.lists,
+                diversions,
+                rows,
+                shipped,
+                rest,
+                unwinding,
             )
         }
         Err(fault) => Err(fault),
@@ -99,40 +101,34 @@ fn run_parts<H: Host>(
 
 // Carries out a plan by its parts.
 fn run_course<H: Host>(
-    alloc: Global,
     host: &mut H,
-    database: &mut NotedDatabase,
-    lists: &mut FileLists,
-    places: &mut Places,
+    administration: &mut Administration,
     diversions: &Diversions,
     course: Course,
     told: &mut Vec<Called>,
 ) -> Result<Unpacked, HostFault>
-    requires noting { database.old.closed ≡ false }
-    requires listing { lists.old.closed ≡ false }
-    requires plan { IsPlanBy database.old.records (planned_from course.rows course.works.items
-        course.calls.items course.rest) }
-    requires order { Needs (H.state host.old) (IsInOrder database.old lists.old.lists) }
+    requires open { CanWrite administration.old }
+    requires plan { IsPlanBy administration.old.database.records
+        (planned_from course.rows course.works.items course.calls.items course.rest) }
+    requires order { Needs (H.state host.old)
+        (IsInOrder administration.old.database administration.old.lists.lists) }
     ensures unit { IfOk result (λ u. HasCarriedOut
-        (ground database.old.records lists.old.lists diversions.now.entries places.old
-        course.rows.yields)
+        (ground_by administration.old diversions.now.entries course.rows.yields)
         (planned_from course.rows course.works.items course.calls.items course.rest)
-        (ended_as u.unwinding) database.new lists.new.lists (H.state host.old) (H.state host.new)
-        told.old.items told.new.items) }
+        (ended_as u.unwinding) administration.new.database administration.new.lists.lists
+        (H.state host.old) (H.state host.new) told.old.items told.new.items) }
     ensures cause { IfOk result (λ u. IsCauseOf course.calls.items u.unwinding) }
     ensures touched { IfOk result (λ u. IsTouched
-        (own_name course.rows.found course.rows.incoming) database.old.records database.new.records
-        u.touched) }
+        (own_name course.rows.found course.rows.incoming)
+        administration.old.database.records administration.new.database.records u.touched) }
     ensures told { HasCalledRows course.calls.items
         (H.state host.old) (H.state host.new) told.old.items told.new.items }
     ensures kept { Leaves result
-        (λ old new. IsKept database.new new) (H.state host.old) (H.state host.new) }
-    ensures noting { OnOk result (database.new.closed ≡ false) }
-    ensures listing { OnOk result (lists.new.closed ≡ false) }
+        (λ old new. IsKept administration.new.database new) (H.state host.old) (H.state host.new) }
+    ensures open { OnOk result (CanWrite administration.new) }
     ensures any_moment { AtEachMomentOf
         (IsUnderWay
-        (ground database.old.records lists.old.lists diversions.now.entries places.old
-        course.rows.yields)
+        (ground_by administration.old diversions.now.entries course.rows.yields)
         (planned_from course.rows course.works.items course.calls.items course.rest))
         (H.state host.old) (H.state host.new) }
     ensures counts { Counts (H.state host.old) (H.state host.new) result }
@@ -144,7 +140,14 @@ fn run_course<H: Host>(
         rest,
     } = course;
     run_parts(
-        alloc, host, database, lists, places, diversions, &rows, &mut works, calls, rest, told,
+        host,
+        administration,
+        diversions,
+        &rows,
+        &mut works,
+        calls,
+        rest,
+        told,
     )
 }
 
@@ -179,100 +182,101 @@ fn plan_unit<H: Host>(
 
 // Carries out a plan.
 fn carry_out<H: Host>(
-    alloc: Global,
     host: &mut H,
-    database: &mut NotedDatabase,
-    lists: &mut FileLists,
-    places: &mut Places,
+    administration: &mut Administration,
     diversions: &Diversions,
     plan: Plan,
     yields: Texts,
     told: &mut Vec<Called>,
 ) -> Result<Unpacked, HostFault>
-    requires noting { database.old.closed ≡ false }
-    requires listing { lists.old.closed ≡ false }
-    requires plan { IsPlanBy database.old.records (planned plan) }
-    requires order { Needs (H.state host.old) (IsInOrder database.old lists.old.lists) }
+    requires open { CanWrite administration.old }
+    requires plan { IsPlanBy administration.old.database.records (planned plan) }
+    requires order { Needs (H.state host.old)
+        (IsInOrder administration.old.database administration.old.lists.lists) }
     ensures unit { IfOk result (λ u. HasCarriedOut
-        (ground database.old.records lists.old.lists diversions.now.entries places.old
-        (yields_of database.old.records ++ yields))
-        (planned plan) (ended_as u.unwinding) database.new lists.new.lists
+        (ground_by administration.old diversions.now.entries
+        (yields_of administration.old.database.records ++ yields))
+        (planned plan) (ended_as u.unwinding)
+        administration.new.database administration.new.lists.lists
         (H.state host.old) (H.state host.new) told.old.items told.new.items) }
     ensures cause { IfOk result (λ u. IsCauseOf plan.rows.items u.unwinding) }
     ensures touched { IfOk result (λ u. IsTouched
-        (own_name plan.found plan.incoming) database.old.records database.new.records u.touched) }
+        (own_name plan.found plan.incoming)
+        administration.old.database.records administration.new.database.records u.touched) }
     ensures told { HasCalledRows plan.rows.items
         (H.state host.old) (H.state host.new) told.old.items told.new.items }
     ensures kept { Leaves result
-        (λ old new. IsKept database.new new) (H.state host.old) (H.state host.new) }
-    ensures noting { OnOk result (database.new.closed ≡ false) }
-    ensures listing { OnOk result (lists.new.closed ≡ false) }
+        (λ old new. IsKept administration.new.database new) (H.state host.old) (H.state host.new) }
+    ensures open { OnOk result (CanWrite administration.new) }
     ensures any_moment { AtEachMomentOf
         (IsUnderWay
-        (ground database.old.records lists.old.lists diversions.now.entries places.old
-        (yields_of database.old.records ++ yields))
+        (ground_by administration.old diversions.now.entries
+        (yields_of administration.old.database.records ++ yields))
         (planned plan))
         (H.state host.old) (H.state host.new) }
     ensures counts { Counts (H.state host.old) (H.state host.new) result }
 {
-    match course_of(alloc, plan, database, yields) {
-        Ok(course) => run_course(
-            alloc, host, database, lists, places, diversions, course, told,
-        ),
+    match course_of(administration.alloc, plan, &administration.database, yields) {
+        Ok(course) => run_course(host, administration, diversions, course, told),
         Err(_) => Err(HostFault::NoMemory),
     }
 }
 
 // Plans, and carries the plan out.
 fn plan_and_carry_out<H: Host>(
-    alloc: Global,
     host: &mut H,
-    database: &mut NotedDatabase,
-    lists: &mut FileLists,
-    places: &mut Places,
+    administration: &mut Administration,
     diversions: &Diversions,
     incoming: Package,
     others: Others,
     told: &mut Vec<Called>,
 ) -> Result<Unpacked, HostFault>
-    requires noting { database.old.closed ≡ false }
-    requires listing { lists.old.closed ≡ false }
-    requires order { Needs (H.state host.old) (IsInOrder database.old lists.old.lists) }
-    requires others { AreOthers incoming.name database.old.records others.packages.items }
+    requires open { CanWrite administration.old }
+    requires order { Needs (H.state host.old)
+        (IsInOrder administration.old.database administration.old.lists.lists) }
+    requires others { AreOthers incoming.name administration.old.database.records
+        others.packages.items }
     ensures unit { IfOk result (λ u. HasUnpacked
-        (given_beside incoming database.old.records lists.old.lists diversions.now.entries
+        (given_from incoming administration.old diversions.now.entries
         others.packages.items others.yields)
-        places.old (ended_as u.unwinding) database.new lists.new.lists
+        administration.old.places (ended_as u.unwinding)
+        administration.new.database administration.new.lists.lists
         (H.state host.old) (H.state host.new) told.old.items told.new.items) }
     ensures cause { IfOk result (λ u. HasFailedFor
-        (given_beside incoming database.old.records lists.old.lists diversions.now.entries
+        (given_from incoming administration.old diversions.now.entries
         others.packages.items others.yields)
         (H.state host.old) (H.state host.new) u.unwinding) }
-    ensures touched { IfOk result (λ u. IsTouched incoming.name database.old.records
-        database.new.records u.touched) }
+    ensures touched { IfOk result (λ u. IsTouched incoming.name
+        administration.old.database.records administration.new.database.records u.touched) }
     ensures told { HasCalled
-        (given_beside incoming database.old.records lists.old.lists diversions.now.entries
+        (given_from incoming administration.old diversions.now.entries
         others.packages.items others.yields)
         (H.state host.old) (H.state host.new) told.old.items told.new.items }
     ensures order { IfOk result (λ u. Needs
-        (H.state host.new) (IsInOrder database.new lists.new.lists)) }
-    ensures noting { OnOk result (database.new.closed ≡ false) }
-    ensures listing { OnOk result (lists.new.closed ≡ false) }
+        (H.state host.new)
+        (IsInOrder administration.new.database administration.new.lists.lists)) }
+    ensures open { OnOk result (CanWrite administration.new) }
     ensures any_moment { AtEachMomentOf
         (IsAmidUnit
-        (given_beside incoming database.old.records lists.old.lists diversions.now.entries
+        (given_from incoming administration.old diversions.now.entries
         others.packages.items others.yields)
-        places.old)
+        administration.old.places)
         (H.state host.old) (H.state host.new) }
     ensures counts { Counts (H.state host.old) (H.state host.new) result }
 {
     let Others { packages, yields } = others;
-    match plan_unit(alloc, host, database, lists, diversions, incoming, packages) {
+    match plan_unit(
+        administration.alloc,
+        host,
+        &administration.database,
+        &administration.lists,
+        diversions,
+        incoming,
+        packages,
+    ) {
         Ok(plan) => {
             are_texts(plan.new_list.as_slice());
-            carry_out(
-                alloc, host, database, lists, places, diversions, plan, yields, told,
-            )
+            carry_out(host, administration, diversions, plan, yields, told)
         }
         Err(fault) => Err(fault),
     }
@@ -295,52 +299,49 @@ fn index_where_many(
     Ok(())
 }
 
-/// Unpacks a package that was checked, with the rows of other packages. The places that scripts leave alone are left in no
-/// particular order: the caller computes them anew.
+/// Unpacks a package that was checked, with the rows of other packages. The places that scripts
+/// leave alone are left in no particular order: the caller computes them anew.
 pub fn unpack<H: Host>(
-    alloc: Global,
     host: &mut H,
-    database: &mut NotedDatabase,
-    lists: &mut FileLists,
-    places: &mut Places,
+    administration: &mut Administration,
     diversions: &Diversions,
     incoming: Package,
     others: Others,
     told: &mut Vec<Called>,
 ) -> Result<Unpacked, HostFault>
-    requires noting { database.old.closed ≡ false }
-    requires listing { lists.old.closed ≡ false }
-    requires order { Needs (H.state host.old) (IsInOrder database.old lists.old.lists) }
-    requires others { AreOthers incoming.name database.old.records others.packages.items }
+    requires open { CanWrite administration.old }
+    requires order { Needs (H.state host.old)
+        (IsInOrder administration.old.database administration.old.lists.lists) }
+    requires others { AreOthers incoming.name administration.old.database.records
+        others.packages.items }
     ensures unit { IfOk result (λ u. HasUnpacked
-        (given_beside incoming database.old.records lists.old.lists diversions.now.entries
+        (given_from incoming administration.old diversions.now.entries
         others.packages.items others.yields)
-        places.old (ended_as u.unwinding) database.new lists.new.lists
+        administration.old.places (ended_as u.unwinding)
+        administration.new.database administration.new.lists.lists
         (H.state host.old) (H.state host.new) told.old.items told.new.items) }
     ensures cause { IfOk result (λ u. HasFailedFor
-        (given_beside incoming database.old.records lists.old.lists diversions.now.entries
+        (given_from incoming administration.old diversions.now.entries
         others.packages.items others.yields)
         (H.state host.old) (H.state host.new) u.unwinding) }
-    ensures touched { IfOk result (λ u. IsTouched incoming.name database.old.records
-        database.new.records u.touched) }
+    ensures touched { IfOk result (λ u. IsTouched incoming.name
+        administration.old.database.records administration.new.database.records u.touched) }
     ensures told { HasCalled
-        (given_beside incoming database.old.records lists.old.lists diversions.now.entries
+        (given_from incoming administration.old diversions.now.entries
         others.packages.items others.yields)
         (H.state host.old) (H.state host.new) told.old.items told.new.items }
     ensures order { IfOk result (λ u. Needs
-        (H.state host.new) (IsInOrder database.new lists.new.lists)) }
-    ensures noting { OnOk result (database.new.closed ≡ false) }
-    ensures listing { OnOk result (lists.new.closed ≡ false) }
+        (H.state host.new)
+        (IsInOrder administration.new.database administration.new.lists.lists)) }
+    ensures open { OnOk result (CanWrite administration.new) }
     ensures any_moment { AtEachMomentOf
         (IsAmidUnit
-        (given_beside incoming database.old.records lists.old.lists diversions.now.entries
+        (given_from incoming administration.old diversions.now.entries
         others.packages.items others.yields)
-        places.old)
+        administration.old.places)
         (H.state host.old) (H.state host.new) }
     ensures counts { Counts (H.state host.old) (H.state host.new) result }
 {
-    index_where_many(alloc, lists, &incoming)?;
-    plan_and_carry_out(
-        alloc, host, database, lists, places, diversions, incoming, others, told,
-    )
+    index_where_many(administration.alloc, &mut administration.lists, &incoming)?;
+    plan_and_carry_out(host, administration, diversions, incoming, others, told)
 }
