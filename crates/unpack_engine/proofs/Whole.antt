@@ -27,7 +27,8 @@ use Rattle.unwind_stack.specs.declared.rows.Row.{Row}
 use Rattle.unpack_commit.specs.Takeover.{put_records, taken_places}
 use Rattle.unpack_commit.proofs.Those.{losing_stand}
 use Rattle.unpack_plan.specs.Members.{scripts_in}
-use Rattle.unpack_plan.specs.Planned.{IsPlanned, Job, Planned}
+use Rattle.unpack_plan.specs.Planned.{IsPlanned, Job, Planned, planned_from}
+use Rattle.unpack_plan.specs.declared.plan.PlannedCommit.{PlannedCommit}
 use Rattle.unpack_rows.specs.EndStates.{AreRecorded, end_of, own_name}
 use Rattle.unpack_rows.specs.ForwardRows.{Fits, records_of}
 use Rattle.unpack_rows.specs.Kinds.{kinds_of}
@@ -37,8 +38,7 @@ use Rattle.unpack_rows.proofs.Matching.{as_many, rows_fit}
 use Rattle.unpack_run.specs.At.{At, Holding}
 use Rattle.unpack_run.specs.Task.{IsSound, task_by}
 use Rattle.unpack_run.specs.declared.plan.Rows.{Rows}
-use Rattle.unpack_engine.specs.declared.course.Rest.{Rest}
-use Rattle.unpack_engine.specs.Courses.{ended_records, ended_table, planned_from, records_from}
+use Rattle.unpack_engine.specs.Endings.{ended_records, ended_table, records_from}
 use Rattle.unpack_engine.specs.Order.{IsInOrder}
 use Rattle.unpack_engine.specs.Others.{AreOthers}
 use Rattle.unpack_engine.specs.Touched.{AreTold, deconfigured}
@@ -142,8 +142,8 @@ module _ (g : Ground) (j : Job) (p : Planned) (planned : IsPlanned j p) (d : Rec
   touched_ended (Unwound fall failed) apart after touched is told = unwound_touched after touched is told
 
 -- the same by the parts of a plan
-module _ (held : Administration) (entries : List Diversion) (rows : Rows) (works : List Work) (calls : List Row) (rest : Rest)
-    (plan : IsPlanBy held.database.records (planned_from rows works calls rest)) where
+module _ (held : Administration) (entries : List Diversion) (rows : Rows) (works : List Work) (calls : List Row) (commit : PlannedCommit)
+    (plan : IsPlanBy held.database.records (planned_from rows works calls commit)) where
   abbrev own : Path
   own = own_name rows.found rows.incoming
 
@@ -151,10 +151,10 @@ module _ (held : Administration) (entries : List Diversion) (rows : Rows) (works
   g = ground_by held entries rows.yields
 
   abbrev p : Planned
-  p = planned_from rows works calls rest
+  p = planned_from rows works calls commit
 
   abbrev noted_then : Holding → List Record
-  noted_then mid = records_from own rows.yields entries mid.lists mid.works rest mid.database.records
+  noted_then mid = records_from own rows.yields entries mid.lists mid.works commit mid.database.records
 
   pub parts_sound : AreStanding held.database.records → (s : State) → IsSound (task_by s held entries works rows)
   parts_sound standing s = plan_sound g plan.job p plan.records_are plan.planned plan.others standing s
@@ -169,7 +169,7 @@ module _ (held : Administration) (entries : List Diversion) (rows : Rows) (works
   parts_length = plan_length g plan.job p plan.records_are plan.planned plan.others
 
   module _ (ended : Ended) (mid : Holding) (old last : State) (order : Needs old (IsInOrder held.database held.lists.lists)) (tree : Needs old IsTree) (told now : List Called)
-      (ran : HasRunRows (HasBegun rest.members) (λ s. task_by s held entries works rows) calls ended mid old last told now) where
+      (ran : HasRunRows (HasBegun commit.members) (λ s. task_by s held entries works rows) calls ended mid old last told now) where
     pub parts_info : Needs last (λ w. IsDirectory (w info_path))
     parts_info = last_info g plan.job p plan.planned held.database held.lists.lists old last order tree ended mid told now ran parts_length
 
@@ -179,7 +179,7 @@ module _ (held : Administration) (entries : List Diversion) (rows : Rows) (works
     pub parts_loose : Needs last AreLoose
     parts_loose = loose_last g plan.job p plan.planned held.database held.lists.lists old last order tree ended mid told now ran parts_length
 
-    pub parts_laid : Needs last (AreLaidOut rest.members)
+    pub parts_laid : Needs last (AreLaidOut commit.members)
     parts_laid = laid_last g plan.job p plan.planned held.database held.lists.lists old last order tree ended mid told now ran parts_length
 
     pub parts_stand : AreStanding mid.database.records → AreStanding (noted_then mid)

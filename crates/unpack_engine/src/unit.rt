@@ -1,21 +1,18 @@
 // The unit of an unpack.
-ghost use Rattle.std.specs.Prelude.{◌≡◌, ◌++◌, ℕ, List, IfOk, OnOk};
+ghost use Rattle.std.specs.Prelude.{◌≡◌, ◌++◌, IfOk, OnOk};
 ghost use Rattle.host_core.specs.Host.{AtEachMomentOf, Counts, Leaves, Needs, Reads, Silent};
 ghost use Rattle.held_administration.specs.Open.{CanWrite};
 ghost use Rattle.stack_run.specs.Ended.{IsCauseOf, ended_as};
 ghost use Rattle.status_db.specs.Held.{IsKept};
 ghost use Rattle.unpack_commit.specs.Takeover.{yields_of};
-ghost use Rattle.unpack_plan.specs.Planned.{planned};
+ghost use Rattle.unpack_plan.specs.Planned.{planned, planned_from};
 ghost use Rattle.unpack_rows.specs.EndStates.{own_name};
-ghost use Rattle.unpack_engine.specs.Courses.{planned_from};
 ghost use Rattle.unpack_engine.specs.Order.{IsInOrder};
 ghost use Rattle.unpack_engine.specs.Others.{AreOthers};
-ghost use Rattle.unpack_engine.specs.Units.{HasCalled, HasCalledRows, HasCarriedOut, HasFailedFor, HasUnpacked, IsAmidUnit, IsPlanBy, IsPlanFor, IsTouched, IsUnderWay, given_beside, given_from, ground_by};
+ghost use Rattle.unpack_engine.specs.Units.{HasCalled, HasCalledRows, HasCarriedOut, HasFailedFor, HasUnpacked, IsAmidUnit, IsPlanBy, IsPlanFor, IsTouched, IsUnderWay, given_from, ground_by};
 
-use crate::course::{Course, Rest, course_of};
 use crate::finishing::{Unpacked, finish};
 use crate::looks::stored_scripts;
-use crate::others::Others;
 use crate::path_texts::are_texts;
 use crate::running::begin_and_run;
 use diversions::Diversions;
@@ -24,11 +21,8 @@ use file_works::Work;
 use held_administration::Administration;
 use host_core::{Host, HostFault};
 use package_tree::Package;
-use status_db::NotedDatabase;
 use std::alloc::{AllocError, Global};
-use texts::Texts;
-use unpack_plan::{Plan, plan_of};
-use unpack_rows::OtherPackage;
+use unpack_plan::{Others, Plan, PlannedCommit, plan_of};
 use unpack_run::Rows;
 use unwind_stack::{Called, Row};
 
@@ -40,17 +34,17 @@ fn run_parts<H: Host>(
     rows: &Rows,
     works: &mut Vec<Work>,
     calls: Vec<Row>,
-    rest: Rest,
+    commit: PlannedCommit,
     told: &mut Vec<Called>,
 ) -> Result<Unpacked, HostFault>
     requires open { CanWrite administration.old }
     requires plan { IsPlanBy administration.old.database.records
-        (planned_from rows.now works.old.items calls.items rest) }
+        (planned_from rows.now works.old.items calls.items commit) }
     requires order { Needs (H.state host.old)
         (IsInOrder administration.old.database administration.old.lists.lists) }
     ensures unit { IfOk result (λ u. HasCarriedOut
         (ground_by administration.old diversions.now.entries rows.now.yields)
-        (planned_from rows.now works.old.items calls.items rest) (ended_as u.unwinding)
+        (planned_from rows.now works.old.items calls.items commit) (ended_as u.unwinding)
         administration.new.database administration.new.lists.lists
         (H.state host.old) (H.state host.new) told.old.items told.new.items) }
     ensures cause { IfOk result (λ u. IsCauseOf calls.items u.unwinding) }
@@ -65,7 +59,7 @@ fn run_parts<H: Host>(
     ensures any_moment { AtEachMomentOf
         (IsUnderWay
         (ground_by administration.old diversions.now.entries rows.now.yields)
-        (planned_from rows.now works.old.items calls.items rest))
+        (planned_from rows.now works.old.items calls.items commit))
         (H.state host.old) (H.state host.new) }
     ensures counts { Counts (H.state host.old) (H.state host.new) result }
 {
@@ -77,7 +71,7 @@ fn run_parts<H: Host>(
         rows,
         works,
         calls,
-        &rest.members,
+        &commit.members,
         told,
     ) {
         Ok(unwinding) => {
@@ -91,7 +85,7 @@ fn run_parts<H: Host>(
                 diversions,
                 rows,
                 shipped,
-                rest,
+                commit,
                 unwinding,
             )
         }
@@ -100,93 +94,11 @@ fn run_parts<H: Host>(
 }
 
 // Carries out a plan by its parts.
-fn run_course<H: Host>(
-    host: &mut H,
-    administration: &mut Administration,
-    diversions: &Diversions,
-    course: Course,
-    told: &mut Vec<Called>,
-) -> Result<Unpacked, HostFault>
-    requires open { CanWrite administration.old }
-    requires plan { IsPlanBy administration.old.database.records
-        (planned_from course.rows course.works.items course.calls.items course.rest) }
-    requires order { Needs (H.state host.old)
-        (IsInOrder administration.old.database administration.old.lists.lists) }
-    ensures unit { IfOk result (λ u. HasCarriedOut
-        (ground_by administration.old diversions.now.entries course.rows.yields)
-        (planned_from course.rows course.works.items course.calls.items course.rest)
-        (ended_as u.unwinding) administration.new.database administration.new.lists.lists
-        (H.state host.old) (H.state host.new) told.old.items told.new.items) }
-    ensures cause { IfOk result (λ u. IsCauseOf course.calls.items u.unwinding) }
-    ensures touched { IfOk result (λ u. IsTouched
-        (own_name course.rows.found course.rows.incoming)
-        administration.old.database.records administration.new.database.records u.touched) }
-    ensures told { HasCalledRows course.calls.items
-        (H.state host.old) (H.state host.new) told.old.items told.new.items }
-    ensures kept { Leaves result
-        (λ old new. IsKept administration.new.database new) (H.state host.old) (H.state host.new) }
-    ensures open { OnOk result (CanWrite administration.new) }
-    ensures any_moment { AtEachMomentOf
-        (IsUnderWay
-        (ground_by administration.old diversions.now.entries course.rows.yields)
-        (planned_from course.rows course.works.items course.calls.items course.rest))
-        (H.state host.old) (H.state host.new) }
-    ensures counts { Counts (H.state host.old) (H.state host.new) result }
-{
-    let Course {
-        rows,
-        mut works,
-        calls,
-        rest,
-    } = course;
-    run_parts(
-        host,
-        administration,
-        diversions,
-        &rows,
-        &mut works,
-        calls,
-        rest,
-        told,
-    )
-}
-
-// Looks which scripts are stored, and plans.
-fn plan_unit<H: Host>(
-    alloc: Global,
-    host: &mut H,
-    database: &NotedDatabase,
-    lists: &FileLists,
-    diversions: &Diversions,
-    incoming: Package,
-    others: Vec<OtherPackage>,
-) -> Result<Plan, HostFault>
-    ensures planned { IfOk result (λ plan. (yields : List (List ℕ))
-        → IsPlanFor
-        (given_beside incoming database.now.records lists.now.lists diversions.now.entries
-        others.items yields)
-        (H.state host.old).world (H.state host.new).honest (planned plan)) }
-    ensures reads { Reads (H.state host.old) (H.state host.new) }
-    ensures silent { Silent (H.state host.old) (H.state host.new) }
-    ensures counts { Counts (H.state host.old) (H.state host.new) result }
-{
-    let found = database.get(&incoming.name);
-    match stored_scripts(alloc, host, &incoming.name, found) {
-        Ok(stored) => match plan_of(alloc, incoming, database, lists, diversions, stored, others) {
-            Ok(plan) => Ok(plan),
-            Err(_) => Err(HostFault::NoMemory),
-        },
-        Err(fault) => Err(fault),
-    }
-}
-
-// Carries out a plan.
 fn carry_out<H: Host>(
     host: &mut H,
     administration: &mut Administration,
     diversions: &Diversions,
     plan: Plan,
-    yields: Texts,
     told: &mut Vec<Called>,
 ) -> Result<Unpacked, HostFault>
     requires open { CanWrite administration.old }
@@ -194,31 +106,72 @@ fn carry_out<H: Host>(
     requires order { Needs (H.state host.old)
         (IsInOrder administration.old.database administration.old.lists.lists) }
     ensures unit { IfOk result (λ u. HasCarriedOut
-        (ground_by administration.old diversions.now.entries
-        (yields_of administration.old.database.records ++ yields))
+        (ground_by administration.old diversions.now.entries plan.rows.yields)
         (planned plan) (ended_as u.unwinding)
         administration.new.database administration.new.lists.lists
         (H.state host.old) (H.state host.new) told.old.items told.new.items) }
-    ensures cause { IfOk result (λ u. IsCauseOf plan.rows.items u.unwinding) }
+    ensures cause { IfOk result (λ u. IsCauseOf plan.calls.items u.unwinding) }
     ensures touched { IfOk result (λ u. IsTouched
-        (own_name plan.found plan.incoming)
+        (own_name plan.rows.found plan.rows.incoming)
         administration.old.database.records administration.new.database.records u.touched) }
-    ensures told { HasCalledRows plan.rows.items
+    ensures told { HasCalledRows plan.calls.items
         (H.state host.old) (H.state host.new) told.old.items told.new.items }
     ensures kept { Leaves result
         (λ old new. IsKept administration.new.database new) (H.state host.old) (H.state host.new) }
     ensures open { OnOk result (CanWrite administration.new) }
     ensures any_moment { AtEachMomentOf
         (IsUnderWay
-        (ground_by administration.old diversions.now.entries
-        (yields_of administration.old.database.records ++ yields))
+        (ground_by administration.old diversions.now.entries plan.rows.yields)
         (planned plan))
         (H.state host.old) (H.state host.new) }
     ensures counts { Counts (H.state host.old) (H.state host.new) result }
 {
-    match course_of(administration.alloc, plan, &administration.database, yields) {
-        Ok(course) => run_course(host, administration, diversions, course, told),
-        Err(_) => Err(HostFault::NoMemory),
+    let Plan {
+        rows,
+        mut works,
+        calls,
+        commit,
+    } = plan;
+    run_parts(
+        host,
+        administration,
+        diversions,
+        &rows,
+        &mut works,
+        calls,
+        commit,
+        told,
+    )
+}
+
+// Looks which scripts are stored, and plans.
+fn plan_unit<H: Host>(
+    host: &mut H,
+    administration: &Administration,
+    diversions: &Diversions,
+    incoming: Package,
+    others: Others,
+) -> Result<Plan, HostFault>
+    ensures planned { IfOk result (λ plan. IsPlanFor
+        (given_from incoming administration.now diversions.now.entries
+        others.packages.items others.yields)
+        (H.state host.old).world (H.state host.new).honest (planned plan)) }
+    ensures yields { IfOk result (λ plan. plan.rows.yields
+        ≡ yields_of administration.now.database.records ++ others.yields) }
+    ensures reads { Reads (H.state host.old) (H.state host.new) }
+    ensures silent { Silent (H.state host.old) (H.state host.new) }
+    ensures counts { Counts (H.state host.old) (H.state host.new) result }
+{
+    let alloc = administration.alloc;
+    let database = &administration.database;
+    let lists = &administration.lists;
+    let found = database.get(&incoming.name);
+    match stored_scripts(alloc, host, &incoming.name, found) {
+        Ok(stored) => match plan_of(alloc, incoming, database, lists, diversions, stored, others) {
+            Ok(plan) => Ok(plan),
+            Err(_) => Err(HostFault::NoMemory),
+        },
+        Err(fault) => Err(fault),
     }
 }
 
@@ -264,19 +217,10 @@ fn plan_and_carry_out<H: Host>(
         (H.state host.old) (H.state host.new) }
     ensures counts { Counts (H.state host.old) (H.state host.new) result }
 {
-    let Others { packages, yields } = others;
-    match plan_unit(
-        administration.alloc,
-        host,
-        &administration.database,
-        &administration.lists,
-        diversions,
-        incoming,
-        packages,
-    ) {
+    match plan_unit(host, administration, diversions, incoming, others) {
         Ok(plan) => {
-            are_texts(plan.new_list.as_slice());
-            carry_out(host, administration, diversions, plan, yields, told)
+            are_texts(plan.commit.new_list.as_slice());
+            carry_out(host, administration, diversions, plan, told)
         }
         Err(fault) => Err(fault),
     }
