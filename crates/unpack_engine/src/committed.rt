@@ -68,7 +68,8 @@ pub(crate) fn committing_of(
     commit: PlannedCommit,
 ) -> Result<Committing, AllocError>
     ensures change { IfOk result (λ c. changes_of c.change c.new_list
-        ≡ changes_from name.now yields.now diversions.now.entries lists.now.lists works.now commit) }
+        ≡ changes_from name.now yields.now diversions.now.entries lists.now.lists works.now
+        commit) }
     ensures members { IfOk result (λ c. c.change.members ≡ commit.members) }
     ensures records { IfOk result (λ c. c.records.items
         ≡ records_from name.now yields.now diversions.now.entries lists.now.lists works.now commit

@@ -37,8 +37,8 @@ use texts::{Text, Texts};
 use unpack_plan::PlannedCommit;
 use unpack_run::Rows;
 
-/// How a unit ended: how its rows were unwound, or none where it was committed; and its packages, in the order of names: the
-/// one that was named, and each whose record differs since.
+/// How a unit ended: how its rows were unwound, or none where it was committed; and its packages, in
+/// the order of names: the one that was named, and each whose record differs since.
 #[derive(Drop)]
 pub struct Unpacked {
     pub unwinding: Option<Unwinding>,

@@ -21,12 +21,12 @@ use Rattle.status_db.specs.Records.{record_in}
 use Rattle.status_db.specs.declared.record.Record.{Record}
 use Rattle.unpack_moves.specs.Closing.{SparesAdministration}
 use Rattle.unpack_moves.specs.Concluding.{AreElsewhere}
-use Rattle.unpack_run.specs.declared.plan.Rows.{Rows}
 use Rattle.unpack_rows.specs.ForwardRows.{others_rows, records_of, rows_of}
 use Rattle.unpack_rows.specs.Kinds.{kinds_of, own_of}
 use Rattle.unpack_rows.specs.declared.kinds.RowKind.{RowKind}
 use Rattle.unpack_rows.specs.declared.rows.OtherPackage.{OtherPackage}
 use Rattle.unpack_rows.specs.declared.rows.Present.{Present}
+use Rattle.unpack_run.specs.declared.plan.Rows.{Rows}
 use Rattle.unpack_plan.specs.Lists.{IsAfter, IsUnion, old_leaving}
 use Rattle.unpack_plan.specs.Members.{AreMembersOf, scripts_in}
 use Rattle.unpack_plan.specs.Names.{cleared_names}
