@@ -5,7 +5,7 @@ ghost use Rattle.held_administration.specs.Open.{CanWrite};
 ghost use Rattle.stack_run.specs.Ended.{IsCauseOf, ended_as};
 ghost use Rattle.status_db.specs.Held.{IsKept};
 ghost use Rattle.unpack_commit.specs.Takeover.{yields_of};
-ghost use Rattle.unpack_plan.specs.Planned.{planned, planned_from};
+ghost use Rattle.unpack_plan.specs.Planned.{planned};
 ghost use Rattle.unpack_rows.specs.EndStates.{own_name};
 ghost use Rattle.unpack_engine.specs.Order.{IsInOrder};
 ghost use Rattle.unpack_engine.specs.Others.{AreOthers};
@@ -17,83 +17,14 @@ use crate::path_texts::are_texts;
 use crate::running::begin_and_run;
 use diversions::Diversions;
 use file_lists::FileLists;
-use file_works::Work;
 use held_administration::Administration;
 use host_core::{Host, HostFault};
 use package_tree::Package;
 use std::alloc::{AllocError, Global};
-use unpack_plan::{Others, Plan, PlannedCommit, plan_of};
-use unpack_run::Rows;
-use unwind_stack::{Called, Row};
+use unpack_plan::{Others, Plan, plan_of};
+use unwind_stack::Called;
 
-// Begins a unit, runs its rows, and does what follows them.
-fn run_parts<H: Host>(
-    host: &mut H,
-    administration: &mut Administration,
-    diversions: &Diversions,
-    rows: &Rows,
-    works: &mut Vec<Work>,
-    calls: Vec<Row>,
-    commit: PlannedCommit,
-    told: &mut Vec<Called>,
-) -> Result<Unpacked, HostFault>
-    requires open { CanWrite administration.old }
-    requires plan { IsPlanBy administration.old.database.records
-        (planned_from rows.now works.old.items calls.items commit) }
-    requires order { Needs (H.state host.old)
-        (IsInOrder administration.old.database administration.old.lists.lists) }
-    ensures unit { IfOk result (λ u. HasCarriedOut
-        (ground_by administration.old diversions.now.entries rows.now.yields)
-        (planned_from rows.now works.old.items calls.items commit) (ended_as u.unwinding)
-        administration.new.database administration.new.lists.lists
-        (H.state host.old) (H.state host.new) told.old.items told.new.items) }
-    ensures cause { IfOk result (λ u. IsCauseOf calls.items u.unwinding) }
-    ensures touched { IfOk result (λ u. IsTouched
-        (own_name rows.now.found rows.now.incoming)
-        administration.old.database.records administration.new.database.records u.touched) }
-    ensures told { HasCalledRows calls.items
-        (H.state host.old) (H.state host.new) told.old.items told.new.items }
-    ensures kept { Leaves result
-        (λ old new. IsKept administration.new.database new) (H.state host.old) (H.state host.new) }
-    ensures open { OnOk result (CanWrite administration.new) }
-    ensures any_moment { AtEachMomentOf
-        (IsUnderWay
-        (ground_by administration.old diversions.now.entries rows.now.yields)
-        (planned_from rows.now works.old.items calls.items commit))
-        (H.state host.old) (H.state host.new) }
-    ensures counts { Counts (H.state host.old) (H.state host.new) result }
-{
-    administration.database.law();
-    match begin_and_run(
-        host,
-        administration,
-        diversions,
-        rows,
-        works,
-        calls,
-        &commit.members,
-        told,
-    ) {
-        Ok(unwinding) => {
-            administration.database.law();
-            let shipped = works.as_slice();
-            finish(
-                administration.alloc,
-                host,
-                &mut administration.database,
-                &mut administration.lists,
-                diversions,
-                rows,
-                shipped,
-                commit,
-                unwinding,
-            )
-        }
-        Err(fault) => Err(fault),
-    }
-}
-
-// Carries out a plan by its parts.
+// Carries out a plan: begins a unit, runs its rows, and does what follows them.
 fn carry_out<H: Host>(
     host: &mut H,
     administration: &mut Administration,
@@ -132,16 +63,34 @@ fn carry_out<H: Host>(
         calls,
         commit,
     } = plan;
-    run_parts(
+    administration.database.law();
+    match begin_and_run(
         host,
         administration,
         diversions,
         &rows,
         &mut works,
         calls,
-        commit,
+        &commit.members,
         told,
-    )
+    ) {
+        Ok(unwinding) => {
+            administration.database.law();
+            let shipped = works.as_slice();
+            finish(
+                administration.alloc,
+                host,
+                &mut administration.database,
+                &mut administration.lists,
+                diversions,
+                &rows,
+                shipped,
+                commit,
+                unwinding,
+            )
+        }
+        Err(fault) => Err(fault),
+    }
 }
 
 // Looks which scripts are stored, and plans.
