@@ -33,16 +33,16 @@ pub(crate) struct Unpacking<'a, 's, H: Host> {
     pub(crate) administration: &'a mut Administration,
     pub(crate) works: &'a mut Vec<Work>,
     pub(crate) diversions: &'a Diversions,
-    pub(crate) plan: &'a Rows,
+    pub(crate) rows: &'a Rows,
     pub(crate) start: &'s Start<H>,
-    pub(crate) ghost kinds_are: { plan.now.kinds.items ≡ kinds_of plan.now.found plan.now.others.items },
+    pub(crate) ghost kinds_are: { rows.now.kinds.items ≡ kinds_of rows.now.found rows.now.others.items },
 }
 
 impl<'a, 's, H: Host> Around<H> for Unpacking<'a, 's, H> {
     ghost Task = { Task };
 
     ghost task = { λ a. task_by (H.state a.start.now.host.value) a.start.now.administration.value
-        a.diversions.now.entries a.start.now.works.value.items a.plan.now };
+        a.diversions.now.entries a.start.now.works.value.items a.rows.now };
 
     ghost reference = { λ a. a.administration.ghost_name ∷ a.works.ghost_name ∷ [] };
 
@@ -56,17 +56,17 @@ impl<'a, 's, H: Host> Around<H> for Unpacking<'a, 's, H> {
 
     ghost at = { λ a s p. At (task_by (H.state a.start.now.host.value)
         a.start.now.administration.value a.diversions.now.entries
-        a.start.now.works.value.items a.plan.now)
+        a.start.now.works.value.items a.rows.now)
         (holding_by a.administration.now a.works.now.items) s p };
 
     ghost stays = { λ a s u p ts. stays_at (task_by (H.state a.start.now.host.value)
         a.start.now.administration.value a.diversions.now.entries
-        a.start.now.works.value.items a.plan.now)
+        a.start.now.works.value.items a.rows.now)
         (holding_by a.administration.now a.works.now.items) s u p ts };
 
     ghost holds = { λ a s p more v. holds_at (task_by (H.state a.start.now.host.value)
         a.start.now.administration.value a.diversions.now.entries
-        a.start.now.works.value.items a.plan.now)
+        a.start.now.works.value.items a.rows.now)
         (holding_by a.administration.now a.works.now.items) s p more v };
 
     fn places(&self) -> &Places {
@@ -75,9 +75,9 @@ impl<'a, 's, H: Host> Around<H> for Unpacking<'a, 's, H> {
 
     fn prepare(&mut self, host: &mut H, _row: &Row, index: usize) -> Result<(), HostFault> {
         let alloc = self.administration.alloc;
-        let kind = self.plan.kind(index);
-        clear_left(alloc, host, self.plan, kind)?;
-        let entry = note_before(self.plan.found.as_ref(), &self.plan.incoming, kind)?;
+        let kind = self.rows.kind(index);
+        clear_left(alloc, host, self.rows, kind)?;
+        let entry = note_before(self.rows.found.as_ref(), &self.rows.incoming, kind)?;
         let administration = &mut *self.administration;
         write_note(alloc, host, &mut administration.database, entry)
     }
@@ -113,8 +113,8 @@ impl<'a, 's, H: Host> Around<H> for Unpacking<'a, 's, H> {
         if is_spared(fails, index, &row.owner, failed) {
             return Ok(());
         }
-        let kind = self.plan.kind(index);
-        let entry = note_undone(self.plan.found.as_ref(), &self.plan.incoming, kind)?;
+        let kind = self.rows.kind(index);
+        let entry = note_undone(self.rows.found.as_ref(), &self.rows.incoming, kind)?;
         let administration = &mut *self.administration;
         write_note(
             administration.alloc,

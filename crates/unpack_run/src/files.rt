@@ -21,32 +21,32 @@ pub(crate) fn write_row<H: Host>(
 ) -> Result<Option<StepFault>, HostFault>
     requires place { At (task_by (H.state unpacking.old.start.now.host.value)
         unpacking.old.start.now.administration.value unpacking.old.diversions.now.entries
-        unpacking.old.start.now.works.value.items unpacking.old.plan.now)
+        unpacking.old.start.now.works.value.items unpacking.old.rows.now)
         (holding_by unpacking.old.administration.now unpacking.old.works.now.items)
         (H.state host.old) (Forward index) }
     requires row { IsFileRow (kinds (task_by (H.state unpacking.old.start.now.host.value)
         unpacking.old.start.now.administration.value unpacking.old.diversions.now.entries
-        unpacking.old.start.now.works.value.items unpacking.old.plan.now)) index }
+        unpacking.old.start.now.works.value.items unpacking.old.rows.now)) index }
     ensures fault { IfOk result (IfHonest (H.state host.new)
         (IsFileFault (task_by (H.state unpacking.old.start.now.host.value)
         unpacking.old.start.now.administration.value unpacking.old.diversions.now.entries
-        unpacking.old.start.now.works.value.items unpacking.old.plan.now))
+        unpacking.old.start.now.works.value.items unpacking.old.rows.now))
         (calls (H.state host.old))) }
     ensures place { IfOk result (λ fault. At (task_by (H.state unpacking.old.start.now.host.value)
         unpacking.old.start.now.administration.value unpacking.old.diversions.now.entries
-        unpacking.old.start.now.works.value.items unpacking.old.plan.now)
+        unpacking.old.start.now.works.value.items unpacking.old.rows.now)
         (holding_by unpacking.new.administration.now unpacking.new.works.now.items)
         (H.state host.new) (worked index fault)) }
     ensures any_moment { AtEachStop (Stops (task_by (H.state unpacking.old.start.now.host.value)
         unpacking.old.start.now.administration.value unpacking.old.diversions.now.entries
-        unpacking.old.start.now.works.value.items unpacking.old.plan.now)) (H.state host.old)
+        unpacking.old.start.now.works.value.items unpacking.old.rows.now)) (H.state host.old)
         (H.state host.new) }
     ensures task { task_by (H.state unpacking.new.start.now.host.value)
         unpacking.new.start.now.administration.value unpacking.new.diversions.now.entries
-        unpacking.new.start.now.works.value.items unpacking.new.plan.now
+        unpacking.new.start.now.works.value.items unpacking.new.rows.now
         ≡ task_by (H.state unpacking.old.start.now.host.value)
         unpacking.old.start.now.administration.value unpacking.old.diversions.now.entries
-        unpacking.old.start.now.works.value.items unpacking.old.plan.now }
+        unpacking.old.start.now.works.value.items unpacking.old.rows.now }
     ensures administration_stay { unpacking.new.administration.ghost_name
         ≡ unpacking.old.administration.ghost_name }
     ensures works_stay { unpacking.new.works.ghost_name ≡ unpacking.old.works.ghost_name }
@@ -62,7 +62,7 @@ pub(crate) fn write_row<H: Host>(
         &mut administration.lists,
         &mut administration.places,
         unpacking.diversions,
-        unpacking.plan,
+        unpacking.rows,
         unpacking.works,
     )
 }
@@ -77,28 +77,28 @@ pub(crate) fn restore_row<H: Host>(
 ) -> Result<(), HostFault>
     requires place { At (task_by (H.state unpacking.old.start.now.host.value)
         unpacking.old.start.now.administration.value unpacking.old.diversions.now.entries
-        unpacking.old.start.now.works.value.items unpacking.old.plan.now)
+        unpacking.old.start.now.works.value.items unpacking.old.rows.now)
         (holding_by unpacking.old.administration.now unpacking.old.works.now.items)
         (H.state host.old) (Back (index + 1) fall.now failed.now) }
     requires row { IsFileRow (kinds (task_by (H.state unpacking.old.start.now.host.value)
         unpacking.old.start.now.administration.value unpacking.old.diversions.now.entries
-        unpacking.old.start.now.works.value.items unpacking.old.plan.now)) index }
+        unpacking.old.start.now.works.value.items unpacking.old.rows.now)) index }
     requires wrote { index < fall.now.row }
     ensures place { OnOk result (At (task_by (H.state unpacking.old.start.now.host.value)
         unpacking.old.start.now.administration.value unpacking.old.diversions.now.entries
-        unpacking.old.start.now.works.value.items unpacking.old.plan.now)
+        unpacking.old.start.now.works.value.items unpacking.old.rows.now)
         (holding_by unpacking.new.administration.now unpacking.new.works.now.items)
         (H.state host.new) (Back index fall.now failed.now)) }
     ensures any_moment { AtEachStop (Stops (task_by (H.state unpacking.old.start.now.host.value)
         unpacking.old.start.now.administration.value unpacking.old.diversions.now.entries
-        unpacking.old.start.now.works.value.items unpacking.old.plan.now)) (H.state host.old)
+        unpacking.old.start.now.works.value.items unpacking.old.rows.now)) (H.state host.old)
         (H.state host.new) }
     ensures task { task_by (H.state unpacking.new.start.now.host.value)
         unpacking.new.start.now.administration.value unpacking.new.diversions.now.entries
-        unpacking.new.start.now.works.value.items unpacking.new.plan.now
+        unpacking.new.start.now.works.value.items unpacking.new.rows.now
         ≡ task_by (H.state unpacking.old.start.now.host.value)
         unpacking.old.start.now.administration.value unpacking.old.diversions.now.entries
-        unpacking.old.start.now.works.value.items unpacking.old.plan.now }
+        unpacking.old.start.now.works.value.items unpacking.old.rows.now }
     ensures administration_stay { unpacking.new.administration.ghost_name
         ≡ unpacking.old.administration.ghost_name }
     ensures works_stay { unpacking.new.works.ghost_name ≡ unpacking.old.works.ghost_name }
@@ -115,7 +115,7 @@ pub(crate) fn restore_row<H: Host>(
         host,
         &mut administration.lists,
         &mut administration.places,
-        unpacking.plan,
+        unpacking.rows,
         unpacking.works.as_slice(),
     )
 }

@@ -25,36 +25,36 @@ use unwind_stack::{Called, Row};
 fn run_all<H: Host>(
     host: &mut H,
     unpacking: &mut Unpacking<'_, '_, H>,
-    rows: Vec<Row>,
+    calls: Vec<Row>,
     told: &mut Vec<Called>,
 ) -> Result<Option<Unwinding>, HostFault>
     requires place { At (task_by (H.state unpacking.old.start.now.host.value)
         unpacking.old.start.now.administration.value unpacking.old.diversions.now.entries
-        unpacking.old.start.now.works.value.items unpacking.old.plan.now)
+        unpacking.old.start.now.works.value.items unpacking.old.rows.now)
         (holding_by unpacking.old.administration.now unpacking.old.works.now.items)
         (H.state host.old) (Forward 0) }
     requires rows { Fit (Fits (name (task_by (H.state unpacking.old.start.now.host.value)
         unpacking.old.start.now.administration.value unpacking.old.diversions.now.entries
-        unpacking.old.start.now.works.value.items unpacking.old.plan.now))
+        unpacking.old.start.now.works.value.items unpacking.old.rows.now))
         (kinds (task_by (H.state unpacking.old.start.now.host.value)
         unpacking.old.start.now.administration.value unpacking.old.diversions.now.entries
-        unpacking.old.start.now.works.value.items unpacking.old.plan.now))) rows.items }
+        unpacking.old.start.now.works.value.items unpacking.old.rows.now))) calls.items }
     ensures calls { IfOk result
         (λ u. HasRun (IsFileFault (task_by (H.state unpacking.old.start.now.host.value)
         unpacking.old.start.now.administration.value unpacking.old.diversions.now.entries
-        unpacking.old.start.now.works.value.items unpacking.old.plan.now)) (ended_as u) rows.items
+        unpacking.old.start.now.works.value.items unpacking.old.rows.now)) (ended_as u) calls.items
         (H.state host.old) (H.state host.new) told.old.items told.new.items) }
-    ensures cause { IfOk result (IsCauseOf rows.items) }
-    ensures told { Begun (MayRun rows.items) (H.state host.old) (H.state host.new) told.old.items
+    ensures cause { IfOk result (IsCauseOf calls.items) }
+    ensures told { Begun (MayRun calls.items) (H.state host.old) (H.state host.new) told.old.items
         told.new.items }
     ensures there { IfOk result (λ u. At (task_by (H.state unpacking.old.start.now.host.value)
         unpacking.old.start.now.administration.value unpacking.old.diversions.now.entries
-        unpacking.old.start.now.works.value.items unpacking.old.plan.now)
+        unpacking.old.start.now.works.value.items unpacking.old.rows.now)
         (holding_by unpacking.new.administration.now unpacking.new.works.now.items)
-        (H.state host.new) (end_place (length rows.items) u)) }
+        (H.state host.new) (end_place (length calls.items) u)) }
     ensures any_moment { AtEachStop (Stops (task_by (H.state unpacking.old.start.now.host.value)
         unpacking.old.start.now.administration.value unpacking.old.diversions.now.entries
-        unpacking.old.start.now.works.value.items unpacking.old.plan.now)) (H.state host.old)
+        unpacking.old.start.now.works.value.items unpacking.old.rows.now)) (H.state host.old)
         (H.state host.new) }
     ensures administration_stay { unpacking.new.administration.ghost_name
         ≡ unpacking.old.administration.ghost_name }
@@ -62,7 +62,7 @@ fn run_all<H: Host>(
     ensures counts { Counts (H.state host.old) (H.state host.new) result }
 {
     let alloc = unpacking.administration.alloc;
-    run_rows(alloc, host, unpacking, rows, told)
+    run_rows(alloc, host, unpacking, calls, told)
 }
 
 /// Runs the rows of an unpack with their notes, the list and the files. Where one fails, it and
@@ -73,39 +73,39 @@ pub fn run_unpack_rows<'a, H: Host>(
     host: &mut H,
     administration: &'a mut Administration,
     diversions: &'a Diversions,
-    plan: &'a Rows,
+    rows: &'a Rows,
     works: &'a mut Vec<Work>,
-    rows: Vec<Row>,
+    calls: Vec<Row>,
     told: &mut Vec<Called>,
 ) -> Result<Option<Unwinding>, HostFault>
     requires sound { IsSound (task_by (H.state host.old) administration.old diversions.now.entries
-        works.old.items plan.now) }
+        works.old.items rows.now) }
     requires open { CanWrite administration.old }
-    requires kinds { plan.now.kinds.items ≡ kinds (task_by (H.state host.old) administration.old
-        diversions.now.entries works.old.items plan.now) }
+    requires kinds { rows.now.kinds.items ≡ kinds (task_by (H.state host.old) administration.old
+        diversions.now.entries works.old.items rows.now) }
     requires rows { Fit (Fits (name (task_by (H.state host.old) administration.old
-        diversions.now.entries works.old.items plan.now))
+        diversions.now.entries works.old.items rows.now))
         (kinds (task_by (H.state host.old) administration.old diversions.now.entries
-        works.old.items plan.now))) rows.items }
-    requires length { length rows.items
+        works.old.items rows.now))) calls.items }
+    requires length { length calls.items
         ≡ length (kinds (task_by (H.state host.old) administration.old diversions.now.entries
-        works.old.items plan.now)) }
+        works.old.items rows.now)) }
     requires begun { Needs (H.state host.old)
         (IsBegun (task_by (H.state host.old) administration.old diversions.now.entries
-        works.old.items plan.now) administration.old.database) }
+        works.old.items rows.now) administration.old.database) }
     ensures calls { IfOk result
         (λ u. HasRun (IsFileFault (task_by (H.state host.old) administration.old
-        diversions.now.entries works.old.items plan.now)) (ended_as u) rows.items
+        diversions.now.entries works.old.items rows.now)) (ended_as u) calls.items
         (H.state host.old) (H.state host.new) told.old.items told.new.items) }
-    ensures cause { IfOk result (IsCauseOf rows.items) }
-    ensures told { Begun (MayRun rows.items) (H.state host.old) (H.state host.new) told.old.items
+    ensures cause { IfOk result (IsCauseOf calls.items) }
+    ensures told { Begun (MayRun calls.items) (H.state host.old) (H.state host.new) told.old.items
         told.new.items }
     ensures there { IfOk result (λ u. At (task_by (H.state host.old) administration.old
-        diversions.now.entries works.old.items plan.now)
+        diversions.now.entries works.old.items rows.now)
         (holding_by administration.new works.new.items) (H.state host.new)
-        (end_place (length rows.items) u)) }
+        (end_place (length calls.items) u)) }
     ensures any_moment { AtEachStop (Stops (task_by (H.state host.old) administration.old
-        diversions.now.entries works.old.items plan.now)) (H.state host.old) (H.state host.new) }
+        diversions.now.entries works.old.items rows.now)) (H.state host.old) (H.state host.new) }
     ensures counts { Counts (H.state host.old) (H.state host.new) result }
 {
     let start = Start {
@@ -117,8 +117,8 @@ pub fn run_unpack_rows<'a, H: Host>(
         administration,
         works,
         diversions,
-        plan,
+        rows,
         start: &start,
     };
-    run_all(host, &mut unpacking, rows, told)
+    run_all(host, &mut unpacking, calls, told)
 }

@@ -9,7 +9,7 @@ use Rattle.unpack_run.proofs.around.UnpackingAround.conclude.Goals as goal
 pub returns-clause-place : goal.returns-clause-place
 returns-clause-place g c =
     let self = c.args.self.now in
-    let t : Task = task_by (g.H.Host.state self.start.now.host.value) self.start.now.administration.value self.diversions.now.entries self.start.now.works.value.items self.plan.now in
+    let t : Task = task_by (g.H.Host.state self.start.now.host.value) self.start.now.administration.value self.diversions.now.entries self.start.now.works.value.items self.rows.now in
     let h : Holding = holding_by self.administration.now self.works.now.items in
     let s = g.H.Host.state c.args._host.now in
     let at = c.requires.place in
@@ -21,7 +21,7 @@ returns-clause-place g c =
 pub returns-clause-any_moment : goal.returns-clause-any_moment
 returns-clause-any_moment g c =
     let self = c.args.self.now in
-    let t : Task = task_by (g.H.Host.state self.start.now.host.value) self.start.now.administration.value self.diversions.now.entries self.start.now.works.value.items self.plan.now in
+    let t : Task = task_by (g.H.Host.state self.start.now.host.value) self.start.now.administration.value self.diversions.now.entries self.start.now.works.value.items self.rows.now in
     let h : Holding = holding_by self.administration.now self.works.now.items in
     let s = g.H.Host.state c.args._host.now in
     let at = c.requires.place in

@@ -14,7 +14,7 @@ use Rattle.unpack_run.proofs.around.UnpackingAround.prepare.Goals as goal
 pub clear_left-requires-clause-named : goal.clear_left-requires-clause-named
 clear_left-requires-clause-named g c =
     let self = c.args.self.now in
-    let t : Task = task_by (g.H.Host.state self.start.now.host.value) self.start.now.administration.value self.diversions.now.entries self.start.now.works.value.items self.plan.now in
+    let t : Task = task_by (g.H.Host.state self.start.now.host.value) self.start.now.administration.value self.diversions.now.entries self.start.now.works.value.items self.rows.now in
     let h : Holding = holding_by self.administration.now self.works.now.items in
     let s = g.H.Host.state c.args.host.now in
     let at = c.requires.place in
@@ -25,7 +25,7 @@ clear_left-requires-clause-named g c =
 pub clear_left-requires-clause-members : goal.clear_left-requires-clause-members
 clear_left-requires-clause-members g c =
     let self = c.args.self.now in
-    let t : Task = task_by (g.H.Host.state self.start.now.host.value) self.start.now.administration.value self.diversions.now.entries self.start.now.works.value.items self.plan.now in
+    let t : Task = task_by (g.H.Host.state self.start.now.host.value) self.start.now.administration.value self.diversions.now.entries self.start.now.works.value.items self.rows.now in
     let h : Holding = holding_by self.administration.now self.works.now.items in
     let s = g.H.Host.state c.args.host.now in
     let at = c.requires.place in
@@ -36,7 +36,7 @@ clear_left-requires-clause-members g c =
 pub clear_left-requires-clause-list : goal.clear_left-requires-clause-list
 clear_left-requires-clause-list g c =
     let self = c.args.self.now in
-    let t : Task = task_by (g.H.Host.state self.start.now.host.value) self.start.now.administration.value self.diversions.now.entries self.start.now.works.value.items self.plan.now in
+    let t : Task = task_by (g.H.Host.state self.start.now.host.value) self.start.now.administration.value self.diversions.now.entries self.start.now.works.value.items self.rows.now in
     let h : Holding = holding_by self.administration.now self.works.now.items in
     let s = g.H.Host.state c.args.host.now in
     let at = c.requires.place in
@@ -47,7 +47,7 @@ clear_left-requires-clause-list g c =
 pub returns-in_err-clear_left-clause-any_moment : goal.returns-in_err-clear_left-clause-any_moment
 returns-in_err-clear_left-clause-any_moment g c =
     let self = c.args.self.now in
-    let t : Task = task_by (g.H.Host.state self.start.now.host.value) self.start.now.administration.value self.diversions.now.entries self.start.now.works.value.items self.plan.now in
+    let t : Task = task_by (g.H.Host.state self.start.now.host.value) self.start.now.administration.value self.diversions.now.entries self.start.now.works.value.items self.rows.now in
     let h : Holding = holding_by self.administration.now self.works.now.items in
     let s = g.H.Host.state c.args.host.now in
     let at = c.requires.place in
@@ -60,7 +60,7 @@ returns-in_err-clear_left-clause-any_moment g c =
 pub returns-in_err-entry-clause-any_moment : goal.returns-in_err-entry-clause-any_moment
 returns-in_err-entry-clause-any_moment g c =
     let self = c.args.self.now in
-    let t : Task = task_by (g.H.Host.state self.start.now.host.value) self.start.now.administration.value self.diversions.now.entries self.start.now.works.value.items self.plan.now in
+    let t : Task = task_by (g.H.Host.state self.start.now.host.value) self.start.now.administration.value self.diversions.now.entries self.start.now.works.value.items self.rows.now in
     let h : Holding = holding_by self.administration.now self.works.now.items in
     let s = g.H.Host.state c.args.host.now in
     let at = c.requires.place in
@@ -73,7 +73,7 @@ returns-in_err-entry-clause-any_moment g c =
 pub write_note-requires-clause-notable : goal.write_note-requires-clause-notable
 write_note-requires-clause-notable g c =
     let self = c.args.self.now in
-    let t : Task = task_by (g.H.Host.state self.start.now.host.value) self.start.now.administration.value self.diversions.now.entries self.start.now.works.value.items self.plan.now in
+    let t : Task = task_by (g.H.Host.state self.start.now.host.value) self.start.now.administration.value self.diversions.now.entries self.start.now.works.value.items self.rows.now in
     let h : Holding = holding_by self.administration.now self.works.now.items in
     let s = g.H.Host.state c.args.host.now in
     let at = c.requires.place in
@@ -85,7 +85,7 @@ write_note-requires-clause-notable g c =
 pub write_note-requires-clause-kept : goal.write_note-requires-clause-kept
 write_note-requires-clause-kept g c =
     let self = c.args.self.now in
-    let t : Task = task_by (g.H.Host.state self.start.now.host.value) self.start.now.administration.value self.diversions.now.entries self.start.now.works.value.items self.plan.now in
+    let t : Task = task_by (g.H.Host.state self.start.now.host.value) self.start.now.administration.value self.diversions.now.entries self.start.now.works.value.items self.rows.now in
     let h : Holding = holding_by self.administration.now self.works.now.items in
     let s = g.H.Host.state c.args.host.now in
     let at = c.requires.place in
@@ -98,7 +98,7 @@ write_note-requires-clause-kept g c =
 pub returns-clause-place : goal.returns-clause-place
 returns-clause-place g c =
     let self = c.args.self.now in
-    let t : Task = task_by (g.H.Host.state self.start.now.host.value) self.start.now.administration.value self.diversions.now.entries self.start.now.works.value.items self.plan.now in
+    let t : Task = task_by (g.H.Host.state self.start.now.host.value) self.start.now.administration.value self.diversions.now.entries self.start.now.works.value.items self.rows.now in
     let h : Holding = holding_by self.administration.now self.works.now.items in
     let s = g.H.Host.state c.args.host.now in
     let at = c.requires.place in
@@ -114,7 +114,7 @@ returns-clause-place g c =
 pub returns-clause-any_moment : goal.returns-clause-any_moment
 returns-clause-any_moment g c =
     let self = c.args.self.now in
-    let t : Task = task_by (g.H.Host.state self.start.now.host.value) self.start.now.administration.value self.diversions.now.entries self.start.now.works.value.items self.plan.now in
+    let t : Task = task_by (g.H.Host.state self.start.now.host.value) self.start.now.administration.value self.diversions.now.entries self.start.now.works.value.items self.rows.now in
     let h : Holding = holding_by self.administration.now self.works.now.items in
     let s = g.H.Host.state c.args.host.now in
     let at = c.requires.place in

@@ -10,7 +10,7 @@ use Rattle.unpack_run.proofs.around.UnpackingAround.put_back.Goals as goal
 pub returns-then-fall-index-clause-place : goal.returns-then-fall-index-clause-place
 returns-then-fall-index-clause-place g c =
     let self = c.args.self.now in
-    let t : Task = task_by (g.H.Host.state self.start.now.host.value) self.start.now.administration.value self.diversions.now.entries self.start.now.works.value.items self.plan.now in
+    let t : Task = task_by (g.H.Host.state self.start.now.host.value) self.start.now.administration.value self.diversions.now.entries self.start.now.works.value.items self.rows.now in
     let h : Holding = holding_by self.administration.now self.works.now.items in
     let s = g.H.Host.state c.args.host.now in
     let at = c.requires.place in
@@ -19,7 +19,7 @@ returns-then-fall-index-clause-place g c =
 pub returns-then-fall-index-clause-any_moment : goal.returns-then-fall-index-clause-any_moment
 returns-then-fall-index-clause-any_moment g c =
     let self = c.args.self.now in
-    let t : Task = task_by (g.H.Host.state self.start.now.host.value) self.start.now.administration.value self.diversions.now.entries self.start.now.works.value.items self.plan.now in
+    let t : Task = task_by (g.H.Host.state self.start.now.host.value) self.start.now.administration.value self.diversions.now.entries self.start.now.works.value.items self.rows.now in
     let h : Holding = holding_by self.administration.now self.works.now.items in
     let s = g.H.Host.state c.args.host.now in
     let at = c.requires.place in
@@ -28,7 +28,7 @@ returns-then-fall-index-clause-any_moment g c =
 pub restore_row-requires-clause-row : goal.restore_row-requires-clause-row
 restore_row-requires-clause-row g c =
     let self = c.args.self.now in
-    let t : Task = task_by (g.H.Host.state self.start.now.host.value) self.start.now.administration.value self.diversions.now.entries self.start.now.works.value.items self.plan.now in
+    let t : Task = task_by (g.H.Host.state self.start.now.host.value) self.start.now.administration.value self.diversions.now.entries self.start.now.works.value.items self.rows.now in
     let h : Holding = holding_by self.administration.now self.works.now.items in
     let s = g.H.Host.state c.args.host.now in
     let at = c.requires.place in

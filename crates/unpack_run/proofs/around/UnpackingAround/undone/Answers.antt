@@ -14,7 +14,7 @@ use Rattle.unpack_run.proofs.around.UnpackingAround.undone.Goals as goal
 pub returns-then-is_spared-clause-place : goal.returns-then-is_spared-clause-place
 returns-then-is_spared-clause-place g c =
     let self = c.args.self.now in
-    let t : Task = task_by (g.H.Host.state self.start.now.host.value) self.start.now.administration.value self.diversions.now.entries self.start.now.works.value.items self.plan.now in
+    let t : Task = task_by (g.H.Host.state self.start.now.host.value) self.start.now.administration.value self.diversions.now.entries self.start.now.works.value.items self.rows.now in
     let h : Holding = holding_by self.administration.now self.works.now.items in
     let s = g.H.Host.state c.args.host.now in
     let at = c.requires.place in
@@ -29,7 +29,7 @@ returns-then-is_spared-clause-place g c =
 pub returns-then-is_spared-clause-any_moment : goal.returns-then-is_spared-clause-any_moment
 returns-then-is_spared-clause-any_moment g c =
     let self = c.args.self.now in
-    let t : Task = task_by (g.H.Host.state self.start.now.host.value) self.start.now.administration.value self.diversions.now.entries self.start.now.works.value.items self.plan.now in
+    let t : Task = task_by (g.H.Host.state self.start.now.host.value) self.start.now.administration.value self.diversions.now.entries self.start.now.works.value.items self.rows.now in
     let h : Holding = holding_by self.administration.now self.works.now.items in
     let s = g.H.Host.state c.args.host.now in
     let at = c.requires.place in
@@ -38,7 +38,7 @@ returns-then-is_spared-clause-any_moment g c =
 pub returns-in_err-entry-clause-any_moment : goal.returns-in_err-entry-clause-any_moment
 returns-in_err-entry-clause-any_moment g c =
     let self = c.args.self.now in
-    let t : Task = task_by (g.H.Host.state self.start.now.host.value) self.start.now.administration.value self.diversions.now.entries self.start.now.works.value.items self.plan.now in
+    let t : Task = task_by (g.H.Host.state self.start.now.host.value) self.start.now.administration.value self.diversions.now.entries self.start.now.works.value.items self.rows.now in
     let h : Holding = holding_by self.administration.now self.works.now.items in
     let s = g.H.Host.state c.args.host.now in
     let at = c.requires.place in
@@ -47,7 +47,7 @@ returns-in_err-entry-clause-any_moment g c =
 pub write_note-requires-clause-notable : goal.write_note-requires-clause-notable
 write_note-requires-clause-notable g c =
     let self = c.args.self.now in
-    let t : Task = task_by (g.H.Host.state self.start.now.host.value) self.start.now.administration.value self.diversions.now.entries self.start.now.works.value.items self.plan.now in
+    let t : Task = task_by (g.H.Host.state self.start.now.host.value) self.start.now.administration.value self.diversions.now.entries self.start.now.works.value.items self.rows.now in
     let h : Holding = holding_by self.administration.now self.works.now.items in
     let s = g.H.Host.state c.args.host.now in
     let at = c.requires.place in
@@ -59,7 +59,7 @@ write_note-requires-clause-notable g c =
 pub write_note-requires-clause-kept : goal.write_note-requires-clause-kept
 write_note-requires-clause-kept g c =
     let self = c.args.self.now in
-    let t : Task = task_by (g.H.Host.state self.start.now.host.value) self.start.now.administration.value self.diversions.now.entries self.start.now.works.value.items self.plan.now in
+    let t : Task = task_by (g.H.Host.state self.start.now.host.value) self.start.now.administration.value self.diversions.now.entries self.start.now.works.value.items self.rows.now in
     let h : Holding = holding_by self.administration.now self.works.now.items in
     let s = g.H.Host.state c.args.host.now in
     let at = c.requires.place in
@@ -68,7 +68,7 @@ write_note-requires-clause-kept g c =
 pub returns-clause-place : goal.returns-clause-place
 returns-clause-place g c =
     let self = c.args.self.now in
-    let t : Task = task_by (g.H.Host.state self.start.now.host.value) self.start.now.administration.value self.diversions.now.entries self.start.now.works.value.items self.plan.now in
+    let t : Task = task_by (g.H.Host.state self.start.now.host.value) self.start.now.administration.value self.diversions.now.entries self.start.now.works.value.items self.rows.now in
     let h : Holding = holding_by self.administration.now self.works.now.items in
     let s = g.H.Host.state c.args.host.now in
     let at = c.requires.place in
@@ -87,7 +87,7 @@ returns-clause-place g c =
 pub returns-clause-any_moment : goal.returns-clause-any_moment
 returns-clause-any_moment g c =
     let self = c.args.self.now in
-    let t : Task = task_by (g.H.Host.state self.start.now.host.value) self.start.now.administration.value self.diversions.now.entries self.start.now.works.value.items self.plan.now in
+    let t : Task = task_by (g.H.Host.state self.start.now.host.value) self.start.now.administration.value self.diversions.now.entries self.start.now.works.value.items self.rows.now in
     let h : Holding = holding_by self.administration.now self.works.now.items in
     let s = g.H.Host.state c.args.host.now in
     let at = c.requires.place in

@@ -6,7 +6,7 @@ use Rattle.unpack_run.proofs.around.UnpackingAround.work.Goals as goal
 pub write_row-requires-clause-row : goal.write_row-requires-clause-row
 write_row-requires-clause-row g c =
     let self = c.args.self.now in
-    let t : Task = task_by (g.H.Host.state self.start.now.host.value) self.start.now.administration.value self.diversions.now.entries self.start.now.works.value.items self.plan.now in
+    let t : Task = task_by (g.H.Host.state self.start.now.host.value) self.start.now.administration.value self.diversions.now.entries self.start.now.works.value.items self.rows.now in
     let h : Holding = holding_by self.administration.now self.works.now.items in
     let s = g.H.Host.state c.args.host.now in
     let at = c.requires.place in
