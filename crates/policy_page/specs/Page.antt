@@ -1,5 +1,5 @@
 -- Policy 6.6 on one page: what is called, in order, where a call fails, and how the package ends. Each script is there, and no other
--- package is concerned. OLD is the version that the package has, NEW the one that is unpacked.
+-- package is concerned.
 use Rattle.std.specs.Prelude.{ℕ, List, [], ◌∷◌, ◌++◌, Option, Some, None, codes}
 use Rattle.host_core.specs.declared.call.Call.{Call}
 use Rattle.host_core.specs.declared.call.Side.TheVariants.{Old, New}

@@ -1,0 +1,9 @@
+pub mod Rows
+pub mod Steps
+pub mod Calls
+pub mod Runs
+pub mod Pages
+pub mod NothingSettled
+pub mod Planned
+pub mod Removals
+pub mod Configuring

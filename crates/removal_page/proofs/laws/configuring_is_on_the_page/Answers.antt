@@ -1,0 +1,5 @@
+use Rattle.removal_page.proofs.Configuring.{whole}
+use Rattle.removal_page.proofs.laws.configuring_is_on_the_page.Goals as goal
+
+pub returns : goal.returns
+returns c = λ entries r listed decisions stages paths are. whole r listed decisions paths stages are entries
