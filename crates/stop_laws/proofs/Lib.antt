@@ -13,3 +13,5 @@ pub mod Others
 pub mod OtherPlaces
 pub mod QuietRuns
 pub mod Disappearances
+pub mod CalledStages
+pub mod CalledFiles

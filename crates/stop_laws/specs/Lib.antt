@@ -3,3 +3,4 @@ pub mod Removing
 pub mod RemovalSteps
 pub mod Configuring
 pub mod Disappearing
+pub mod Called

@@ -5,9 +5,12 @@
 //! # What is proved
 //!
 //! What `any_moment` of configuring, a removal, a purge and a disappearance says path by path, as
-//! the tables above list it; laws alone, nothing runs.
+//! the tables above list it; laws alone, nothing runs. Each script that configuring, a removal or a
+//! purge calls was stored with the package when the unit began, and its file is as it was then as
+//! long as the unit is to call it.
 #![tactic(auto)]
 
+mod called;
 mod configure_records;
 mod configure_steps;
 mod disappearing;
@@ -16,6 +19,7 @@ mod removal_paths;
 mod removal_records;
 mod removal_steps;
 
+pub use called::what_a_stored_script_holds;
 pub use configure_records::what_configuring_leaves_at_each_moment;
 pub use configure_steps::what_each_step_of_configuring_leaves;
 pub use disappearing::what_a_disappearance_leaves_at_each_moment;
