@@ -88,8 +88,9 @@ pub(crate) fn undiverting_in(
 // The report of an open session.
 fn carry_out<H: Host>(session: &mut Session<H>, asked: &Change) -> Report
     requires { session.old.closed ≡ false }
-    ensures { HasChanged asked.now result session.old.database.records session.old.lists.lists
-        session.old.diversions.entries (H.state session.old.host) (H.state session.new.host) }
+    ensures { HasChanged asked.now result session.old.administration.database.records
+        session.old.administration.lists.lists session.old.diversions.entries
+        (H.state session.old.host) (H.state session.new.host) }
 {
     match asked {
         Change::Divert(asked) => session.divert(asked),

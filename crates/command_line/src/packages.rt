@@ -1,7 +1,7 @@
 // Packages are configured, removed or purged by their names: the root is opened to do it.
 ghost use Rattle.std.specs.Prelude.{◌≡◌, ◌<◌, ◌≤◌, ◌⊎◌, false, IfErr, IfOk, OnErr, option_map};
 ghost use Rattle.administration.specs.declared.fault.AdministrationFault.TheVariants.{NoMemory};
-ghost use Rattle.unit_reports.specs.Held.{held};
+ghost use Rattle.unit_reports.specs.Held.{held_by};
 ghost use Rattle.unit_reports.specs.Watching.{IsTold};
 ghost use Rattle.command_line.specs.Packages.{HasWorked, HasWorkedUnder, IsWorkedOn, changed_of, policy_of};
 ghost use Rattle.command_line.specs.Roots.{IsRefusedOn, IsRootFault, IsStoppedOn, around};
@@ -72,8 +72,8 @@ fn carry_out<H: Host, W: Watcher>(
     watcher: &mut W,
 ) -> Result<Report, AllocError>
     requires { session.old.closed ≡ false }
-    ensures done { IfOk result (λ done. HasWorked asked.now done (held session.old.database
-        session.old.lists session.old.diversions) (H.state session.old.host)
+    ensures done { IfOk result (λ done. HasWorked asked.now done
+        (held_by session.old.administration session.old.diversions) (H.state session.old.host)
         (H.state session.new.host)) }
     ensures unmoved { OnErr result (H.state session.new.host ≡ H.state session.old.host) }
     ensures watched { IfOk result (λ done. IsTold W.tells watcher.old done.units.items

@@ -131,8 +131,9 @@ fn inquire<H: Host>(
     asked: &Inquiry,
 ) -> Result<Answer, AllocError>
     requires { session.now.closed ≡ false }
-    ensures { IfOk result (λ answer. answer ≡ inquiry_answer asked.now session.now.database.records
-        session.now.lists.lists session.now.diversions.entries) }
+    ensures { IfOk result (λ answer. answer ≡ inquiry_answer asked.now
+        session.now.administration.database.records session.now.administration.lists.lists
+        session.now.diversions.entries) }
 {
     match asked {
         Inquiry::Audit => text_answer(alloc, session.audit()),

@@ -2,7 +2,7 @@
 ghost use Rattle.std.specs.Prelude.{◌≡◌, ◌<◌, ◌≤◌, ◌⊎◌, IfErr, IfOk, OnErr, false};
 ghost use Rattle.std.specs.Vec.Iter.{into_iter_items};
 ghost use Rattle.administration.specs.declared.fault.AdministrationFault.TheVariants.{NoMemory};
-ghost use Rattle.unit_reports.specs.Held.{held};
+ghost use Rattle.unit_reports.specs.Held.{held_by};
 ghost use Rattle.unit_reports.specs.Watching.{IsTold};
 ghost use Rattle.command_line.specs.Printing.{last_in, units_of};
 ghost use Rattle.command_line.specs.Reading.{HaveGoneOn};
@@ -54,9 +54,9 @@ fn run_session<S: Hosts, W: Watcher>(
     ensures done { HasRunTrees (around (S.root trees.old.hosts.now) (S.tree trees.old.hosts.now)
         (S.left trees.new.hosts.now) (S.seen trees.new.hosts.now) (S.faults trees.old.hosts.now
         < S.faults trees.new.hosts.now) (S.unopened trees.old.hosts.now trees.new.hosts.now)
-        (S.locked trees.old.hosts.now)) policy trees.old.asked.now result (held session.old.database
-        session.old.lists session.old.diversions) (S.Opened.state session.old.host)
-        (S.Opened.state session.new.host) }
+        (S.locked trees.old.hosts.now)) policy trees.old.asked.now result
+        (held_by session.old.administration session.old.diversions)
+        (S.Opened.state session.old.host) (S.Opened.state session.new.host) }
     ensures on { HaveGoneOn (S.tree trees.old.hosts.now) (S.tree trees.new.hosts.now)
         (S.seen trees.old.hosts.now) (S.seen trees.new.hosts.now) (S.faults trees.old.hosts.now)
         (S.faults trees.new.hosts.now) }
@@ -84,7 +84,7 @@ fn run_trees<S: Hosts, W: Watcher>(
     ensures done { IfOk result (λ done. HasRunTrees (around (S.root hosts.old) (S.tree hosts.old)
         (S.left hosts.new) (S.seen hosts.new) (S.faults hosts.old < S.faults hosts.new)
         (S.unopened hosts.old hosts.new) (S.locked hosts.old)) policy unpacking.now done
-        (held session.old.database session.old.lists session.old.diversions)
+        (held_by session.old.administration session.old.diversions)
         (S.Opened.state session.old.host) (S.Opened.state session.new.host)) }
     ensures unread { OnErr result (S.Opened.state session.new.host ≡ S.Opened.state
         session.old.host) }

@@ -1,13 +1,13 @@
 // The unit that configures a package.
-ghost use Rattle.std.specs.Prelude.{◌≡◌, true, false, IfOk, OnOk, is_some};
+ghost use Rattle.std.specs.Prelude.{◌≡◌, true, IfOk, OnOk, is_some};
 ghost use Rattle.texts.specs.PackageNames.{is_package_name};
 ghost use Rattle.host_core.specs.Host.{AtEachMomentOf, Counts, Needs, Reads, Silent, Tells};
 ghost use Rattle.host_core.specs.declared.call.Script.TheVariants.{Postinst};
 ghost use Rattle.administration.specs.Places.{script_path as stored_path};
-ghost use Rattle.file_lists.specs.Owners.{places_in};
 ghost use Rattle.status_db.specs.ConffilePaths.{AreInOrder};
+ghost use Rattle.held_administration.specs.Open.{IsOpen};
 ghost use Rattle.unit_parts.specs.Order.{IsInOrder};
-ghost use Rattle.unit_stages.specs.Holding.{holding};
+ghost use Rattle.unit_stages.specs.Holding.{holding_of};
 ghost use Rattle.configure_engine.specs.Units.{CanConfigure, HasCalled, HasConfigured, HasEnded, IsAmidUnit, IsPlanFor, IsWaiting, given};
 ghost use Rattle.configure_engine.specs.Waiting.{settling_paths};
 
@@ -16,9 +16,9 @@ use crate::stages::stages_of;
 use administration::script_path;
 use conffiles::ConfPolicy;
 use diversions::Diversions;
-use file_lists::FileLists;
-use host_core::{Call, Host, HostFault, Places, RootPath, Script};
-use status_db::{NotedDatabase, Record};
+use held_administration::Administration;
+use host_core::{Call, Host, HostFault, RootPath, Script};
+use status_db::Record;
 use std::alloc::Global;
 use texts::Text;
 use unit_stages::{Stage, run_stages};
@@ -70,47 +70,47 @@ fn plan<H: Host>(
 /// Configures a package that waits for it: its conffiles are settled, and its postinst is called. The answer is the call that
 /// failed, if one did; then the package stays half-configured, and nothing is undone.
 pub fn configure<H: Host>(
-    alloc: Global,
     host: &mut H,
-    database: &mut NotedDatabase,
-    lists: &mut FileLists,
-    places: &mut Places,
+    administration: &mut Administration,
     diversions: &Diversions,
     name: &Text,
     policy: ConfPolicy,
     told: &mut Vec<Called>,
 ) -> Result<Option<Call>, HostFault>
-    requires noting { database.old.closed ≡ false }
-    requires listing { lists.old.closed ≡ false }
-    requires waits { IsWaiting database.old.records name.now }
-    requires kept { places.old ≡ places_in diversions.now.entries lists.old.lists }
-    requires order { Needs (H.state host.old) (IsInOrder database.old lists.old.lists) }
-    requires clear { Needs (H.state host.old) (CanConfigure database.old.records name.now) }
+    requires open { IsOpen diversions.now.entries administration.old }
+    requires waits { IsWaiting administration.old.database.records name.now }
+    requires order { Needs (H.state host.old)
+        (IsInOrder administration.old.database administration.old.lists.lists) }
+    requires clear { Needs (H.state host.old)
+        (CanConfigure administration.old.database.records name.now) }
     ensures unit { IfOk result
         (λ failed. HasConfigured (given name.now policy diversions.now.entries
-        (holding database.old lists.old)) failed (holding database.new lists.new) (H.state host.old)
+        (holding_of administration.old)) failed (holding_of administration.new) (H.state host.old)
         (H.state host.new) told.old.items told.new.items) }
-    ensures end { IfOk result (λ failed. HasEnded name.now failed database.old.records
-        database.new.records) }
+    ensures end { IfOk result (λ failed. HasEnded name.now failed
+        administration.old.database.records administration.new.database.records) }
     ensures order { IfOk result (λ failed. Needs (H.state host.new)
-        (IsInOrder database.new lists.new.lists)) }
-    ensures kept { OnOk result (places.new ≡ places_in diversions.now.entries lists.new.lists) }
-    ensures noting { OnOk result (database.new.closed ≡ false) }
-    ensures listing { OnOk result (lists.new.closed ≡ false) }
+        (IsInOrder administration.new.database administration.new.lists.lists)) }
+    ensures open { OnOk result (IsOpen diversions.now.entries administration.new) }
     ensures told { HasCalled (given name.now policy diversions.now.entries
-        (holding database.old lists.old)) (H.state host.old) (H.state host.new) told.old.items
+        (holding_of administration.old)) (H.state host.old) (H.state host.new) told.old.items
         told.new.items }
     ensures any_moment { AtEachMomentOf (IsAmidUnit (given name.now policy diversions.now.entries
-        (holding database.old lists.old))) (H.state host.old) (H.state host.new) }
+        (holding_of administration.old))) (H.state host.old) (H.state host.new) }
     ensures counts { Counts (H.state host.old) (H.state host.new) result }
 {
-    lists.law();
-    let entry = database.get(name).unwrap();
+    let alloc = administration.alloc;
+    administration.lists.law();
+    let entry = administration.database.get(name).unwrap();
     settling_order(entry);
-    match plan(alloc, host, entry, policy, lists.list_of(name)) {
-        Ok(stages) => run_stages(
-            alloc, host, database, lists, places, diversions, name, stages, told,
-        ),
+    match plan(
+        alloc,
+        host,
+        entry,
+        policy,
+        administration.lists.list_of(name),
+    ) {
+        Ok(stages) => run_stages(host, administration, diversions, name, stages, told),
         Err(fault) => Err(fault),
     }
 }

@@ -1,12 +1,12 @@
 // All units of a configure.
-ghost use Rattle.std.specs.Prelude.{◌≡◌, ◌++◌, [], Some, IfErr, IfOk, IfSome, IsNone, OnErr, OnOk, false};
+ghost use Rattle.std.specs.Prelude.{◌≡◌, ◌++◌, [], Some, IfErr, IfOk, IfSome, IsNone, OnErr, OnOk};
 ghost use Rattle.dependency_sets.specs.Sets.{has};
-ghost use Rattle.file_lists.specs.Owners.{places_in};
+ghost use Rattle.held_administration.specs.Open.{IsOpen};
 ghost use Rattle.host_core.specs.Host.{Counts, Needs, Reads, Silent, Since, Tells, faults};
 ghost use Rattle.host_core.specs.Loss.{IsAnswered};
 ghost use Rattle.recorded_packages.specs.Packages.{ArePackagesOf};
 ghost use Rattle.unit_parts.specs.Order.{IsInOrder};
-ghost use Rattle.unit_reports.specs.Held.{held};
+ghost use Rattle.unit_reports.specs.Held.{held_by};
 ghost use Rattle.unit_reports.specs.Units.{CountsLast, CountsReply, IsBrokenBy, TellsCalls, calls_of};
 ghost use Rattle.unit_reports.specs.declared.report.Breakage.TheVariants.{Closed};
 ghost use Rattle.unit_reports.specs.Watching.{AddsTold, IsTold};
@@ -25,8 +25,8 @@ use crate::turns::Turns;
 use crate::unit::no_memory;
 use conffiles::ConfPolicy;
 use diversions::Diversions;
-use file_lists::FileLists;
-use host_core::{Host, HostFault, Places};
+use held_administration::Administration;
+use host_core::{Host, HostFault};
 use recorded_packages::renew;
 use relation_index::Packages;
 use status_db::NotedDatabase;
@@ -82,12 +82,9 @@ fn begun<H: Host>(
 // All turns and the refusals of those left over, or the unit that was broken off; then the packages are given back, those of
 // the names as they are recorded now.
 fn run_and_renew<H: Host, W: Watcher>(
-    alloc: Global,
     host: &mut H,
-    database: &mut NotedDatabase,
+    administration: &mut Administration,
     packages: &mut Packages,
-    lists: &mut FileLists,
-    places: &mut Places,
     diversions: &Diversions,
     names: &[Text],
     policy: ConfPolicy,
@@ -96,30 +93,27 @@ fn run_and_renew<H: Host, W: Watcher>(
     units: &mut Vec<Unit>,
     watcher: &mut W,
 ) -> Result<(), Unit>
-    requires noting { database.old.closed ≡ false }
-    requires listing { lists.old.closed ≡ false }
-    requires begun { IsBegun names.now database.old.records turns }
-    requires kept { places.old ≡ places_in diversions.now.entries lists.old.lists }
-    requires order { Needs (H.state host.old) (IsInOrder database.old lists.old.lists) }
-    ensures ok { OnOk result (EndTurns policy (has silent.now) turns (held database.old lists.old
-        diversions.now) (H.state host.old) units.old.items units.new.items
-        (held database.new lists.new diversions.now) (H.state host.new)) }
-    ensures indexed { OnOk result (ArePackagesOf database.new.records packages.new) }
+    requires open { IsOpen diversions.now.entries administration.old }
+    requires begun { IsBegun names.now administration.old.database.records turns }
+    requires order { Needs (H.state host.old)
+        (IsInOrder administration.old.database administration.old.lists.lists) }
+    ensures ok { OnOk result (EndTurns policy (has silent.now) turns
+        (held_by administration.old diversions.now) (H.state host.old) units.old.items
+        units.new.items (held_by administration.new diversions.now) (H.state host.new)) }
+    ensures indexed { OnOk result (ArePackagesOf administration.new.database.records packages.new) }
     ensures answered { OnOk result (IsAnswered (H.state host.old) (H.state host.new)) }
-    ensures order { OnOk result
-        (Needs (H.state host.new) (IsInOrder database.new lists.new.lists)) }
-    ensures noting { OnOk result (database.new.closed ≡ false) }
-    ensures listing { OnOk result (lists.new.closed ≡ false) }
-    ensures kept { OnOk result (places.new ≡ places_in diversions.now.entries lists.new.lists) }
+    ensures order { OnOk result (Needs (H.state host.new)
+        (IsInOrder administration.new.database administration.new.lists.lists)) }
+    ensures open { OnOk result (IsOpen diversions.now.entries administration.new) }
     ensures err { IfErr result (λ unit. StopTurns policy (has silent.now) turns
-        (held database.old lists.old diversions.now) (H.state host.old) units.old.items
+        (held_by administration.old diversions.now) (H.state host.old) units.old.items
         units.new.items (Some unit) (H.state host.new)) }
     ensures told { OnOk result (TellsAll (H.state host.old) (H.state host.new)
         (calls_of units.old.items) (calls_of units.new.items)) }
     ensures told_broken { IfErr result (λ unit. TellsAll (H.state host.old) (H.state host.new)
         (calls_of units.old.items) (calls_of units.new.items ++ unit.calls.items)) }
     ensures any_moment { Since (IsAmidTurns policy (has silent.now) turns
-        (held database.old lists.old diversions.now) (H.state host.old)) (H.state host.old)
+        (held_by administration.old diversions.now) (H.state host.old)) (H.state host.old)
         (H.state host.new) }
     ensures no_fault { OnOk result (faults (H.state host.new) ≡ faults (H.state host.old)) }
     ensures counts { IfErr result (λ unit. CountsReply (H.state host.old) (H.state host.new)
@@ -127,13 +121,21 @@ fn run_and_renew<H: Host, W: Watcher>(
     ensures not_closed { IfErr result (λ unit. IsBrokenBy Closed unit.reply → ⊥) }
     ensures watched { AddsTold W.tells units.old.items units.new.items watcher.old watcher.new }
 {
-    database.law();
+    administration.database.law();
+    let alloc = administration.alloc;
     match run_turns(
-        alloc, host, database, lists, places, diversions, policy, turns, silent, units, watcher,
+        host,
+        administration,
+        diversions,
+        policy,
+        turns,
+        silent,
+        units,
+        watcher,
     ) {
         Ok(back) => {
             *packages = back;
-            match renew(alloc, packages, database, names) {
+            match renew(alloc, packages, &administration.database, names) {
                 Ok(()) => Ok(()),
                 Err(_) => Err(no_memory(alloc)),
             }
@@ -144,12 +146,9 @@ fn run_and_renew<H: Host, W: Watcher>(
 
 // All units of a configure, or the one that was broken off.
 fn run_all<H: Host, W: Watcher>(
-    alloc: Global,
     host: &mut H,
-    database: &mut NotedDatabase,
+    administration: &mut Administration,
     packages: &mut Packages,
-    lists: &mut FileLists,
-    places: &mut Places,
     diversions: &Diversions,
     names: &[Text],
     policy: ConfPolicy,
@@ -157,29 +156,27 @@ fn run_all<H: Host, W: Watcher>(
     watcher: &mut W,
 ) -> Result<(), Unit>
     requires none { units.old.items ≡ [] }
-    requires indexed { ArePackagesOf database.old.records packages.old }
-    requires noting { database.old.closed ≡ false }
-    requires listing { lists.old.closed ≡ false }
-    requires kept { places.old ≡ places_in diversions.now.entries lists.old.lists }
-    requires order { Needs (H.state host.old) (IsInOrder database.old lists.old.lists) }
+    requires indexed { ArePackagesOf administration.old.database.records packages.old }
+    requires open { IsOpen diversions.now.entries administration.old }
+    requires order { Needs (H.state host.old)
+        (IsInOrder administration.old.database administration.old.lists.lists) }
     ensures ok { OnOk result (IsConfigureRun names.now policy units.new.items
-        (held database.old lists.old diversions.now) (held database.new lists.new diversions.now)
+        (held_by administration.old diversions.now) (held_by administration.new diversions.now)
         (H.state host.old) (H.state host.new)) }
-    ensures indexed { OnOk result (ArePackagesOf database.new.records packages.new) }
+    ensures indexed { OnOk result (ArePackagesOf administration.new.database.records packages.new) }
     ensures err { IfErr result (λ unit. HasRun names.now policy units.new.items (Some unit)
-        (held database.old lists.old diversions.now) (H.state host.old) (H.state host.new)) }
+        (held_by administration.old diversions.now) (H.state host.old) (H.state host.new)) }
     ensures answered { OnOk result (IsAnswered (H.state host.old) (H.state host.new)) }
-    ensures order { OnOk result
-        (Needs (H.state host.new) (IsInOrder database.new lists.new.lists)) }
-    ensures noting { OnOk result (database.new.closed ≡ false) }
-    ensures listing { OnOk result (lists.new.closed ≡ false) }
-    ensures kept { OnOk result (places.new ≡ places_in diversions.now.entries lists.new.lists) }
+    ensures order { OnOk result (Needs (H.state host.new)
+        (IsInOrder administration.new.database administration.new.lists.lists)) }
+    ensures open { OnOk result (IsOpen diversions.now.entries administration.new) }
     ensures told { OnOk result (TellsAll (H.state host.old) (H.state host.new) []
         (calls_of units.new.items)) }
     ensures told_broken { IfErr result (λ unit. TellsAll (H.state host.old) (H.state host.new) []
         (calls_of units.new.items ++ unit.calls.items)) }
-    ensures any_moment { Since (IsAmidRun names.now policy (held database.old lists.old
-        diversions.now) (H.state host.old)) (H.state host.old) (H.state host.new) }
+    ensures any_moment { Since (IsAmidRun names.now policy
+        (held_by administration.old diversions.now) (H.state host.old)) (H.state host.old)
+        (H.state host.new) }
     ensures no_fault { OnOk result (faults (H.state host.new) ≡ faults (H.state host.old)) }
     ensures counts { IfErr result (λ unit. CountsReply (H.state host.old) (H.state host.new)
         unit.reply) }
@@ -187,15 +184,13 @@ fn run_all<H: Host, W: Watcher>(
     ensures watched { AddsTold W.tells units.old.items units.new.items watcher.old watcher.new }
 {
     what_is_told_in_turn::<W>();
-    match refuse_first(alloc, database, names, units, watcher) {
-        Ok(()) => match begun(alloc, host, database, packages, names) {
+    let alloc = administration.alloc;
+    match refuse_first(alloc, &administration.database, names, units, watcher) {
+        Ok(()) => match begun(alloc, host, &administration.database, packages, names) {
             Ok((turns, silent)) => match run_and_renew(
-                alloc,
                 host,
-                database,
+                administration,
                 packages,
-                lists,
-                places,
                 diversions,
                 names,
                 policy,
@@ -217,50 +212,42 @@ fn run_all<H: Host, W: Watcher>(
 /// configured at its turn, as what it depends on is; and those that are left over are refused. Each unit is told as it is
 /// finished; the one that was broken off is not. The packages may be gone behind a unit that was broken off.
 pub fn configure_packages<H: Host, W: Watcher>(
-    alloc: Global,
     host: &mut H,
-    database: &mut NotedDatabase,
+    administration: &mut Administration,
     packages: &mut Packages,
-    lists: &mut FileLists,
-    places: &mut Places,
     diversions: &Diversions,
     names: Vec<Text>,
     policy: ConfPolicy,
     watcher: &mut W,
 ) -> Report
-    requires indexed { ArePackagesOf database.old.records packages.old }
-    requires noting { database.old.closed ≡ false }
-    requires listing { lists.old.closed ≡ false }
-    requires kept { places.old ≡ places_in diversions.now.entries lists.old.lists }
-    requires order { Needs (H.state host.old) (IsInOrder database.old lists.old.lists) }
+    requires indexed { ArePackagesOf administration.old.database.records packages.old }
+    requires open { IsOpen diversions.now.entries administration.old }
+    requires order { Needs (H.state host.old)
+        (IsInOrder administration.old.database administration.old.lists.lists) }
     ensures whole { IsNone result.last → IsConfigureRun names.items policy result.units.items
-        (held database.old lists.old diversions.now) (held database.new lists.new diversions.now)
+        (held_by administration.old diversions.now) (held_by administration.new diversions.now)
         (H.state host.old) (H.state host.new) }
     ensures part { HasRun names.items policy result.units.items result.last
-        (held database.old lists.old diversions.now) (H.state host.old) (H.state host.new) }
+        (held_by administration.old diversions.now) (H.state host.old) (H.state host.new) }
     ensures told { TellsCalls (H.state host.old) (H.state host.new) result }
-    ensures any_moment { Since (IsAmidRun names.items policy (held database.old lists.old
-        diversions.now) (H.state host.old)) (H.state host.old) (H.state host.new) }
+    ensures any_moment { Since (IsAmidRun names.items policy
+        (held_by administration.old diversions.now) (H.state host.old)) (H.state host.old)
+        (H.state host.new) }
     ensures answered { IsNone result.last → IsAnswered (H.state host.old) (H.state host.new) }
-    ensures order { IsNone result.last
-        → Needs (H.state host.new) (IsInOrder database.new lists.new.lists) }
-    ensures noting { IsNone result.last → database.new.closed ≡ false }
-    ensures listing { IsNone result.last → lists.new.closed ≡ false }
-    ensures kept { IsNone result.last → places.new ≡ places_in diversions.now.entries
-        lists.new.lists }
-    ensures indexed { IsNone result.last → ArePackagesOf database.new.records packages.new }
+    ensures order { IsNone result.last → Needs (H.state host.new)
+        (IsInOrder administration.new.database administration.new.lists.lists) }
+    ensures open { IsNone result.last → IsOpen diversions.now.entries administration.new }
+    ensures indexed { IsNone result.last → ArePackagesOf administration.new.database.records
+        packages.new }
     ensures counts { CountsLast (H.state host.old) (H.state host.new) result.last }
     ensures not_closed { IfSome result.last (λ unit. IsBrokenBy Closed unit.reply → ⊥) }
     ensures watched { IsTold W.tells watcher.old result.units.items watcher.new }
 {
-    let mut units = Vec::new(alloc);
+    let mut units = Vec::new(administration.alloc);
     match run_all(
-        alloc,
         host,
-        database,
+        administration,
         packages,
-        lists,
-        places,
         diversions,
         names.as_slice(),
         policy,

@@ -1,11 +1,11 @@
 // The unit of the package whose turn it is.
-ghost use Rattle.std.specs.Prelude.{◌≡◌, ◌⊎◌, ◌<◌, [], ◌∷◌, None, IfOk, OnOk, false, length};
+ghost use Rattle.std.specs.Prelude.{◌≡◌, ◌⊎◌, ◌<◌, [], ◌∷◌, None, IfOk, OnOk, length};
 ghost use Rattle.configure_engine.specs.Units.{CanConfigure, HasEnded, IsAmidUnit as IsAmidConfiguring, IsWaiting};
-ghost use Rattle.file_lists.specs.Owners.{places_in};
+ghost use Rattle.held_administration.specs.Open.{IsOpen};
 ghost use Rattle.host_core.specs.Host.{AtEachMomentOf, Counts, Needs, Reads, Silent, Tells};
 ghost use Rattle.host_core.specs.Loss.{IsAnswered, IsOnDisk};
 ghost use Rattle.unit_parts.specs.Order.{IsInOrder};
-ghost use Rattle.unit_reports.specs.Held.{held};
+ghost use Rattle.unit_reports.specs.Held.{held_by};
 ghost use Rattle.unit_reports.specs.Units as reports;
 ghost use Rattle.unit_reports.specs.Units.{CountsReply, IsBroken, IsBrokenBy, IsRefusedUnit, TellsNoPackage};
 ghost use Rattle.unit_reports.specs.declared.report.Breakage.TheVariants.{Closed, NoMemory};
@@ -17,8 +17,8 @@ use conffiles::ConfPolicy;
 use configure_engine::{configure, obstacle};
 use dependency_check::broken_by;
 use diversions::Diversions;
-use file_lists::FileLists;
-use host_core::{Call, Host, HostFault, Places, RootPath};
+use held_administration::Administration;
+use host_core::{Call, Host, HostFault, RootPath};
 use relation_index::{Package, Packages};
 use stack_run::Failure as Cause;
 use status_db::NotedDatabase;
@@ -153,44 +153,38 @@ fn refused_named(alloc: Global, rule: Rule, name: &Text) -> Unit
 
 // Configures a package, and brings all that was done to the disk.
 fn configure_to_disk<H: Host>(
-    alloc: Global,
     host: &mut H,
-    database: &mut NotedDatabase,
-    lists: &mut FileLists,
-    places: &mut Places,
+    administration: &mut Administration,
     diversions: &Diversions,
     name: &Text,
     policy: ConfPolicy,
     told: &mut Vec<Called>,
 ) -> Result<Option<Call>, HostFault>
-    requires noting { database.old.closed ≡ false }
-    requires listing { lists.old.closed ≡ false }
-    requires waits { IsWaiting database.old.records name.now }
-    requires kept { places.old ≡ places_in diversions.now.entries lists.old.lists }
-    requires order { Needs (H.state host.old) (IsInOrder database.old lists.old.lists) }
-    requires clear { Needs (H.state host.old) (CanConfigure database.old.records name.now) }
+    requires open { IsOpen diversions.now.entries administration.old }
+    requires waits { IsWaiting administration.old.database.records name.now }
+    requires order { Needs (H.state host.old)
+        (IsInOrder administration.old.database administration.old.lists.lists) }
+    requires clear { Needs (H.state host.old) (CanConfigure administration.old.database.records
+        name.now) }
     ensures unit { IfOk result (λ failed. ConfiguresToDisk
-        (given_by policy name.now (held database.old lists.old diversions.now)) failed
-        (holding_of (held database.new lists.new diversions.now)) (H.state host.old)
+        (given_by policy name.now (held_by administration.old diversions.now)) failed
+        (holding_of (held_by administration.new diversions.now)) (H.state host.old)
         (H.state host.new) told.old.items told.new.items) }
-    ensures end { IfOk result (λ failed. HasEnded name.now failed database.old.records
-        database.new.records) }
+    ensures end { IfOk result (λ failed. HasEnded name.now failed
+        administration.old.database.records administration.new.database.records) }
     ensures order { IfOk result (λ failed. Needs (H.state host.new)
-        (IsInOrder database.new lists.new.lists)) }
-    ensures kept { OnOk result (places.new ≡ places_in diversions.now.entries lists.new.lists) }
-    ensures noting { OnOk result (database.new.closed ≡ false) }
-    ensures listing { OnOk result (lists.new.closed ≡ false) }
+        (IsInOrder administration.new.database administration.new.lists.lists)) }
+    ensures open { OnOk result (IsOpen diversions.now.entries administration.new) }
     ensures on_disk { OnOk result (IsOnDisk (H.state host.new).events) }
-    ensures told { HasCalledToDisk (given_by policy name.now (held database.old lists.old
-        diversions.now)) (H.state host.old) (H.state host.new) told.old.items told.new.items }
+    ensures told { HasCalledToDisk (given_by policy name.now
+        (held_by administration.old diversions.now)) (H.state host.old) (H.state host.new)
+        told.old.items told.new.items }
     ensures any_moment { AtEachMomentOf (λ old. IsBeside
-        (IsAmidConfiguring (given_by policy name.now (held database.old lists.old diversions.now))
+        (IsAmidConfiguring (given_by policy name.now (held_by administration.old diversions.now))
         old)) (H.state host.old) (H.state host.new) }
     ensures counts { Counts (H.state host.old) (H.state host.new) result }
 {
-    match configure(
-        alloc, host, database, lists, places, diversions, name, policy, told,
-    ) {
+    match configure(host, administration, diversions, name, policy, told) {
         Ok(failed) => match host.barrier() {
             Ok(()) => Ok(failed),
             Err(fault) => Err(fault),
@@ -201,85 +195,71 @@ fn configure_to_disk<H: Host>(
 
 // The unit of a package of which nothing is in the way.
 fn configured_unit<H: Host>(
-    alloc: Global,
     host: &mut H,
-    database: &mut NotedDatabase,
-    lists: &mut FileLists,
-    places: &mut Places,
+    administration: &mut Administration,
     diversions: &Diversions,
     name: &Text,
     policy: ConfPolicy,
 ) -> Unit
-    requires noting { database.old.closed ≡ false }
-    requires listing { lists.old.closed ≡ false }
-    requires waits { IsWaiting database.old.records name.now }
-    requires kept { places.old ≡ places_in diversions.now.entries lists.old.lists }
-    requires order { Needs (H.state host.old) (IsInOrder database.old lists.old.lists) }
-    requires clear { Needs (H.state host.old) (CanConfigure database.old.records name.now) }
-    ensures unit { IsBroken result.reply ⊎ IsConfigured policy name.now (held database.old lists.old
-        diversions.now) (held database.new lists.new diversions.now) result (H.state host.old)
-        (H.state host.new) }
-    ensures noting { IsBroken result.reply ⊎ (database.new.closed ≡ false) }
-    ensures listing { IsBroken result.reply ⊎ (lists.new.closed ≡ false) }
-    ensures kept { IsBroken result.reply
-        ⊎ (places.new ≡ places_in diversions.now.entries lists.new.lists) }
+    requires open { IsOpen diversions.now.entries administration.old }
+    requires waits { IsWaiting administration.old.database.records name.now }
+    requires order { Needs (H.state host.old)
+        (IsInOrder administration.old.database administration.old.lists.lists) }
+    requires clear { Needs (H.state host.old) (CanConfigure administration.old.database.records
+        name.now) }
+    ensures unit { IsBroken result.reply ⊎ IsConfigured policy name.now
+        (held_by administration.old diversions.now) (held_by administration.new diversions.now)
+        result (H.state host.old) (H.state host.new) }
+    ensures open { IsBroken result.reply ⊎ IsOpen diversions.now.entries administration.new }
     ensures on_disk { IsBroken result.reply ⊎ IsOnDisk (H.state host.new).events }
     ensures untouched { IsBroken result.reply → TellsNoPackage result }
-    ensures told { HasCalledToDisk (given_by policy name.now (held database.old lists.old
-        diversions.now)) (H.state host.old) (H.state host.new) [] result.calls.items }
+    ensures told { HasCalledToDisk (given_by policy name.now
+        (held_by administration.old diversions.now)) (H.state host.old) (H.state host.new) []
+        result.calls.items }
     ensures any_moment { AtEachMomentOf (λ old. IsBeside
-        (IsAmidConfiguring (given_by policy name.now (held database.old lists.old diversions.now))
+        (IsAmidConfiguring (given_by policy name.now (held_by administration.old diversions.now))
         old)) (H.state host.old) (H.state host.new) }
     ensures counts { CountsReply (H.state host.old) (H.state host.new) result.reply }
     ensures not_closed { IsBrokenBy Closed result.reply → ⊥ }
 {
+    let alloc = administration.alloc;
     let mut calls = Vec::new(alloc);
-    match configure_to_disk(
-        alloc, host, database, lists, places, diversions, name, policy, &mut calls,
-    ) {
-        Ok(failed) => answered(alloc, database, name, failed, calls),
+    match configure_to_disk(host, administration, diversions, name, policy, &mut calls) {
+        Ok(failed) => answered(alloc, &administration.database, name, failed, calls),
         Err(fault) => broken(alloc, calls, breakage_of(fault)),
     }
 }
 
 // The unit of a package that no other breaks.
 fn unit_for<H: Host>(
-    alloc: Global,
     host: &mut H,
-    database: &mut NotedDatabase,
-    lists: &mut FileLists,
-    places: &mut Places,
+    administration: &mut Administration,
     diversions: &Diversions,
     name: &Text,
     policy: ConfPolicy,
 ) -> Unit
-    requires noting { database.old.closed ≡ false }
-    requires listing { lists.old.closed ≡ false }
-    requires waits { IsWaiting database.old.records name.now }
-    requires kept { places.old ≡ places_in diversions.now.entries lists.old.lists }
-    requires order { Needs (H.state host.old) (IsInOrder database.old lists.old.lists) }
-    ensures unit { IsBroken result.reply ⊎ IsUnitFor policy name.now (held database.old lists.old
-        diversions.now) (held database.new lists.new diversions.now) result (H.state host.old)
-        (H.state host.new) }
+    requires open { IsOpen diversions.now.entries administration.old }
+    requires waits { IsWaiting administration.old.database.records name.now }
+    requires order { Needs (H.state host.old)
+        (IsInOrder administration.old.database administration.old.lists.lists) }
+    ensures unit { IsBroken result.reply ⊎ IsUnitFor policy name.now
+        (held_by administration.old diversions.now) (held_by administration.new diversions.now)
+        result (H.state host.old) (H.state host.new) }
     ensures order { IsBroken result.reply ⊎ Needs (H.state host.new)
-        (IsInOrder database.new lists.new.lists) }
-    ensures noting { IsBroken result.reply ⊎ (database.new.closed ≡ false) }
-    ensures listing { IsBroken result.reply ⊎ (lists.new.closed ≡ false) }
-    ensures kept { IsBroken result.reply
-        ⊎ (places.new ≡ places_in diversions.now.entries lists.new.lists) }
+        (IsInOrder administration.new.database administration.new.lists.lists) }
+    ensures open { IsBroken result.reply ⊎ IsOpen diversions.now.entries administration.new }
     ensures answered { IsBroken result.reply ⊎ IsAnswered (H.state host.old) (H.state host.new) }
     ensures untouched { IsBroken result.reply → TellsNoPackage result }
-    ensures told { HasCalledFor policy name.now (held database.old lists.old diversions.now) result
+    ensures told { HasCalledFor policy name.now (held_by administration.old diversions.now) result
         (H.state host.old) (H.state host.new) }
-    ensures any_moment { AtEachMomentOf (IsAmidUnit policy name.now (held database.old lists.old
-        diversions.now)) (H.state host.old) (H.state host.new) }
+    ensures any_moment { AtEachMomentOf (IsAmidUnit policy name.now
+        (held_by administration.old diversions.now)) (H.state host.old) (H.state host.new) }
     ensures counts { CountsReply (H.state host.old) (H.state host.new) result.reply }
     ensures not_closed { IsBrokenBy Closed result.reply → ⊥ }
 {
-    match obstacle_of(alloc, host, database, name) {
-        Ok(None) => configured_unit(
-            alloc, host, database, lists, places, diversions, name, policy,
-        ),
+    let alloc = administration.alloc;
+    match obstacle_of(alloc, host, &administration.database, name) {
+        Ok(None) => configured_unit(host, administration, diversions, name, policy),
         Ok(Some(path)) => refused_named(alloc, Rule::ConffileKind(path), name),
         Err(fault) => broken(alloc, Vec::new(alloc), breakage_of(fault)),
     }
@@ -301,43 +281,39 @@ fn refused_for(alloc: Global, packages: &[Package], breaking: usize, name: &Text
 
 /// The unit of a package whose turn it is.
 pub(crate) fn unit_of<H: Host>(
-    alloc: Global,
     host: &mut H,
-    database: &mut NotedDatabase,
-    lists: &mut FileLists,
-    places: &mut Places,
+    administration: &mut Administration,
     diversions: &Diversions,
     packages: &Packages,
     of: &Package,
     policy: ConfPolicy,
 ) -> Unit
-    requires noting { database.old.closed ≡ false }
-    requires listing { lists.old.closed ≡ false }
-    requires waits { IsWaiting database.old.records of.now.name }
-    requires kept { places.old ≡ places_in diversions.now.entries lists.old.lists }
-    requires order { Needs (H.state host.old) (IsInOrder database.old lists.old.lists) }
+    requires open { IsOpen diversions.now.entries administration.old }
+    requires waits { IsWaiting administration.old.database.records of.now.name }
+    requires order { Needs (H.state host.old)
+        (IsInOrder administration.old.database administration.old.lists.lists) }
     ensures unit { IsBroken result.reply ⊎ IsUnit policy packages.now of.now
-        (held database.old lists.old diversions.now) (held database.new lists.new diversions.now)
+        (held_by administration.old diversions.now) (held_by administration.new diversions.now)
         result (H.state host.old) (H.state host.new) }
     ensures order { IsBroken result.reply ⊎ Needs (H.state host.new)
-        (IsInOrder database.new lists.new.lists) }
-    ensures noting { IsBroken result.reply ⊎ (database.new.closed ≡ false) }
-    ensures listing { IsBroken result.reply ⊎ (lists.new.closed ≡ false) }
-    ensures kept { IsBroken result.reply
-        ⊎ (places.new ≡ places_in diversions.now.entries lists.new.lists) }
+        (IsInOrder administration.new.database administration.new.lists.lists) }
+    ensures open { IsBroken result.reply ⊎ IsOpen diversions.now.entries administration.new }
     ensures answered { IsBroken result.reply ⊎ IsAnswered (H.state host.old) (H.state host.new) }
     ensures untouched { IsBroken result.reply → TellsNoPackage result }
-    ensures told { HasCalledFor policy of.now.name (held database.old lists.old diversions.now)
+    ensures told { HasCalledFor policy of.now.name (held_by administration.old diversions.now)
         result (H.state host.old) (H.state host.new) }
-    ensures any_moment { AtEachMomentOf (IsAmidUnit policy of.now.name (held database.old lists.old
-        diversions.now)) (H.state host.old) (H.state host.new) }
+    ensures any_moment { AtEachMomentOf (IsAmidUnit policy of.now.name
+        (held_by administration.old diversions.now)) (H.state host.old) (H.state host.new) }
     ensures counts { CountsReply (H.state host.old) (H.state host.new) result.reply }
     ensures not_closed { IsBrokenBy Closed result.reply → ⊥ }
 {
     match broken_by(packages, of) {
-        Some(breaking) => refused_for(alloc, packages.as_slice(), breaking, &of.name),
-        None => unit_for(
-            alloc, host, database, lists, places, diversions, &of.name, policy,
+        Some(breaking) => refused_for(
+            administration.alloc,
+            packages.as_slice(),
+            breaking,
+            &of.name,
         ),
+        None => unit_for(host, administration, diversions, &of.name, policy),
     }
 }

@@ -1,20 +1,19 @@
 // The removal of packages in favour of one that was unpacked.
-ghost use Rattle.std.specs.Prelude.{◌≡◌, ◌≢◌, ℕ, false, Contains, IfOk, List, OnOk};
+ghost use Rattle.std.specs.Prelude.{◌≡◌, ◌≢◌, ℕ, Contains, IfOk, List, OnOk};
 ghost use Rattle.host_core.specs.Host.{AtEachMomentOf, Counts, Needs, Since};
-ghost use Rattle.file_lists.specs.Owners.{places_in};
+ghost use Rattle.held_administration.specs.Open.{IsOpen};
 ghost use Rattle.removal_engine.specs.Units.{HasCalled, IsAmidUnit, given};
 ghost use Rattle.removal_engine.specs.declared.extent.Extent.TheVariants.{InFavour};
 ghost use Rattle.status_db.specs.Records.{record_in};
 ghost use Rattle.unit_parts.specs.Order.{IsInOrder};
-ghost use Rattle.unit_stages.specs.Holding.{holding};
+ghost use Rattle.unit_stages.specs.Holding.{holding_of};
 ghost use Rattle.conflict_removal.specs.Removals.{HaveBeenRemoved, HaveCalled, IsAmidRemovals, IsRemovedOrGone, begins_in_favour, can_be_removed, first_failed};
 
 use diversions::Diversions;
-use file_lists::FileLists;
-use host_core::{Call, Host, HostFault, Places};
+use held_administration::Administration;
+use host_core::{Call, Host, HostFault};
 use removal_engine::{Extent, remove};
 use status_db::{NotedDatabase, State};
-use std::alloc::Global;
 use texts::Text;
 use unwind_stack::Called;
 
@@ -39,48 +38,41 @@ fn can_be_removed(database: &NotedDatabase, name: &Text) -> bool
 
 // Removes one of them, or passes it over.
 fn remove_one<H: Host>(
-    alloc: Global,
     host: &mut H,
-    database: &mut NotedDatabase,
-    lists: &mut FileLists,
-    places: &mut Places,
+    administration: &mut Administration,
     diversions: &Diversions,
     name: &Text,
     told: &mut Vec<Called>,
 ) -> Result<Option<Call>, HostFault>
-    requires order { Needs (H.state host.old) (IsInOrder database.old lists.old.lists) }
-    requires noting { database.old.closed ≡ false }
-    requires listing { lists.old.closed ≡ false }
-    requires kept { places.old ≡ places_in diversions.now.entries lists.old.lists }
+    requires order { Needs (H.state host.old)
+        (IsInOrder administration.old.database administration.old.lists.lists) }
+    requires open { IsOpen diversions.now.entries administration.old }
     ensures removed { IfOk result
         (λ failed. IsRemovedOrGone diversions.now.entries name.now failed
-        (holding database.old lists.old) (holding database.new lists.new)
+        (holding_of administration.old) (holding_of administration.new)
         (H.state host.old) (H.state host.new) told.old.items told.new.items) }
     ensures others { OnOk result
         ((q : List ℕ)
         → q ≢ name.now
-        → record_in database.new.records q ≡ record_in database.old.records q) }
+        → record_in administration.new.database.records q
+        ≡ record_in administration.old.database.records q) }
     ensures order { OnOk result
-        (Needs (H.state host.new) (IsInOrder database.new lists.new.lists)) }
-    ensures kept { OnOk result (places.new ≡ places_in diversions.now.entries lists.new.lists) }
-    ensures noting { OnOk result (database.new.closed ≡ false) }
-    ensures listing { OnOk result (lists.new.closed ≡ false) }
+        (Needs (H.state host.new)
+        (IsInOrder administration.new.database administration.new.lists.lists)) }
+    ensures open { OnOk result (IsOpen diversions.now.entries administration.new) }
     ensures told { HasCalled
-        (given InFavour name.now diversions.now.entries (holding database.old lists.old))
+        (given InFavour name.now diversions.now.entries (holding_of administration.old))
         (H.state host.old) (H.state host.new) told.old.items told.new.items }
     ensures any_moment { AtEachMomentOf
         (IsAmidUnit
-        (given InFavour name.now diversions.now.entries (holding database.old lists.old)))
+        (given InFavour name.now diversions.now.entries (holding_of administration.old)))
         (H.state host.old) (H.state host.new) }
     ensures counts { Counts (H.state host.old) (H.state host.new) result }
 {
-    if can_be_removed(database, name) {
+    if can_be_removed(&administration.database, name) {
         return remove(
-            alloc,
             host,
-            database,
-            lists,
-            places,
+            administration,
             diversions,
             name,
             Extent::InFavour,
@@ -103,43 +95,39 @@ fn first_failed(failed: Option<Call>, other: Option<Call>) -> Option<Call>
 /// unpack has called their prerm. One of which nothing can be removed any more is passed over. Where a postrm fails, its package
 /// stays half-installed, and the rest goes on; the answer is the first call that failed.
 pub fn remove_in_favour<H: Host>(
-    alloc: Global,
     host: &mut H,
-    database: &mut NotedDatabase,
-    lists: &mut FileLists,
-    places: &mut Places,
+    administration: &mut Administration,
     diversions: &Diversions,
     names: &[Text],
     told: &mut Vec<Called>,
 ) -> Result<Option<Call>, HostFault>
-    requires order { Needs (H.state host.old) (IsInOrder database.old lists.old.lists) }
-    requires noting { database.old.closed ≡ false }
-    requires listing { lists.old.closed ≡ false }
-    requires kept { places.old ≡ places_in diversions.now.entries lists.old.lists }
+    requires order { Needs (H.state host.old)
+        (IsInOrder administration.old.database administration.old.lists.lists) }
+    requires open { IsOpen diversions.now.entries administration.old }
     ensures removed { IfOk result
         (λ failed. HaveBeenRemoved diversions.now.entries names.now failed
-        (holding database.old lists.old) (holding database.new lists.new)
+        (holding_of administration.old) (holding_of administration.new)
         (H.state host.old) (H.state host.new) told.old.items told.new.items) }
     ensures others { OnOk result
         ((q : List ℕ)
         → (Contains names.now q → ⊥)
-        → record_in database.new.records q ≡ record_in database.old.records q) }
+        → record_in administration.new.database.records q
+        ≡ record_in administration.old.database.records q) }
     ensures order { OnOk result
-        (Needs (H.state host.new) (IsInOrder database.new lists.new.lists)) }
-    ensures kept { OnOk result (places.new ≡ places_in diversions.now.entries lists.new.lists) }
-    ensures noting { OnOk result (database.new.closed ≡ false) }
-    ensures listing { OnOk result (lists.new.closed ≡ false) }
-    ensures told { HaveCalled diversions.now.entries names.now (holding database.old lists.old)
+        (Needs (H.state host.new)
+        (IsInOrder administration.new.database administration.new.lists.lists)) }
+    ensures open { OnOk result (IsOpen diversions.now.entries administration.new) }
+    ensures told { HaveCalled diversions.now.entries names.now (holding_of administration.old)
         (H.state host.old) (H.state host.new) told.old.items told.new.items }
     ensures any_moment { Since
-        (IsAmidRemovals diversions.now.entries names.now (holding database.old lists.old)
+        (IsAmidRemovals diversions.now.entries names.now (holding_of administration.old)
         (H.state host.old))
         (H.state host.old) (H.state host.new) }
     ensures counts { Counts (H.state host.old) (H.state host.new) result }
 {
     let mut failed = None;
     for name in names {
-        match remove_one(alloc, host, database, lists, places, diversions, name, told) {
+        match remove_one(host, administration, diversions, name, told) {
             Ok(own) => {
                 failed = first_failed(failed, own);
             }

@@ -1,16 +1,16 @@
 // One package: it disappears, or it stays.
-ghost use Rattle.std.specs.Prelude.{◌≡◌, ◌++◌, ◌∷◌, [], ℕ, List, true, false, IfOk, MatchOption, None, OnOk, map};
+ghost use Rattle.std.specs.Prelude.{◌≡◌, ◌++◌, ◌∷◌, [], ℕ, List, true, IfOk, MatchOption, None, OnOk, map};
 ghost use Rattle.host_core.specs.Host.{AtEachMomentOf, Counts, Needs, Reads, Silent, Since};
 ghost use Rattle.texts.specs.PackageNames.{is_package_name};
 ghost use Rattle.cleanup_stack.specs.Telling.{Begun};
-ghost use Rattle.file_lists.specs.Owners.{places_in};
+ghost use Rattle.held_administration.specs.Open.{IsOpen};
 ghost use Rattle.recorded_packages.specs.Packages.{ArePackagesOf};
 ghost use Rattle.removal_engine.specs.Stages.{gone_stage, planned};
 ghost use Rattle.status_db.specs.declared.record.Record.{Record as ARecord};
 ghost use Rattle.unit_parts.specs.Order.{IsInOrder};
 ghost use Rattle.unit_stages.specs.Calls.{MayRunStages};
 ghost use Rattle.unit_stages.specs.Fitting.{AreStagesFit};
-ghost use Rattle.unit_stages.specs.Holding.{holding};
+ghost use Rattle.unit_stages.specs.Holding.{holding, holding_of};
 ghost use Rattle.unit_stages.specs.Running.{AreRunning};
 ghost use Rattle.unit_stages.specs.Runs.{HaveRun};
 ghost use Rattle.unwind_stack.specs.declared.rows.Row.{Row as ARow};
@@ -23,7 +23,8 @@ use crate::losing::Losing;
 use crate::stages::{Plan, plan_stages};
 use diversions::Diversions;
 use file_lists::FileLists;
-use host_core::{Call, Host, HostFault, Places};
+use held_administration::Administration;
+use host_core::{Call, Host, HostFault};
 use recorded_packages::renew_one;
 use relation_index::Packages;
 use status_db::NotedDatabase;
@@ -35,94 +36,88 @@ use version_order::Version;
 
 // All goes that the administration has of a package, and it counts no more as one that needs others; nothing is called.
 fn take_away<H: Host>(
-    alloc: Global,
     host: &mut H,
-    database: &mut NotedDatabase,
+    administration: &mut Administration,
     packages: &mut Packages,
-    lists: &mut FileLists,
-    places: &mut Places,
     diversions: &Diversions,
     name: &Text,
     gone: Vec<Stage>,
     told: &mut Vec<Called>,
 ) -> Result<(), HostFault>
-    requires noting { database.old.closed ≡ false }
-    requires listing { lists.old.closed ≡ false }
-    requires kept { places.old ≡ places_in diversions.now.entries lists.old.lists }
-    requires order { Needs (H.state host.old) (IsInOrder database.old lists.old.lists) }
-    requires indexed { ArePackagesOf database.old.records packages.old }
+    requires open { IsOpen diversions.now.entries administration.old }
+    requires order { Needs (H.state host.old)
+        (IsInOrder administration.old.database administration.old.lists.lists) }
+    requires indexed { ArePackagesOf administration.old.database.records packages.old }
     requires named { is_package_name name.now ≡ true }
-    requires fit { AreStagesFit name.now gone.items database.old.records lists.old.lists }
+    requires fit { AreStagesFit name.now gone.items
+        administration.old.database.records administration.old.lists.lists }
     requires quiet { (r : ARecord) × (map planned gone.items ≡ gone_stage r ∷ []) }
     ensures taken { OnOk result
-        (HaveRun name.now diversions.now.entries gone.items None (holding database.old lists.old)
-        (holding database.new lists.new) (H.state host.old) (H.state host.new) told.new.items
+        (HaveRun name.now diversions.now.entries gone.items None (holding_of administration.old)
+        (holding_of administration.new) (H.state host.old) (H.state host.new) told.new.items
         told.new.items) }
     ensures order { OnOk result
-        (Needs (H.state host.new) (IsInOrder database.new lists.new.lists)) }
-    ensures kept { OnOk result (places.new ≡ places_in diversions.now.entries lists.new.lists) }
-    ensures noting { OnOk result (database.new.closed ≡ false) }
-    ensures listing { OnOk result (lists.new.closed ≡ false) }
-    ensures indexed { OnOk result (ArePackagesOf database.new.records packages.new) }
+        (Needs (H.state host.new)
+        (IsInOrder administration.new.database administration.new.lists.lists)) }
+    ensures open { OnOk result (IsOpen diversions.now.entries administration.new) }
+    ensures indexed { OnOk result (ArePackagesOf administration.new.database.records packages.new) }
     ensures untold { told.new.items ≡ told.old.items }
     ensures silent { Silent (H.state host.old) (H.state host.new) }
     ensures any_moment { AtEachMomentOf
-        (AreRunning name.now diversions.now.entries gone.items (holding database.old lists.old))
+        (AreRunning name.now diversions.now.entries gone.items (holding_of administration.old))
         (H.state host.old) (H.state host.new) }
     ensures counts { Counts (H.state host.old) (H.state host.new) result }
 {
-    database.law();
-    run_stages(
-        alloc, host, database, lists, places, diversions, name, gone, told,
-    )?;
-    renew_one(alloc, packages, database, name)?;
+    let alloc = administration.alloc;
+    administration.database.law();
+    run_stages(host, administration, diversions, name, gone, told)?;
+    renew_one(alloc, packages, &administration.database, name)?;
     Ok(())
 }
 
 // The call is made, and behind it, whatever its outcome, all goes. The answer is the call, if it failed.
 fn run_both<H: Host>(
-    alloc: Global,
     host: &mut H,
-    database: &mut NotedDatabase,
+    administration: &mut Administration,
     packages: &mut Packages,
-    lists: &mut FileLists,
-    places: &mut Places,
     diversions: &Diversions,
     name: &Text,
     plan: Plan,
     told: &mut Vec<Called>,
 ) -> Result<Option<Call>, HostFault>
-    requires noting { database.old.closed ≡ false }
-    requires listing { lists.old.closed ≡ false }
-    requires kept { places.old ≡ places_in diversions.now.entries lists.old.lists }
-    requires order { Needs (H.state host.old) (IsInOrder database.old lists.old.lists) }
-    requires indexed { ArePackagesOf database.old.records packages.old }
+    requires open { IsOpen diversions.now.entries administration.old }
+    requires order { Needs (H.state host.old)
+        (IsInOrder administration.old.database administration.old.lists.lists) }
+    requires indexed { ArePackagesOf administration.old.database.records packages.old }
     requires planned { (row : ARow)
-        × ArePlanned name.now (holding database.old lists.old) row plan.call.items plan.gone.items }
+        × ArePlanned name.now (holding_of administration.old) row plan.call.items plan.gone.items }
     ensures ran { IfOk result
         (λ failed. HaveRunBoth name.now diversions.now.entries plan.call.items plan.gone.items
-        failed (holding database.old lists.old) (holding database.new lists.new)
+        failed (holding_of administration.old) (holding_of administration.new)
         (H.state host.old) (H.state host.new) told.old.items told.new.items) }
     ensures order { OnOk result
-        (Needs (H.state host.new) (IsInOrder database.new lists.new.lists)) }
-    ensures kept { OnOk result (places.new ≡ places_in diversions.now.entries lists.new.lists) }
-    ensures noting { OnOk result (database.new.closed ≡ false) }
-    ensures listing { OnOk result (lists.new.closed ≡ false) }
-    ensures indexed { OnOk result (ArePackagesOf database.new.records packages.new) }
+        (Needs (H.state host.new)
+        (IsInOrder administration.new.database administration.new.lists.lists)) }
+    ensures open { OnOk result (IsOpen diversions.now.entries administration.new) }
+    ensures indexed { OnOk result (ArePackagesOf administration.new.database.records packages.new) }
     ensures told { Begun (MayRunStages plan.call.items) (H.state host.old) (H.state host.new)
         told.old.items told.new.items }
     ensures any_moment { Since
         (IsAmidBoth name.now diversions.now.entries plan.call.items plan.gone.items
-        (holding database.old lists.old) (H.state host.old))
+        (holding_of administration.old) (H.state host.old))
         (H.state host.old) (H.state host.new) }
     ensures counts { Counts (H.state host.old) (H.state host.new) result }
 {
     let Plan { call, gone } = plan;
-    match run_stages(
-        alloc, host, database, lists, places, diversions, name, call, told,
-    ) {
+    match run_stages(host, administration, diversions, name, call, told) {
         Ok(failed) => match take_away(
-            alloc, host, database, packages, lists, places, diversions, name, gone, told,
+            host,
+            administration,
+            packages,
+            diversions,
+            name,
+            gone,
+            told,
         ) {
             Ok(()) => Ok(failed),
             Err(fault) => Err(fault),
@@ -177,12 +172,9 @@ fn push_name(names: &mut Texts, name: &Text) -> Result<(), AllocError>
 /// Looks whether a package disappears. Where it does its name is added to those of others, its postrm is called, and whatever the
 /// outcome all goes that the administration has of it; directories stay. The answer is the call, if it failed.
 pub(crate) fn disappear<H: Host>(
-    alloc: Global,
     host: &mut H,
-    database: &mut NotedDatabase,
+    administration: &mut Administration,
     packages: &mut Packages,
-    lists: &mut FileLists,
-    places: &mut Places,
     diversions: &Diversions,
     incoming: &Text,
     version: &Version,
@@ -190,43 +182,47 @@ pub(crate) fn disappear<H: Host>(
     names: &mut Texts,
     told: &mut Vec<Called>,
 ) -> Result<Option<Call>, HostFault>
-    requires noting { database.old.closed ≡ false }
-    requires listing { lists.old.closed ≡ false }
-    requires kept { places.old ≡ places_in diversions.now.entries lists.old.lists }
-    requires order { Needs (H.state host.old) (IsInOrder database.old lists.old.lists) }
-    requires indexed { ArePackagesOf database.old.records packages.old }
+    requires open { IsOpen diversions.now.entries administration.old }
+    requires order { Needs (H.state host.old)
+        (IsInOrder administration.old.database administration.old.lists.lists) }
+    requires indexed { ArePackagesOf administration.old.database.records packages.old }
     ensures decided { IfOk result
         (λ failed. (own : List (List ℕ))
         × (names.new ≡ names.old ++ own)
         × IsDecided incoming.now version.now diversions.now.entries losing.now own failed
-        (holding database.old lists.old) (holding database.new lists.new)
+        (holding_of administration.old) (holding_of administration.new)
         (H.state host.old) (H.state host.new) told.old.items told.new.items) }
     ensures order { OnOk result
-        (Needs (H.state host.new) (IsInOrder database.new lists.new.lists)) }
-    ensures kept { OnOk result (places.new ≡ places_in diversions.now.entries lists.new.lists) }
-    ensures noting { OnOk result (database.new.closed ≡ false) }
-    ensures listing { OnOk result (lists.new.closed ≡ false) }
-    ensures indexed { OnOk result (ArePackagesOf database.new.records packages.new) }
+        (Needs (H.state host.new)
+        (IsInOrder administration.new.database administration.new.lists.lists)) }
+    ensures open { OnOk result (IsOpen diversions.now.entries administration.new) }
+    ensures indexed { OnOk result (ArePackagesOf administration.new.database.records packages.new) }
     ensures told { HasCalledOne incoming.now version.now diversions.now.entries losing.now
-        (holding database.old lists.old) (H.state host.old) (H.state host.new)
+        (holding_of administration.old) (H.state host.old) (H.state host.new)
         told.old.items told.new.items }
     ensures any_moment { Since
         (IsAmidUnit incoming.now version.now diversions.now.entries losing.now
-        (holding database.old lists.old) (H.state host.old))
+        (holding_of administration.old) (H.state host.old))
         (H.state host.old) (H.state host.new) }
     ensures counts { Counts (H.state host.old) (H.state host.new) result }
 {
+    let alloc = administration.alloc;
     match decide(
-        alloc, host, database, packages, lists, diversions, incoming, version, losing,
+        alloc,
+        host,
+        &administration.database,
+        packages,
+        &administration.lists,
+        diversions,
+        incoming,
+        version,
+        losing,
     ) {
         Ok(Some(plan)) => match push_name(names, &losing.name) {
             Ok(()) => run_both(
-                alloc,
                 host,
-                database,
+                administration,
                 packages,
-                lists,
-                places,
                 diversions,
                 &losing.name,
                 plan,

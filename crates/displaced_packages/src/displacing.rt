@@ -1,25 +1,24 @@
 // What an unpack displaces.
-ghost use Rattle.std.specs.Prelude.{◌≡◌, ◌++◌, ◌⊎◌, false, ℕ, List, IfOk, OnOk, Contains};
+ghost use Rattle.std.specs.Prelude.{◌≡◌, ◌++◌, ◌⊎◌, ℕ, List, IfOk, OnOk, Contains};
 ghost use Rattle.conflict_removal.specs.Removals.{HaveBeenRemoved, HaveCalled as HaveCalledRemoving, IsAmidRemovals, first_failed};
 ghost use Rattle.host_core.specs.Host.{Counts, Does, Needs, Silent, Since};
 ghost use Rattle.host_core.specs.Loss.{IsAnswered};
 ghost use Rattle.host_core.specs.World.{Barrier};
-ghost use Rattle.file_lists.specs.Owners.{places_in};
+ghost use Rattle.held_administration.specs.Open.{IsOpen};
 ghost use Rattle.recorded_packages.specs.Packages.{ArePackagesOf};
 ghost use Rattle.status_db.specs.Records.{record_in};
 ghost use Rattle.unit_parts.specs.Order.{IsInOrder};
-ghost use Rattle.unit_stages.specs.Holding.{holding};
+ghost use Rattle.unit_stages.specs.Holding.{holding_of};
 ghost use Rattle.displaced_packages.specs.Displacing.{AreGoing, HasCalled, HasCalledFirst, HaveBeenDisplaced, HaveBeenRemovedBehind, HaveGone, IsAmidDisplacing, IsBroughtToDisk, is_nothing};
 
 use conflict_removal::remove_in_favour;
 use disappearance::{Disappeared, Losing, disappear_packages};
 use diversions::Diversions;
-use file_lists::FileLists;
-use host_core::{Call, Host, HostFault, Places};
+use held_administration::Administration;
+use host_core::{Call, Host, HostFault};
 use recorded_packages::renew;
 use relation_index::Packages;
-use status_db::NotedDatabase;
-use std::alloc::{AllocError, Global};
+use std::alloc::AllocError;
 use texts::{Text, Texts};
 use unwind_stack::Called;
 use version_order::Version;
@@ -69,98 +68,79 @@ fn displaced_with(
 
 // Removes the conflicting packages, and brings the packages of the records up to date.
 fn remove_conflicting<H: Host>(
-    alloc: Global,
     host: &mut H,
-    database: &mut NotedDatabase,
+    administration: &mut Administration,
     packages: &mut Packages,
-    lists: &mut FileLists,
-    places: &mut Places,
     diversions: &Diversions,
     conflicting: &[Text],
     told: &mut Vec<Called>,
 ) -> Result<Option<Call>, HostFault>
-    requires order { Needs (H.state host.old) (IsInOrder database.old lists.old.lists) }
-    requires noting { database.old.closed ≡ false }
-    requires listing { lists.old.closed ≡ false }
-    requires kept { places.old ≡ places_in diversions.now.entries lists.old.lists }
-    requires indexed { ArePackagesOf database.old.records packages.old }
+    requires order { Needs (H.state host.old)
+        (IsInOrder administration.old.database administration.old.lists.lists) }
+    requires open { IsOpen diversions.now.entries administration.old }
+    requires indexed { ArePackagesOf administration.old.database.records packages.old }
     ensures removed { IfOk result (λ failed. HaveBeenRemoved diversions.now.entries conflicting.now
-        failed (holding database.old lists.old) (holding database.new lists.new) (H.state host.old)
+        failed (holding_of administration.old) (holding_of administration.new) (H.state host.old)
         (H.state host.new) told.old.items told.new.items) }
     ensures others { OnOk result ((q : List ℕ) → (Contains conflicting.now q → ⊥)
-        → record_in database.new.records q ≡ record_in database.old.records q) }
+        → record_in administration.new.database.records q
+        ≡ record_in administration.old.database.records q) }
     ensures order { OnOk result
-        (Needs (H.state host.new) (IsInOrder database.new lists.new.lists)) }
-    ensures kept { OnOk result (places.new ≡ places_in diversions.now.entries lists.new.lists) }
-    ensures noting { OnOk result (database.new.closed ≡ false) }
-    ensures listing { OnOk result (lists.new.closed ≡ false) }
-    ensures indexed { OnOk result (ArePackagesOf database.new.records packages.new) }
+        (Needs (H.state host.new)
+        (IsInOrder administration.new.database administration.new.lists.lists)) }
+    ensures open { OnOk result (IsOpen diversions.now.entries administration.new) }
+    ensures indexed { OnOk result (ArePackagesOf administration.new.database.records packages.new) }
     ensures told { HaveCalledRemoving diversions.now.entries conflicting.now
-        (holding database.old lists.old) (H.state host.old) (H.state host.new) told.old.items
+        (holding_of administration.old) (H.state host.old) (H.state host.new) told.old.items
         told.new.items }
     ensures any_moment { Since (IsAmidRemovals diversions.now.entries conflicting.now
-        (holding database.old lists.old) (H.state host.old)) (H.state host.old) (H.state host.new) }
+        (holding_of administration.old) (H.state host.old)) (H.state host.old) (H.state host.new) }
     ensures counts { Counts (H.state host.old) (H.state host.new) result }
 {
-    database.law();
-    let failed = remove_in_favour(
-        alloc,
-        host,
-        database,
-        lists,
-        places,
-        diversions,
-        conflicting,
-        told,
-    )?;
-    renew(alloc, packages, database, conflicting)?;
+    let alloc = administration.alloc;
+    administration.database.law();
+    let failed = remove_in_favour(host, administration, diversions, conflicting, told)?;
+    renew(alloc, packages, &administration.database, conflicting)?;
     Ok(failed)
 }
 
 // Removes the conflicting packages behind those that disappeared.
 fn remove_behind<H: Host>(
-    alloc: Global,
     host: &mut H,
-    database: &mut NotedDatabase,
+    administration: &mut Administration,
     packages: &mut Packages,
-    lists: &mut FileLists,
-    places: &mut Places,
     diversions: &Diversions,
     disappeared: Disappeared,
     conflicting: &[Text],
     told: &mut Vec<Called>,
 ) -> Result<Displaced, HostFault>
-    requires order { Needs (H.state host.old) (IsInOrder database.old lists.old.lists) }
-    requires noting { database.old.closed ≡ false }
-    requires listing { lists.old.closed ≡ false }
-    requires kept { places.old ≡ places_in diversions.now.entries lists.old.lists }
-    requires indexed { ArePackagesOf database.old.records packages.old }
+    requires order { Needs (H.state host.old)
+        (IsInOrder administration.old.database administration.old.lists.lists) }
+    requires open { IsOpen diversions.now.entries administration.old }
+    requires indexed { ArePackagesOf administration.old.database.records packages.old }
     ensures removed { IfOk result (λ d. HaveBeenRemovedBehind diversions.now.entries conflicting.now
-        disappeared.names disappeared.failed d.names d.failed (holding database.old lists.old)
-        (holding database.new lists.new) (H.state host.old) (H.state host.new) told.old.items
+        disappeared.names disappeared.failed d.names d.failed (holding_of administration.old)
+        (holding_of administration.new) (H.state host.old) (H.state host.new) told.old.items
         told.new.items) }
     ensures others { OnOk result ((q : List ℕ) → (Contains conflicting.now q → ⊥)
-        → record_in database.new.records q ≡ record_in database.old.records q) }
+        → record_in administration.new.database.records q
+        ≡ record_in administration.old.database.records q) }
     ensures order { OnOk result
-        (Needs (H.state host.new) (IsInOrder database.new lists.new.lists)) }
-    ensures kept { OnOk result (places.new ≡ places_in diversions.now.entries lists.new.lists) }
-    ensures noting { OnOk result (database.new.closed ≡ false) }
-    ensures listing { OnOk result (lists.new.closed ≡ false) }
-    ensures indexed { OnOk result (ArePackagesOf database.new.records packages.new) }
+        (Needs (H.state host.new)
+        (IsInOrder administration.new.database administration.new.lists.lists)) }
+    ensures open { OnOk result (IsOpen diversions.now.entries administration.new) }
+    ensures indexed { OnOk result (ArePackagesOf administration.new.database.records packages.new) }
     ensures told { HaveCalledRemoving diversions.now.entries conflicting.now
-        (holding database.old lists.old) (H.state host.old) (H.state host.new) told.old.items
+        (holding_of administration.old) (H.state host.old) (H.state host.new) told.old.items
         told.new.items }
     ensures any_moment { Since (IsAmidRemovals diversions.now.entries conflicting.now
-        (holding database.old lists.old) (H.state host.old)) (H.state host.old) (H.state host.new) }
+        (holding_of administration.old) (H.state host.old)) (H.state host.old) (H.state host.new) }
     ensures counts { Counts (H.state host.old) (H.state host.new) result }
 {
     match remove_conflicting(
-        alloc,
         host,
-        database,
+        administration,
         packages,
-        lists,
-        places,
         diversions,
         conflicting,
         told,
@@ -175,12 +155,9 @@ fn remove_behind<H: Host>(
 
 // Those disappear of which nothing is left, and then the conflicting ones are removed.
 fn displace_all<H: Host>(
-    alloc: Global,
     host: &mut H,
-    database: &mut NotedDatabase,
+    administration: &mut Administration,
     packages: &mut Packages,
-    lists: &mut FileLists,
-    places: &mut Places,
     diversions: &Diversions,
     incoming: &Text,
     version: &Version,
@@ -188,41 +165,44 @@ fn displace_all<H: Host>(
     conflicting: &[Text],
     told: &mut Vec<Called>,
 ) -> Result<Displaced, HostFault>
-    requires order { Needs (H.state host.old) (IsInOrder database.old lists.old.lists) }
-    requires noting { database.old.closed ≡ false }
-    requires listing { lists.old.closed ≡ false }
-    requires kept { places.old ≡ places_in diversions.now.entries lists.old.lists }
-    requires indexed { ArePackagesOf database.old.records packages.old }
+    requires order { Needs (H.state host.old)
+        (IsInOrder administration.old.database administration.old.lists.lists) }
+    requires open { IsOpen diversions.now.entries administration.old }
+    requires indexed { ArePackagesOf administration.old.database.records packages.old }
     ensures gone { IfOk result (λ d. HaveGone incoming.now version.now diversions.now.entries
-        losing.now conflicting.now d.names d.failed (holding database.old lists.old)
-        (holding database.new lists.new) (H.state host.old) (H.state host.new) told.old.items
+        losing.now conflicting.now d.names d.failed (holding_of administration.old)
+        (holding_of administration.new) (H.state host.old) (H.state host.new) told.old.items
         told.new.items) }
     ensures others { IfOk result (λ d. (q : List ℕ) → (Contains d.names q → ⊥)
-        → record_in database.new.records q ≡ record_in database.old.records q) }
+        → record_in administration.new.database.records q
+        ≡ record_in administration.old.database.records q) }
     ensures order { OnOk result
-        (Needs (H.state host.new) (IsInOrder database.new lists.new.lists)) }
-    ensures kept { OnOk result (places.new ≡ places_in diversions.now.entries lists.new.lists) }
-    ensures noting { OnOk result (database.new.closed ≡ false) }
-    ensures listing { OnOk result (lists.new.closed ≡ false) }
-    ensures indexed { OnOk result (ArePackagesOf database.new.records packages.new) }
+        (Needs (H.state host.new)
+        (IsInOrder administration.new.database administration.new.lists.lists)) }
+    ensures open { OnOk result (IsOpen diversions.now.entries administration.new) }
+    ensures indexed { OnOk result (ArePackagesOf administration.new.database.records packages.new) }
     ensures told { HasCalledFirst incoming.now version.now diversions.now.entries losing.now
-        conflicting.now (holding database.old lists.old) (H.state host.old) (H.state host.new)
+        conflicting.now (holding_of administration.old) (H.state host.old) (H.state host.new)
         told.old.items told.new.items }
     ensures any_moment { Since (AreGoing incoming.now version.now diversions.now.entries losing.now
-        conflicting.now (holding database.old lists.old) (H.state host.old)) (H.state host.old)
+        conflicting.now (holding_of administration.old) (H.state host.old)) (H.state host.old)
         (H.state host.new) }
     ensures counts { Counts (H.state host.old) (H.state host.new) result }
 {
     match disappear_packages(
-        alloc, host, database, packages, lists, places, diversions, incoming, version, losing, told,
+        host,
+        administration,
+        packages,
+        diversions,
+        incoming,
+        version,
+        losing,
+        told,
     ) {
         Ok(disappeared) => remove_behind(
-            alloc,
             host,
-            database,
+            administration,
             packages,
-            lists,
-            places,
             diversions,
             disappeared,
             conflicting,
@@ -261,12 +241,9 @@ fn bring_to_disk<H: Host>(
 /// nothing is left, and then the conflicting ones are removed. All of it is brought to the disk, and the packages of the records are
 /// brought up to date.
 pub fn displace<H: Host>(
-    alloc: Global,
     host: &mut H,
-    database: &mut NotedDatabase,
+    administration: &mut Administration,
     packages: &mut Packages,
-    lists: &mut FileLists,
-    places: &mut Places,
     diversions: &Diversions,
     incoming: &Text,
     version: &Version,
@@ -274,39 +251,35 @@ pub fn displace<H: Host>(
     conflicting: &[Text],
     told: &mut Vec<Called>,
 ) -> Result<Displaced, HostFault>
-    requires order { Needs (H.state host.old) (IsInOrder database.old lists.old.lists) }
-    requires noting { database.old.closed ≡ false }
-    requires listing { lists.old.closed ≡ false }
-    requires kept { places.old ≡ places_in diversions.now.entries lists.old.lists }
-    requires indexed { ArePackagesOf database.old.records packages.old }
+    requires order { Needs (H.state host.old)
+        (IsInOrder administration.old.database administration.old.lists.lists) }
+    requires open { IsOpen diversions.now.entries administration.old }
+    requires indexed { ArePackagesOf administration.old.database.records packages.old }
     ensures displaced { IfOk result (λ d. HaveBeenDisplaced incoming.now version.now
         diversions.now.entries losing.now conflicting.now d.names d.failed
-        (holding database.old lists.old) (holding database.new lists.new) (H.state host.old)
+        (holding_of administration.old) (holding_of administration.new) (H.state host.old)
         (H.state host.new) told.old.items told.new.items) }
     ensures others { IfOk result (λ d. (q : List ℕ) → (Contains d.names q → ⊥)
-        → record_in database.new.records q ≡ record_in database.old.records q) }
+        → record_in administration.new.database.records q
+        ≡ record_in administration.old.database.records q) }
     ensures order { OnOk result
-        (Needs (H.state host.new) (IsInOrder database.new lists.new.lists)) }
-    ensures kept { OnOk result (places.new ≡ places_in diversions.now.entries lists.new.lists) }
-    ensures noting { OnOk result (database.new.closed ≡ false) }
-    ensures listing { OnOk result (lists.new.closed ≡ false) }
-    ensures indexed { OnOk result (ArePackagesOf database.new.records packages.new) }
+        (Needs (H.state host.new)
+        (IsInOrder administration.new.database administration.new.lists.lists)) }
+    ensures open { OnOk result (IsOpen diversions.now.entries administration.new) }
+    ensures indexed { OnOk result (ArePackagesOf administration.new.database.records packages.new) }
     ensures answered { OnOk result (IsAnswered (H.state host.old) (H.state host.new)) }
     ensures told { HasCalled incoming.now version.now diversions.now.entries losing.now
-        conflicting.now (holding database.old lists.old) (H.state host.old) (H.state host.new)
+        conflicting.now (holding_of administration.old) (H.state host.old) (H.state host.new)
         told.old.items told.new.items }
     ensures any_moment { Since (IsAmidDisplacing incoming.now version.now diversions.now.entries
-        losing.now conflicting.now (holding database.old lists.old) (H.state host.old))
+        losing.now conflicting.now (holding_of administration.old) (H.state host.old))
         (H.state host.old) (H.state host.new) }
     ensures counts { Counts (H.state host.old) (H.state host.new) result }
 {
     match displace_all(
-        alloc,
         host,
-        database,
+        administration,
         packages,
-        lists,
-        places,
         diversions,
         incoming,
         version,

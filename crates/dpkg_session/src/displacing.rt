@@ -1,8 +1,9 @@
 // What an unpack displaces behind its commit.
-ghost use Rattle.std.specs.Prelude.{◌≡◌, false, ℕ, List, [], None, IfOk, OnOk, map};
+ghost use Rattle.std.specs.Prelude.{◌≡◌, ℕ, List, [], None, IfOk, OnOk, map};
 ghost use Rattle.host_core.specs.Host.{AtEachMomentOf, Counts, Needs};
 ghost use Rattle.host_core.specs.Loss.{IsOnDisk};
 ghost use Rattle.file_lists.specs.Owners.{places_in};
+ghost use Rattle.held_administration.specs.Open.{CanWrite, IsOpen};
 ghost use Rattle.recorded_packages.specs.Packages.{ArePackagesOf};
 ghost use Rattle.recorded_packages.specs.Renewal.{AreSameBut};
 ghost use Rattle.status_db.specs.Order.{AreInOrder};
@@ -10,7 +11,7 @@ ghost use Rattle.status_db.specs.declared.record.Record.{Record};
 ghost use Rattle.unpack_engine.specs.Order.{IsInOrder};
 ghost use Rattle.unpack_engine.specs.Units.{IsTouched};
 ghost use Rattle.unpack_relations.specs.Checks.{AreApart};
-ghost use Rattle.unit_reports.specs.Held.{held};
+ghost use Rattle.unit_reports.specs.Held.{held_by};
 ghost use Rattle.unit_reports.specs.Units.{touched_at};
 ghost use Rattle.dpkg_session.specs.Run.{IsAmidBeside, IsAmidUnpack};
 ghost use Rattle.dpkg_session.specs.Touched.{AreOfBoth, AreUnchanged, IsTouchedBeside, told_among};
@@ -22,6 +23,7 @@ use disappearance::Losing;
 use displaced_packages::{Displaced, displace, losing_beside};
 use diversions::Diversions;
 use file_lists::FileLists;
+use held_administration::Administration;
 use host_core::{Host, HostFault, Places};
 use other_rows::yields_beside;
 use package_tree::Package;
@@ -125,51 +127,45 @@ fn bring_up_to_date(
 
 // Unpacks a package, and then computes the places anew.
 fn unpack_refreshed<H: Host>(
-    alloc: Global,
     host: &mut H,
-    database: &mut NotedDatabase,
+    administration: &mut Administration,
     packages: &mut Packages,
-    lists: &mut FileLists,
-    places: &mut Places,
     diversions: &Diversions,
     incoming: Package,
     beside: &Beside,
     told: &mut Vec<Called>,
 ) -> Result<Unpacked, HostFault>
-    requires apart { AreApart incoming.name database.old.records beside.now }
-    requires order { Needs (H.state host.old) (IsInOrder database.old lists.old.lists) }
-    requires noting { database.old.closed ≡ false }
-    requires listing { lists.old.closed ≡ false }
-    requires indexed { ArePackagesOf database.old.records packages.old }
+    requires apart { AreApart incoming.name administration.old.database.records beside.now }
+    requires order { Needs (H.state host.old)
+        (IsInOrder administration.old.database administration.old.lists.lists) }
+    requires open { CanWrite administration.old }
+    requires indexed { ArePackagesOf administration.old.database.records packages.old }
     ensures unit { IfOk result (λ u. HasUnpackedBeside incoming beside.now
-        (held database.old lists.old diversions.now) places.old u.unwinding database.new
-        lists.new.lists (H.state host.old) (H.state host.new) told.old.items told.new.items) }
-    ensures touched { IfOk result (λ u. IsTouched incoming.name database.old.records
-        database.new.records u.touched) }
+        (held_by administration.old diversions.now) administration.old.places u.unwinding
+        administration.new.database administration.new.lists.lists (H.state host.old)
+        (H.state host.new) told.old.items told.new.items) }
+    ensures touched { IfOk result (λ u. IsTouched incoming.name administration.old.database.records
+        administration.new.database.records u.touched) }
     ensures order { IfOk result (λ u. Needs (H.state host.new)
-        (IsInOrder database.new lists.new.lists)) }
-    ensures noting { OnOk result (database.new.closed ≡ false) }
-    ensures listing { OnOk result (lists.new.closed ≡ false) }
-    ensures kept { OnOk result (places.new ≡ places_in diversions.now.entries lists.new.lists) }
-    ensures indexed { OnOk result (ArePackagesOf database.new.records packages.new) }
+        (IsInOrder administration.new.database administration.new.lists.lists)) }
+    ensures open { OnOk result (IsOpen diversions.now.entries administration.new) }
+    ensures indexed { OnOk result (ArePackagesOf administration.new.database.records packages.new) }
     ensures on_disk { OnOk result (IsOnDisk (H.state host.new).events) }
-    ensures told { HasCalledBeside incoming beside.now (held database.old lists.old diversions.now)
+    ensures told { HasCalledBeside incoming beside.now (held_by administration.old diversions.now)
         (H.state host.old) (H.state host.new) told.old.items told.new.items }
     ensures any_moment { AtEachMomentOf (IsAmidBeside incoming beside.now
-        (held database.old lists.old diversions.now) places.old) (H.state host.old)
+        (held_by administration.old diversions.now) administration.old.places) (H.state host.old)
         (H.state host.new) }
     ensures counts { Counts (H.state host.old) (H.state host.new) result }
 {
-    database.law();
-    match unpack_beside(
-        alloc, host, database, lists, places, diversions, incoming, beside, told,
-    ) {
+    administration.database.law();
+    match unpack_beside(host, administration, diversions, incoming, beside, told) {
         Ok(unpacked) => match bring_up_to_date(
-            alloc,
-            database,
+            administration.alloc,
+            &administration.database,
             packages,
-            lists,
-            places,
+            &administration.lists,
+            &mut administration.places,
             diversions,
             unpacked.touched.as_slice(),
         ) {
@@ -182,62 +178,60 @@ fn unpack_refreshed<H: Host>(
 
 /// Unpacks a package that isn't refused, and displaces packages behind the commit.
 pub(crate) fn unpack_whole<H: Host>(
-    alloc: Global,
     host: &mut H,
-    database: &mut NotedDatabase,
+    administration: &mut Administration,
     packages: &mut Packages,
-    lists: &mut FileLists,
-    places: &mut Places,
     diversions: &Diversions,
     incoming: Package,
     beside: &Beside,
     behind: &Behind,
     told: &mut Vec<Called>,
 ) -> Result<UnpackEnd, HostFault>
-    requires behind { IsBehind incoming beside.now lists.old.lists behind.now }
-    requires apart { AreApart incoming.name database.old.records beside.now }
-    requires order { Needs (H.state host.old) (IsInOrder database.old lists.old.lists) }
-    requires noting { database.old.closed ≡ false }
-    requires listing { lists.old.closed ≡ false }
-    requires kept { places.old ≡ places_in diversions.now.entries lists.old.lists }
-    requires indexed { ArePackagesOf database.old.records packages.old }
+    requires behind { IsBehind incoming beside.now administration.old.lists.lists behind.now }
+    requires apart { AreApart incoming.name administration.old.database.records beside.now }
+    requires order { Needs (H.state host.old)
+        (IsInOrder administration.old.database administration.old.lists.lists) }
+    requires open { IsOpen diversions.now.entries administration.old }
+    requires indexed { ArePackagesOf administration.old.database.records packages.old }
     requires untold { told.old.items ≡ [] }
     ensures unit { IfOk result (λ e. HasUnpackedWhole incoming beside.now
-        (held database.old lists.old diversions.now) e.unpacked.unwinding e.displaced.names
-        e.displaced.failed (held database.new lists.new diversions.now) (H.state host.old)
+        (held_by administration.old diversions.now) e.unpacked.unwinding e.displaced.names
+        e.displaced.failed (held_by administration.new diversions.now) (H.state host.old)
         (H.state host.new) told.old.items told.new.items) }
     ensures touched { IfOk result (λ e. (names unchanged : List (List ℕ))
-        → AreOfBoth e.unpacked.touched e.displaced.names names → AreUnchanged database.old.records
-        database.new.records (yielding beside.now) unchanged
-        → IsTouchedBeside incoming.name database.old.records database.new.records
-        (told_among incoming.name unchanged names)) }
-    ensures order { OnOk result
-        (Needs (H.state host.new) (IsInOrder database.new lists.new.lists)) }
-    ensures noting { OnOk result (database.new.closed ≡ false) }
-    ensures listing { OnOk result (lists.new.closed ≡ false) }
-    ensures kept { OnOk result (places.new ≡ places_in diversions.now.entries lists.new.lists) }
-    ensures indexed { OnOk result (ArePackagesOf database.new.records packages.new) }
+        → AreOfBoth e.unpacked.touched e.displaced.names names
+        → AreUnchanged administration.old.database.records administration.new.database.records
+        (yielding beside.now) unchanged
+        → IsTouchedBeside incoming.name administration.old.database.records
+        administration.new.database.records (told_among incoming.name unchanged names)) }
+    ensures order { OnOk result (Needs (H.state host.new)
+        (IsInOrder administration.new.database administration.new.lists.lists)) }
+    ensures open { OnOk result (IsOpen diversions.now.entries administration.new) }
+    ensures indexed { OnOk result (ArePackagesOf administration.new.database.records packages.new) }
     ensures on_disk { OnOk result (IsOnDisk (H.state host.new).events) }
-    ensures told { HasCalledWhole incoming beside.now (held database.old lists.old diversions.now)
+    ensures told { HasCalledWhole incoming beside.now (held_by administration.old diversions.now)
         (H.state host.old) (H.state host.new) told.old.items told.new.items }
     ensures any_moment { AtEachMomentOf (IsAmidUnpack incoming beside.now
-        (held database.old lists.old diversions.now)) (H.state host.old) (H.state host.new) }
+        (held_by administration.old diversions.now)) (H.state host.old) (H.state host.new) }
     ensures counts { Counts (H.state host.old) (H.state host.new) result }
 {
     match unpack_refreshed(
-        alloc, host, database, packages, lists, places, diversions, incoming, beside, told,
+        host,
+        administration,
+        packages,
+        diversions,
+        incoming,
+        beside,
+        told,
     ) {
         Ok(unpacked) => {
             if unpacked.unwinding.is_some() {
-                return Ok(undisplaced(alloc, unpacked));
+                return Ok(undisplaced(administration.alloc, unpacked));
             }
             match displace(
-                alloc,
                 host,
-                database,
+                administration,
                 packages,
-                lists,
-                places,
                 diversions,
                 &behind.package,
                 &behind.version,

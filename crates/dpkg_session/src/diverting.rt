@@ -165,21 +165,22 @@ impl<H: Host> Session<H> {
     /// Adds a diversion: one unit. One that is broken off closes the session.
     pub fn divert(&mut self, asked: &Diverting) -> Report
         ensures whole { self.old.closed ≡ false → IsNone result.last
-            → IsOneUnit (λ u. IsDiverted asked.now (seen_of self.old.database.records
-            self.old.lists.lists asked.now.owner asked.now.path) self.old.diversions.entries
-            self.new.diversions.entries u (H.state self.old.host) (H.state self.new.host))
-            result.units.items }
+            → IsOneUnit (λ u. IsDiverted asked.now (seen_of self.old.administration.database.records
+            self.old.administration.lists.lists asked.now.owner asked.now.path)
+            self.old.diversions.entries self.new.diversions.entries u (H.state self.old.host)
+            (H.state self.new.host)) result.units.items }
         ensures broken { HasBroken result }
         ensures told { TellsCalls (H.state self.old.host) (H.state self.new.host) result }
         ensures any_moment { self.old.closed ≡ false
             → AtEachMoment (IsAdding self.old.diversions.entries (asked_entry asked.now)
-            asked.now.rename (seen_of self.old.database.records self.old.lists.lists asked.now.owner
-            asked.now.path)) (H.state self.old.host) (H.state self.new.host) }
+            asked.now.rename (seen_of self.old.administration.database.records
+            self.old.administration.lists.lists asked.now.owner asked.now.path))
+            (H.state self.old.host) (H.state self.new.host) }
         ensures loss { self.old.closed ≡ false
             → LosesLikeAStop (λ so_far. IsAdding self.old.diversions.entries (asked_entry asked.now)
-            asked.now.rename (seen_of self.old.database.records self.old.lists.lists asked.now.owner
-            asked.now.path) (H.state self.old.host).world) (H.state self.old.host)
-            (H.state self.new.host) }
+            asked.now.rename (seen_of self.old.administration.database.records
+            self.old.administration.lists.lists asked.now.owner asked.now.path)
+            (H.state self.old.host).world) (H.state self.old.host) (H.state self.new.host) }
         ensures stands { self.old.closed ≡ false → IsNone result.last
             → StandsOnceAnswered (H.state self.old.host) (H.state self.new.host) }
         ensures answered { self.old.closed ≡ false → IsNone result.last
@@ -188,8 +189,8 @@ impl<H: Host> Session<H> {
         ensures refused { self.old.closed ≡ true → IsClosedReport result }
         ensures same { self.old.closed ≡ true → H.state self.new.host ≡ H.state self.old.host }
         ensures same_table { self.old.closed ≡ true → self.new.diversions ≡ self.old.diversions }
-        ensures database { self.new.database ≡ self.old.database }
-        ensures lists { self.new.lists ≡ self.old.lists }
+        ensures database { self.new.administration.database ≡ self.old.administration.database }
+        ensures lists { self.new.administration.lists ≡ self.old.administration.lists }
         ensures silent { Silent (H.state self.old.host) (H.state self.new.host) }
         ensures counts { self.old.closed ≡ false → CountsLast (H.state self.old.host)
             (H.state self.new.host) result.last }
@@ -197,15 +198,16 @@ impl<H: Host> Session<H> {
             → IfSome result.last (λ unit. IsBrokenBy Closed unit.reply → ⊥) }
     {
         if self.closed {
-            return closed_report(self.alloc);
+            return closed_report(self.administration.alloc);
         }
+        let administration = &mut self.administration;
         let report = divert_on(
-            self.alloc,
+            administration.alloc,
             &mut self.host,
-            &self.database,
-            &self.lists,
+            &administration.database,
+            &administration.lists,
             &mut self.diversions,
-            &mut self.places,
+            &mut administration.places,
             asked,
         );
         self.closed = report.last.is_some();

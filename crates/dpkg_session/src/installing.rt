@@ -1,12 +1,12 @@
 // A session unpacks trees, and then configures the packages that were unpacked, and those deconfigured for them.
 ghost use Rattle.std.specs.Prelude.{◌≡◌, ◌++◌, List, true, false, None, IfSome, IsNone, is_some};
 ghost use Rattle.configure_run.specs.Run.{IsConfigureRun, HasRun as HasConfigured, IsAmidRun as IsAmidConfigure};
-ghost use Rattle.file_lists.specs.Owners.{places_in};
+ghost use Rattle.held_administration.specs.Open.{IsOpen};
 ghost use Rattle.host_core.specs.Host.{Falls, Needs, Since};
 ghost use Rattle.host_core.specs.Loss.{IsAnswered};
 ghost use Rattle.recorded_packages.specs.Packages.{ArePackagesOf};
 ghost use Rattle.unit_parts.specs.Order.{IsInOrder};
-ghost use Rattle.unit_reports.specs.Held.{held};
+ghost use Rattle.unit_reports.specs.Held.{held_by};
 ghost use Rattle.unit_reports.specs.Units.{CountsLast, IsBrokenBy, IsClosedReport, TellsCalls};
 ghost use Rattle.unit_reports.specs.Watching.{IsTold};
 ghost use Rattle.unit_reports.specs.declared.report.Breakage.TheVariants.{Closed};
@@ -23,10 +23,8 @@ use crate::trees::Trees;
 use crate::units::run_units;
 use conffiles::ConfPolicy;
 use diversions::Diversions;
-use file_lists::FileLists;
-use host_core::{Host, Places};
-use relation_index::Packages;
-use status_db::NotedDatabase;
+use held_administration::Administration;
+use host_core::Host;
 use std::alloc::Global;
 use texts::{Text, Texts};
 use unit_reports::{Report, Unit, Watcher, what_is_told_in_turn};
@@ -58,51 +56,43 @@ fn empty_report(alloc: Global) -> Report
 
 // Configures the packages of these names whose units answered Done.
 fn configure_done<H: Host, W: Watcher>(
-    alloc: Global,
     host: &mut H,
-    database: &mut NotedDatabase,
-    packages: &mut Option<Packages>,
-    lists: &mut FileLists,
-    places: &mut Places,
+    administration: &mut Administration,
     diversions: &Diversions,
     labels: &[Text],
     units: &[Unit],
     policy: ConfPolicy,
     watcher: &mut W,
 ) -> Report
-    requires order { Needs (H.state host.old) (IsInOrder database.old lists.old.lists) }
-    requires noting { database.old.closed ≡ false }
-    requires listing { lists.old.closed ≡ false }
-    requires kept { places.old ≡ places_in diversions.now.entries lists.old.lists }
-    requires indexed { IfSome packages.old (ArePackagesOf database.old.records) }
+    requires order { Needs (H.state host.old)
+        (IsInOrder administration.old.database administration.old.lists.lists) }
+    requires open { IsOpen diversions.now.entries administration.old }
+    requires indexed { IfSome administration.old.packages
+        (ArePackagesOf administration.old.database.records) }
     ensures whole { IsNone result.last → IsConfigureRun (names_done labels.now units.now) policy
-        result.units.items (held database.old lists.old diversions.now) (held database.new lists.new
-        diversions.now) (H.state host.old) (H.state host.new) }
+        result.units.items (held_by administration.old diversions.now)
+        (held_by administration.new diversions.now) (H.state host.old) (H.state host.new) }
     ensures part { HasConfigured (names_done labels.now units.now) policy result.units.items
-        result.last (held database.old lists.old diversions.now) (H.state host.old)
+        result.last (held_by administration.old diversions.now) (H.state host.old)
         (H.state host.new) }
     ensures told { TellsCalls (H.state host.old) (H.state host.new) result }
     ensures any_moment { Since (IsAmidConfigure (names_done labels.now units.now) policy
-        (held database.old lists.old diversions.now) (H.state host.old)) (H.state host.old)
+        (held_by administration.old diversions.now) (H.state host.old)) (H.state host.old)
         (H.state host.new) }
     ensures answered { IsNone result.last → IsAnswered (H.state host.old) (H.state host.new) }
     ensures counts { CountsLast (H.state host.old) (H.state host.new) result.last }
     ensures not_closed { IfSome result.last (λ unit. IsBrokenBy Closed unit.reply → ⊥) }
-    ensures order { IsNone result.last
-        → Needs (H.state host.new) (IsInOrder database.new lists.new.lists) }
-    ensures noting { IsNone result.last → database.new.closed ≡ false }
-    ensures listing { IsNone result.last → lists.new.closed ≡ false }
-    ensures kept { IsNone result.last → places.new ≡ places_in diversions.now.entries
-        lists.new.lists }
-    ensures indexed { IsNone result.last
-        → IfSome packages.new (ArePackagesOf database.new.records) }
+    ensures order { IsNone result.last → Needs (H.state host.new)
+        (IsInOrder administration.new.database administration.new.lists.lists) }
+    ensures open { IsNone result.last → IsOpen diversions.now.entries administration.new }
+    ensures indexed { IsNone result.last → IfSome administration.new.packages
+        (ArePackagesOf administration.new.database.records) }
     ensures watched { IsTold W.tells watcher.old result.units.items watcher.new }
 {
+    let alloc = administration.alloc;
     match names_done(alloc, labels, units) {
         Ok(names) => {
-            return configure_named(
-                alloc, host, database, packages, lists, places, diversions, names, policy, watcher,
-            );
+            return configure_named(host, administration, diversions, names, policy, watcher);
         }
         Err(_) => {
             return no_memory(alloc);
@@ -112,27 +102,23 @@ fn configure_done<H: Host, W: Watcher>(
 
 // The unpacks, and then what is configured.
 fn unpack_and_configure<H: Host, T: Trees, W: Watcher>(
-    alloc: Global,
     host: &mut H,
-    database: &mut NotedDatabase,
-    packages: &mut Option<Packages>,
-    lists: &mut FileLists,
-    places: &mut Places,
+    administration: &mut Administration,
     diversions: &Diversions,
     trees: &mut T,
     auto_deconfigure: bool,
     policy: ConfPolicy,
     watcher: &mut W,
 ) -> Installed
-    requires order { Needs (H.state host.old) (IsInOrder database.old lists.old.lists) }
-    requires noting { database.old.closed ≡ false }
-    requires listing { lists.old.closed ≡ false }
-    requires kept { places.old ≡ places_in diversions.now.entries lists.old.lists }
-    requires indexed { IfSome packages.old (ArePackagesOf database.old.records) }
+    requires order { Needs (H.state host.old)
+        (IsInOrder administration.old.database administration.old.lists.lists) }
+    requires open { IsOpen diversions.now.entries administration.old }
+    requires indexed { IfSome administration.old.packages
+        (ArePackagesOf administration.old.database.records) }
     ensures run { (cs : List ACandidate) × AreRead T.reads trees.old cs trees.new
         × HasInstalledThrough auto_deconfigure cs (T.words trees.new) policy result.unpacked
-        result.configured (held database.old lists.old diversions.now) (held database.new lists.new
-        diversions.now) (H.state host.old) (H.state host.new) }
+        result.configured (held_by administration.old diversions.now)
+        (held_by administration.new diversions.now) (H.state host.old) (H.state host.new) }
     ensures told { TellsBoth (H.state host.old) (H.state host.new) result.unpacked
         result.configured }
     ensures answered { IsNone (last_of result.unpacked.last result.configured.last)
@@ -142,27 +128,21 @@ fn unpack_and_configure<H: Host, T: Trees, W: Watcher>(
     ensures not_closed { IfSome (last_of result.unpacked.last result.configured.last)
         (λ unit. IsBrokenBy Closed unit.reply → ⊥) }
     ensures order { IsNone (last_of result.unpacked.last result.configured.last)
-        → Needs (H.state host.new) (IsInOrder database.new lists.new.lists) }
-    ensures noting { IsNone (last_of result.unpacked.last result.configured.last)
-        → database.new.closed ≡ false }
-    ensures listing { IsNone (last_of result.unpacked.last result.configured.last)
-        → lists.new.closed ≡ false }
-    ensures kept { IsNone (last_of result.unpacked.last result.configured.last)
-        → places.new ≡ places_in diversions.now.entries lists.new.lists }
+        → Needs (H.state host.new)
+        (IsInOrder administration.new.database administration.new.lists.lists) }
+    ensures open { IsNone (last_of result.unpacked.last result.configured.last)
+        → IsOpen diversions.now.entries administration.new }
     ensures indexed { IsNone (last_of result.unpacked.last result.configured.last)
-        → IfSome packages.new (ArePackagesOf database.new.records) }
+        → IfSome administration.new.packages (ArePackagesOf administration.new.database.records) }
     ensures watched { IsTold W.tells watcher.old (result.unpacked.units.items
         ++ result.configured.units.items) watcher.new }
 {
     what_is_told_in_turn::<W>();
+    let alloc = administration.alloc;
     let mut labels = Texts::new(alloc);
     let unpacked = run_units(
-        alloc,
         host,
-        database,
-        packages,
-        lists,
-        places,
+        administration,
         diversions,
         trees,
         auto_deconfigure,
@@ -176,12 +156,8 @@ fn unpack_and_configure<H: Host, T: Trees, W: Watcher>(
         };
     }
     let configured = configure_done(
-        alloc,
         host,
-        database,
-        packages,
-        lists,
-        places,
+        administration,
         diversions,
         labels.as_slice(),
         unpacked.units.as_slice(),
@@ -207,9 +183,9 @@ impl<H: Host> Session<H> {
     ) -> Installed
         ensures run { self.old.closed ≡ false → (cs : List ACandidate) × AreRead T.reads trees.old
             cs trees.new × HasInstalledThrough auto_deconfigure cs (T.words trees.new) policy
-            result.unpacked result.configured (held self.old.database self.old.lists
-            self.old.diversions) (held self.new.database self.new.lists self.new.diversions)
-            (H.state self.old.host) (H.state self.new.host) }
+            result.unpacked result.configured (held_by self.old.administration self.old.diversions)
+            (held_by self.new.administration self.new.diversions) (H.state self.old.host)
+            (H.state self.new.host) }
         ensures told { TellsBoth (H.state self.old.host) (H.state self.new.host) result.unpacked
             result.configured }
         ensures watched { IsTold W.tells watcher.old (result.unpacked.units.items
@@ -223,8 +199,9 @@ impl<H: Host> Session<H> {
             × IsEmptyReport result.configured }
         ensures unread { self.old.closed ≡ true → trees.new ≡ trees.old }
         ensures same { self.old.closed ≡ true → H.state self.new.host ≡ H.state self.old.host }
-        ensures same_held { self.old.closed ≡ true → held self.new.database self.new.lists
-            self.new.diversions ≡ held self.old.database self.old.lists self.old.diversions }
+        ensures same_held { self.old.closed ≡ true
+            → held_by self.new.administration self.new.diversions
+            ≡ held_by self.old.administration self.old.diversions }
         ensures answered { self.old.closed ≡ false
             → IsNone (last_of result.unpacked.last result.configured.last)
             → IsAnswered (H.state self.old.host) (H.state self.new.host) }
@@ -238,17 +215,13 @@ impl<H: Host> Session<H> {
     {
         if self.closed {
             return Installed {
-                unpacked: closed_report(self.alloc),
-                configured: empty_report(self.alloc),
+                unpacked: closed_report(self.administration.alloc),
+                configured: empty_report(self.administration.alloc),
             };
         }
         let installed = unpack_and_configure(
-            self.alloc,
             &mut self.host,
-            &mut self.database,
-            &mut self.packages,
-            &mut self.lists,
-            &mut self.places,
+            &mut self.administration,
             &self.diversions,
             trees,
             auto_deconfigure,

@@ -8,7 +8,7 @@
 //! then a configure of the packages whose unpack was done, each with those that were deconfigured
 //! for it, without those that a later candidate took away, with a report of each. An open session
 //! always knows its administration, records, lists and diversions (`ready`), and keeps the places
-//! of all listed paths (`kept`).
+//! of all listed paths (`opened`).
 //!
 //! Where it keeps what the recorded packages state of others, that is what the records state at
 //! each command (`indexed`).

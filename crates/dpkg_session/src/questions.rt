@@ -32,12 +32,13 @@ impl<H: Host> Session<H> {
 
     /// The packages with their versions and states.
     pub fn list(&self) -> Result<Bytes, QueryFault>
-        ensures { IsAnswer self.now.closed (list_text self.now.database.records) result }
+        ensures { IsAnswer self.now.closed (list_text self.now.administration.database.records)
+            result }
     {
         if self.is_closed() {
             return Err(QueryFault::Closed);
         }
-        match list_text(self.alloc, &self.database) {
+        match list_text(self.administration.alloc, &self.administration.database) {
             Ok(text) => Ok(text),
             Err(_) => Err(QueryFault::NoMemory),
         }
@@ -45,12 +46,13 @@ impl<H: Host> Session<H> {
 
     /// The packages with which something has to be done.
     pub fn audit(&self) -> Result<Bytes, QueryFault>
-        ensures { IsAnswer self.now.closed (audit_text self.now.database.records) result }
+        ensures { IsAnswer self.now.closed (audit_text self.now.administration.database.records)
+            result }
     {
         if self.is_closed() {
             return Err(QueryFault::Closed);
         }
-        match audit_text(self.alloc, &self.database) {
+        match audit_text(self.administration.alloc, &self.administration.database) {
             Ok(text) => Ok(text),
             Err(_) => Err(QueryFault::NoMemory),
         }
@@ -63,10 +65,10 @@ impl<H: Host> Session<H> {
         text: Result<Option<Bytes>, AllocError>,
     ) -> Result<Bytes, QueryFault>
         ensures { (asked : Option (List ℕ))
-            → is_some asked ≡ is_some (record_in self.now.database.records name.now) → IfOk
-            text (λ t. t ≡ asked) → IsAnswerAbout false asked result }
+            → is_some asked ≡ is_some (record_in self.now.administration.database.records name.now)
+            → IfOk text (λ t. t ≡ asked) → IsAnswerAbout false asked result }
     {
-        if self.database.get(name).is_none() {
+        if self.administration.database.get(name).is_none() {
             return Err(QueryFault::Unknown);
         }
         match text {
@@ -77,38 +79,41 @@ impl<H: Host> Session<H> {
 
     /// The record of a package as the status file has it.
     pub fn status(&self, name: &Text) -> Result<Bytes, QueryFault>
-        ensures { IsAnswerAbout self.now.closed (status_text self.now.database.records name.now)
-            result }
+        ensures { IsAnswerAbout self.now.closed
+            (status_text self.now.administration.database.records name.now) result }
     {
         if self.is_closed() {
             return Err(QueryFault::Closed);
         }
-        self.about(name, status_text(self.alloc, &self.database, name))
+        let held = &self.administration;
+        self.about(name, status_text(held.alloc, &held.database, name))
     }
 
     /// The list of a package.
     pub fn files(&self, name: &Text) -> Result<Bytes, QueryFault>
-        ensures { IsAnswerAbout self.now.closed (files_text self.now.database.records
-            self.now.lists.lists name.now) result }
+        ensures { IsAnswerAbout self.now.closed (files_text self.now.administration.database.records
+            self.now.administration.lists.lists name.now) result }
     {
         if self.is_closed() {
             return Err(QueryFault::Closed);
         }
+        let held = &self.administration;
         self.about(
             name,
-            files_text(self.alloc, &self.database, &self.lists, name),
+            files_text(held.alloc, &held.database, &held.lists, name),
         )
     }
 
     /// Who lists a path that lies at a place.
     pub fn search(&self, place: &RootPath) -> Result<Bytes, QueryFault>
         ensures { IsAnswer self.now.closed (search_text self.now.diversions.entries
-            self.now.lists.lists place.now) result }
+            self.now.administration.lists.lists place.now) result }
     {
         if self.is_closed() {
             return Err(QueryFault::Closed);
         }
-        match search_text(self.alloc, &self.lists, &self.diversions, place) {
+        let held = &self.administration;
+        match search_text(held.alloc, &held.lists, &self.diversions, place) {
             Ok(text) => Ok(text),
             Err(_) => Err(QueryFault::NoMemory),
         }
@@ -122,7 +127,7 @@ impl<H: Host> Session<H> {
         if self.is_closed() {
             return Err(QueryFault::Closed);
         }
-        match truename_text(self.alloc, &self.diversions, user, path) {
+        match truename_text(self.administration.alloc, &self.diversions, user, path) {
             Ok(text) => Ok(text),
             Err(_) => Err(QueryFault::NoMemory),
         }
@@ -135,7 +140,7 @@ impl<H: Host> Session<H> {
         if self.is_closed() {
             return Err(QueryFault::Closed);
         }
-        match diversions_text(self.alloc, &self.diversions) {
+        match diversions_text(self.administration.alloc, &self.diversions) {
             Ok(text) => Ok(text),
             Err(_) => Err(QueryFault::NoMemory),
         }

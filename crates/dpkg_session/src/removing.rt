@@ -1,13 +1,13 @@
 // A session removes or purges packages.
 ghost use Rattle.std.specs.Prelude.{◌≡◌, true, false, IsNone, IfSome, is_some};
-ghost use Rattle.file_lists.specs.Owners.{places_in};
+ghost use Rattle.held_administration.specs.Open.{IsOpen};
 ghost use Rattle.host_core.specs.Host.{Falls, Needs, Since};
 ghost use Rattle.host_core.specs.Loss.{IsAnswered};
 ghost use Rattle.dpkg_session.specs.PowerLoss.{LosesLikeAStop, StandsOnceAnswered};
 ghost use Rattle.recorded_packages.specs.Packages.{ArePackagesOf};
 ghost use Rattle.removal_run.specs.Run.{HasRun, IsAmidRun, IsRemovalRun};
 ghost use Rattle.unit_parts.specs.Order.{IsInOrder};
-ghost use Rattle.unit_reports.specs.Held.{held};
+ghost use Rattle.unit_reports.specs.Held.{held_by};
 ghost use Rattle.unit_reports.specs.Units.{CountsLast, IsBrokenBy, IsClosedReport, TellsCalls};
 ghost use Rattle.unit_reports.specs.Watching.{IsTold};
 ghost use Rattle.unit_reports.specs.declared.report.Breakage.TheVariants.{Closed};
@@ -16,60 +16,62 @@ use crate::recorded::take_packages;
 use crate::session::{Session, closed_report};
 use crate::table_units::no_memory;
 use diversions::Diversions;
-use file_lists::FileLists;
-use host_core::{Host, Places};
-use relation_index::Packages;
+use held_administration::Administration;
+use host_core::Host;
 use removal_run::remove_packages;
-use status_db::NotedDatabase;
-use std::alloc::Global;
 use texts::Text;
 use unit_reports::{Report, Watcher};
 
 // Removes packages of these names, or purges them, beside the packages of the records.
 fn remove_named<H: Host, W: Watcher>(
-    alloc: Global,
     host: &mut H,
-    database: &mut NotedDatabase,
-    packages: &mut Option<Packages>,
-    lists: &mut FileLists,
-    places: &mut Places,
+    administration: &mut Administration,
     diversions: &Diversions,
     names: Vec<Text>,
     purge: bool,
     watcher: &mut W,
 ) -> Report
-    requires order { Needs (H.state host.old) (IsInOrder database.old lists.old.lists) }
-    requires noting { database.old.closed ≡ false }
-    requires listing { lists.old.closed ≡ false }
-    requires kept { places.old ≡ places_in diversions.now.entries lists.old.lists }
-    requires indexed { IfSome packages.old (ArePackagesOf database.old.records) }
+    requires order { Needs (H.state host.old)
+        (IsInOrder administration.old.database administration.old.lists.lists) }
+    requires open { IsOpen diversions.now.entries administration.old }
+    requires indexed { IfSome administration.old.packages
+        (ArePackagesOf administration.old.database.records) }
     ensures whole { IsNone result.last → IsRemovalRun names.items purge result.units.items
-        (held database.old lists.old diversions.now) (held database.new lists.new diversions.now)
+        (held_by administration.old diversions.now) (held_by administration.new diversions.now)
         (H.state host.old) (H.state host.new) }
     ensures part { HasRun names.items purge result.units.items result.last
-        (held database.old lists.old diversions.now) (H.state host.old) (H.state host.new) }
+        (held_by administration.old diversions.now) (H.state host.old) (H.state host.new) }
     ensures told { TellsCalls (H.state host.old) (H.state host.new) result }
-    ensures any_moment { Since (IsAmidRun names.items purge (held database.old lists.old
-        diversions.now) (H.state host.old)) (H.state host.old) (H.state host.new) }
+    ensures any_moment { Since (IsAmidRun names.items purge
+        (held_by administration.old diversions.now) (H.state host.old)) (H.state host.old)
+        (H.state host.new) }
     ensures counts { CountsLast (H.state host.old) (H.state host.new) result.last }
     ensures not_closed { IfSome result.last (λ unit. IsBrokenBy Closed unit.reply → ⊥) }
-    ensures order { IsNone result.last
-        → Needs (H.state host.new) (IsInOrder database.new lists.new.lists) }
-    ensures noting { IsNone result.last → database.new.closed ≡ false }
-    ensures listing { IsNone result.last → lists.new.closed ≡ false }
-    ensures kept { IsNone result.last → places.new ≡ places_in diversions.now.entries
-        lists.new.lists }
-    ensures indexed { IsNone result.last
-        → IfSome packages.new (ArePackagesOf database.new.records) }
+    ensures order { IsNone result.last → Needs (H.state host.new)
+        (IsInOrder administration.new.database administration.new.lists.lists) }
+    ensures open { IsNone result.last → IsOpen diversions.now.entries administration.new }
+    ensures indexed { IsNone result.last → IfSome administration.new.packages
+        (ArePackagesOf administration.new.database.records) }
     ensures answered { IsNone result.last → IsAnswered (H.state host.old) (H.state host.new) }
     ensures watched { IsTold W.tells watcher.old result.units.items watcher.new }
 {
-    match take_packages(alloc, packages, database) {
+    let alloc = administration.alloc;
+    match take_packages(
+        alloc,
+        &mut administration.packages,
+        &administration.database,
+    ) {
         Ok(mut known) => {
             let report = remove_packages(
-                alloc, host, database, &mut known, lists, places, diversions, names, purge, watcher,
+                host,
+                administration,
+                &mut known,
+                diversions,
+                names,
+                purge,
+                watcher,
             );
-            *packages = Some(known);
+            administration.packages = Some(known);
             report
         }
         Err(_) => no_memory(alloc),
@@ -81,28 +83,29 @@ impl<H: Host> Session<H> {
     fn take<W: Watcher>(&mut self, names: Vec<Text>, purge: bool, watcher: &mut W) -> Report
         ensures whole { self.old.closed ≡ false → IsNone result.last
             → IsRemovalRun names.items purge result.units.items
-            (held self.old.database self.old.lists self.old.diversions)
-            (held self.new.database self.new.lists self.new.diversions) (H.state self.old.host)
+            (held_by self.old.administration self.old.diversions)
+            (held_by self.new.administration self.new.diversions) (H.state self.old.host)
             (H.state self.new.host) }
         ensures part { self.old.closed ≡ false → HasRun names.items purge result.units.items
-            result.last (held self.old.database self.old.lists self.old.diversions)
+            result.last (held_by self.old.administration self.old.diversions)
             (H.state self.old.host) (H.state self.new.host) }
         ensures told { TellsCalls (H.state self.old.host) (H.state self.new.host) result }
         ensures any_moment { self.old.closed ≡ false
-            → Since (IsAmidRun names.items purge (held self.old.database self.old.lists
-            self.old.diversions) (H.state self.old.host)) (H.state self.old.host)
-            (H.state self.new.host) }
+            → Since (IsAmidRun names.items purge
+            (held_by self.old.administration self.old.diversions) (H.state self.old.host))
+            (H.state self.old.host) (H.state self.new.host) }
         ensures loss { self.old.closed ≡ false
-            → LosesLikeAStop (IsAmidRun names.items purge (held self.old.database self.old.lists
-            self.old.diversions) (H.state self.old.host)) (H.state self.old.host)
-            (H.state self.new.host) }
+            → LosesLikeAStop (IsAmidRun names.items purge
+            (held_by self.old.administration self.old.diversions) (H.state self.old.host))
+            (H.state self.old.host) (H.state self.new.host) }
         ensures stands { self.old.closed ≡ false → IsNone result.last
             → StandsOnceAnswered (H.state self.old.host) (H.state self.new.host) }
         ensures closes { self.new.closed ≡ is_some result.last }
         ensures refused { self.old.closed ≡ true → IsClosedReport result }
         ensures same { self.old.closed ≡ true → H.state self.new.host ≡ H.state self.old.host }
-        ensures same_held { self.old.closed ≡ true → held self.new.database self.new.lists
-            self.new.diversions ≡ held self.old.database self.old.lists self.old.diversions }
+        ensures same_held { self.old.closed ≡ true
+            → held_by self.new.administration self.new.diversions
+            ≡ held_by self.old.administration self.old.diversions }
         ensures answered { self.old.closed ≡ false → IsNone result.last
             → IsAnswered (H.state self.old.host) (H.state self.new.host) }
         ensures diversions { self.new.diversions ≡ self.old.diversions }
@@ -114,15 +117,11 @@ impl<H: Host> Session<H> {
         ensures watched { IsTold W.tells watcher.old result.units.items watcher.new }
     {
         if self.closed {
-            return closed_report(self.alloc);
+            return closed_report(self.administration.alloc);
         }
         let report = remove_named(
-            self.alloc,
             &mut self.host,
-            &mut self.database,
-            &mut self.packages,
-            &mut self.lists,
-            &mut self.places,
+            &mut self.administration,
             &self.diversions,
             names,
             purge,
@@ -137,28 +136,29 @@ impl<H: Host> Session<H> {
     pub fn remove<W: Watcher>(&mut self, names: Vec<Text>, watcher: &mut W) -> Report
         ensures whole { self.old.closed ≡ false → IsNone result.last
             → IsRemovalRun names.items false result.units.items
-            (held self.old.database self.old.lists self.old.diversions)
-            (held self.new.database self.new.lists self.new.diversions) (H.state self.old.host)
+            (held_by self.old.administration self.old.diversions)
+            (held_by self.new.administration self.new.diversions) (H.state self.old.host)
             (H.state self.new.host) }
         ensures part { self.old.closed ≡ false → HasRun names.items false result.units.items
-            result.last (held self.old.database self.old.lists self.old.diversions)
+            result.last (held_by self.old.administration self.old.diversions)
             (H.state self.old.host) (H.state self.new.host) }
         ensures told { TellsCalls (H.state self.old.host) (H.state self.new.host) result }
         ensures any_moment { self.old.closed ≡ false
-            → Since (IsAmidRun names.items false (held self.old.database self.old.lists
-            self.old.diversions) (H.state self.old.host)) (H.state self.old.host)
-            (H.state self.new.host) }
+            → Since (IsAmidRun names.items false
+            (held_by self.old.administration self.old.diversions) (H.state self.old.host))
+            (H.state self.old.host) (H.state self.new.host) }
         ensures loss { self.old.closed ≡ false
-            → LosesLikeAStop (IsAmidRun names.items false (held self.old.database self.old.lists
-            self.old.diversions) (H.state self.old.host)) (H.state self.old.host)
-            (H.state self.new.host) }
+            → LosesLikeAStop (IsAmidRun names.items false
+            (held_by self.old.administration self.old.diversions) (H.state self.old.host))
+            (H.state self.old.host) (H.state self.new.host) }
         ensures stands { self.old.closed ≡ false → IsNone result.last
             → StandsOnceAnswered (H.state self.old.host) (H.state self.new.host) }
         ensures closes { self.new.closed ≡ is_some result.last }
         ensures refused { self.old.closed ≡ true → IsClosedReport result }
         ensures same { self.old.closed ≡ true → H.state self.new.host ≡ H.state self.old.host }
-        ensures same_held { self.old.closed ≡ true → held self.new.database self.new.lists
-            self.new.diversions ≡ held self.old.database self.old.lists self.old.diversions }
+        ensures same_held { self.old.closed ≡ true
+            → held_by self.new.administration self.new.diversions
+            ≡ held_by self.old.administration self.old.diversions }
         ensures answered { self.old.closed ≡ false → IsNone result.last
             → IsAnswered (H.state self.old.host) (H.state self.new.host) }
         ensures diversions { self.new.diversions ≡ self.old.diversions }
@@ -176,28 +176,29 @@ impl<H: Host> Session<H> {
     pub fn purge<W: Watcher>(&mut self, names: Vec<Text>, watcher: &mut W) -> Report
         ensures whole { self.old.closed ≡ false → IsNone result.last
             → IsRemovalRun names.items true result.units.items
-            (held self.old.database self.old.lists self.old.diversions)
-            (held self.new.database self.new.lists self.new.diversions) (H.state self.old.host)
+            (held_by self.old.administration self.old.diversions)
+            (held_by self.new.administration self.new.diversions) (H.state self.old.host)
             (H.state self.new.host) }
         ensures part { self.old.closed ≡ false → HasRun names.items true result.units.items
-            result.last (held self.old.database self.old.lists self.old.diversions)
+            result.last (held_by self.old.administration self.old.diversions)
             (H.state self.old.host) (H.state self.new.host) }
         ensures told { TellsCalls (H.state self.old.host) (H.state self.new.host) result }
         ensures any_moment { self.old.closed ≡ false
-            → Since (IsAmidRun names.items true (held self.old.database self.old.lists
-            self.old.diversions) (H.state self.old.host)) (H.state self.old.host)
-            (H.state self.new.host) }
+            → Since (IsAmidRun names.items true
+            (held_by self.old.administration self.old.diversions) (H.state self.old.host))
+            (H.state self.old.host) (H.state self.new.host) }
         ensures loss { self.old.closed ≡ false
-            → LosesLikeAStop (IsAmidRun names.items true (held self.old.database self.old.lists
-            self.old.diversions) (H.state self.old.host)) (H.state self.old.host)
-            (H.state self.new.host) }
+            → LosesLikeAStop (IsAmidRun names.items true
+            (held_by self.old.administration self.old.diversions) (H.state self.old.host))
+            (H.state self.old.host) (H.state self.new.host) }
         ensures stands { self.old.closed ≡ false → IsNone result.last
             → StandsOnceAnswered (H.state self.old.host) (H.state self.new.host) }
         ensures closes { self.new.closed ≡ is_some result.last }
         ensures refused { self.old.closed ≡ true → IsClosedReport result }
         ensures same { self.old.closed ≡ true → H.state self.new.host ≡ H.state self.old.host }
-        ensures same_held { self.old.closed ≡ true → held self.new.database self.new.lists
-            self.new.diversions ≡ held self.old.database self.old.lists self.old.diversions }
+        ensures same_held { self.old.closed ≡ true
+            → held_by self.new.administration self.new.diversions
+            ≡ held_by self.old.administration self.old.diversions }
         ensures answered { self.old.closed ≡ false → IsNone result.last
             → IsAnswered (H.state self.old.host) (H.state self.new.host) }
         ensures diversions { self.new.diversions ≡ self.old.diversions }

@@ -4,12 +4,12 @@ ghost use Rattle.std.specs.Option.{ForSome};
 ghost use Rattle.host_core.specs.Host.{AtEachMoment, Falls, Gives, Needs, Silent, faults};
 ghost use Rattle.host_core.specs.Loss.{IsAnswered, IsOnDisk};
 ghost use Rattle.administration.specs.Fault.{CountsAdministration};
-ghost use Rattle.file_lists.specs.Owners.{places_in};
+ghost use Rattle.held_administration.specs.Open.{IsOpen};
 ghost use Rattle.opening.specs.Leaving.{IsOpeningOrMerging};
 ghost use Rattle.opening.specs.Opened.{IsOpened};
 ghost use Rattle.opening.specs.Parts.{OpensAndMerges, fault_in};
 ghost use Rattle.recorded_packages.specs.Packages.{ArePackagesOf};
-ghost use Rattle.unit_reports.specs.Held.{held};
+ghost use Rattle.unit_reports.specs.Held.{held_by};
 ghost use Rattle.unit_reports.specs.declared.report.Breakage.TheVariants.{Closed};
 ghost use Rattle.dpkg_session.specs.PowerLoss.{LosesLikeAStop, StandsOnceAnswered};
 ghost use Rattle.dpkg_session.specs.Run.{HasRunThrough};
@@ -23,11 +23,9 @@ use crate::trees::Trees;
 use crate::units::run_units;
 use administration::AdministrationFault;
 use diversions::Diversions;
-use file_lists::FileLists;
-use host_core::{Host, Places};
+use held_administration::Administration;
+use host_core::Host;
 use opening::{Opened, open_administration};
-use relation_index::Packages;
-use status_db::NotedDatabase;
 use std::alloc::Global;
 use texts::Texts;
 use unit_reports::{Breakage, Report, Watcher, broken};
@@ -37,20 +35,14 @@ use unit_reports::{Breakage, Report, Watcher, broken};
 /// diversions change. What the recorded packages state of others is read once, by the first
 /// command that asks for it, and then brought up to date.
 pub struct Session<H: Host> {
-    pub(crate) alloc: Global,
     pub(crate) host: H,
-    pub(crate) database: NotedDatabase,
-    pub(crate) packages: Option<Packages>,
-    pub(crate) lists: FileLists,
+    pub(crate) administration: Administration,
     pub(crate) diversions: Diversions,
-    pub(crate) places: Places,
     pub(crate) closed: bool,
-    pub ghost ready: { closed ≡ false → Needs (H.state host) (IsStanding (held database lists diversions)) },
-    pub ghost kept: { closed ≡ false → places ≡ places_in diversions.entries lists.lists },
-    pub ghost indexed: { closed ≡ false → ForSome packages (λ p. ∥ ArePackagesOf database.records p ∥₁) },
+    pub ghost ready: { closed ≡ false → Needs (H.state host) (IsStanding (held_by administration diversions)) },
+    pub ghost opened: { closed ≡ false → IsOpen diversions.entries administration },
+    pub ghost indexed: { closed ≡ false → ForSome administration.packages (λ p. ∥ ArePackagesOf administration.database.records p ∥₁) },
     pub ghost writable: { closed ≡ false → diversions.closed ≡ false },
-    pub ghost noting: { closed ≡ false → database.closed ≡ false },
-    pub ghost listing: { closed ≡ false → lists.closed ≡ false },
 }
 
 // Opens the administration, and brings all that was done to the disk.
@@ -91,9 +83,10 @@ impl<H: Host> Session<H> {
     /// Opens the administration of a host. A refusal hands the host back; it and what was changed
     /// then are told by `refused`.
     pub fn open(alloc: Global, mut host: H) -> Result<Session<H>, (H, AdministrationFault)>
-        ensures opened { IfOk result (λ s. Needs (H.state s.host) (IsOpened s.database.records
-            s.lists.lists s.diversions.entries)) }
-        ensures number { IfOk result (λ s. s.database.notes ≡ 0) }
+        ensures opened { IfOk result (λ s. Needs (H.state s.host)
+            (IsOpened s.administration.database.records s.administration.lists.lists
+            s.diversions.entries)) }
+        ensures number { IfOk result (λ s. s.administration.database.notes ≡ 0) }
         ensures opens { IfOk result (λ s. OpensAll None (H.state host) (H.state s.host)) }
         ensures refused { IfErr result (λ e. OpensAll (Some e.1) (H.state host) (H.state e.0)) }
         ensures any_moment { IfOk result (λ s. AtEachMoment IsOpeningOrMerging (H.state host)
@@ -121,13 +114,15 @@ impl<H: Host> Session<H> {
                 },
             ) => match lists.places(alloc, &diversions) {
                 Ok(places) => Ok(Session {
-                    alloc,
                     host,
-                    database,
-                    packages: None,
-                    lists,
+                    administration: Administration {
+                        alloc,
+                        database,
+                        packages: None,
+                        lists,
+                        places,
+                    },
                     diversions,
-                    places,
                     closed: false,
                 }),
                 Err(_) => Err((host, AdministrationFault::NoMemory)),
@@ -146,8 +141,8 @@ impl<H: Host> Session<H> {
     ) -> Report
         ensures run { self.old.closed ≡ false → (cs : List ACandidate) × AreRead T.reads trees.old
             cs trees.new × HasRunThrough auto_deconfigure cs (T.words trees.new) result
-            (held self.old.database self.old.lists self.old.diversions)
-            (held self.new.database self.new.lists self.new.diversions) (H.state self.old.host)
+            (held_by self.old.administration self.old.diversions)
+            (held_by self.new.administration self.new.diversions) (H.state self.old.host)
             (H.state self.new.host) }
         ensures told { TellsCalls (H.state self.old.host) (H.state self.new.host) result }
         ensures watched { IsTold W.tells watcher.old result.units.items watcher.new }
@@ -157,8 +152,9 @@ impl<H: Host> Session<H> {
         ensures refused { self.old.closed ≡ true → IsClosedReport result }
         ensures unread { self.old.closed ≡ true → trees.new ≡ trees.old }
         ensures same { self.old.closed ≡ true → H.state self.new.host ≡ H.state self.old.host }
-        ensures same_held { self.old.closed ≡ true → held self.new.database self.new.lists
-            self.new.diversions ≡ held self.old.database self.old.lists self.old.diversions }
+        ensures same_held { self.old.closed ≡ true
+            → held_by self.new.administration self.new.diversions
+            ≡ held_by self.old.administration self.old.diversions }
         ensures answered { self.old.closed ≡ false → IsNone result.last
             → IsAnswered (H.state self.old.host) (H.state self.new.host) }
         ensures diversions { self.new.diversions ≡ self.old.diversions }
@@ -169,16 +165,12 @@ impl<H: Host> Session<H> {
             → IfSome result.last (λ unit. IsBrokenBy Closed unit.reply → ⊥) }
     {
         if self.closed {
-            return closed_report(self.alloc);
+            return closed_report(self.administration.alloc);
         }
-        let mut labels = Texts::new(self.alloc);
+        let mut labels = Texts::new(self.administration.alloc);
         let report = run_units(
-            self.alloc,
             &mut self.host,
-            &mut self.database,
-            &mut self.packages,
-            &mut self.lists,
-            &mut self.places,
+            &mut self.administration,
             &self.diversions,
             trees,
             auto_deconfigure,
@@ -195,12 +187,8 @@ impl<H: Host> Session<H> {
     {
         let Session {
             host,
-            database: _database,
-            packages: _packages,
-            lists: _lists,
+            administration: _administration,
             diversions: _diversions,
-            places: _places,
-            alloc: _,
             closed: _,
         } = self;
         host

@@ -143,8 +143,8 @@ impl<H: Host> Session<H> {
         ensures refused { self.old.closed ≡ true → IsClosedReport result }
         ensures same { self.old.closed ≡ true → H.state self.new.host ≡ H.state self.old.host }
         ensures same_table { self.old.closed ≡ true → self.new.diversions ≡ self.old.diversions }
-        ensures database { self.new.database ≡ self.old.database }
-        ensures lists { self.new.lists ≡ self.old.lists }
+        ensures database { self.new.administration.database ≡ self.old.administration.database }
+        ensures lists { self.new.administration.lists ≡ self.old.administration.lists }
         ensures silent { Silent (H.state self.old.host) (H.state self.new.host) }
         ensures counts { self.old.closed ≡ false → CountsLast (H.state self.old.host)
             (H.state self.new.host) result.last }
@@ -152,14 +152,15 @@ impl<H: Host> Session<H> {
             → IfSome result.last (λ unit. IsBrokenBy Closed unit.reply → ⊥) }
     {
         if self.closed {
-            return closed_report(self.alloc);
+            return closed_report(self.administration.alloc);
         }
+        let administration = &mut self.administration;
         let report = undivert_on(
-            self.alloc,
+            administration.alloc,
             &mut self.host,
-            &self.lists,
+            &administration.lists,
             &mut self.diversions,
-            &mut self.places,
+            &mut administration.places,
             asked,
         );
         self.closed = report.last.is_some();

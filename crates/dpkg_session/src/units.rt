@@ -1,8 +1,8 @@
 // The units of a command, one after another.
-ghost use Rattle.std.specs.Prelude.{◌≡◌, ◌⊎◌, ◌++◌, ◌∷◌, ◌<◌, List, false, None, [], IfErr, OnOk, OnErr, IfSome, IsNone, map, vec_capacity, vec_len};
+ghost use Rattle.std.specs.Prelude.{◌≡◌, ◌⊎◌, ◌++◌, ◌∷◌, ◌<◌, List, None, [], IfErr, OnOk, OnErr, IfSome, IsNone, map, vec_capacity, vec_len};
 ghost use Rattle.host_core.specs.Host.{AtEachMomentOf, Needs, faults};
 ghost use Rattle.host_core.specs.Loss.{IsAnswered, IsOnDisk};
-ghost use Rattle.file_lists.specs.Owners.{places_in};
+ghost use Rattle.held_administration.specs.Open.{IsOpen};
 ghost use Rattle.recorded_packages.specs.Packages.{ArePackagesOf};
 ghost use Rattle.unwind_stack.specs.Transcript.{TellsAll};
 ghost use Rattle.unpack_engine.specs.Order.{IsInOrder};
@@ -10,7 +10,7 @@ ghost use Rattle.unpack_relations.specs.Checks.{AreApart};
 ghost use Rattle.unit_reports.specs.declared.refusal.Rule.TheVariants.{Tree};
 ghost use Rattle.unit_reports.specs.declared.report.Breakage.TheVariants.{NoMemory, Closed};
 ghost use Rattle.dpkg_session.specs.declared.report.Candidate.{Candidate as ACandidate};
-ghost use Rattle.unit_reports.specs.Held.{held};
+ghost use Rattle.unit_reports.specs.Held.{held_by};
 ghost use Rattle.unit_reports.specs.Watching.{AddsTold, IsTold};
 ghost use Rattle.dpkg_session.specs.Installs.{label_of};
 ghost use Rattle.dpkg_session.specs.Run.{AddsUnit, HasRunThrough, IsAmidPackage, IsAmidUnitOf, IsAmidUnpack};
@@ -27,8 +27,8 @@ use crate::tellings::told_of;
 use crate::trees::Trees;
 use displaced_packages::Displaced;
 use diversions::Diversions;
-use file_lists::FileLists;
-use host_core::{Call, Host, Places};
+use held_administration::Administration;
+use host_core::{Call, Host};
 use package_tree::Package;
 use relation_index::Packages;
 use stack_run::{Failure as Cause, Unwinding};
@@ -110,91 +110,98 @@ fn answered(
 
 // The unit of a package of this name that isn't refused.
 fn unpack_named<H: Host>(
-    alloc: Global,
     host: &mut H,
-    database: &mut NotedDatabase,
+    administration: &mut Administration,
     packages: &mut Packages,
-    lists: &mut FileLists,
-    places: &mut Places,
     diversions: &Diversions,
     behind: Behind,
     incoming: Package,
     beside: &Beside,
 ) -> Unit
-    requires behind { IsBehind incoming beside.now lists.old.lists behind }
-    requires known { KnowsRecords beside.now database.old.records behind }
-    requires apart { AreApart incoming.name database.old.records beside.now }
-    requires order { Needs (H.state host.old) (IsInOrder database.old lists.old.lists) }
-    requires noting { database.old.closed ≡ false }
-    requires listing { lists.old.closed ≡ false }
-    requires kept { places.old ≡ places_in diversions.now.entries lists.old.lists }
-    requires indexed { ArePackagesOf database.old.records packages.old }
+    requires behind { IsBehind incoming beside.now administration.old.lists.lists behind }
+    requires known { KnowsRecords beside.now administration.old.database.records behind }
+    requires apart { AreApart incoming.name administration.old.database.records beside.now }
+    requires order { Needs (H.state host.old)
+        (IsInOrder administration.old.database administration.old.lists.lists) }
+    requires open { IsOpen diversions.now.entries administration.old }
+    requires indexed { ArePackagesOf administration.old.database.records packages.old }
     ensures unit { IsBroken result.reply ⊎ IsUnpacked incoming beside.now
-        (held database.old lists.old diversions.now) (held database.new lists.new diversions.now)
+        (held_by administration.old diversions.now) (held_by administration.new diversions.now)
         result (H.state host.old) (H.state host.new) }
-    ensures noting { IsBroken result.reply ⊎ (database.new.closed ≡ false) }
-    ensures listing { IsBroken result.reply ⊎ (lists.new.closed ≡ false) }
-    ensures kept { IsBroken result.reply
-        ⊎ (places.new ≡ places_in diversions.now.entries lists.new.lists) }
-    ensures indexed { IsBroken result.reply ⊎ ArePackagesOf database.new.records packages.new }
+    ensures open { IsBroken result.reply ⊎ IsOpen diversions.now.entries administration.new }
+    ensures indexed { IsBroken result.reply ⊎ ArePackagesOf administration.new.database.records
+        packages.new }
     ensures on_disk { IsBroken result.reply ⊎ IsOnDisk (H.state host.new).events }
     ensures untouched { IsBroken result.reply → TellsNoPackage result }
-    ensures told { HasCalledWhole incoming beside.now (held database.old lists.old diversions.now)
+    ensures told { HasCalledWhole incoming beside.now (held_by administration.old diversions.now)
         (H.state host.old) (H.state host.new) [] result.calls.items }
     ensures any_moment { AtEachMomentOf (IsAmidUnpack incoming beside.now
-        (held database.old lists.old diversions.now)) (H.state host.old) (H.state host.new) }
+        (held_by administration.old diversions.now)) (H.state host.old) (H.state host.new) }
     ensures counts { CountsReply (H.state host.old) (H.state host.new) result.reply }
     ensures not_closed { IsBrokenBy Closed result.reply → ⊥ }
 {
+    let alloc = administration.alloc;
     let mut calls = Vec::new(alloc);
     match unpack_whole(
-        alloc, host, database, packages, lists, places, diversions, incoming, beside, &behind,
+        host,
+        administration,
+        packages,
+        diversions,
+        incoming,
+        beside,
+        &behind,
         &mut calls,
     ) {
-        Ok(end) => answered(alloc, database, behind, end, calls),
+        Ok(end) => answered(alloc, &administration.database, behind, end, calls),
         Err(fault) => broken(alloc, calls, breakage_of(fault)),
     }
 }
 
 // The unit of a package that isn't refused.
 fn unpack_unit<H: Host>(
-    alloc: Global,
     host: &mut H,
-    database: &mut NotedDatabase,
+    administration: &mut Administration,
     packages: &mut Packages,
-    lists: &mut FileLists,
-    places: &mut Places,
     diversions: &Diversions,
     incoming: Package,
     beside: &Beside,
 ) -> Unit
-    requires apart { AreApart incoming.name database.old.records beside.now }
-    requires order { Needs (H.state host.old) (IsInOrder database.old lists.old.lists) }
-    requires noting { database.old.closed ≡ false }
-    requires listing { lists.old.closed ≡ false }
-    requires kept { places.old ≡ places_in diversions.now.entries lists.old.lists }
-    requires indexed { ArePackagesOf database.old.records packages.old }
+    requires apart { AreApart incoming.name administration.old.database.records beside.now }
+    requires order { Needs (H.state host.old)
+        (IsInOrder administration.old.database administration.old.lists.lists) }
+    requires open { IsOpen diversions.now.entries administration.old }
+    requires indexed { ArePackagesOf administration.old.database.records packages.old }
     ensures unit { IsBroken result.reply ⊎ IsUnpacked incoming beside.now
-        (held database.old lists.old diversions.now) (held database.new lists.new diversions.now)
+        (held_by administration.old diversions.now) (held_by administration.new diversions.now)
         result (H.state host.old) (H.state host.new) }
-    ensures noting { IsBroken result.reply ⊎ (database.new.closed ≡ false) }
-    ensures listing { IsBroken result.reply ⊎ (lists.new.closed ≡ false) }
-    ensures kept { IsBroken result.reply
-        ⊎ (places.new ≡ places_in diversions.now.entries lists.new.lists) }
-    ensures indexed { IsBroken result.reply ⊎ ArePackagesOf database.new.records packages.new }
+    ensures open { IsBroken result.reply ⊎ IsOpen diversions.now.entries administration.new }
+    ensures indexed { IsBroken result.reply ⊎ ArePackagesOf administration.new.database.records
+        packages.new }
     ensures on_disk { IsBroken result.reply ⊎ IsOnDisk (H.state host.new).events }
     ensures untouched { IsBroken result.reply → TellsNoPackage result }
-    ensures told { HasCalledWhole incoming beside.now (held database.old lists.old diversions.now)
+    ensures told { HasCalledWhole incoming beside.now (held_by administration.old diversions.now)
         (H.state host.old) (H.state host.new) [] result.calls.items }
     ensures any_moment { AtEachMomentOf (IsAmidUnpack incoming beside.now
-        (held database.old lists.old diversions.now)) (H.state host.old) (H.state host.new) }
+        (held_by administration.old diversions.now)) (H.state host.old) (H.state host.new) }
     ensures counts { CountsReply (H.state host.old) (H.state host.new) result.reply }
     ensures not_closed { IsBrokenBy Closed result.reply → ⊥ }
 {
-    match behind_of(alloc, database, lists, &incoming, beside) {
+    let alloc = administration.alloc;
+    match behind_of(
+        alloc,
+        &administration.database,
+        &administration.lists,
+        &incoming,
+        beside,
+    ) {
         Ok(behind) => {
             return unpack_named(
-                alloc, host, database, packages, lists, places, diversions, behind, incoming,
+                host,
+                administration,
+                packages,
+                diversions,
+                behind,
+                incoming,
                 beside,
             );
         }
@@ -206,45 +213,45 @@ fn unpack_unit<H: Host>(
 
 // The unit of a tree that was read.
 fn decide_and_unpack<H: Host>(
-    alloc: Global,
     host: &mut H,
-    database: &mut NotedDatabase,
+    administration: &mut Administration,
     packages: &mut Packages,
-    lists: &mut FileLists,
-    places: &mut Places,
     diversions: &Diversions,
     incoming: Package,
     auto_deconfigure: bool,
 ) -> Unit
-    requires order { Needs (H.state host.old) (IsInOrder database.old lists.old.lists) }
-    requires noting { database.old.closed ≡ false }
-    requires listing { lists.old.closed ≡ false }
-    requires kept { places.old ≡ places_in diversions.now.entries lists.old.lists }
-    requires indexed { ArePackagesOf database.old.records packages.old }
+    requires order { Needs (H.state host.old)
+        (IsInOrder administration.old.database administration.old.lists.lists) }
+    requires open { IsOpen diversions.now.entries administration.old }
+    requires indexed { ArePackagesOf administration.old.database.records packages.old }
     ensures unit { IsBroken result.reply ⊎ IsPackageUnit auto_deconfigure incoming
-        (held database.old lists.old diversions.now) (held database.new lists.new diversions.now)
+        (held_by administration.old diversions.now) (held_by administration.new diversions.now)
         result (H.state host.old) (H.state host.new) }
-    ensures noting { IsBroken result.reply ⊎ (database.new.closed ≡ false) }
-    ensures listing { IsBroken result.reply ⊎ (lists.new.closed ≡ false) }
-    ensures kept { IsBroken result.reply
-        ⊎ (places.new ≡ places_in diversions.now.entries lists.new.lists) }
-    ensures indexed { IsBroken result.reply ⊎ ArePackagesOf database.new.records packages.new }
+    ensures open { IsBroken result.reply ⊎ IsOpen diversions.now.entries administration.new }
+    ensures indexed { IsBroken result.reply ⊎ ArePackagesOf administration.new.database.records
+        packages.new }
     ensures answered { IsBroken result.reply ⊎ IsAnswered (H.state host.old) (H.state host.new) }
     ensures untouched { IsBroken result.reply → TellsNoPackage result }
-    ensures told { HasCalledPackage auto_deconfigure incoming (held database.old lists.old
-        diversions.now) result (H.state host.old) (H.state host.new) }
+    ensures told { HasCalledPackage auto_deconfigure incoming
+        (held_by administration.old diversions.now) result (H.state host.old) (H.state host.new) }
     ensures any_moment { AtEachMomentOf (IsAmidPackage auto_deconfigure incoming
-        (held database.old lists.old diversions.now)) (H.state host.old) (H.state host.new) }
+        (held_by administration.old diversions.now)) (H.state host.old) (H.state host.new) }
     ensures counts { CountsReply (H.state host.old) (H.state host.new) result.reply }
     ensures not_closed { IsBrokenBy Closed result.reply → ⊥ }
 {
+    let alloc = administration.alloc;
     match decision_of(alloc, &incoming, packages, diversions, auto_deconfigure) {
         Ok(Checked::Refused(rule)) => {
             return refused(alloc, rule, incoming.name);
         }
         Ok(Checked::Planned(beside)) => {
             return unpack_unit(
-                alloc, host, database, packages, lists, places, diversions, incoming, &beside,
+                host,
+                administration,
+                packages,
+                diversions,
+                incoming,
+                &beside,
             );
         }
         Err(_) => {
@@ -255,53 +262,48 @@ fn decide_and_unpack<H: Host>(
 
 // The same, once the packages of the records are known.
 fn unit_of_package<H: Host>(
-    alloc: Global,
     host: &mut H,
-    database: &mut NotedDatabase,
-    packages: &mut Option<Packages>,
-    lists: &mut FileLists,
-    places: &mut Places,
+    administration: &mut Administration,
     diversions: &Diversions,
     incoming: Package,
     auto_deconfigure: bool,
 ) -> Unit
-    requires order { Needs (H.state host.old) (IsInOrder database.old lists.old.lists) }
-    requires noting { database.old.closed ≡ false }
-    requires listing { lists.old.closed ≡ false }
-    requires kept { places.old ≡ places_in diversions.now.entries lists.old.lists }
-    requires indexed { IfSome packages.old (ArePackagesOf database.old.records) }
+    requires order { Needs (H.state host.old)
+        (IsInOrder administration.old.database administration.old.lists.lists) }
+    requires open { IsOpen diversions.now.entries administration.old }
+    requires indexed { IfSome administration.old.packages
+        (ArePackagesOf administration.old.database.records) }
     ensures unit { IsBroken result.reply ⊎ IsPackageUnit auto_deconfigure incoming
-        (held database.old lists.old diversions.now) (held database.new lists.new diversions.now)
+        (held_by administration.old diversions.now) (held_by administration.new diversions.now)
         result (H.state host.old) (H.state host.new) }
-    ensures noting { IsBroken result.reply ⊎ (database.new.closed ≡ false) }
-    ensures listing { IsBroken result.reply ⊎ (lists.new.closed ≡ false) }
-    ensures kept { IsBroken result.reply
-        ⊎ (places.new ≡ places_in diversions.now.entries lists.new.lists) }
-    ensures indexed { IsBroken result.reply
-        ⊎ IfSome packages.new (ArePackagesOf database.new.records) }
+    ensures open { IsBroken result.reply ⊎ IsOpen diversions.now.entries administration.new }
+    ensures indexed { IsBroken result.reply ⊎ IfSome administration.new.packages
+        (ArePackagesOf administration.new.database.records) }
     ensures answered { IsBroken result.reply ⊎ IsAnswered (H.state host.old) (H.state host.new) }
     ensures untouched { IsBroken result.reply → TellsNoPackage result }
-    ensures told { HasCalledPackage auto_deconfigure incoming (held database.old lists.old
-        diversions.now) result (H.state host.old) (H.state host.new) }
+    ensures told { HasCalledPackage auto_deconfigure incoming
+        (held_by administration.old diversions.now) result (H.state host.old) (H.state host.new) }
     ensures any_moment { AtEachMomentOf (IsAmidPackage auto_deconfigure incoming
-        (held database.old lists.old diversions.now)) (H.state host.old) (H.state host.new) }
+        (held_by administration.old diversions.now)) (H.state host.old) (H.state host.new) }
     ensures counts { CountsReply (H.state host.old) (H.state host.new) result.reply }
     ensures not_closed { IsBrokenBy Closed result.reply → ⊥ }
 {
-    match take_packages(alloc, packages, database) {
+    let alloc = administration.alloc;
+    match take_packages(
+        alloc,
+        &mut administration.packages,
+        &administration.database,
+    ) {
         Ok(mut known) => {
             let unit = decide_and_unpack(
-                alloc,
                 host,
-                database,
+                administration,
                 &mut known,
-                lists,
-                places,
                 diversions,
                 incoming,
                 auto_deconfigure,
             );
-            *packages = Some(known);
+            administration.packages = Some(known);
             unit
         }
         Err(_) => broken(alloc, Vec::new(alloc), Breakage::NoMemory),
@@ -310,56 +312,39 @@ fn unit_of_package<H: Host>(
 
 // The unit of a candidate.
 fn unit_of<H: Host>(
-    alloc: Global,
     host: &mut H,
-    database: &mut NotedDatabase,
-    packages: &mut Option<Packages>,
-    lists: &mut FileLists,
-    places: &mut Places,
+    administration: &mut Administration,
     diversions: &Diversions,
     candidate: Candidate,
     auto_deconfigure: bool,
 ) -> Unit
-    requires order { Needs (H.state host.old) (IsInOrder database.old lists.old.lists) }
-    requires noting { database.old.closed ≡ false }
-    requires listing { lists.old.closed ≡ false }
-    requires kept { places.old ≡ places_in diversions.now.entries lists.old.lists }
-    requires indexed { IfSome packages.old (ArePackagesOf database.old.records) }
+    requires order { Needs (H.state host.old)
+        (IsInOrder administration.old.database administration.old.lists.lists) }
+    requires open { IsOpen diversions.now.entries administration.old }
+    requires indexed { IfSome administration.old.packages
+        (ArePackagesOf administration.old.database.records) }
     ensures unit { IsBroken result.reply ⊎ IsUnit auto_deconfigure candidate
-        (held database.old lists.old diversions.now) (held database.new lists.new diversions.now)
+        (held_by administration.old diversions.now) (held_by administration.new diversions.now)
         result (H.state host.old) (H.state host.new) }
-    ensures noting { IsBroken result.reply ⊎ (database.new.closed ≡ false) }
-    ensures listing { IsBroken result.reply ⊎ (lists.new.closed ≡ false) }
-    ensures kept { IsBroken result.reply
-        ⊎ (places.new ≡ places_in diversions.now.entries lists.new.lists) }
-    ensures indexed { IsBroken result.reply
-        ⊎ IfSome packages.new (ArePackagesOf database.new.records) }
+    ensures open { IsBroken result.reply ⊎ IsOpen diversions.now.entries administration.new }
+    ensures indexed { IsBroken result.reply ⊎ IfSome administration.new.packages
+        (ArePackagesOf administration.new.database.records) }
     ensures answered { IsBroken result.reply ⊎ IsAnswered (H.state host.old) (H.state host.new) }
     ensures untouched { IsBroken result.reply → TellsNoPackage result }
-    ensures told { HasCalledOf auto_deconfigure candidate.tree (held database.old lists.old
-        diversions.now) result (H.state host.old) (H.state host.new) }
+    ensures told { HasCalledOf auto_deconfigure candidate.tree
+        (held_by administration.old diversions.now) result (H.state host.old) (H.state host.new) }
     ensures any_moment { AtEachMomentOf (IsAmidUnitOf auto_deconfigure candidate.tree
-        (held database.old lists.old diversions.now)) (H.state host.old) (H.state host.new) }
+        (held_by administration.old diversions.now)) (H.state host.old) (H.state host.new) }
     ensures counts { CountsReply (H.state host.old) (H.state host.new) result.reply }
     ensures not_closed { IsBrokenBy Closed result.reply → ⊥ }
 {
     let Candidate { label, tree } = candidate;
     match tree {
         Ok(incoming) => {
-            return unit_of_package(
-                alloc,
-                host,
-                database,
-                packages,
-                lists,
-                places,
-                diversions,
-                incoming,
-                auto_deconfigure,
-            );
+            return unit_of_package(host, administration, diversions, incoming, auto_deconfigure);
         }
         Err(fault) => {
-            return refused(alloc, Rule::Tree(fault), label);
+            return refused(administration.alloc, Rule::Tree(fault), label);
         }
     }
 }
@@ -381,12 +366,8 @@ fn prepare(
 
 // The unit of one candidate more, or the unit that was broken off.
 fn run_one<H: Host, W: Watcher>(
-    alloc: Global,
     host: &mut H,
-    database: &mut NotedDatabase,
-    packages: &mut Option<Packages>,
-    lists: &mut FileLists,
-    places: &mut Places,
+    administration: &mut Administration,
     diversions: &Diversions,
     candidate: Candidate,
     auto_deconfigure: bool,
@@ -394,26 +375,25 @@ fn run_one<H: Host, W: Watcher>(
     units: &mut Vec<Unit>,
     watcher: &mut W,
 ) -> Result<(), Unit>
-    requires order { Needs (H.state host.old) (IsInOrder database.old lists.old.lists) }
-    requires noting { database.old.closed ≡ false }
-    requires listing { lists.old.closed ≡ false }
-    requires kept { places.old ≡ places_in diversions.now.entries lists.old.lists }
-    requires indexed { IfSome packages.old (ArePackagesOf database.old.records) }
-    ensures ok { OnOk result (AddsUnit auto_deconfigure candidate (held database.old lists.old
-        diversions.now) (held database.new lists.new diversions.now) (H.state host.old)
-        (H.state host.new) units.old.items units.new.items) }
-    ensures noting { OnOk result (database.new.closed ≡ false) }
-    ensures listing { OnOk result (lists.new.closed ≡ false) }
-    ensures kept { OnOk result (places.new ≡ places_in diversions.now.entries lists.new.lists) }
-    ensures indexed { OnOk result (IfSome packages.new (ArePackagesOf database.new.records)) }
+    requires order { Needs (H.state host.old)
+        (IsInOrder administration.old.database administration.old.lists.lists) }
+    requires open { IsOpen diversions.now.entries administration.old }
+    requires indexed { IfSome administration.old.packages
+        (ArePackagesOf administration.old.database.records) }
+    ensures ok { OnOk result (AddsUnit auto_deconfigure candidate
+        (held_by administration.old diversions.now) (held_by administration.new diversions.now)
+        (H.state host.old) (H.state host.new) units.old.items units.new.items) }
+    ensures open { OnOk result (IsOpen diversions.now.entries administration.new) }
+    ensures indexed { OnOk result (IfSome administration.new.packages
+        (ArePackagesOf administration.new.database.records)) }
     ensures answered { OnOk result (IsAnswered (H.state host.old) (H.state host.new)) }
     ensures err { OnErr result (units.new.items ≡ units.old.items) }
     ensures broken_off { IfErr result (λ unit. IsBrokenOff auto_deconfigure candidate
-        (held database.old lists.old diversions.now) unit (H.state host.old) (H.state host.new)) }
+        (held_by administration.old diversions.now) unit (H.state host.old) (H.state host.new)) }
     ensures told { OnOk result (TellsAll (H.state host.old) (H.state host.new)
         (calls_of units.old.items) (calls_of units.new.items)) }
     ensures any_moment { AtEachMomentOf (IsAmidUnitOf auto_deconfigure candidate.tree
-        (held database.old lists.old diversions.now)) (H.state host.old) (H.state host.new) }
+        (held_by administration.old diversions.now)) (H.state host.old) (H.state host.new) }
     ensures no_fault { OnOk result (faults (H.state host.new) ≡ faults (H.state host.old)) }
     ensures counts { IfErr result (λ unit. CountsReply (H.state host.old) (H.state host.new)
         unit.reply) }
@@ -422,15 +402,12 @@ fn run_one<H: Host, W: Watcher>(
     ensures watched { AddsTold W.tells units.old.items units.new.items watcher.old watcher.new }
 {
     if prepare(units, labels, &candidate).is_err() {
+        let alloc = administration.alloc;
         return Err(broken(alloc, Vec::new(alloc), Breakage::NoMemory));
     }
     let unit = unit_of(
-        alloc,
         host,
-        database,
-        packages,
-        lists,
-        places,
+        administration,
         diversions,
         candidate,
         auto_deconfigure,
@@ -446,12 +423,8 @@ fn run_one<H: Host, W: Watcher>(
 /// The units of trees, each read once the unit of the one before it is told, up to one that is broken off. The labels are those
 /// of the trees whose units are told.
 pub(crate) fn run_units<H: Host, T: Trees, W: Watcher>(
-    alloc: Global,
     host: &mut H,
-    database: &mut NotedDatabase,
-    packages: &mut Option<Packages>,
-    lists: &mut FileLists,
-    places: &mut Places,
+    administration: &mut Administration,
     diversions: &Diversions,
     trees: &mut T,
     auto_deconfigure: bool,
@@ -459,39 +432,33 @@ pub(crate) fn run_units<H: Host, T: Trees, W: Watcher>(
     watcher: &mut W,
 ) -> Report
     requires none { labels.old ≡ [] }
-    requires order { Needs (H.state host.old) (IsInOrder database.old lists.old.lists) }
-    requires noting { database.old.closed ≡ false }
-    requires listing { lists.old.closed ≡ false }
-    requires kept { places.old ≡ places_in diversions.now.entries lists.old.lists }
-    requires indexed { IfSome packages.old (ArePackagesOf database.old.records) }
+    requires order { Needs (H.state host.old)
+        (IsInOrder administration.old.database administration.old.lists.lists) }
+    requires open { IsOpen diversions.now.entries administration.old }
+    requires indexed { IfSome administration.old.packages
+        (ArePackagesOf administration.old.database.records) }
     ensures run { (cs : List ACandidate) × AreRead T.reads trees.old cs trees.new
-        × HasRunThrough auto_deconfigure cs (T.words trees.new) result (held database.old lists.old
-        diversions.now) (held database.new lists.new diversions.now) (H.state host.old)
-        (H.state host.new) × (IsNone result.last → labels.new ≡ map label_of cs) }
+        × HasRunThrough auto_deconfigure cs (T.words trees.new) result
+        (held_by administration.old diversions.now) (held_by administration.new diversions.now)
+        (H.state host.old) (H.state host.new) × (IsNone result.last
+        → labels.new ≡ map label_of cs) }
     ensures told { TellsCalls (H.state host.old) (H.state host.new) result }
     ensures counts { CountsLast (H.state host.old) (H.state host.new) result.last }
     ensures not_closed { IfSome result.last (λ unit. IsBrokenBy Closed unit.reply → ⊥) }
-    ensures order { IsNone result.last
-        → Needs (H.state host.new) (IsInOrder database.new lists.new.lists) }
-    ensures noting { IsNone result.last → database.new.closed ≡ false }
-    ensures listing { IsNone result.last → lists.new.closed ≡ false }
-    ensures kept { IsNone result.last → places.new ≡ places_in diversions.now.entries
-        lists.new.lists }
-    ensures indexed { IsNone result.last
-        → IfSome packages.new (ArePackagesOf database.new.records) }
+    ensures order { IsNone result.last → Needs (H.state host.new)
+        (IsInOrder administration.new.database administration.new.lists.lists) }
+    ensures open { IsNone result.last → IsOpen diversions.now.entries administration.new }
+    ensures indexed { IsNone result.last → IfSome administration.new.packages
+        (ArePackagesOf administration.new.database.records) }
     ensures watched { IsTold W.tells watcher.old result.units.items watcher.new }
 {
     what_is_told_in_turn::<W>();
-    let mut units = Vec::new(alloc);
+    let mut units = Vec::new(administration.alloc);
     loop {
         match trees.next() {
             Some(candidate) => match run_one(
-                alloc,
                 host,
-                database,
-                packages,
-                lists,
-                places,
+                administration,
                 diversions,
                 candidate,
                 auto_deconfigure,

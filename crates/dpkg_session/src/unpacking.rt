@@ -1,19 +1,20 @@
 // The unpack of a package beside others, brought to the disk.
-ghost use Rattle.std.specs.Prelude.{◌≡◌, false, IfOk, OnOk};
+ghost use Rattle.std.specs.Prelude.{◌≡◌, IfOk, OnOk};
 ghost use Rattle.host_core.specs.Host.{AtEachMomentOf, Counts, Needs, Reads, Silent};
 ghost use Rattle.host_core.specs.Loss.{IsOnDisk};
+ghost use Rattle.held_administration.specs.Open.{CanWrite};
 ghost use Rattle.stack_run.specs.Ended.{ended_as};
 ghost use Rattle.unpack_engine.specs.Order.{IsInOrder};
 ghost use Rattle.unpack_engine.specs.Others.{AreOthers};
 ghost use Rattle.unpack_engine.specs.Units.{HasCalled, HasFailedFor, HasUnpacked, IsAmidUnit, IsTouched};
 ghost use Rattle.unpack_relations.specs.Checks.{AreApart};
-ghost use Rattle.unit_reports.specs.Held.{held};
+ghost use Rattle.unit_reports.specs.Held.{held_by};
 ghost use Rattle.dpkg_session.specs.Run.{IsAmidBeside};
 ghost use Rattle.dpkg_session.specs.Units.{HasCalledBeside, HasUnpackedBeside, HaveRows, given_by, yielding};
 
 use diversions::Diversions;
-use file_lists::FileLists;
-use host_core::{Host, HostFault, Places};
+use held_administration::Administration;
+use host_core::{Host, HostFault};
 use other_rows::{rows_beside, yields_beside};
 use package_tree::Package;
 use status_db::NotedDatabase;
@@ -49,45 +50,41 @@ fn others_beside<H: Host>(
 
 // Unpacks a package with the rows of others, and brings all that was done to the disk.
 fn unpack_to_disk<H: Host>(
-    alloc: Global,
     host: &mut H,
-    database: &mut NotedDatabase,
-    lists: &mut FileLists,
-    places: &mut Places,
+    administration: &mut Administration,
     diversions: &Diversions,
     incoming: Package,
     others: Others,
     told: &mut Vec<Called>,
 ) -> Result<Unpacked, HostFault>
-    requires others { AreOthers incoming.name database.old.records others.packages.items }
-    requires order { Needs (H.state host.old) (IsInOrder database.old lists.old.lists) }
-    requires noting { database.old.closed ≡ false }
-    requires listing { lists.old.closed ≡ false }
+    requires others { AreOthers incoming.name administration.old.database.records
+        others.packages.items }
+    requires order { Needs (H.state host.old)
+        (IsInOrder administration.old.database administration.old.lists.lists) }
+    requires open { CanWrite administration.old }
     ensures unit { IfOk result
-        (λ u. HasUnpacked (given_by incoming (held database.old lists.old diversions.now)
-        others.packages.items others.yields) places.old (ended_as u.unwinding) database.new
-        lists.new.lists (H.state host.old) (H.state host.new) told.old.items told.new.items) }
+        (λ u. HasUnpacked (given_by incoming (held_by administration.old diversions.now)
+        others.packages.items others.yields) administration.old.places (ended_as u.unwinding)
+        administration.new.database administration.new.lists.lists (H.state host.old)
+        (H.state host.new) told.old.items told.new.items) }
     ensures cause { IfOk result
-        (λ u. HasFailedFor (given_by incoming (held database.old lists.old diversions.now)
+        (λ u. HasFailedFor (given_by incoming (held_by administration.old diversions.now)
         others.packages.items others.yields) (H.state host.old) (H.state host.new) u.unwinding) }
-    ensures touched { IfOk result (λ u. IsTouched incoming.name database.old.records
-        database.new.records u.touched) }
+    ensures touched { IfOk result (λ u. IsTouched incoming.name administration.old.database.records
+        administration.new.database.records u.touched) }
     ensures order { IfOk result (λ u. Needs (H.state host.new)
-        (IsInOrder database.new lists.new.lists)) }
-    ensures noting { OnOk result (database.new.closed ≡ false) }
-    ensures listing { OnOk result (lists.new.closed ≡ false) }
+        (IsInOrder administration.new.database administration.new.lists.lists)) }
+    ensures open { OnOk result (CanWrite administration.new) }
     ensures on_disk { OnOk result (IsOnDisk (H.state host.new).events) }
-    ensures told { HasCalled (given_by incoming (held database.old lists.old diversions.now)
+    ensures told { HasCalled (given_by incoming (held_by administration.old diversions.now)
         others.packages.items others.yields) (H.state host.old) (H.state host.new) told.old.items
         told.new.items }
     ensures any_moment { AtEachMomentOf (IsAmidUnit
-        (given_by incoming (held database.old lists.old diversions.now) others.packages.items
-        others.yields) places.old) (H.state host.old) (H.state host.new) }
+        (given_by incoming (held_by administration.old diversions.now) others.packages.items
+        others.yields) administration.old.places) (H.state host.old) (H.state host.new) }
     ensures counts { Counts (H.state host.old) (H.state host.new) result }
 {
-    match unpack(
-        alloc, host, database, lists, places, diversions, incoming, others, told,
-    ) {
+    match unpack(host, administration, diversions, incoming, others, told) {
         Ok(unpacked) => match host.barrier() {
             Ok(()) => Ok(unpacked),
             Err(fault) => Err(fault),
@@ -98,41 +95,42 @@ fn unpack_to_disk<H: Host>(
 
 /// Unpacks a package that isn't refused.
 pub(crate) fn unpack_beside<H: Host>(
-    alloc: Global,
     host: &mut H,
-    database: &mut NotedDatabase,
-    lists: &mut FileLists,
-    places: &mut Places,
+    administration: &mut Administration,
     diversions: &Diversions,
     incoming: Package,
     beside: &Beside,
     told: &mut Vec<Called>,
 ) -> Result<Unpacked, HostFault>
-    requires apart { AreApart incoming.name database.old.records beside.now }
-    requires order { Needs (H.state host.old) (IsInOrder database.old lists.old.lists) }
-    requires noting { database.old.closed ≡ false }
-    requires listing { lists.old.closed ≡ false }
+    requires apart { AreApart incoming.name administration.old.database.records beside.now }
+    requires order { Needs (H.state host.old)
+        (IsInOrder administration.old.database administration.old.lists.lists) }
+    requires open { CanWrite administration.old }
     ensures unit { IfOk result (λ u. HasUnpackedBeside incoming beside.now
-        (held database.old lists.old diversions.now) places.old u.unwinding database.new
-        lists.new.lists (H.state host.old) (H.state host.new) told.old.items told.new.items) }
-    ensures touched { IfOk result (λ u. IsTouched incoming.name database.old.records
-        database.new.records u.touched) }
+        (held_by administration.old diversions.now) administration.old.places u.unwinding
+        administration.new.database administration.new.lists.lists (H.state host.old)
+        (H.state host.new) told.old.items told.new.items) }
+    ensures touched { IfOk result (λ u. IsTouched incoming.name administration.old.database.records
+        administration.new.database.records u.touched) }
     ensures order { IfOk result (λ u. Needs (H.state host.new)
-        (IsInOrder database.new lists.new.lists)) }
-    ensures noting { OnOk result (database.new.closed ≡ false) }
-    ensures listing { OnOk result (lists.new.closed ≡ false) }
+        (IsInOrder administration.new.database administration.new.lists.lists)) }
+    ensures open { OnOk result (CanWrite administration.new) }
     ensures on_disk { OnOk result (IsOnDisk (H.state host.new).events) }
-    ensures told { HasCalledBeside incoming beside.now (held database.old lists.old diversions.now)
+    ensures told { HasCalledBeside incoming beside.now (held_by administration.old diversions.now)
         (H.state host.old) (H.state host.new) told.old.items told.new.items }
     ensures any_moment { AtEachMomentOf (IsAmidBeside incoming beside.now
-        (held database.old lists.old diversions.now) places.old) (H.state host.old)
+        (held_by administration.old diversions.now) administration.old.places) (H.state host.old)
         (H.state host.new) }
     ensures counts { Counts (H.state host.old) (H.state host.new) result }
 {
-    match others_beside(alloc, host, database, &incoming, beside) {
-        Ok(others) => unpack_to_disk(
-            alloc, host, database, lists, places, diversions, incoming, others, told,
-        ),
+    match others_beside(
+        administration.alloc,
+        host,
+        &administration.database,
+        &incoming,
+        beside,
+    ) {
+        Ok(others) => unpack_to_disk(host, administration, diversions, incoming, others, told),
         Err(fault) => Err(fault),
     }
 }

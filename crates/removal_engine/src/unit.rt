@@ -1,10 +1,10 @@
 // The unit that removes or purges a package.
-ghost use Rattle.std.specs.Prelude.{◌≡◌, true, false, IfOk, OnOk};
+ghost use Rattle.std.specs.Prelude.{◌≡◌, true, IfOk, OnOk};
 ghost use Rattle.texts.specs.PackageNames.{is_package_name};
 ghost use Rattle.host_core.specs.Host.{AtEachMomentOf, Counts, Needs, Reads, Silent};
-ghost use Rattle.file_lists.specs.Owners.{places_in};
+ghost use Rattle.held_administration.specs.Open.{IsOpen};
 ghost use Rattle.unit_parts.specs.Order.{IsInOrder};
-ghost use Rattle.unit_stages.specs.Holding.{holding};
+ghost use Rattle.unit_stages.specs.Holding.{holding_of};
 ghost use Rattle.removal_engine.specs.Units.{HasCalled, HasEnded, HasRemoved, IsAmidUnit, IsPlanFor, IsRemovable, given};
 
 use crate::extent::Extent;
@@ -13,8 +13,9 @@ use crate::scripts::{Stored, stored_scripts};
 use crate::stages::removal_stages;
 use diversions::Diversions;
 use file_lists::FileLists;
-use host_core::{Call, Host, HostFault, Places};
-use status_db::{NotedDatabase, Record};
+use held_administration::Administration;
+use host_core::{Call, Host, HostFault};
+use status_db::Record;
 use std::alloc::Global;
 use texts::Text;
 use unit_stages::{Stage, run_stages};
@@ -51,47 +52,49 @@ fn plan<H: Host>(
 /// conffiles nothing is left then. A purge goes on with its conffiles, the postrm and the directories. A removal in favour of another
 /// package begins with the files. The answer is the call that failed, if one did.
 pub fn remove<H: Host>(
-    alloc: Global,
     host: &mut H,
-    database: &mut NotedDatabase,
-    lists: &mut FileLists,
-    places: &mut Places,
+    administration: &mut Administration,
     diversions: &Diversions,
     name: &Text,
     extent: Extent,
     told: &mut Vec<Called>,
 ) -> Result<Option<Call>, HostFault>
-    requires noting { database.old.closed ≡ false }
-    requires listing { lists.old.closed ≡ false }
-    requires removable { IsRemovable extent database.old.records name.now }
-    requires kept { places.old ≡ places_in diversions.now.entries lists.old.lists }
-    requires order { Needs (H.state host.old) (IsInOrder database.old lists.old.lists) }
+    requires open { IsOpen diversions.now.entries administration.old }
+    requires removable { IsRemovable extent administration.old.database.records name.now }
+    requires order { Needs (H.state host.old)
+        (IsInOrder administration.old.database administration.old.lists.lists) }
     ensures unit { IfOk result
         (λ failed. HasRemoved
-        (given extent name.now diversions.now.entries (holding database.old lists.old)) failed
-        (holding database.new lists.new) (H.state host.old) (H.state host.new)
+        (given extent name.now diversions.now.entries (holding_of administration.old)) failed
+        (holding_of administration.new) (H.state host.old) (H.state host.new)
         told.old.items told.new.items) }
     ensures end { IfOk result
-        (λ failed. HasEnded extent name.now failed database.old.records database.new.records) }
+        (λ failed. HasEnded extent name.now failed
+        administration.old.database.records administration.new.database.records) }
     ensures order { IfOk result
-        (λ failed. Needs (H.state host.new) (IsInOrder database.new lists.new.lists)) }
-    ensures kept { OnOk result (places.new ≡ places_in diversions.now.entries lists.new.lists) }
-    ensures noting { OnOk result (database.new.closed ≡ false) }
-    ensures listing { OnOk result (lists.new.closed ≡ false) }
+        (λ failed. Needs (H.state host.new)
+        (IsInOrder administration.new.database administration.new.lists.lists)) }
+    ensures open { OnOk result (IsOpen diversions.now.entries administration.new) }
     ensures told { HasCalled
-        (given extent name.now diversions.now.entries (holding database.old lists.old))
+        (given extent name.now diversions.now.entries (holding_of administration.old))
         (H.state host.old) (H.state host.new) told.old.items told.new.items }
     ensures any_moment { AtEachMomentOf
-        (IsAmidUnit (given extent name.now diversions.now.entries (holding database.old lists.old)))
+        (IsAmidUnit (given extent name.now diversions.now.entries (holding_of administration.old)))
         (H.state host.old) (H.state host.new) }
     ensures counts { Counts (H.state host.old) (H.state host.new) result }
 {
-    lists.index(alloc)?;
-    let entry = database.get(name).unwrap();
-    match plan(alloc, host, lists, diversions, entry, extent) {
-        Ok(stages) => run_stages(
-            alloc, host, database, lists, places, diversions, name, stages, told,
-        ),
+    let alloc = administration.alloc;
+    administration.lists.index(alloc)?;
+    let entry = administration.database.get(name).unwrap();
+    match plan(
+        alloc,
+        host,
+        &administration.lists,
+        diversions,
+        entry,
+        extent,
+    ) {
+        Ok(stages) => run_stages(host, administration, diversions, name, stages, told),
         Err(fault) => Err(fault),
     }
 }

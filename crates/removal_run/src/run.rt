@@ -1,9 +1,9 @@
 // A removal or a purge of packages, as a whole.
-ghost use Rattle.std.specs.Prelude.{◌≡◌, ◌++◌, [], ℕ, false, IfOk, OnOk, OnErr, IfSome, IsNone, map};
+ghost use Rattle.std.specs.Prelude.{◌≡◌, ◌++◌, [], ℕ, IfOk, OnOk, OnErr, IfSome, IsNone, map};
 ghost use Rattle.dependency_check.specs.Waiting.{IsRemovableNow};
 ghost use Rattle.host_core.specs.Host.{Needs, Since};
 ghost use Rattle.host_core.specs.Loss.{IsAnswered};
-ghost use Rattle.file_lists.specs.Owners.{places_in};
+ghost use Rattle.held_administration.specs.Open.{IsOpen};
 ghost use Rattle.removal_run.specs.Names.{once};
 ghost use Rattle.removal_run.specs.Refusals.{AreRefused, accepted, refusals};
 ghost use Rattle.recorded_packages.specs.Packages.{ArePackagesOf};
@@ -11,7 +11,7 @@ ghost use Rattle.removal_run.specs.Run.{AddsLeft, AreRenewed, EndsAs, HasRun, Is
 ghost use Rattle.removal_run.specs.Waiting.{is_named};
 ghost use Rattle.removal_run.specs.Turns.{AreAccepted, IsAmidTurns};
 ghost use Rattle.unit_parts.specs.Order.{IsInOrder};
-ghost use Rattle.unit_reports.specs.Held.{held};
+ghost use Rattle.unit_reports.specs.Held.{held_by};
 ghost use Rattle.unit_reports.specs.Units.{CountsLast, IsBrokenBy, TellsCalls, calls_of};
 ghost use Rattle.unit_reports.specs.Watching.{AddsTold, IsTold};
 ghost use Rattle.unit_reports.specs.declared.report.Breakage.TheVariants.{Closed};
@@ -23,8 +23,8 @@ use crate::telling::tell_all;
 use crate::turns::run_turns;
 use dependency_check::RemoveQueue;
 use diversions::Diversions;
-use file_lists::FileLists;
-use host_core::{Host, Places};
+use held_administration::Administration;
+use host_core::Host;
 use recorded_packages::renew;
 use relation_index::Packages;
 use status_db::NotedDatabase;
@@ -136,43 +136,38 @@ fn ended<W: Watcher>(
 
 // The report of a command whose names are sorted.
 fn run_sorted<H: Host, W: Watcher>(
-    alloc: Global,
     host: &mut H,
-    database: &mut NotedDatabase,
+    administration: &mut Administration,
     packages: &mut Packages,
-    lists: &mut FileLists,
-    places: &mut Places,
     diversions: &Diversions,
     purge: bool,
     sorted: Sorted,
     watcher: &mut W,
 ) -> Report
-    requires order { Needs (H.state host.old) (IsInOrder database.old lists.old.lists) }
-    requires noting { database.old.closed ≡ false }
-    requires listing { lists.old.closed ≡ false }
-    requires kept { places.old ≡ places_in diversions.now.entries lists.old.lists }
-    requires accepted { AreAccepted purge database.old.records sorted.waiting.items }
+    requires order { Needs (H.state host.old)
+        (IsInOrder administration.old.database administration.old.lists.lists) }
+    requires open { IsOpen diversions.now.entries administration.old }
+    requires accepted { AreAccepted purge administration.old.database.records sorted.waiting.items }
     requires told { calls_of sorted.refused.items ≡ [] }
     requires asked { sorted.asked.items ≡ sorted.waiting.items }
-    requires indexed { ArePackagesOf database.old.records packages.old }
+    requires indexed { ArePackagesOf administration.old.database.records packages.old }
     ensures whole { IsNone result.last → RunsThrough purge sorted.waiting.items sorted.refused.items
-        result.units.items (held database.old lists.old diversions.now) (held database.new lists.new
-        diversions.now) (H.state host.old) (H.state host.new) }
+        result.units.items (held_by administration.old diversions.now)
+        (held_by administration.new diversions.now) (H.state host.old) (H.state host.new) }
     ensures part { RunsUpTo purge sorted.waiting.items sorted.refused.items result.units.items
-        result.last (held database.old lists.old diversions.now) (H.state host.old)
+        result.last (held_by administration.old diversions.now) (H.state host.old)
         (H.state host.new) }
     ensures told { TellsCalls (H.state host.old) (H.state host.new) result }
-    ensures any_moment { Since (IsAmidTurns purge sorted.waiting.items (held database.old lists.old
-        diversions.now) (H.state host.old)) (H.state host.old) (H.state host.new) }
+    ensures any_moment { Since (IsAmidTurns purge sorted.waiting.items
+        (held_by administration.old diversions.now) (H.state host.old)) (H.state host.old)
+        (H.state host.new) }
     ensures counts { CountsLast (H.state host.old) (H.state host.new) result.last }
     ensures not_closed { IfSome result.last (λ unit. IsBrokenBy Closed unit.reply → ⊥) }
-    ensures order { IsNone result.last
-        → Needs (H.state host.new) (IsInOrder database.new lists.new.lists) }
-    ensures noting { IsNone result.last → database.new.closed ≡ false }
-    ensures listing { IsNone result.last → lists.new.closed ≡ false }
-    ensures kept { IsNone result.last → places.new ≡ places_in diversions.now.entries
-        lists.new.lists }
-    ensures indexed { IsNone result.last → ArePackagesOf database.new.records packages.new }
+    ensures order { IsNone result.last → Needs (H.state host.new)
+        (IsInOrder administration.new.database administration.new.lists.lists) }
+    ensures open { IsNone result.last → IsOpen diversions.now.entries administration.new }
+    ensures indexed { IsNone result.last → ArePackagesOf administration.new.database.records
+        packages.new }
     ensures answered { IsNone result.last → IsAnswered (H.state host.old) (H.state host.new) }
     ensures watched { IsTold W.tells watcher.old result.units.items watcher.new }
 {
@@ -183,15 +178,13 @@ fn run_sorted<H: Host, W: Watcher>(
     } = sorted;
     what_is_told_in_turn::<W>();
     tell_all(units.as_slice(), watcher);
-    database.law();
+    administration.database.law();
+    let alloc = administration.alloc;
     let taken = std::mem::replace(packages, Packages::new(alloc));
     match run_turns(
-        alloc,
         host,
-        database,
+        administration,
         taken,
-        lists,
-        places,
         diversions,
         purge,
         &mut waiting,
@@ -203,7 +196,7 @@ fn run_sorted<H: Host, W: Watcher>(
             queue,
             waiting.as_slice(),
             packages,
-            database,
+            &administration.database,
             asked.as_slice(),
             units,
             watcher,
@@ -221,46 +214,47 @@ fn run_sorted<H: Host, W: Watcher>(
 /// finished; the one that was broken off it isn't told. The packages are those of all records, and are so again behind the
 /// command; behind a unit that was broken off they may be any.
 pub fn remove_packages<H: Host, W: Watcher>(
-    alloc: Global,
     host: &mut H,
-    database: &mut NotedDatabase,
+    administration: &mut Administration,
     packages: &mut Packages,
-    lists: &mut FileLists,
-    places: &mut Places,
     diversions: &Diversions,
     names: Vec<Text>,
     purge: bool,
     watcher: &mut W,
 ) -> Report
-    requires order { Needs (H.state host.old) (IsInOrder database.old lists.old.lists) }
-    requires noting { database.old.closed ≡ false }
-    requires listing { lists.old.closed ≡ false }
-    requires kept { places.old ≡ places_in diversions.now.entries lists.old.lists }
-    requires indexed { ArePackagesOf database.old.records packages.old }
+    requires order { Needs (H.state host.old)
+        (IsInOrder administration.old.database administration.old.lists.lists) }
+    requires open { IsOpen diversions.now.entries administration.old }
+    requires indexed { ArePackagesOf administration.old.database.records packages.old }
     ensures whole { IsNone result.last → IsRemovalRun names.items purge result.units.items
-        (held database.old lists.old diversions.now) (held database.new lists.new diversions.now)
+        (held_by administration.old diversions.now) (held_by administration.new diversions.now)
         (H.state host.old) (H.state host.new) }
     ensures part { HasRun names.items purge result.units.items result.last
-        (held database.old lists.old diversions.now) (H.state host.old) (H.state host.new) }
+        (held_by administration.old diversions.now) (H.state host.old) (H.state host.new) }
     ensures told { TellsCalls (H.state host.old) (H.state host.new) result }
     ensures any_moment { Since (IsAmidTurns purge (waiting_for purge names.items
-        (held database.old lists.old diversions.now)) (held database.old lists.old diversions.now)
+        (held_by administration.old diversions.now)) (held_by administration.old diversions.now)
         (H.state host.old)) (H.state host.old) (H.state host.new) }
     ensures counts { CountsLast (H.state host.old) (H.state host.new) result.last }
     ensures not_closed { IfSome result.last (λ unit. IsBrokenBy Closed unit.reply → ⊥) }
-    ensures order { IsNone result.last
-        → Needs (H.state host.new) (IsInOrder database.new lists.new.lists) }
-    ensures noting { IsNone result.last → database.new.closed ≡ false }
-    ensures listing { IsNone result.last → lists.new.closed ≡ false }
-    ensures kept { IsNone result.last → places.new ≡ places_in diversions.now.entries
-        lists.new.lists }
-    ensures indexed { IsNone result.last → ArePackagesOf database.new.records packages.new }
+    ensures order { IsNone result.last → Needs (H.state host.new)
+        (IsInOrder administration.new.database administration.new.lists.lists) }
+    ensures open { IsNone result.last → IsOpen diversions.now.entries administration.new }
+    ensures indexed { IsNone result.last → ArePackagesOf administration.new.database.records
+        packages.new }
     ensures answered { IsNone result.last → IsAnswered (H.state host.old) (H.state host.new) }
     ensures watched { IsTold W.tells watcher.old result.units.items watcher.new }
 {
-    match sorted(alloc, purge, database, names) {
+    let alloc = administration.alloc;
+    match sorted(alloc, purge, &administration.database, names) {
         Ok(sorted) => run_sorted(
-            alloc, host, database, packages, lists, places, diversions, purge, sorted, watcher,
+            host,
+            administration,
+            packages,
+            diversions,
+            purge,
+            sorted,
+            watcher,
         ),
         Err(_) => Report {
             units: Vec::new(alloc),

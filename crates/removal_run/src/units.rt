@@ -1,10 +1,10 @@
 // The removal of one package, brought to the disk and told.
-ghost use Rattle.std.specs.Prelude.{◌≡◌, ◌⊎◌, ◌∷◌, false, [], IfOk, OnOk, IfErr, OnErr, None};
+ghost use Rattle.std.specs.Prelude.{◌≡◌, ◌⊎◌, ◌∷◌, [], IfOk, OnOk, IfErr, OnErr, None};
 ghost use Rattle.host_core.specs.Host.{AtEachMomentOf, Counts, Needs, faults};
 ghost use Rattle.host_core.specs.Loss.{IsAnswered, IsOnDisk};
-ghost use Rattle.file_lists.specs.Owners.{places_in};
+ghost use Rattle.held_administration.specs.Open.{IsOpen};
 ghost use Rattle.unit_parts.specs.Order.{IsInOrder};
-ghost use Rattle.unit_reports.specs.Held.{held};
+ghost use Rattle.unit_reports.specs.Held.{held_by};
 ghost use Rattle.unit_reports.specs.Units.{CountsReply, IsBroken, IsBrokenBy, TellsNoPackage, calls_of, touched_at};
 ghost use Rattle.unit_reports.specs.declared.report.Breakage.TheVariants.{NoMemory, Closed};
 ghost use Rattle.unit_reports.specs.Watching.{AddsTold};
@@ -13,8 +13,8 @@ ghost use Rattle.removal_run.specs.Units.{AddsRemoval, Answers, AreOthersKept, H
 ghost use Rattle.unwind_stack.specs.Transcript.{TellsAll};
 
 use diversions::Diversions;
-use file_lists::FileLists;
-use host_core::{Call, Host, HostFault, Places};
+use held_administration::Administration;
+use host_core::{Call, Host, HostFault};
 use removal_engine::{Extent, remove};
 use stack_run::Failure as Cause;
 use status_db::NotedDatabase;
@@ -46,42 +46,35 @@ fn extent_of(purge: bool) -> Extent
 
 // Removes a package, and brings all that was done to the disk.
 fn remove_to_disk<H: Host>(
-    alloc: Global,
     host: &mut H,
-    database: &mut NotedDatabase,
-    lists: &mut FileLists,
-    places: &mut Places,
+    administration: &mut Administration,
     diversions: &Diversions,
     name: &Text,
     purge: bool,
     told: &mut Vec<Called>,
 ) -> Result<Option<Call>, HostFault>
-    requires order { Needs (H.state host.old) (IsInOrder database.old lists.old.lists) }
-    requires noting { database.old.closed ≡ false }
-    requires listing { lists.old.closed ≡ false }
-    requires kept { places.old ≡ places_in diversions.now.entries lists.old.lists }
-    requires accepted { rule_for purge database.old.records name.now ≡ None }
+    requires order { Needs (H.state host.old)
+        (IsInOrder administration.old.database administration.old.lists.lists) }
+    requires open { IsOpen diversions.now.entries administration.old }
+    requires accepted { rule_for purge administration.old.database.records name.now ≡ None }
     ensures unit { IfOk result (λ failed. IsBroughtToDisk purge name.now
-        (held database.old lists.old diversions.now) failed (held database.new lists.new
-        diversions.now) (H.state host.old) (H.state host.new) told.old.items told.new.items) }
+        (held_by administration.old diversions.now) failed
+        (held_by administration.new diversions.now) (H.state host.old) (H.state host.new)
+        told.old.items told.new.items) }
     ensures order { IfOk result (λ failed. Needs (H.state host.new)
-        (IsInOrder database.new lists.new.lists)) }
-    ensures noting { OnOk result (database.new.closed ≡ false) }
-    ensures listing { OnOk result (lists.new.closed ≡ false) }
-    ensures kept { OnOk result (places.new ≡ places_in diversions.now.entries lists.new.lists) }
-    ensures others { OnOk result (AreOthersKept name.now database.old.records
-        database.new.records) }
+        (IsInOrder administration.new.database administration.new.lists.lists)) }
+    ensures open { OnOk result (IsOpen diversions.now.entries administration.new) }
+    ensures others { OnOk result (AreOthersKept name.now administration.old.database.records
+        administration.new.database.records) }
     ensures on_disk { OnOk result (IsOnDisk (H.state host.new).events) }
-    ensures told { HasCalledRemoving purge name.now (held database.old lists.old diversions.now)
+    ensures told { HasCalledRemoving purge name.now (held_by administration.old diversions.now)
         (H.state host.old) (H.state host.new) told.old.items told.new.items }
-    ensures any_moment { AtEachMomentOf (IsAmidRemoval purge name.now (held database.old lists.old
-        diversions.now)) (H.state host.old) (H.state host.new) }
+    ensures any_moment { AtEachMomentOf (IsAmidRemoval purge name.now
+        (held_by administration.old diversions.now)) (H.state host.old) (H.state host.new) }
     ensures counts { Counts (H.state host.old) (H.state host.new) result }
 {
     let extent = extent_of(purge);
-    match remove(
-        alloc, host, database, lists, places, diversions, name, extent, told,
-    ) {
+    match remove(host, administration, diversions, name, extent, told) {
         Ok(failed) => match host.barrier() {
             Ok(()) => Ok(failed),
             Err(fault) => Err(fault),
@@ -129,80 +122,73 @@ fn answered(
 
 // The unit of a package of this name.
 fn remove_named<H: Host>(
-    alloc: Global,
     host: &mut H,
-    database: &mut NotedDatabase,
-    lists: &mut FileLists,
-    places: &mut Places,
+    administration: &mut Administration,
     diversions: &Diversions,
     package: Text,
     purge: bool,
 ) -> Unit
-    requires order { Needs (H.state host.old) (IsInOrder database.old lists.old.lists) }
-    requires noting { database.old.closed ≡ false }
-    requires listing { lists.old.closed ≡ false }
-    requires kept { places.old ≡ places_in diversions.now.entries lists.old.lists }
-    requires accepted { rule_for purge database.old.records «package» ≡ None }
-    ensures unit { IsBroken result.reply ⊎ IsRemoval purge «package» (held database.old lists.old
-        diversions.now) (held database.new lists.new diversions.now) result (H.state host.old)
-        (H.state host.new) }
-    ensures noting { IsBroken result.reply ⊎ (database.new.closed ≡ false) }
-    ensures listing { IsBroken result.reply ⊎ (lists.new.closed ≡ false) }
-    ensures kept { IsBroken result.reply
-        ⊎ (places.new ≡ places_in diversions.now.entries lists.new.lists) }
-    ensures others { IsBroken result.reply ⊎ AreOthersKept «package» database.old.records
-        database.new.records }
+    requires order { Needs (H.state host.old)
+        (IsInOrder administration.old.database administration.old.lists.lists) }
+    requires open { IsOpen diversions.now.entries administration.old }
+    requires accepted { rule_for purge administration.old.database.records «package» ≡ None }
+    ensures unit { IsBroken result.reply ⊎ IsRemoval purge «package»
+        (held_by administration.old diversions.now) (held_by administration.new diversions.now)
+        result (H.state host.old) (H.state host.new) }
+    ensures open { IsBroken result.reply ⊎ IsOpen diversions.now.entries administration.new }
+    ensures others { IsBroken result.reply ⊎ AreOthersKept «package»
+        administration.old.database.records administration.new.database.records }
     ensures answered { IsBroken result.reply ⊎ IsAnswered (H.state host.old) (H.state host.new) }
     ensures untouched { IsBroken result.reply → TellsNoPackage result }
-    ensures told { HasCalledRemoving purge «package» (held database.old lists.old diversions.now)
+    ensures told { HasCalledRemoving purge «package» (held_by administration.old diversions.now)
         (H.state host.old) (H.state host.new) [] result.calls.items }
-    ensures any_moment { AtEachMomentOf (IsAmidRemoval purge «package» (held database.old lists.old
-        diversions.now)) (H.state host.old) (H.state host.new) }
+    ensures any_moment { AtEachMomentOf (IsAmidRemoval purge «package»
+        (held_by administration.old diversions.now)) (H.state host.old) (H.state host.new) }
     ensures counts { CountsReply (H.state host.old) (H.state host.new) result.reply }
     ensures not_closed { IsBrokenBy Closed result.reply → ⊥ }
 {
+    let alloc = administration.alloc;
     let mut calls = Vec::new(alloc);
     match remove_to_disk(
-        alloc, host, database, lists, places, diversions, &package, purge, &mut calls,
+        host,
+        administration,
+        diversions,
+        &package,
+        purge,
+        &mut calls,
     ) {
-        Ok(failed) => answered(alloc, database, package, failed, calls),
+        Ok(failed) => answered(alloc, &administration.database, package, failed, calls),
         Err(fault) => broken(alloc, calls, breakage_of(fault)),
     }
 }
 
 /// The unit of one package more, or the unit that was broken off.
 pub(crate) fn run_one<H: Host, W: Watcher>(
-    alloc: Global,
     host: &mut H,
-    database: &mut NotedDatabase,
-    lists: &mut FileLists,
-    places: &mut Places,
+    administration: &mut Administration,
     diversions: &Diversions,
     package: Text,
     purge: bool,
     units: &mut Vec<Unit>,
     watcher: &mut W,
 ) -> Result<(), Unit>
-    requires order { Needs (H.state host.old) (IsInOrder database.old lists.old.lists) }
-    requires noting { database.old.closed ≡ false }
-    requires listing { lists.old.closed ≡ false }
-    requires kept { places.old ≡ places_in diversions.now.entries lists.old.lists }
-    requires accepted { rule_for purge database.old.records «package» ≡ None }
-    ensures ok { OnOk result (AddsRemoval purge «package» (held database.old lists.old
-        diversions.now) (held database.new lists.new diversions.now) (H.state host.old)
-        (H.state host.new) units.old.items units.new.items) }
-    ensures noting { OnOk result (database.new.closed ≡ false) }
-    ensures listing { OnOk result (lists.new.closed ≡ false) }
-    ensures kept { OnOk result (places.new ≡ places_in diversions.now.entries lists.new.lists) }
-    ensures others { OnOk result (AreOthersKept «package» database.old.records
-        database.new.records) }
+    requires order { Needs (H.state host.old)
+        (IsInOrder administration.old.database administration.old.lists.lists) }
+    requires open { IsOpen diversions.now.entries administration.old }
+    requires accepted { rule_for purge administration.old.database.records «package» ≡ None }
+    ensures ok { OnOk result (AddsRemoval purge «package»
+        (held_by administration.old diversions.now) (held_by administration.new diversions.now)
+        (H.state host.old) (H.state host.new) units.old.items units.new.items) }
+    ensures open { OnOk result (IsOpen diversions.now.entries administration.new) }
+    ensures others { OnOk result (AreOthersKept «package» administration.old.database.records
+        administration.new.database.records) }
     ensures err { OnErr result (units.new.items ≡ units.old.items) }
     ensures broken_off { IfErr result (λ unit. IsBrokenOff purge «package»
-        (held database.old lists.old diversions.now) unit (H.state host.old) (H.state host.new)) }
+        (held_by administration.old diversions.now) unit (H.state host.old) (H.state host.new)) }
     ensures told { OnOk result (TellsAll (H.state host.old) (H.state host.new)
         (calls_of units.old.items) (calls_of units.new.items)) }
-    ensures any_moment { AtEachMomentOf (IsAmidRemoval purge «package» (held database.old lists.old
-        diversions.now)) (H.state host.old) (H.state host.new) }
+    ensures any_moment { AtEachMomentOf (IsAmidRemoval purge «package»
+        (held_by administration.old diversions.now)) (H.state host.old) (H.state host.new) }
     ensures no_fault { OnOk result (faults (H.state host.new) ≡ faults (H.state host.old)) }
     ensures counts { IfErr result (λ unit. CountsReply (H.state host.old) (H.state host.new)
         unit.reply) }
@@ -210,11 +196,10 @@ pub(crate) fn run_one<H: Host, W: Watcher>(
     ensures watched { AddsTold W.tells units.old.items units.new.items watcher.old watcher.new }
 {
     if units.reserve(1).is_err() {
+        let alloc = administration.alloc;
         return Err(broken(alloc, Vec::new(alloc), Breakage::NoMemory));
     }
-    let unit = remove_named(
-        alloc, host, database, lists, places, diversions, package, purge,
-    );
+    let unit = remove_named(host, administration, diversions, package, purge);
     if is_broken(&unit) {
         return Err(unit);
     }

@@ -6,6 +6,7 @@ use Rattle.diversions.specs.declared.entry.Diversion.{Diversion}
 use Rattle.file_lists.specs.Filed.{Filed}
 use Rattle.file_lists.specs.Owners.{places_in}
 use Rattle.file_lists.specs.declared.paths.PackageList.{PackageList}
+use Rattle.held_administration.specs.declared.administration.Administration.{Administration}
 use Rattle.status_db.specs.Recorded.{Recorded}
 
 -- its records, the lists of their packages, and its diversions
@@ -17,6 +18,10 @@ pub record Held : Type 0 where
 -- what the values of a session hold
 abbrev pub held : Recorded → Filed → Diverted → Held
 held database lists diversions = record { records = database; lists = lists.lists; entries = diversions.entries }
+
+-- what an administration holds, with these diversions
+abbrev pub held_by : Administration → Diverted → Held
+held_by administration diversions = held administration.database administration.lists diversions
 
 -- the places of all listed paths, which running scripts leave alone
 abbrev pub places_of : Held → List Path

@@ -2,6 +2,7 @@
 use Rattle.std.specs.Prelude.{ℕ, Bool, true, false, List, [], ◌∷◌}
 use Rattle.file_lists.specs.Filed.{Filed}
 use Rattle.file_lists.specs.declared.paths.PackageList.{PackageList}
+use Rattle.held_administration.specs.declared.administration.Administration.{Administration}
 use Rattle.status_db.specs.Recorded.{Recorded}
 use Rattle.status_db.specs.declared.record.Record.{Record}
 use Rattle.unit_parts.specs.Parts.{parts_lists, parts_records}
@@ -16,6 +17,10 @@ pub record Holding : Type 0 where
 -- those that are open
 abbrev pub holding : Recorded → Filed → Holding
 holding database lists = record { records = database.records; lists = lists.lists }
+
+-- those of an administration
+abbrev pub holding_of : Administration → Holding
+holding_of administration = holding administration.database administration.lists
 
 -- the package's list is written
 abbrev pub is_listing : Part → Bool

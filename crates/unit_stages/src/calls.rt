@@ -6,19 +6,18 @@ ghost use Rattle.texts.specs.PackageNames.{is_package_name};
 ghost use Rattle.unwind_stack.specs.declared.rows.Owner.{Owner as AnOwner};
 ghost use Rattle.unwind_stack.specs.Transcript.{Begins, Makes, Tries, TriesRow, UndoesAny, UndoesRow};
 ghost use Rattle.cleanup_stack.specs.Telling.{Begun};
-ghost use Rattle.file_lists.specs.Owners.{places_in};
+ghost use Rattle.held_administration.specs.Open.{IsOpen};
 ghost use Rattle.unit_parts.specs.Fitting.{AreFit, HaveNoSettle};
 ghost use Rattle.unit_parts.specs.Order.{IsInOrder};
 ghost use Rattle.unit_stages.specs.Calls.{MayCallRow};
-ghost use Rattle.unit_stages.specs.Holding.{holding};
+ghost use Rattle.unit_stages.specs.Holding.{holding_of};
 ghost use Rattle.unit_stages.specs.Running.{AreCalled};
 ghost use Rattle.unit_stages.specs.Runs.{HasCalled, HasUndone};
 
 use crate::parts::do_and_keep;
 use diversions::Diversions;
-use file_lists::FileLists;
+use held_administration::Administration;
 use host_core::{Call, Host, HostFault, Keep, Places};
-use status_db::NotedDatabase;
 use std::alloc::Global;
 use texts::Text;
 use unit_parts::Part;
@@ -72,44 +71,39 @@ fn undo_call<H: Host>(
 
 // Undoes a row whose call failed; where that succeeds these parts are done.
 fn undo_stage<H: Host>(
-    alloc: Global,
     host: &mut H,
-    database: &mut NotedDatabase,
-    lists: &mut FileLists,
-    places: &mut Places,
+    administration: &mut Administration,
     diversions: &Diversions,
     name: &Text,
     row: &Row,
     restore: Vec<Part>,
     told: &mut Vec<Called>,
 ) -> Result<(), HostFault>
-    requires noting { database.old.closed ≡ false }
-    requires listing { lists.old.closed ≡ false }
+    requires open { IsOpen diversions.now.entries administration.old }
     requires named { is_package_name name.now ≡ true }
-    requires fit { AreFit name.now restore.items database.old.records lists.old.lists }
+    requires fit { AreFit name.now restore.items
+        administration.old.database.records administration.old.lists.lists }
     requires settled { Needs (H.state host.old) (λ w. HaveNoSettle restore.items) }
-    requires kept { places.old ≡ places_in diversions.now.entries lists.old.lists }
-    requires order { Needs (H.state host.old) (IsInOrder database.old lists.old.lists) }
+    requires order { Needs (H.state host.old)
+        (IsInOrder administration.old.database administration.old.lists.lists) }
     ensures undone { OnOk result
         (HasUndone name.now diversions.now.entries row.now restore.items
-        (holding database.old lists.old) (holding database.new lists.new)
+        (holding_of administration.old) (holding_of administration.new)
         (H.state host.old) (H.state host.new) told.old.items told.new.items) }
     ensures order { OnOk result
-        (Needs (H.state host.new) (IsInOrder database.new lists.new.lists)) }
-    ensures kept { OnOk result (places.new ≡ places_in diversions.now.entries lists.new.lists) }
-    ensures noting { OnOk result (database.new.closed ≡ false) }
-    ensures listing { OnOk result (lists.new.closed ≡ false) }
+        (Needs (H.state host.new)
+        (IsInOrder administration.new.database administration.new.lists.lists)) }
+    ensures open { OnOk result (IsOpen diversions.now.entries administration.new) }
     ensures told { Begun (UndoesAny row.now []) (H.state host.old) (H.state host.new)
         told.old.items told.new.items }
     ensures any_moment { AtEachMomentOf
-        (AreCalled name.now diversions.now.entries restore.items (holding database.old lists.old))
+        (AreCalled name.now diversions.now.entries restore.items (holding_of administration.old))
         (H.state host.old) (H.state host.new) }
     ensures counts { Counts (H.state host.old) (H.state host.new) result }
 {
-    match undo_call(alloc, host, places, row, told) {
-        Ok(false) => do_and_keep(
-            alloc, host, database, lists, places, diversions, name, restore,
-        ),
+    let alloc = administration.alloc;
+    match undo_call(alloc, host, &administration.places, row, told) {
+        Ok(false) => do_and_keep(host, administration, diversions, name, restore),
         Ok(true) => Ok(()),
         Err(fault) => Err(fault),
     }
@@ -117,45 +111,39 @@ fn undo_stage<H: Host>(
 
 /// Makes the call of a stage; where it fails its undo is called. The answer is the call that failed.
 pub(crate) fn call_stage<H: Host>(
-    alloc: Global,
     host: &mut H,
-    database: &mut NotedDatabase,
-    lists: &mut FileLists,
-    places: &mut Places,
+    administration: &mut Administration,
     diversions: &Diversions,
     name: &Text,
     row: Row,
     restore: Vec<Part>,
     told: &mut Vec<Called>,
 ) -> Result<Option<Call>, HostFault>
-    requires noting { database.old.closed ≡ false }
-    requires listing { lists.old.closed ≡ false }
+    requires open { IsOpen diversions.now.entries administration.old }
     requires named { is_package_name name.now ≡ true }
-    requires fit { AreFit name.now restore.items database.old.records lists.old.lists }
+    requires fit { AreFit name.now restore.items
+        administration.old.database.records administration.old.lists.lists }
     requires settled { Needs (H.state host.old) (λ w. HaveNoSettle restore.items) }
-    requires kept { places.old ≡ places_in diversions.now.entries lists.old.lists }
-    requires order { Needs (H.state host.old) (IsInOrder database.old lists.old.lists) }
+    requires order { Needs (H.state host.old)
+        (IsInOrder administration.old.database administration.old.lists.lists) }
     ensures called { IfOk result
         (λ failed. HasCalled name.now diversions.now.entries row restore.items failed
-        (holding database.old lists.old) (holding database.new lists.new)
+        (holding_of administration.old) (holding_of administration.new)
         (H.state host.old) (H.state host.new) told.old.items told.new.items) }
     ensures order { OnOk result
-        (Needs (H.state host.new) (IsInOrder database.new lists.new.lists)) }
-    ensures kept { OnOk result (places.new ≡ places_in diversions.now.entries lists.new.lists) }
-    ensures noting { OnOk result (database.new.closed ≡ false) }
-    ensures listing { OnOk result (lists.new.closed ≡ false) }
+        (Needs (H.state host.new)
+        (IsInOrder administration.new.database administration.new.lists.lists)) }
+    ensures open { OnOk result (IsOpen diversions.now.entries administration.new) }
     ensures told { Begun (MayCallRow row) (H.state host.old) (H.state host.new)
         told.old.items told.new.items }
     ensures any_moment { AtEachMomentOf
-        (AreCalled name.now diversions.now.entries restore.items (holding database.old lists.old))
+        (AreCalled name.now diversions.now.entries restore.items (holding_of administration.old))
         (H.state host.old) (H.state host.new) }
     ensures counts { Counts (H.state host.old) (H.state host.new) result }
 {
-    match try_call(host, places, &row, told) {
+    match try_call(host, &administration.places, &row, told) {
         Ok(true) => Ok(None),
-        Ok(false) => match undo_stage(
-            alloc, host, database, lists, places, diversions, name, &row, restore, told,
-        ) {
+        Ok(false) => match undo_stage(host, administration, diversions, name, &row, restore, told) {
             Ok(()) => Ok(row.forward),
             Err(fault) => Err(fault),
         },

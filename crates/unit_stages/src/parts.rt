@@ -5,16 +5,17 @@ ghost use Rattle.host_core.specs.Host.{AtEachMoment, Counts, Needs, Silent};
 ghost use Rattle.texts.specs.PackageNames.{is_package_name};
 ghost use Rattle.file_lists.specs.Beside.{HadPlaces};
 ghost use Rattle.file_lists.specs.Owners.{places_in};
+ghost use Rattle.held_administration.specs.Open.{IsOpen};
 ghost use Rattle.unit_parts.specs.Doing.{AreDoing};
 ghost use Rattle.unit_parts.specs.Fitting.{AreFit, AreSettleable};
 ghost use Rattle.unit_parts.specs.Order.{IsInOrder};
-ghost use Rattle.unit_stages.specs.Holding.{after_parts, holding, is_listing};
+ghost use Rattle.unit_stages.specs.Holding.{after_parts, holding_of, is_listing};
 ghost use Rattle.unit_stages.specs.Runs.{DoesParts};
 
 use diversions::Diversions;
 use file_lists::FileLists;
+use held_administration::Administration;
 use host_core::{Host, HostFault, Places};
-use status_db::NotedDatabase;
 use std::alloc::{AllocError, Global};
 use texts::Text;
 use unit_parts::{Part, do_parts};
@@ -58,41 +59,53 @@ fn keep_places(
 
 /// Does these parts. What the list has no more is a script's to change behind them.
 pub(crate) fn do_and_keep<H: Host>(
-    alloc: Global,
     host: &mut H,
-    database: &mut NotedDatabase,
-    lists: &mut FileLists,
-    places: &mut Places,
+    administration: &mut Administration,
     diversions: &Diversions,
     name: &Text,
     parts: Vec<Part>,
 ) -> Result<(), HostFault>
-    requires noting { database.old.closed ≡ false }
-    requires listing { lists.old.closed ≡ false }
+    requires open { IsOpen diversions.now.entries administration.old }
     requires named { is_package_name name.now ≡ true }
-    requires fit { AreFit name.now parts.items database.old.records lists.old.lists }
-    requires kept { places.old ≡ places_in diversions.now.entries lists.old.lists }
-    requires order { Needs (H.state host.old) (IsInOrder database.old lists.old.lists) }
+    requires fit { AreFit name.now parts.items
+        administration.old.database.records administration.old.lists.lists }
+    requires order { Needs (H.state host.old)
+        (IsInOrder administration.old.database administration.old.lists.lists) }
     requires settleable { Needs (H.state host.old) (AreSettleable parts.items) }
     ensures left { OnOk result
-        (holding database.new lists.new
-        ≡ after_parts name.now parts.items (holding database.old lists.old)) }
-    ensures noting { OnOk result (database.new.closed ≡ false) }
-    ensures listing { OnOk result (lists.new.closed ≡ false) }
-    ensures kept { OnOk result (places.new ≡ places_in diversions.now.entries lists.new.lists) }
+        (holding_of administration.new
+        ≡ after_parts name.now parts.items (holding_of administration.old)) }
+    ensures open { OnOk result (IsOpen diversions.now.entries administration.new) }
     ensures done { OnOk result
-        (DoesParts name.now parts.items (holding database.old lists.old)
+        (DoesParts name.now parts.items (holding_of administration.old)
         (H.state host.old) (H.state host.new)) }
     ensures order { OnOk result
-        (Needs (H.state host.new) (IsInOrder database.new lists.new.lists)) }
-    ensures any_moment { AtEachMoment (AreDoing name.now parts.items database.old.records)
+        (Needs (H.state host.new)
+        (IsInOrder administration.new.database administration.new.lists.lists)) }
+    ensures any_moment { AtEachMoment
+        (AreDoing name.now parts.items administration.old.database.records)
         (H.state host.old) (H.state host.new) }
     ensures silent { Silent (H.state host.old) (H.state host.new) }
     ensures counts { Counts (H.state host.old) (H.state host.new) result }
 {
-    lists.law();
+    let alloc = administration.alloc;
+    administration.lists.law();
     let written = have_listing(parts.as_slice());
-    do_parts(alloc, host, database, lists, name, parts)?;
-    keep_places(alloc, lists, places, diversions, name, written)?;
+    do_parts(
+        alloc,
+        host,
+        &mut administration.database,
+        &mut administration.lists,
+        name,
+        parts,
+    )?;
+    keep_places(
+        alloc,
+        &administration.lists,
+        &mut administration.places,
+        diversions,
+        name,
+        written,
+    )?;
     Ok(())
 }

@@ -3,35 +3,21 @@ use Rattle.std.proofs.Common.{◌≡◌, IsTrue, true, List, [], ◌∷◌, ◌+
 use Rattle.host_core.specs.Paths.{Path}
 use Rattle.host_core.specs.World.{World}
 use Rattle.host_core.specs.Events.{Event, Did, Finished, Cut, Failed, changes_of, scripts_of}
-use Rattle.host_core.specs.Host.{State, AllFailed, AtEachMomentOf, Needs, Reads, Silent}
+use Rattle.host_core.specs.Host.{State, AllFailed, AtEachMomentOf, Reads, Silent}
 use Rattle.host_core.proofs.Moments.{scripts_of-append, since_reads, since_then, since_weaker_if, silent_then}
 use Rattle.host_core.proofs.Scripts.{changes_of-append, no_change, silent_added}
-use Rattle.host_core.specs.Tree.{IsTree}
 use Rattle.cleanup_stack.specs.Transcripts.{Ended}
-use Rattle.control_members.proofs.LaidOut.{incoming_absent}
-use Rattle.control_members.proofs.Starting.{since_here}
 use Rattle.file_lists.specs.declared.paths.PackageList.{PackageList}
 use Rattle.status_db.specs.Held.{HasRecords}
 use Rattle.status_db.specs.Recorded.{Recorded}
 use Rattle.unwind_stack.specs.declared.rows.Called.{Called}
-use Rattle.unpack_plan.specs.Planned.{IsPlanned, Job, Planned}
+use Rattle.unpack_plan.specs.Planned.{Planned}
 use Rattle.unpack_run.specs.Trail.{HasCome}
 use Rattle.unpack_rows.specs.Kinds.{kinds_of}
 use Rattle.unpack_rows.specs.Stages.{stage_of}
-use Rattle.unpack_engine.specs.Order.{IsInOrder}
-use Rattle.unpack_engine.specs.Units.{Begins, Given, Ground, HasCalled, HasCalledRows, HasCarriedOut, HasUnpacked, IsAmidUnit, IsPlanFor, IsRunning, IsStage, IsUnderWay, ground_of, last_place, package_name, stage_records, task_from}
-use Rattle.unpack_engine.proofs.EndOrder.{plan_named}
-use Rattle.unpack_engine.proofs.Order.{own_list, own_members}
+use Rattle.unpack_engine.specs.Units.{Begins, Given, Ground, HasCalled, HasCalledRows, HasCarriedOut, HasUnpacked, IsAmidUnit, IsPlanFor, IsRunning, IsStage, IsUnderWay, ground_of, last_place, stage_records, task_from}
 use Rattle.unpack_engine.proofs.Sequel.{called_behind}
-use Rattle.unpack_engine.proofs.UnderWay.{IsStaged, beginning_under_way}
-
--- before it begins
-pub start_under_way : (g : Ground) (j : Job) (p : Planned) → IsPlanned j p → (d : Recorded) (lists : List PackageList) → d.records ≡ g.records → (a : State) → Needs a (IsInOrder d lists) → Needs a IsTree → AtEachMomentOf (IsUnderWay g p) a a
-start_under_way g j p planned d lists same a order tree = since_here (IsUnderWay g p a.world) a (λ h.
-    let named = plan_named g j p planned in
-    let o = order h in
-    beginning_under_way g p named planned.works_are.named a.world (own_list d lists a.world o (package_name g p) named) (own_members d lists a.world o (package_name g p) named) o.loose
-    (incoming_absent a.world (tree h) o.tmp) d o.kept same [] a.world refl (record { rest = λ q out. refl; incoming = incoming_absent a.world (tree h) o.tmp }))
+use Rattle.unpack_engine.proofs.UnderWay.{IsStaged}
 
 none_before : (es fs : List Event) → scripts_of es ≡ [] → scripts_of fs ≡ [] → scripts_of (es ++ fs) ≡ []
 none_before es fs first second = scripts_of-append es fs ∙ ap (λ (l : List Event). l ++ scripts_of fs) first ∙ second

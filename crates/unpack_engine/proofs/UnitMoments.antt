@@ -15,19 +15,19 @@ use Rattle.cleanup_stack.specs.Transcripts.{Ended}
 use Rattle.control_members.specs.LaidOut.{IsLaying}
 use Rattle.control_members.proofs.LaidOut.{incoming_absent}
 use Rattle.diversions.specs.declared.entry.Diversion.{Diversion}
-use Rattle.file_lists.specs.Filed.{Filed}
 use Rattle.file_lists.specs.declared.paths.PackageList.{PackageList}
 use Rattle.file_works.specs.declared.work.Work.{Work}
+use Rattle.held_administration.specs.declared.administration.Administration.{Administration}
 use Rattle.status_db.specs.Recorded.{Recorded}
-use Rattle.unpack_plan.specs.Planned.{IsPlanned, Job, Planned}
+use Rattle.unpack_plan.specs.Planned.{IsPlanned, Job, Planned, planned_from}
+use Rattle.unpack_plan.specs.declared.plan.PlannedCommit.{PlannedCommit}
 use Rattle.unpack_rows.specs.EndStates.{own_name}
 use Rattle.unpack_run.specs.At.{Holding}
-use Rattle.unpack_run.specs.Task.{task_of}
+use Rattle.unpack_run.specs.Task.{task_by}
 use Rattle.unpack_run.specs.declared.plan.Rows.{Rows}
-use Rattle.unpack_engine.specs.declared.course.Rest.{Rest}
-use Rattle.unpack_engine.specs.Courses.{changes_from, planned_from, records_from}
+use Rattle.unpack_engine.specs.Endings.{changes_from, records_from}
 use Rattle.unpack_engine.specs.Order.{IsInOrder}
-use Rattle.unpack_engine.specs.Units.{Begins, Ground, HasBegun, HasRunRows, IsRunning, IsUnderWay, MayLeave, changes, commit_records, ground, package_name, task_from}
+use Rattle.unpack_engine.specs.Units.{Begins, Ground, HasBegun, HasRunRows, IsRunning, IsUnderWay, MayLeave, changes, commit_records, ground_by, package_name, task_from}
 use Rattle.unpack_engine.proofs.AfterRows.{leaving_under_way}
 use Rattle.unpack_engine.proofs.EndOrder.{plan_named}
 use Rattle.unpack_engine.proofs.Order.{own_list, own_members}
@@ -74,24 +74,24 @@ module _ (g : Ground) (j : Job) (p : Planned) (planned : IsPlanned j p) (before 
         (since_weaker_if (λ so_far now. MayEnd now × (scripts_of so_far ≡ [])) (λ so_far. IsUnderWay g p a.world (run_moments.added ++ so_far)) b c ends (since_silent (λ so_far. MayEnd) b c silent second))
 
 -- by the parts of a plan
-module _ (database : Recorded) (lists : Filed) (entries : List Diversion) (places : List Path) (rows : Rows) (works : List Work) (calls : List Row) (rest : Rest)
-    (j : Job) (planned : IsPlanned j (planned_from rows works calls rest))
-    (a b : State) (order : Needs a (IsInOrder database lists.lists)) (tree : Needs a IsTree) where
+module _ (held : Administration) (entries : List Diversion) (rows : Rows) (works : List Work) (calls : List Row) (commit : PlannedCommit)
+    (j : Job) (planned : IsPlanned j (planned_from rows works calls commit))
+    (a b : State) (order : Needs a (IsInOrder held.database held.lists.lists)) (tree : Needs a IsTree) where
   abbrev own : Path
   own = own_name rows.found rows.incoming
 
   abbrev g : Ground
-  g = ground database.records lists.lists entries places rows.yields
+  g = ground_by held entries rows.yields
 
   abbrev p : Planned
-  p = planned_from rows works calls rest
+  p = planned_from rows works calls commit
 
-  pub course_begins : AtEachMomentOf (IsRunning (HasBegun rest.members) IsLaying (λ s. task_of s database lists entries places works rows)) a b → AtEachMomentOf (IsUnderWay g p) a b
-  course_begins first = run_moments g j p planned database lists.lists refl a b order tree first
+  pub plan_begins : AtEachMomentOf (IsRunning (HasBegun commit.members) IsLaying (λ s. task_by s held entries works rows)) a b → AtEachMomentOf (IsUnderWay g p) a b
+  plan_begins first = run_moments g j p planned held.database held.lists.lists refl a b order tree first
 
-  pub course_moments : (c : State) (ended : Ended) (mid : Holding) (told now : List Called)
-      → AtEachMomentOf (IsRunning (HasBegun rest.members) IsLaying (λ s. task_of s database lists entries places works rows)) a b
-      → HasRunRows (HasBegun rest.members) (λ s. task_of s database lists entries places works rows) calls ended mid a b told now → Silent b c
-      → AtEachMoment (MayLeave (changes_from own rows.yields entries mid.lists mid.works rest) (records_from own rows.yields entries mid.lists mid.works rest mid.database.records) entries mid.lists mid.database.records (length rows.others.items) ended) b c
+  pub plan_moments : (c : State) (ended : Ended) (mid : Holding) (told now : List Called)
+      → AtEachMomentOf (IsRunning (HasBegun commit.members) IsLaying (λ s. task_by s held entries works rows)) a b
+      → HasRunRows (HasBegun commit.members) (λ s. task_by s held entries works rows) calls ended mid a b told now → Silent b c
+      → AtEachMoment (MayLeave (changes_from own rows.yields entries mid.lists mid.works commit) (records_from own rows.yields entries mid.lists mid.works commit mid.database.records) entries mid.lists mid.database.records (length rows.others.items) ended) b c
       → AtEachMomentOf (IsUnderWay g p) a c
-  course_moments c ended mid told now first ran silent second = unit_moments g j p planned database lists.lists refl a b order tree first c ended mid told now ran silent second
+  plan_moments c ended mid told now first ran silent second = unit_moments g j p planned held.database held.lists.lists refl a b order tree first c ended mid told now ran silent second

@@ -15,6 +15,8 @@ use Rattle.file_lists.specs.Filed.{Filed}
 use Rattle.file_lists.specs.Info.{AreLoose}
 use Rattle.file_lists.specs.declared.paths.PackageList.{PackageList}
 use Rattle.file_works.specs.declared.work.Work.{Work}
+use Rattle.held_administration.specs.Open.{CanWrite}
+use Rattle.held_administration.specs.declared.administration.Administration.{Administration}
 use Rattle.status_db.specs.Held.{IsKept}
 use Rattle.status_db.specs.Recorded.{Recorded}
 use Rattle.status_db.specs.Records.{AreApart, AreStanding, IsWithout, record_in}
@@ -25,7 +27,8 @@ use Rattle.unwind_stack.specs.declared.rows.Row.{Row}
 use Rattle.unpack_commit.specs.Takeover.{put_records, taken_places}
 use Rattle.unpack_commit.proofs.Those.{losing_stand}
 use Rattle.unpack_plan.specs.Members.{scripts_in}
-use Rattle.unpack_plan.specs.Planned.{IsPlanned, Job, Planned}
+use Rattle.unpack_plan.specs.Planned.{IsPlanned, Job, Planned, planned_from}
+use Rattle.unpack_plan.specs.declared.plan.PlannedCommit.{PlannedCommit}
 use Rattle.unpack_rows.specs.EndStates.{AreRecorded, end_of, own_name}
 use Rattle.unpack_rows.specs.ForwardRows.{Fits, records_of}
 use Rattle.unpack_rows.specs.Kinds.{kinds_of}
@@ -33,14 +36,13 @@ use Rattle.unpack_rows.specs.Notes.{noted, notes_at}
 use Rattle.unpack_rows.proofs.Ends.{end_table}
 use Rattle.unpack_rows.proofs.Matching.{as_many, rows_fit}
 use Rattle.unpack_run.specs.At.{At, Holding}
-use Rattle.unpack_run.specs.Task.{IsSound, task_of}
+use Rattle.unpack_run.specs.Task.{IsSound, task_by}
 use Rattle.unpack_run.specs.declared.plan.Rows.{Rows}
-use Rattle.unpack_engine.specs.declared.course.Rest.{Rest}
-use Rattle.unpack_engine.specs.Courses.{ended_records, ended_table, planned_from, records_from}
+use Rattle.unpack_engine.specs.Endings.{ended_records, ended_table, records_from}
 use Rattle.unpack_engine.specs.Order.{IsInOrder}
 use Rattle.unpack_engine.specs.Others.{AreOthers}
 use Rattle.unpack_engine.specs.Touched.{AreTold, deconfigured}
-use Rattle.unpack_engine.specs.Units.{Begins, Ground, HasBegun, HasRunRows, IsPlanBy, IsTouched, commit_records, ground, package_name, task_from}
+use Rattle.unpack_engine.specs.Units.{Begins, Ground, HasBegun, HasRunRows, IsPlanBy, IsTouched, commit_records, ground_by, package_name, task_from}
 use Rattle.unpack_engine.proofs.AfterRows.{last_laid}
 use Rattle.unpack_engine.proofs.EndOrder.{plan_named, rows_loose}
 use Rattle.unpack_engine.proofs.EndOthers.{EndsFor, end_for}
@@ -140,21 +142,21 @@ module _ (g : Ground) (j : Job) (p : Planned) (planned : IsPlanned j p) (d : Rec
   touched_ended (Unwound fall failed) apart after touched is told = unwound_touched after touched is told
 
 -- the same by the parts of a plan
-module _ (database : Recorded) (lists : Filed) (entries : List Diversion) (places : List Path) (rows : Rows) (works : List Work) (calls : List Row) (rest : Rest)
-    (plan : IsPlanBy database.records (planned_from rows works calls rest)) where
+module _ (held : Administration) (entries : List Diversion) (rows : Rows) (works : List Work) (calls : List Row) (commit : PlannedCommit)
+    (plan : IsPlanBy held.database.records (planned_from rows works calls commit)) where
   abbrev own : Path
   own = own_name rows.found rows.incoming
 
   abbrev g : Ground
-  g = ground database.records lists.lists entries places rows.yields
+  g = ground_by held entries rows.yields
 
   abbrev p : Planned
-  p = planned_from rows works calls rest
+  p = planned_from rows works calls commit
 
   abbrev noted_then : Holding → List Record
-  noted_then mid = records_from own rows.yields entries mid.lists mid.works rest mid.database.records
+  noted_then mid = records_from own rows.yields entries mid.lists mid.works commit mid.database.records
 
-  pub parts_sound : AreStanding database.records → (s : State) → IsSound (task_of s database lists entries places works rows)
+  pub parts_sound : AreStanding held.database.records → (s : State) → IsSound (task_by s held entries works rows)
   parts_sound standing s = plan_sound g plan.job p plan.records_are plan.planned plan.others standing s
 
   pub parts_kinds : rows.kinds.items ≡ kinds_of rows.found rows.others.items
@@ -166,27 +168,27 @@ module _ (database : Recorded) (lists : Filed) (entries : List Diversion) (place
   pub parts_length : length calls ≡ length (kinds_of rows.found rows.others.items)
   parts_length = plan_length g plan.job p plan.records_are plan.planned plan.others
 
-  module _ (ended : Ended) (mid : Holding) (old last : State) (order : Needs old (IsInOrder database lists.lists)) (tree : Needs old IsTree) (told now : List Called)
-      (ran : HasRunRows (HasBegun rest.members) (λ s. task_of s database lists entries places works rows) calls ended mid old last told now) where
+  module _ (ended : Ended) (mid : Holding) (old last : State) (order : Needs old (IsInOrder held.database held.lists.lists)) (tree : Needs old IsTree) (told now : List Called)
+      (ran : HasRunRows (HasBegun commit.members) (λ s. task_by s held entries works rows) calls ended mid old last told now) where
     pub parts_info : Needs last (λ w. IsDirectory (w info_path))
-    parts_info = last_info g plan.job p plan.planned database lists.lists old last order tree ended mid told now ran parts_length
+    parts_info = last_info g plan.job p plan.planned held.database held.lists.lists old last order tree ended mid told now ran parts_length
 
     pub parts_kept : Needs last (IsKept mid.database)
-    parts_kept = last_kept g plan.job p plan.planned database lists.lists old last order tree ended mid told now ran parts_length
+    parts_kept = last_kept g plan.job p plan.planned held.database held.lists.lists old last order tree ended mid told now ran parts_length
 
     pub parts_loose : Needs last AreLoose
-    parts_loose = loose_last g plan.job p plan.planned database lists.lists old last order tree ended mid told now ran parts_length
+    parts_loose = loose_last g plan.job p plan.planned held.database held.lists.lists old last order tree ended mid told now ran parts_length
 
-    pub parts_laid : Needs last (AreLaidOut rest.members)
-    parts_laid = laid_last g plan.job p plan.planned database lists.lists old last order tree ended mid told now ran parts_length
+    pub parts_laid : Needs last (AreLaidOut commit.members)
+    parts_laid = laid_last g plan.job p plan.planned held.database held.lists.lists old last order tree ended mid told now ran parts_length
 
     pub parts_stand : AreStanding mid.database.records → AreStanding (noted_then mid)
-    parts_stand standing = noted_stand g plan.job p plan.planned database lists.lists old last order tree ended mid told now ran parts_length standing
+    parts_stand standing = noted_stand g plan.job p plan.planned held.database held.lists.lists old last order tree ended mid told now ran parts_length standing
 
     pub parts_touched : AreApart mid.database.records → (after : List Record) (touched : List Path) → after ≡ ended_table ended (noted_then mid) mid.database.records
-        → AreTold own (ended_records ended (noted_then mid) ++ deconfigured after rows.others.items) touched → IsTouched own database.records after touched
+        → AreTold own (ended_records ended (noted_then mid) ++ deconfigured after rows.others.items) touched → IsTouched own held.database.records after touched
     parts_touched apart after touched is says =
-        touched_ended g plan.job p plan.planned database lists.lists old last order tree ended mid told now ran parts_length ended apart after touched is says
+        touched_ended g plan.job p plan.planned held.database held.lists.lists old last order tree ended mid told now ran parts_length ended apart after touched is says
 
 -- of an answer three things hold, and a fourth where the host was honest
 pub if_ok_all : {T E : Type 0} (result : Result T E) (P Q : T → Type 0) (A B N L : Type 0) → ((x : T) → P x → A → B → (N → L) → Q x) → IfOk result P → OnOk result A → OnOk result B → (N → OnOk result L) → IfOk result Q
@@ -196,3 +198,9 @@ if_ok_all (Err e) P Q A B N L so p a b l = tt
 pub if_ok_with : {T E : Type 0} (result : Result T E) (P Q : T → Type 0) (A : Type 0) → ((x : T) → P x → A → Q x) → IfOk result P → OnOk result A → IfOk result Q
 if_ok_with (Ok x) P Q A so p a = so x p a
 if_ok_with (Err e) P Q A so p a = tt
+
+-- where records can be written and lists could be before, so they can be behind what follows the rows
+pub can_write_still : {T E : Type 0} (result : Result T E) (held : Administration) (before : Filed) (lists : List PackageList) → before.closed ≡ false → OnOk result (held.database.closed ≡ false)
+    → OnOk result (held.lists ≡ record before { lists = lists }) → OnOk result (CanWrite held)
+can_write_still (Ok x) held before lists listing noting same = record { noting = noting; listing = ap (λ (f : Filed). f.closed) same ∙ listing }
+can_write_still (Err e) held before lists listing noting same = tt

@@ -1,5 +1,5 @@
 pub mod Order
 pub mod Others
 pub mod Units
-pub mod Courses
+pub mod Endings
 pub mod Touched

@@ -22,6 +22,7 @@ use Rattle.file_lists.specs.Increasing.{AreIncreasing}
 use Rattle.file_lists.specs.Info.{AreLoose}
 use Rattle.file_lists.specs.declared.paths.PackageList.{PackageList}
 use Rattle.file_works.specs.declared.work.Work.{Work}
+use Rattle.held_administration.specs.declared.administration.Administration.{Administration}
 use Rattle.package_tree.specs.declared.package.Package.{Package}
 use Rattle.status_db.specs.Held.{CanOpenRecords, HasRecords}
 use Rattle.status_db.specs.Recorded.{Recorded}
@@ -58,6 +59,10 @@ pub record Given : Type 0 where
 abbrev pub given_beside : Package → List Record → List PackageList → List Diversion → List OtherPackage → List (List ℕ) → Given
 given_beside «package» records lists entries others yields =
     record { «package» = «package»; records = records; lists = lists; entries = entries; others = others; yields = yields }
+
+-- what is held of the administration says so
+abbrev pub given_from : Package → Administration → List Diversion → List OtherPackage → List (List ℕ) → Given
+given_from «package» a entries others yields = given_beside «package» a.database.records a.lists.lists entries others yields
 
 -- where no other package has a row or yields
 abbrev pub given : Package → List Record → List PackageList → List Diversion → Given
@@ -164,6 +169,10 @@ pub record Ground : Type 0 where
 abbrev pub ground : List Record → List PackageList → List Diversion → List Path → List (List ℕ) → Ground
 ground records lists entries places yields =
     record { records = records; lists = lists; entries = entries; places = places; yields = yields }
+
+-- that of an administration that is held
+abbrev pub ground_by : Administration → List Diversion → List (List ℕ) → Ground
+ground_by a entries yields = ground a.database.records a.lists.lists entries a.places yields
 
 module _ (g : Ground) (p : Planned) where
   abbrev pub package_name : List ℕ

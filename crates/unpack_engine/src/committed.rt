@@ -12,11 +12,10 @@ ghost use Rattle.unpack_commit.specs.Commit.{HasCommitted, MayCommit, changes_of
 ghost use Rattle.unpack_commit.specs.Takeover.{put_records};
 ghost use Rattle.unpack_moves.specs.Closing.{SparesAdministration};
 ghost use Rattle.unpack_moves.specs.Concluding.{AreElsewhere};
-ghost use Rattle.unpack_engine.specs.Courses.{changes_from, records_from};
+ghost use Rattle.unpack_engine.specs.Endings.{changes_from, records_from};
 ghost use Rattle.unpack_engine.specs.Others.{is_other_package, yields_beside};
 ghost use Rattle.unpack_engine.specs.Units.{HasLeftBy, MayLeaveBy};
 
-use crate::course::Rest;
 use control_members::clear_away;
 use diversions::Diversions;
 use file_lists::{FileLists, Paths};
@@ -26,6 +25,7 @@ use status_db::{NotedDatabase, Record};
 use std::alloc::{AllocError, Global};
 use texts::{Text, Texts, package_name};
 use unpack_commit::{Change, commit, takeover_of};
+use unpack_plan::PlannedCommit;
 
 /// A commit that is ready to be made: what changes, the new list, and the records that are noted.
 #[derive(Drop)]
@@ -55,7 +55,8 @@ fn yields_beside(alloc: Global, own: &Text, names: &[Text]) -> Result<Texts, All
     Ok(others)
 }
 
-/// What is committed, where these works were written: no list but those of other packages that yield loses a place.
+/// What is committed, where these works were written: no list but those of other packages that
+/// yield loses a place.
 pub(crate) fn committing_of(
     alloc: Global,
     database: &NotedDatabase,
@@ -64,29 +65,30 @@ pub(crate) fn committing_of(
     name: &Text,
     yields: &[Text],
     works: &[Work],
-    rest: Rest,
+    commit: PlannedCommit,
 ) -> Result<Committing, AllocError>
     ensures change { IfOk result (λ c. changes_of c.change c.new_list
-        ≡ changes_from name.now yields.now diversions.now.entries lists.now.lists works.now rest) }
-    ensures members { IfOk result (λ c. c.change.members ≡ rest.members) }
+        ≡ changes_from name.now yields.now diversions.now.entries lists.now.lists works.now
+        commit) }
+    ensures members { IfOk result (λ c. c.change.members ≡ commit.members) }
     ensures records { IfOk result (λ c. c.records.items
-        ≡ records_from name.now yields.now diversions.now.entries lists.now.lists works.now rest
+        ≡ records_from name.now yields.now diversions.now.entries lists.now.lists works.now commit
         database.now.records) }
 {
     let others = yields_beside(alloc, name, yields)?;
     let takeover = takeover_of(alloc, works, database, lists, diversions, others.as_slice())?;
     let mut records = takeover.records;
-    records.push(rest.fresh)?;
+    records.push(commit.fresh)?;
     Ok(Committing {
         change: Change {
             name: name.copy()?,
-            leaving: rest.leaving,
-            members: rest.members,
+            leaving: commit.leaving,
+            members: commit.members,
             places: takeover.places,
             losers: takeover.losers,
-            names: rest.names,
+            names: commit.names,
         },
-        new_list: rest.new_list,
+        new_list: commit.new_list,
         records,
     })
 }

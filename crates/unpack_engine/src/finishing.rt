@@ -18,12 +18,11 @@ ghost use Rattle.unpack_commit.specs.Takeover.{put_records};
 ghost use Rattle.unpack_moves.specs.Closing.{SparesAdministration};
 ghost use Rattle.unpack_moves.specs.Concluding.{AreElsewhere};
 ghost use Rattle.unpack_rows.specs.EndStates.{own_name};
-ghost use Rattle.unpack_engine.specs.Courses.{changes_from, ended_lists, ended_records, ended_table, records_from};
+ghost use Rattle.unpack_engine.specs.Endings.{changes_from, ended_lists, ended_records, ended_table, records_from};
 ghost use Rattle.unpack_engine.specs.Touched.{AreTold, deconfigured};
 ghost use Rattle.unpack_engine.specs.Units.{HasDropped, HasLeft, HasLeftBy, MayDrop, MayLeave, MayLeaveBy};
 
 use crate::committed::{Committing, committing_of, end_committed};
-use crate::course::Rest;
 use crate::touched::touched_of;
 use crate::unwound::end_unwound;
 use control_members::Members;
@@ -35,10 +34,11 @@ use stack_run::Unwinding;
 use status_db::{NotedDatabase, Record};
 use std::alloc::Global;
 use texts::{Text, Texts};
+use unpack_plan::PlannedCommit;
 use unpack_run::Rows;
 
-/// How a unit ended: how its rows were unwound, or none where it was committed; and its packages, in the order of names: the
-/// one that was named, and each whose record differs since.
+/// How a unit ended: how its rows were unwound, or none where it was committed; and its packages, in
+/// the order of names: the one that was named, and each whose record differs since.
 #[derive(Drop)]
 pub struct Unpacked {
     pub unwinding: Option<Unwinding>,
@@ -154,38 +154,38 @@ fn finish_committed<H: Host>(
     name: &Text,
     yields: &[Text],
     works: &[Work],
-    rest: Rest,
+    commit: PlannedCommit,
     others: &[Record],
 ) -> Result<Texts, HostFault>
     requires noting { database.old.closed ≡ false }
     requires opened { lists.old.closed ≡ false }
     requires named { is_package_name name.now ≡ true }
-    requires spared { SparesAdministration rest.leaving.items }
-    requires paths { AreListPaths rest.new_list }
-    requires elsewhere { AreElsewhere rest.names.items }
+    requires spared { SparesAdministration commit.leaving.items }
+    requires paths { AreListPaths commit.new_list }
+    requires elsewhere { AreElsewhere commit.names.items }
     requires stands { AreStanding (records_from name.now yields.now diversions.now.entries
-        lists.old.lists works.now rest database.old.records) }
+        lists.old.lists works.now commit database.old.records) }
     requires info { Needs (H.state host.old) (λ w. IsDirectory (w info_path)) }
     requires loose { Needs (H.state host.old) AreLoose }
     requires kept { Needs (H.state host.old) (IsKept database.old) }
-    requires laid { Needs (H.state host.old) (AreLaidOut rest.members) }
+    requires laid { Needs (H.state host.old) (AreLaidOut commit.members) }
     ensures told { IfOk result (AreTold name.now (records_from name.now yields.now
-        diversions.now.entries lists.old.lists works.now rest database.old.records
+        diversions.now.entries lists.old.lists works.now commit database.old.records
         ++ deconfigured database.new.records others.now)) }
     ensures lists { OnOk result (lists.new ≡ record lists.old {
       lists = committed_lists (changes_from name.now yields.now diversions.now.entries
-          lists.old.lists works.now rest) diversions.now.entries lists.old.lists;
+          lists.old.lists works.now commit) diversions.now.entries lists.old.lists;
     }) }
     ensures records { OnOk result (database.new.records
         ≡ put_records
-        (records_from name.now yields.now diversions.now.entries lists.old.lists works.now rest
+        (records_from name.now yields.now diversions.now.entries lists.old.lists works.now commit
         database.old.records)
         database.old.records) }
     ensures opened { OnOk result (database.new.closed ≡ false) }
     ensures left { Leaves result
         (HasLeft
-        (changes_from name.now yields.now diversions.now.entries lists.old.lists works.now rest)
-        (records_from name.now yields.now diversions.now.entries lists.old.lists works.now rest
+        (changes_from name.now yields.now diversions.now.entries lists.old.lists works.now commit)
+        (records_from name.now yields.now diversions.now.entries lists.old.lists works.now commit
         database.old.records)
         diversions.now.entries lists.old.lists database.old.records (length others.now)
         Committed)
@@ -194,8 +194,8 @@ fn finish_committed<H: Host>(
         (λ old new. IsKept database.new new) (H.state host.old) (H.state host.new) }
     ensures any_moment { AtEachMoment
         (MayLeave
-        (changes_from name.now yields.now diversions.now.entries lists.old.lists works.now rest)
-        (records_from name.now yields.now diversions.now.entries lists.old.lists works.now rest
+        (changes_from name.now yields.now diversions.now.entries lists.old.lists works.now commit)
+        (records_from name.now yields.now diversions.now.entries lists.old.lists works.now commit
         database.old.records)
         diversions.now.entries lists.old.lists database.old.records (length others.now)
         Committed)
@@ -204,7 +204,7 @@ fn finish_committed<H: Host>(
     ensures counts { Counts (H.state host.old) (H.state host.new) result }
 {
     match committing_of(
-        alloc, database, lists, diversions, name, yields, works, rest,
+        alloc, database, lists, diversions, name, yields, works, commit,
     ) {
         Ok(committing) => finish_ready(
             alloc, host, database, lists, diversions, committing, others,
@@ -222,22 +222,22 @@ pub(crate) fn finish<H: Host>(
     diversions: &Diversions,
     rows: &Rows,
     works: &[Work],
-    rest: Rest,
+    commit: PlannedCommit,
     unwinding: Option<Unwinding>,
 ) -> Result<Unpacked, HostFault>
     requires noting { database.old.closed ≡ false }
     requires opened { lists.old.closed ≡ false }
     requires named { is_package_name (own_name rows.now.found rows.now.incoming) ≡ true }
-    requires spared { SparesAdministration rest.leaving.items }
-    requires paths { AreListPaths rest.new_list }
-    requires elsewhere { AreElsewhere rest.names.items }
+    requires spared { SparesAdministration commit.leaving.items }
+    requires paths { AreListPaths commit.new_list }
+    requires elsewhere { AreElsewhere commit.names.items }
     requires stands { AreStanding (records_from
         (own_name rows.now.found rows.now.incoming) rows.now.yields diversions.now.entries
-        lists.old.lists works.now rest database.old.records) }
+        lists.old.lists works.now commit database.old.records) }
     requires info { Needs (H.state host.old) (λ w. IsDirectory (w info_path)) }
     requires loose { Needs (H.state host.old) AreLoose }
     requires kept { Needs (H.state host.old) (IsKept database.old) }
-    requires laid { Needs (H.state host.old) (AreLaidOut rest.members) }
+    requires laid { Needs (H.state host.old) (AreLaidOut commit.members) }
     ensures unwinding { IfOk result (λ u. u.unwinding ≡ unwinding) }
     ensures told { IfOk result (λ u. AreTold
         (own_name rows.now.found rows.now.incoming)
@@ -245,7 +245,7 @@ pub(crate) fn finish<H: Host>(
         (ended_as unwinding)
         (records_from
         (own_name rows.now.found rows.now.incoming) rows.now.yields diversions.now.entries
-        lists.old.lists works.now rest database.old.records)
+        lists.old.lists works.now commit database.old.records)
         ++ deconfigured database.new.records rows.now.others.items)
         u.touched) }
     ensures lists { OnOk result (lists.new
@@ -254,7 +254,7 @@ pub(crate) fn finish<H: Host>(
               (ended_as unwinding)
               (changes_from
               (own_name rows.now.found rows.now.incoming) rows.now.yields diversions.now.entries
-              lists.old.lists works.now rest)
+              lists.old.lists works.now commit)
               diversions.now.entries lists.old.lists;
         }) }
     ensures records { OnOk result (database.new.records
@@ -262,17 +262,17 @@ pub(crate) fn finish<H: Host>(
         (ended_as unwinding)
         (records_from
         (own_name rows.now.found rows.now.incoming) rows.now.yields diversions.now.entries
-        lists.old.lists works.now rest database.old.records)
+        lists.old.lists works.now commit database.old.records)
         database.old.records) }
     ensures opened { OnOk result (database.new.closed ≡ false) }
     ensures left { Leaves result
         (HasLeft
         (changes_from
         (own_name rows.now.found rows.now.incoming) rows.now.yields diversions.now.entries
-        lists.old.lists works.now rest)
+        lists.old.lists works.now commit)
         (records_from
         (own_name rows.now.found rows.now.incoming) rows.now.yields diversions.now.entries
-        lists.old.lists works.now rest database.old.records)
+        lists.old.lists works.now commit database.old.records)
         diversions.now.entries lists.old.lists database.old.records
         (length rows.now.others.items) (ended_as unwinding))
         (H.state host.old) (H.state host.new) }
@@ -282,10 +282,10 @@ pub(crate) fn finish<H: Host>(
         (MayLeave
         (changes_from
         (own_name rows.now.found rows.now.incoming) rows.now.yields diversions.now.entries
-        lists.old.lists works.now rest)
+        lists.old.lists works.now commit)
         (records_from
         (own_name rows.now.found rows.now.incoming) rows.now.yields diversions.now.entries
-        lists.old.lists works.now rest database.old.records)
+        lists.old.lists works.now commit database.old.records)
         diversions.now.entries lists.old.lists database.old.records
         (length rows.now.others.items) (ended_as unwinding))
         (H.state host.old) (H.state host.new) }
@@ -298,7 +298,7 @@ pub(crate) fn finish<H: Host>(
         None => {
             let yields = rows.yields.as_slice();
             match finish_committed(
-                alloc, host, database, lists, diversions, name, yields, works, rest, others,
+                alloc, host, database, lists, diversions, name, yields, works, commit, others,
             ) {
                 Ok(touched) => Ok(Unpacked {
                     unwinding: None,
@@ -309,7 +309,7 @@ pub(crate) fn finish<H: Host>(
         }
         Some(unwinding) => {
             let reached = others.len() <= unwinding.fall.row;
-            let members = &rest.members;
+            let members = &commit.members;
             match finish_unwound(alloc, host, database, name, reached, others, members) {
                 Ok(touched) => Ok(Unpacked {
                     unwinding: Some(unwinding),

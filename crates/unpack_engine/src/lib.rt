@@ -22,10 +22,8 @@
 #![tactic(auto)]
 
 mod committed;
-mod course;
 mod finishing;
 mod looks;
-mod others;
 mod path_texts;
 mod running;
 mod touched;
@@ -33,5 +31,5 @@ mod unit;
 mod unwound;
 
 pub use finishing::Unpacked;
-pub use others::Others;
 pub use unit::unpack;
+pub use unpack_plan::Others;

@@ -1,35 +1,31 @@
 // The beginning of a unit, and its rows.
-ghost use Rattle.std.specs.Prelude.{◌≡◌, false, IfOk, length};
+ghost use Rattle.std.specs.Prelude.{◌≡◌, IfOk, length};
 ghost use Rattle.host_core.specs.Host.{AtEachMomentOf, Counts, Needs};
 ghost use Rattle.cleanup_stack.specs.Place.{Fit};
 ghost use Rattle.control_members.specs.LaidOut.{IsLaying};
+ghost use Rattle.held_administration.specs.Open.{CanWrite};
 ghost use Rattle.stack_run.specs.Ended.{IsCauseOf, ended_as};
 ghost use Rattle.unpack_rows.specs.EndStates.{own_name};
 ghost use Rattle.unpack_rows.specs.ForwardRows.{Fits};
 ghost use Rattle.unpack_rows.specs.Kinds.{kinds_of};
-ghost use Rattle.unpack_run.specs.At.{holding};
-ghost use Rattle.unpack_run.specs.Task.{IsSound, task_of};
+ghost use Rattle.unpack_run.specs.At.{holding_by};
+ghost use Rattle.unpack_run.specs.Task.{IsSound, task_by};
 ghost use Rattle.unpack_engine.specs.Order.{IsInOrder};
 ghost use Rattle.unpack_engine.specs.Units.{HasBegun, HasCalledRows, HasRunRows, IsRunning};
 
 use control_members::{Members, lay_out};
 use diversions::Diversions;
-use file_lists::FileLists;
 use file_works::Work;
-use host_core::{Host, HostFault, Places};
+use held_administration::Administration;
+use host_core::{Host, HostFault};
 use stack_run::Unwinding;
-use status_db::NotedDatabase;
-use std::alloc::Global;
 use unpack_run::{Rows, run_unpack_rows};
 use unwind_stack::{Called, Row};
 
 /// Begins a unit, for which the tree's control files are laid out, and runs its rows.
 pub(crate) fn begin_and_run<H: Host>(
-    alloc: Global,
     host: &mut H,
-    database: &mut NotedDatabase,
-    lists: &mut FileLists,
-    places: &mut Places,
+    administration: &mut Administration,
     diversions: &Diversions,
     rows: &Rows,
     works: &mut Vec<Work>,
@@ -37,11 +33,9 @@ pub(crate) fn begin_and_run<H: Host>(
     members: &Members,
     told: &mut Vec<Called>,
 ) -> Result<Option<Unwinding>, HostFault>
-    requires noting { database.old.closed ≡ false }
-    requires listing { lists.old.closed ≡ false }
-    requires sound { IsSound (task_of
-        (H.state host.old) database.old lists.old diversions.now.entries places.old works.old.items
-        rows.now) }
+    requires open { CanWrite administration.old }
+    requires sound { IsSound (task_by (H.state host.old) administration.old diversions.now.entries
+        works.old.items rows.now) }
     requires kinds { rows.now.kinds.items ≡ (kinds_of rows.now.found rows.now.others.items) }
     requires rows { Fit
         (Fits
@@ -49,23 +43,22 @@ pub(crate) fn begin_and_run<H: Host>(
         (kinds_of rows.now.found rows.now.others.items))
         calls.items }
     requires length { length calls.items ≡ length (kinds_of rows.now.found rows.now.others.items) }
-    requires order { Needs (H.state host.old) (IsInOrder database.old lists.old.lists) }
-    ensures ran { IfOk result (λ u. HasRunRows (HasBegun members.now) (λ s. task_of s database.old
-        lists.old diversions.now.entries places.old works.old.items rows.now) calls.items
-        (ended_as u) (holding database.new lists.new places.new works.new.items) (H.state host.old)
-        (H.state host.new) told.old.items told.new.items) }
+    requires order { Needs (H.state host.old)
+        (IsInOrder administration.old.database administration.old.lists.lists) }
+    ensures ran { IfOk result (λ u. HasRunRows (HasBegun members.now)
+        (λ s. task_by s administration.old diversions.now.entries works.old.items rows.now)
+        calls.items (ended_as u) (holding_by administration.new works.new.items)
+        (H.state host.old) (H.state host.new) told.old.items told.new.items) }
     ensures cause { IfOk result (IsCauseOf calls.items) }
     ensures told { HasCalledRows calls.items
         (H.state host.old) (H.state host.new) told.old.items told.new.items }
     ensures any_moment { AtEachMomentOf (IsRunning (HasBegun members.now) IsLaying
-        (λ s. task_of s database.old lists.old diversions.now.entries places.old works.old.items
-        rows.now)) (H.state host.old) (H.state host.new) }
+        (λ s. task_by s administration.old diversions.now.entries works.old.items rows.now))
+        (H.state host.old) (H.state host.new) }
     ensures counts { Counts (H.state host.old) (H.state host.new) result }
 {
-    match lay_out(alloc, host, members) {
-        Ok(()) => run_unpack_rows(
-            alloc, host, database, lists, places, diversions, rows, works, calls, told,
-        ),
+    match lay_out(administration.alloc, host, members) {
+        Ok(()) => run_unpack_rows(host, administration, diversions, rows, works, calls, told),
         Err(fault) => Err(fault),
     }
 }

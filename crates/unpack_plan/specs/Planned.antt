@@ -26,11 +26,13 @@ use Rattle.unpack_rows.specs.Kinds.{kinds_of, own_of}
 use Rattle.unpack_rows.specs.declared.kinds.RowKind.{RowKind}
 use Rattle.unpack_rows.specs.declared.rows.OtherPackage.{OtherPackage}
 use Rattle.unpack_rows.specs.declared.rows.Present.{Present}
+use Rattle.unpack_run.specs.declared.plan.Rows.{Rows}
 use Rattle.unpack_plan.specs.Lists.{IsAfter, IsUnion, old_leaving}
 use Rattle.unpack_plan.specs.Members.{AreMembersOf, scripts_in}
 use Rattle.unpack_plan.specs.Names.{cleared_names}
 use Rattle.unpack_plan.specs.Records.{IsFresh, IsIncoming}
 use Rattle.unpack_plan.specs.declared.plan.Plan.{Plan}
+use Rattle.unpack_plan.specs.declared.plan.PlannedCommit.{PlannedCommit}
 
 -- the tree, what the administration says, which scripts of the old version are stored, and the other packages that have rows
 pub record Job : Type 0 where
@@ -62,23 +64,27 @@ pub record Planned : Type 0 where
   -- the control files
   pub members : List Member
 
+-- that of these parts
+abbrev pub planned_from : Rows → List Work → List Row → PlannedCommit → Planned
+planned_from rows works calls commit = record {
+  found = rows.found;
+  incoming = rows.incoming;
+  fresh = commit.fresh;
+  rows = calls;
+  kinds = rows.kinds.items;
+  others = rows.others.items;
+  works = works;
+  listed = rows.listed;
+  union = rows.union;
+  new_list = commit.new_list;
+  leaving = commit.leaving.items;
+  names = commit.names.items;
+  members = commit.members;
+}
+
 -- a plan as such a record
 abbrev pub planned : Plan → Planned
-planned p = record {
-  found = p.found;
-  incoming = p.incoming;
-  fresh = p.fresh;
-  rows = p.rows.items;
-  kinds = p.kinds.items;
-  others = p.others.items;
-  works = p.works.items;
-  listed = p.listed;
-  union = p.union;
-  new_list = p.new_list;
-  leaving = p.leaving.items;
-  names = p.names.items;
-  members = p.members;
-}
+planned p = planned_from p.rows p.works.items p.calls.items p.commit
 
 -- each shipped path with what stands there
 abbrev pub pairs_of : List Shipped → List (Path × Node)

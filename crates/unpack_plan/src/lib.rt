@@ -6,7 +6,8 @@
 //!
 //! `plan_of`, what an unpack is going to do, each part by its definition over the tree, records,
 //! lists and diversions (`IsPlanned`): rows, works, the three lists, old paths that go, names that
-//! are cleared, control files, and the record of the unpacked package.
+//! are cleared, control files, and the record of the unpacked package; and the packages with which
+//! no path clashes: those of which only conffiles are left, and those that are given (`yields`).
 #![tactic(auto)]
 
 mod conffile_paths;
@@ -15,10 +16,12 @@ mod digests;
 mod lists;
 mod members;
 mod names;
+mod others;
 mod plan;
 mod records;
 mod rows;
 mod texts_of;
 mod works;
 
-pub use plan::{Plan, plan_of};
+pub use others::Others;
+pub use plan::{Plan, PlannedCommit, plan_of};

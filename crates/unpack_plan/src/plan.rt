@@ -1,9 +1,11 @@
 // What an unpack is going to do.
-ghost use Rattle.std.specs.Prelude.{IfOk};
+ghost use Rattle.std.specs.Prelude.{◌≡◌, ◌++◌, IfOk};
+ghost use Rattle.unpack_commit.specs.Takeover.{yields_of};
 ghost use Rattle.unpack_plan.specs.Planned.{planned, IsPlanned};
 
 use crate::contents::contents_of;
 use crate::lists::own_changes;
+use crate::others::{Others, all_yields};
 use crate::records::own_records;
 use crate::rows::own_rows;
 use control_members::Members;
@@ -15,27 +17,16 @@ use host_core::RootPath;
 use package_tree::Package;
 use status_db::{NotedDatabase, Record};
 use std::alloc::{AllocError, Global};
-use unpack_rows::{OtherPackage, Present, RowKind};
+use unpack_rows::Present;
+use unpack_run::Rows;
 use unwind_stack::Row;
 
-/// What an unpack is going to do.
+/// What is done once all rows have succeeded, and the control files that lie in `tmp.ci` until the
+/// end.
 #[derive(Drop)]
-pub struct Plan {
-    /// The record that the package has, if it has one.
-    pub found: Option<Record>,
-    /// That of the incoming package, which is noted where the package has none.
-    pub incoming: Record,
-    /// That of the unpacked package.
+pub struct PlannedCommit {
+    /// The record of the unpacked package.
     pub fresh: Record,
-    pub rows: Vec<Row>,
-    pub kinds: Vec<RowKind>,
-    /// The records of other packages that have rows.
-    pub others: Vec<Record>,
-    /// What is shipped, in path order.
-    pub works: Vec<Work>,
-    /// The paths that the package lists before, while its files are written, and then.
-    pub listed: Paths,
-    pub union: Paths,
     pub new_list: Paths,
     /// The old paths, and which of them go.
     pub leaving: Vec<Leaving>,
@@ -45,10 +36,21 @@ pub struct Plan {
     pub members: Members,
 }
 
+/// What an unpack is going to do, by the parts in which it is carried out.
+#[derive(Drop)]
+pub struct Plan {
+    pub rows: Rows,
+    /// What is shipped, in path order.
+    pub works: Vec<Work>,
+    /// The calls of the rows.
+    pub calls: Vec<Row>,
+    pub commit: PlannedCommit,
+}
+
 /// What an unpack of a tree is going to do, by the records, the lists and the diversions; `stored`
-/// are the scripts of the old version, `others` the packages that have rows beside it. The tree is
-/// used up, and none of its files is copied. Where the package lists many paths, the lists' index is
-/// to be built before.
+/// are the scripts of the old version, `others` the packages that have rows beside it or yield to
+/// it. The tree is used up, and none of its files is copied. Where the package lists many paths,
+/// the lists' index is to be built before.
 pub fn plan_of(
     alloc: Global,
     incoming: Package,
@@ -56,19 +58,24 @@ pub fn plan_of(
     lists: &FileLists,
     diversions: &Diversions,
     stored: Present,
-    others: Vec<OtherPackage>,
+    others: Others,
 ) -> Result<Plan, AllocError>
-    ensures { IfOk result (λ p. IsPlanned
+    ensures planned { IfOk result (λ p. IsPlanned
         (record {
           «package» = incoming;
           records = database.now.records;
           lists = lists.now.lists;
           entries = diversions.now.entries;
           stored = stored;
-          others = others.items;
+          others = others.packages.items;
         })
         (planned p)) }
+    ensures yields { IfOk result (λ p. p.rows.yields
+        ≡ yields_of database.now.records ++ others.yields) }
 {
+    let Others { packages, yields } = others;
+    let beside = yields.as_slice();
+    let all = all_yields(alloc, database, beside)?;
     let found = database.get(&incoming.name);
     let records = own_records(alloc, &incoming, found)?;
     let rows = own_rows(
@@ -77,7 +84,7 @@ pub fn plan_of(
         &records.incoming,
         stored,
         &incoming.scripts,
-        others,
+        packages,
     )?;
     let changes = own_changes(alloc, lists, diversions, &incoming, found, &records.fresh)?;
     let contents = contents_of(
@@ -88,18 +95,23 @@ pub fn plan_of(
         changes.leaving.as_slice(),
     )?;
     Ok(Plan {
-        found: records.found,
-        incoming: records.incoming,
-        fresh: records.fresh,
-        rows: rows.rows,
-        kinds: rows.kinds,
-        others: rows.others,
+        rows: Rows {
+            found: records.found,
+            incoming: records.incoming,
+            kinds: rows.kinds,
+            others: rows.others,
+            yields: all,
+            listed: changes.listed,
+            union: changes.union,
+        },
         works: contents.works,
-        listed: changes.listed,
-        union: changes.union,
-        new_list: changes.new_list,
-        leaving: changes.leaving,
-        names: contents.names,
-        members: contents.members,
+        calls: rows.rows,
+        commit: PlannedCommit {
+            fresh: records.fresh,
+            new_list: changes.new_list,
+            leaving: changes.leaving,
+            names: contents.names,
+            members: contents.members,
+        },
     })
 }

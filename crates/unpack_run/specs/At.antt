@@ -15,6 +15,7 @@ use Rattle.file_lists.specs.Writing.{IsListReady, list_file}
 use Rattle.file_lists.specs.declared.paths.PackageList.{PackageList}
 use Rattle.file_steps.specs.Unpacked.{IsRearranged}
 use Rattle.file_works.specs.declared.work.Work.{Work}
+use Rattle.held_administration.specs.declared.administration.Administration.{Administration}
 use Rattle.status_db.specs.Held.{CanOpenRecords, HasRecords, IsKept}
 use Rattle.status_db.specs.Recorded.{Recorded}
 use Rattle.status_db.specs.Records.{record_in}
@@ -37,6 +38,10 @@ pub record Holding : Type 0 where
 
 abbrev pub holding : Recorded → Filed → List Path → List Work → Holding
 holding database lists places works = record { database = database; lists = lists.lists; lists_closed = lists.closed; places = places; works = works }
+
+-- the same of an administration that is held
+abbrev pub holding_by : Administration → List Work → Holding
+holding_by a works = holding a.database a.lists a.places works
 
 -- how far rows of this number can be
 abbrev pub IsWithin : ℕ → Place → Type 0

@@ -13,6 +13,7 @@ use Rattle.file_check.specs.Ready.{IsFitting}
 use Rattle.file_works.specs.Files.{Each}
 use Rattle.file_works.specs.Names.{IsNamed}
 use Rattle.file_works.specs.declared.work.Work.{Work}
+use Rattle.held_administration.specs.declared.administration.Administration.{Administration}
 use Rattle.status_db.specs.Recorded.{Recorded}
 use Rattle.status_db.specs.Records.{AreStanding}
 use Rattle.status_db.specs.declared.record.Record.{Record}
@@ -62,6 +63,10 @@ task_of start database lists entries places works plan = record {
   listed = plan.listed;
   union = plan.union;
 }
+
+-- the same with what is held of an administration
+abbrev pub task_by : State → Administration → List Diversion → List Work → Rows → Task
+task_by start a entries works plan = task_of start a.database a.lists entries a.places works plan
 
 -- a host in which this stands
 abbrev pub state_on : State → World → State

@@ -2,9 +2,9 @@
 ghost use Rattle.std.specs.Prelude.{◌≡◌, ◌∷◌, []};
 ghost use Rattle.unpack_rows.specs.ForwardRows.{Fits};
 ghost use Rattle.unpack_rows.specs.Kinds.{kinds_of};
-ghost use Rattle.unpack_run.specs.At.{At, IsFileFault, Stops, holding};
+ghost use Rattle.unpack_run.specs.At.{At, IsFileFault, Stops, holding_by};
 ghost use Rattle.unpack_run.specs.Stays.{holds_at, stays_at};
-ghost use Rattle.unpack_run.specs.Task.{Task, kinds, name, task_of};
+ghost use Rattle.unpack_run.specs.Task.{Task, kinds, name, task_by};
 
 use crate::clearing::clear_left;
 use crate::files::{restore_row, write_row};
@@ -12,11 +12,9 @@ use crate::notes::write_note;
 use crate::plan::Rows;
 use cleanup_stack::{Around, Failed};
 use diversions::Diversions;
-use file_lists::FileLists;
 use file_works::Work;
+use held_administration::Administration;
 use host_core::{Host, HostFault, Places};
-use status_db::NotedDatabase;
-use std::alloc::Global;
 use std::snapshot::Snapshot;
 use unpack_rows::{is_spared, note_before, note_undone};
 use unwind_stack::{Fall, Row, StepFault};
@@ -25,56 +23,63 @@ use unwind_stack::{Fall, Row, StepFault};
 #[derive(Drop)]
 pub(crate) struct Start<H: Host> {
     pub(crate) host: Snapshot<H>,
-    pub(crate) database: Snapshot<NotedDatabase>,
-    pub(crate) lists: Snapshot<FileLists>,
-    pub(crate) places: Snapshot<Places>,
+    pub(crate) administration: Snapshot<Administration>,
     pub(crate) works: Snapshot<Vec<Work>>,
 }
 
 /// An unpack while its rows run: what they change, and what stays the same.
 #[derive(Drop)]
 pub(crate) struct Unpacking<'a, 's, H: Host> {
-    pub(crate) alloc: Global,
-    pub(crate) database: &'a mut NotedDatabase,
-    pub(crate) lists: &'a mut FileLists,
-    pub(crate) places: &'a mut Places,
+    pub(crate) administration: &'a mut Administration,
     pub(crate) works: &'a mut Vec<Work>,
     pub(crate) diversions: &'a Diversions,
-    pub(crate) plan: &'a Rows,
+    pub(crate) rows: &'a Rows,
     pub(crate) start: &'s Start<H>,
-    pub(crate) ghost kinds_are: { plan.now.kinds.items ≡ kinds_of plan.now.found plan.now.others.items },
+    pub(crate) ghost kinds_are: { rows.now.kinds.items ≡ kinds_of rows.now.found rows.now.others.items },
 }
 
 impl<'a, 's, H: Host> Around<H> for Unpacking<'a, 's, H> {
     ghost Task = { Task };
 
-    ghost task = { λ a. task_of (H.state a.start.now.host.value) a.start.now.database.value a.start.now.lists.value a.diversions.now.entries a.start.now.places.value a.start.now.works.value.items a.plan.now };
+    ghost task = { λ a. task_by (H.state a.start.now.host.value) a.start.now.administration.value
+        a.diversions.now.entries a.start.now.works.value.items a.rows.now };
 
-    ghost reference = { λ a. a.database.ghost_name ∷ a.lists.ghost_name ∷ a.places.ghost_name ∷ a.works.ghost_name ∷ [] };
+    ghost reference = { λ a. a.administration.ghost_name ∷ a.works.ghost_name ∷ [] };
 
     ghost fits = { λ t. Fits (name t) (kinds t) };
 
-    ghost kept = { λ a. a.places.now };
+    ghost kept = { λ a. a.administration.now.places };
 
     ghost file_step_fault = { IsFileFault };
 
     ghost stops = { Stops };
 
-    ghost at = { λ a s p. At (task_of (H.state a.start.now.host.value) a.start.now.database.value a.start.now.lists.value a.diversions.now.entries a.start.now.places.value a.start.now.works.value.items a.plan.now) (holding a.database.now a.lists.now a.places.now a.works.now.items) s p };
+    ghost at = { λ a s p. At (task_by (H.state a.start.now.host.value)
+        a.start.now.administration.value a.diversions.now.entries
+        a.start.now.works.value.items a.rows.now)
+        (holding_by a.administration.now a.works.now.items) s p };
 
-    ghost stays = { λ a s u p ts. stays_at (task_of (H.state a.start.now.host.value) a.start.now.database.value a.start.now.lists.value a.diversions.now.entries a.start.now.places.value a.start.now.works.value.items a.plan.now) (holding a.database.now a.lists.now a.places.now a.works.now.items) s u p ts };
+    ghost stays = { λ a s u p ts. stays_at (task_by (H.state a.start.now.host.value)
+        a.start.now.administration.value a.diversions.now.entries
+        a.start.now.works.value.items a.rows.now)
+        (holding_by a.administration.now a.works.now.items) s u p ts };
 
-    ghost holds = { λ a s p more v. holds_at (task_of (H.state a.start.now.host.value) a.start.now.database.value a.start.now.lists.value a.diversions.now.entries a.start.now.places.value a.start.now.works.value.items a.plan.now) (holding a.database.now a.lists.now a.places.now a.works.now.items) s p more v };
+    ghost holds = { λ a s p more v. holds_at (task_by (H.state a.start.now.host.value)
+        a.start.now.administration.value a.diversions.now.entries
+        a.start.now.works.value.items a.rows.now)
+        (holding_by a.administration.now a.works.now.items) s p more v };
 
     fn places(&self) -> &Places {
-        self.places
+        &self.administration.places
     }
 
     fn prepare(&mut self, host: &mut H, _row: &Row, index: usize) -> Result<(), HostFault> {
-        let kind = self.plan.kind(index);
-        clear_left(self.alloc, host, self.plan, kind)?;
-        let entry = note_before(self.plan.found.as_ref(), &self.plan.incoming, kind)?;
-        write_note(self.alloc, host, self.database, entry)
+        let alloc = self.administration.alloc;
+        let kind = self.rows.kind(index);
+        clear_left(alloc, host, self.rows, kind)?;
+        let entry = note_before(self.rows.found.as_ref(), &self.rows.incoming, kind)?;
+        let administration = &mut *self.administration;
+        write_note(alloc, host, &mut administration.database, entry)
     }
 
     fn conclude(
@@ -108,9 +113,15 @@ impl<'a, 's, H: Host> Around<H> for Unpacking<'a, 's, H> {
         if is_spared(fails, index, &row.owner, failed) {
             return Ok(());
         }
-        let kind = self.plan.kind(index);
-        let entry = note_undone(self.plan.found.as_ref(), &self.plan.incoming, kind)?;
-        write_note(self.alloc, host, self.database, entry)
+        let kind = self.rows.kind(index);
+        let entry = note_undone(self.rows.found.as_ref(), &self.rows.incoming, kind)?;
+        let administration = &mut *self.administration;
+        write_note(
+            administration.alloc,
+            host,
+            &mut administration.database,
+            entry,
+        )
     }
 
     // A file row that failed has written nothing.

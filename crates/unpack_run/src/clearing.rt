@@ -32,10 +32,10 @@ fn clear_name<H: Host>(alloc: Global, host: &mut H, name: &Text) -> Result<(), H
 }
 
 // Whether it goes before the call of a row of this kind.
-fn clears_before(plan: &Rows, kind: &RowKind) -> bool
-    ensures { result ≡ clears_before plan.now.found kind.now }
+fn clears_before(rows: &Rows, kind: &RowKind) -> bool
+    ensures { result ≡ clears_before rows.now.found kind.now }
 {
-    match (&plan.found, kind) {
+    match (&rows.found, kind) {
         (None, RowKind::Preinst) => true,
         _ => false,
     }
@@ -45,23 +45,23 @@ fn clears_before(plan: &Rows, kind: &RowKind) -> bool
 pub(crate) fn clear_left<H: Host>(
     alloc: Global,
     host: &mut H,
-    plan: &Rows,
+    rows: &Rows,
     kind: &RowKind,
 ) -> Result<(), HostFault>
-    requires named { is_package_name (own_name plan.now.found plan.now.incoming) ≡ true }
-    requires members { clears_before plan.now.found kind.now ≡ true
-        → Needs (H.state host.old) (IsMembersReady (own_name plan.now.found plan.now.incoming)) }
+    requires named { is_package_name (own_name rows.now.found rows.now.incoming) ≡ true }
+    requires members { clears_before rows.now.found kind.now ≡ true
+        → Needs (H.state host.old) (IsMembersReady (own_name rows.now.found rows.now.incoming)) }
     requires list { Needs (H.state host.old)
-        (IsListReady (own_name plan.now.found plan.now.incoming)) }
-    ensures cleared { Leaves result (HasCleared (clears_before plan.now.found kind.now)
-        (own_name plan.now.found plan.now.incoming)) (H.state host.old) (H.state host.new) }
-    ensures any_moment { AtEachMoment (MayClear false (clears_before plan.now.found kind.now)
-        (own_name plan.now.found plan.now.incoming)) (H.state host.old) (H.state host.new) }
+        (IsListReady (own_name rows.now.found rows.now.incoming)) }
+    ensures cleared { Leaves result (HasCleared (clears_before rows.now.found kind.now)
+        (own_name rows.now.found rows.now.incoming)) (H.state host.old) (H.state host.new) }
+    ensures any_moment { AtEachMoment (MayClear false (clears_before rows.now.found kind.now)
+        (own_name rows.now.found rows.now.incoming)) (H.state host.old) (H.state host.new) }
     ensures silent { Silent (H.state host.old) (H.state host.new) }
     ensures counts { Counts (H.state host.old) (H.state host.new) result }
 {
-    if clears_before(plan, kind) {
-        return clear_name(alloc, host, plan.name());
+    if clears_before(rows, kind) {
+        return clear_name(alloc, host, rows.name());
     }
     Ok(())
 }

@@ -56,7 +56,7 @@ fn check_works<H: Host>(
     host: &mut H,
     lists: &FileLists,
     diversions: &Diversions,
-    plan: &Rows,
+    rows: &Rows,
     works: &mut Vec<Work>,
 ) -> Result<Option<StepFault>, HostFault>
     requires named { Each IsNamed works.old.items }
@@ -71,10 +71,10 @@ fn check_works<H: Host>(
     ensures distinct { IfOk result
         (λ found. IfNone found (IsDistinct is_one_place works.new.items)) }
     ensures judged { Tells result (λ found w. MatchOption found
-        (AllSound (owning diversions.now.entries lists.now.lists plan.now.yields
-        (own_name plan.now.found plan.now.incoming)) works.old.items w)
-        (IsFirstFault (owning diversions.now.entries lists.now.lists plan.now.yields
-        (own_name plan.now.found plan.now.incoming)) works.old.items w)) (H.state host.old)
+        (AllSound (owning diversions.now.entries lists.now.lists rows.now.yields
+        (own_name rows.now.found rows.now.incoming)) works.old.items w)
+        (IsFirstFault (owning diversions.now.entries lists.now.lists rows.now.yields
+        (own_name rows.now.found rows.now.incoming)) works.old.items w)) (H.state host.old)
         (H.state host.new) }
     ensures reads { Reads (H.state host.old) (H.state host.new) }
     ensures silent { Silent (H.state host.old) (H.state host.new) }
@@ -85,8 +85,8 @@ fn check_works<H: Host>(
         host,
         lists,
         diversions,
-        plan.yields.as_slice(),
-        plan.name(),
+        rows.yields.as_slice(),
+        rows.name(),
         works.as_mut_slice(),
     )
 }
@@ -132,14 +132,14 @@ fn write_checked<H: Host>(
     host: &mut H,
     lists: &mut FileLists,
     places: &mut Places,
-    plan: &Rows,
+    rows: &Rows,
     works: &mut Vec<Work>,
 ) -> Result<(), HostFault>
     requires opened { lists.old.closed ≡ false }
-    requires name { is_package_name (own_name plan.now.found plan.now.incoming) ≡ true }
-    requires paths { AreListPaths plan.now.union }
+    requires name { is_package_name (own_name rows.now.found rows.now.incoming) ≡ true }
+    requires paths { AreListPaths rows.now.union }
     requires ready { Needs (H.state host.old)
-        (IsListReady (own_name plan.now.found plan.now.incoming)) }
+        (IsListReady (own_name rows.now.found rows.now.incoming)) }
     requires named { Each IsNamed works.old.items }
     requires distinct { IsDistinct is_one_place works.old.items }
     requires free { Needs (H.state host.old) (λ w. Each (IsFreeIn w) works.old.items) }
@@ -148,22 +148,22 @@ fn write_checked<H: Host>(
     ensures works { IsPermutation works.old.items works.new.items }
     ensures order { OnOk result (AllInOrder works.new.items) }
     ensures lists { OnOk result (lists.new ≡ record lists.old {
-      lists = with_list (own_name plan.now.found plan.now.incoming) plan.now.union
+      lists = with_list (own_name rows.now.found rows.now.incoming) rows.now.union
           lists.old.lists;
     }) }
     ensures places { OnOk result (places.new ≡ places.old ++ places_of works.old.items) }
     ensures listed { Leaves result (HasListed
-        (list_path (own_name plan.now.found plan.now.incoming)) (list_file plan.now.union)
+        (list_path (own_name rows.now.found rows.now.incoming)) (list_file rows.now.union)
         works.new.items) (H.state host.old) (H.state host.new) }
     ensures any_moment { AtEachMoment (MayList
-        (list_path (own_name plan.now.found plan.now.incoming)) (list_file plan.now.union)
+        (list_path (own_name rows.now.found rows.now.incoming)) (list_file rows.now.union)
         works.new.items) (H.state host.old) (H.state host.new) }
     ensures silent { Silent (H.state host.old) (H.state host.new) }
     ensures counts { Counts (H.state host.old) (H.state host.new) result }
 {
     push_places(places, works.as_slice())?;
-    let union = copy_of(alloc, &plan.union)?;
-    write_ordered(alloc, host, lists, plan.name(), union, works)
+    let union = copy_of(alloc, &rows.union)?;
+    write_ordered(alloc, host, lists, rows.name(), union, works)
 }
 
 /// Checks a package's paths and writes its list and then its files, or answers the first step fault and
@@ -174,46 +174,46 @@ pub(crate) fn check_and_write<H: Host>(
     lists: &mut FileLists,
     places: &mut Places,
     diversions: &Diversions,
-    plan: &Rows,
+    rows: &Rows,
     works: &mut Vec<Work>,
 ) -> Result<Option<StepFault>, HostFault>
     requires opened { lists.old.closed ≡ false }
-    requires name { is_package_name (own_name plan.now.found plan.now.incoming) ≡ true }
-    requires paths { AreListPaths plan.now.union }
+    requires name { is_package_name (own_name rows.now.found rows.now.incoming) ≡ true }
+    requires paths { AreListPaths rows.now.union }
     requires ready { Needs (H.state host.old)
-        (IsListReady (own_name plan.now.found plan.now.incoming)) }
+        (IsListReady (own_name rows.now.found rows.now.incoming)) }
     requires named { Each IsNamed works.old.items }
     requires fitting { Each IsFitting works.old.items }
     ensures judged { Tells result (λ found w. MatchOption found
-        (AllSound (owning diversions.now.entries lists.old.lists plan.now.yields
-        (own_name plan.now.found plan.now.incoming)) works.old.items w)
-        (IsFirstFault (owning diversions.now.entries lists.old.lists plan.now.yields
-        (own_name plan.now.found plan.now.incoming)) works.old.items w)) (H.state host.old)
+        (AllSound (owning diversions.now.entries lists.old.lists rows.now.yields
+        (own_name rows.now.found rows.now.incoming)) works.old.items w)
+        (IsFirstFault (owning diversions.now.entries lists.old.lists rows.now.yields
+        (own_name rows.now.found rows.now.incoming)) works.old.items w)) (H.state host.old)
         (H.state host.new) }
     ensures written { Gives result (λ found old new. MatchOption found
-        (HasWrittenRow (list_path (own_name plan.now.found plan.now.incoming))
-        (list_file plan.now.union) works.new.items old new) (λ fault. new ≡ old)) (H.state host.old)
+        (HasWrittenRow (list_path (own_name rows.now.found rows.now.incoming))
+        (list_file rows.now.union) works.new.items old new) (λ fault. new ≡ old)) (H.state host.old)
         (H.state host.new) }
     ensures works { IsRearranged works.old.items works.new.items }
     ensures named { Each IsNamed works.new.items }
     ensures order { IfOk result (λ found. IfNone found (AllInOrder works.new.items)) }
     ensures lists { IfOk result (λ found. MatchOption found (lists.new ≡ record lists.old {
-      lists = with_list (own_name plan.now.found plan.now.incoming) plan.now.union
+      lists = with_list (own_name rows.now.found rows.now.incoming) rows.now.union
           lists.old.lists;
     }) (λ fault. lists.new ≡ lists.old)) }
     ensures places { IfOk result (λ found. MatchOption found (places.new ≡ places.old ++ places_of
         works.old.items) (λ fault. places.new ≡ places.old)) }
     ensures any_moment { AtEachMoment (MayWriteRow
-        (list_path (own_name plan.now.found plan.now.incoming)) (list_file plan.now.union)
+        (list_path (own_name rows.now.found rows.now.incoming)) (list_file rows.now.union)
         works.old.items) (H.state host.old) (H.state host.new) }
     ensures silent { Silent (H.state host.old) (H.state host.new) }
     ensures counts { Counts (H.state host.old) (H.state host.new) result }
 {
-    let found = check_works(alloc, host, lists, diversions, plan, works)?;
+    let found = check_works(alloc, host, lists, diversions, rows, works)?;
     if let Some(fault) = found {
         return Ok(Some(fault));
     }
-    write_checked(alloc, host, lists, places, plan, works)?;
+    write_checked(alloc, host, lists, places, rows, works)?;
     Ok(None)
 }
 
@@ -224,34 +224,34 @@ pub(crate) fn put_back<H: Host>(
     host: &mut H,
     lists: &mut FileLists,
     places: &mut Places,
-    plan: &Rows,
+    rows: &Rows,
     works: &[Work],
 ) -> Result<(), HostFault>
     requires opened { lists.old.closed ≡ false }
-    requires name { is_package_name (own_name plan.now.found plan.now.incoming) ≡ true }
-    requires paths { AreListPaths plan.now.listed }
+    requires name { is_package_name (own_name rows.now.found rows.now.incoming) ≡ true }
+    requires paths { AreListPaths rows.now.listed }
     requires ready { Needs (H.state host.old)
-        (IsListReady (own_name plan.now.found plan.now.incoming)) }
+        (IsListReady (own_name rows.now.found rows.now.incoming)) }
     requires named { Each IsNamed works.now }
     requires order { AllInOrder works.now }
     requires written { Needs (H.state host.old) (CanGoBack works.now) }
     requires grown { length works.now ≤ length places.old }
     ensures lists { OnOk result (lists.new ≡ record lists.old {
-      lists = with_list (own_name plan.now.found plan.now.incoming) plan.now.listed
+      lists = with_list (own_name rows.now.found rows.now.incoming) rows.now.listed
           lists.old.lists;
     }) }
     ensures places { OnOk result (places.new ≡ places_before places.old works.now) }
     ensures unlisted { Leaves result (HasUnlisted
-        (list_path (own_name plan.now.found plan.now.incoming)) (list_file plan.now.listed)
+        (list_path (own_name rows.now.found rows.now.incoming)) (list_file rows.now.listed)
         works.now) (H.state host.old) (H.state host.new) }
     ensures any_moment { AtEachMoment (MayUnlist
-        (list_path (own_name plan.now.found plan.now.incoming)) (list_file plan.now.listed)
+        (list_path (own_name rows.now.found rows.now.incoming)) (list_file rows.now.listed)
         works.now) (H.state host.old) (H.state host.new) }
     ensures silent { Silent (H.state host.old) (H.state host.new) }
     ensures counts { Counts (H.state host.old) (H.state host.new) result }
 {
-    let listed = copy_of(alloc, &plan.listed)?;
+    let listed = copy_of(alloc, &rows.listed)?;
     let before = places.items.len() - works.len();
     places.items.truncate(before);
-    put_back_listed(alloc, host, lists, plan.name(), listed, works)
+    put_back_listed(alloc, host, lists, rows.name(), listed, works)
 }

@@ -4,8 +4,8 @@ ghost use Rattle.host_core.specs.Host.{Counts, Silent, calls};
 ghost use Rattle.cleanup_stack.specs.Place.{Back, Forward, worked};
 ghost use Rattle.cleanup_stack.specs.Stops.{AtEachStop};
 ghost use Rattle.cleanup_stack.specs.Transcripts.{IfHonest};
-ghost use Rattle.unpack_run.specs.At.{At, IsFileFault, Stops, holding};
-ghost use Rattle.unpack_run.specs.Task.{IsFileRow, kinds, task_of};
+ghost use Rattle.unpack_run.specs.At.{At, IsFileFault, Stops, holding_by};
+ghost use Rattle.unpack_run.specs.Task.{IsFileRow, kinds, task_by};
 
 use crate::around::Unpacking;
 use crate::file_moves::{check_and_write, put_back};
@@ -19,57 +19,50 @@ pub(crate) fn write_row<H: Host>(
     host: &mut H,
     index: usize,
 ) -> Result<Option<StepFault>, HostFault>
-    requires place { At (task_of (H.state unpacking.old.start.now.host.value)
-        unpacking.old.start.now.database.value unpacking.old.start.now.lists.value
-        unpacking.old.diversions.now.entries unpacking.old.start.now.places.value
-        unpacking.old.start.now.works.value.items unpacking.old.plan.now)
-        (holding unpacking.old.database.now unpacking.old.lists.now unpacking.old.places.now
-        unpacking.old.works.now.items) (H.state host.old) (Forward index) }
-    requires row { IsFileRow (kinds (task_of (H.state unpacking.old.start.now.host.value)
-        unpacking.old.start.now.database.value unpacking.old.start.now.lists.value
-        unpacking.old.diversions.now.entries unpacking.old.start.now.places.value
-        unpacking.old.start.now.works.value.items unpacking.old.plan.now)) index }
+    requires place { At (task_by (H.state unpacking.old.start.now.host.value)
+        unpacking.old.start.now.administration.value unpacking.old.diversions.now.entries
+        unpacking.old.start.now.works.value.items unpacking.old.rows.now)
+        (holding_by unpacking.old.administration.now unpacking.old.works.now.items)
+        (H.state host.old) (Forward index) }
+    requires row { IsFileRow (kinds (task_by (H.state unpacking.old.start.now.host.value)
+        unpacking.old.start.now.administration.value unpacking.old.diversions.now.entries
+        unpacking.old.start.now.works.value.items unpacking.old.rows.now)) index }
     ensures fault { IfOk result (IfHonest (H.state host.new)
-        (IsFileFault (task_of (H.state unpacking.old.start.now.host.value)
-        unpacking.old.start.now.database.value unpacking.old.start.now.lists.value
-        unpacking.old.diversions.now.entries unpacking.old.start.now.places.value
-        unpacking.old.start.now.works.value.items unpacking.old.plan.now))
+        (IsFileFault (task_by (H.state unpacking.old.start.now.host.value)
+        unpacking.old.start.now.administration.value unpacking.old.diversions.now.entries
+        unpacking.old.start.now.works.value.items unpacking.old.rows.now))
         (calls (H.state host.old))) }
-    ensures place { IfOk result (λ fault. At (task_of (H.state unpacking.old.start.now.host.value)
-        unpacking.old.start.now.database.value unpacking.old.start.now.lists.value
-        unpacking.old.diversions.now.entries unpacking.old.start.now.places.value
-        unpacking.old.start.now.works.value.items unpacking.old.plan.now)
-        (holding unpacking.new.database.now unpacking.new.lists.now unpacking.new.places.now
-        unpacking.new.works.now.items) (H.state host.new) (worked index fault)) }
-    ensures any_moment { AtEachStop (Stops (task_of (H.state unpacking.old.start.now.host.value)
-        unpacking.old.start.now.database.value unpacking.old.start.now.lists.value
-        unpacking.old.diversions.now.entries unpacking.old.start.now.places.value
-        unpacking.old.start.now.works.value.items unpacking.old.plan.now)) (H.state host.old)
+    ensures place { IfOk result (λ fault. At (task_by (H.state unpacking.old.start.now.host.value)
+        unpacking.old.start.now.administration.value unpacking.old.diversions.now.entries
+        unpacking.old.start.now.works.value.items unpacking.old.rows.now)
+        (holding_by unpacking.new.administration.now unpacking.new.works.now.items)
+        (H.state host.new) (worked index fault)) }
+    ensures any_moment { AtEachStop (Stops (task_by (H.state unpacking.old.start.now.host.value)
+        unpacking.old.start.now.administration.value unpacking.old.diversions.now.entries
+        unpacking.old.start.now.works.value.items unpacking.old.rows.now)) (H.state host.old)
         (H.state host.new) }
-    ensures task { task_of (H.state unpacking.new.start.now.host.value)
-        unpacking.new.start.now.database.value unpacking.new.start.now.lists.value
-        unpacking.new.diversions.now.entries unpacking.new.start.now.places.value
-        unpacking.new.start.now.works.value.items unpacking.new.plan.now ≡ task_of
-        (H.state unpacking.old.start.now.host.value) unpacking.old.start.now.database.value
-        unpacking.old.start.now.lists.value unpacking.old.diversions.now.entries
-        unpacking.old.start.now.places.value unpacking.old.start.now.works.value.items
-        unpacking.old.plan.now }
-    ensures database_stay { unpacking.new.database.ghost_name ≡ unpacking.old.database.ghost_name }
-    ensures lists_stay { unpacking.new.lists.ghost_name ≡ unpacking.old.lists.ghost_name }
-    ensures places_stay { unpacking.new.places.ghost_name ≡ unpacking.old.places.ghost_name }
+    ensures task { task_by (H.state unpacking.new.start.now.host.value)
+        unpacking.new.start.now.administration.value unpacking.new.diversions.now.entries
+        unpacking.new.start.now.works.value.items unpacking.new.rows.now
+        ≡ task_by (H.state unpacking.old.start.now.host.value)
+        unpacking.old.start.now.administration.value unpacking.old.diversions.now.entries
+        unpacking.old.start.now.works.value.items unpacking.old.rows.now }
+    ensures administration_stay { unpacking.new.administration.ghost_name
+        ≡ unpacking.old.administration.ghost_name }
     ensures works_stay { unpacking.new.works.ghost_name ≡ unpacking.old.works.ghost_name }
     ensures silent { Silent (H.state host.old) (H.state host.new) }
     ensures counts { Counts (H.state host.old) (H.state host.new) result }
 {
     // It stands in the clauses alone.
     let _ = index;
+    let administration = &mut *unpacking.administration;
     check_and_write(
-        unpacking.alloc,
+        administration.alloc,
         host,
-        unpacking.lists,
-        unpacking.places,
+        &mut administration.lists,
+        &mut administration.places,
         unpacking.diversions,
-        unpacking.plan,
+        unpacking.rows,
         unpacking.works,
     )
 }
@@ -82,39 +75,32 @@ pub(crate) fn restore_row<H: Host>(
     fall: &Fall,
     failed: &[Failed],
 ) -> Result<(), HostFault>
-    requires place { At (task_of (H.state unpacking.old.start.now.host.value)
-        unpacking.old.start.now.database.value unpacking.old.start.now.lists.value
-        unpacking.old.diversions.now.entries unpacking.old.start.now.places.value
-        unpacking.old.start.now.works.value.items unpacking.old.plan.now)
-        (holding unpacking.old.database.now unpacking.old.lists.now unpacking.old.places.now
-        unpacking.old.works.now.items) (H.state host.old) (Back (index + 1) fall.now failed.now) }
-    requires row { IsFileRow (kinds (task_of (H.state unpacking.old.start.now.host.value)
-        unpacking.old.start.now.database.value unpacking.old.start.now.lists.value
-        unpacking.old.diversions.now.entries unpacking.old.start.now.places.value
-        unpacking.old.start.now.works.value.items unpacking.old.plan.now)) index }
+    requires place { At (task_by (H.state unpacking.old.start.now.host.value)
+        unpacking.old.start.now.administration.value unpacking.old.diversions.now.entries
+        unpacking.old.start.now.works.value.items unpacking.old.rows.now)
+        (holding_by unpacking.old.administration.now unpacking.old.works.now.items)
+        (H.state host.old) (Back (index + 1) fall.now failed.now) }
+    requires row { IsFileRow (kinds (task_by (H.state unpacking.old.start.now.host.value)
+        unpacking.old.start.now.administration.value unpacking.old.diversions.now.entries
+        unpacking.old.start.now.works.value.items unpacking.old.rows.now)) index }
     requires wrote { index < fall.now.row }
-    ensures place { OnOk result (At (task_of (H.state unpacking.old.start.now.host.value)
-        unpacking.old.start.now.database.value unpacking.old.start.now.lists.value
-        unpacking.old.diversions.now.entries unpacking.old.start.now.places.value
-        unpacking.old.start.now.works.value.items unpacking.old.plan.now)
-        (holding unpacking.new.database.now unpacking.new.lists.now unpacking.new.places.now
-        unpacking.new.works.now.items) (H.state host.new) (Back index fall.now failed.now)) }
-    ensures any_moment { AtEachStop (Stops (task_of (H.state unpacking.old.start.now.host.value)
-        unpacking.old.start.now.database.value unpacking.old.start.now.lists.value
-        unpacking.old.diversions.now.entries unpacking.old.start.now.places.value
-        unpacking.old.start.now.works.value.items unpacking.old.plan.now)) (H.state host.old)
+    ensures place { OnOk result (At (task_by (H.state unpacking.old.start.now.host.value)
+        unpacking.old.start.now.administration.value unpacking.old.diversions.now.entries
+        unpacking.old.start.now.works.value.items unpacking.old.rows.now)
+        (holding_by unpacking.new.administration.now unpacking.new.works.now.items)
+        (H.state host.new) (Back index fall.now failed.now)) }
+    ensures any_moment { AtEachStop (Stops (task_by (H.state unpacking.old.start.now.host.value)
+        unpacking.old.start.now.administration.value unpacking.old.diversions.now.entries
+        unpacking.old.start.now.works.value.items unpacking.old.rows.now)) (H.state host.old)
         (H.state host.new) }
-    ensures task { task_of (H.state unpacking.new.start.now.host.value)
-        unpacking.new.start.now.database.value unpacking.new.start.now.lists.value
-        unpacking.new.diversions.now.entries unpacking.new.start.now.places.value
-        unpacking.new.start.now.works.value.items unpacking.new.plan.now ≡ task_of
-        (H.state unpacking.old.start.now.host.value) unpacking.old.start.now.database.value
-        unpacking.old.start.now.lists.value unpacking.old.diversions.now.entries
-        unpacking.old.start.now.places.value unpacking.old.start.now.works.value.items
-        unpacking.old.plan.now }
-    ensures database_stay { unpacking.new.database.ghost_name ≡ unpacking.old.database.ghost_name }
-    ensures lists_stay { unpacking.new.lists.ghost_name ≡ unpacking.old.lists.ghost_name }
-    ensures places_stay { unpacking.new.places.ghost_name ≡ unpacking.old.places.ghost_name }
+    ensures task { task_by (H.state unpacking.new.start.now.host.value)
+        unpacking.new.start.now.administration.value unpacking.new.diversions.now.entries
+        unpacking.new.start.now.works.value.items unpacking.new.rows.now
+        ≡ task_by (H.state unpacking.old.start.now.host.value)
+        unpacking.old.start.now.administration.value unpacking.old.diversions.now.entries
+        unpacking.old.start.now.works.value.items unpacking.old.rows.now }
+    ensures administration_stay { unpacking.new.administration.ghost_name
+        ≡ unpacking.old.administration.ghost_name }
     ensures works_stay { unpacking.new.works.ghost_name ≡ unpacking.old.works.ghost_name }
     ensures silent { Silent (H.state host.old) (H.state host.new) }
     ensures counts { Counts (H.state host.old) (H.state host.new) result }
@@ -123,12 +109,13 @@ pub(crate) fn restore_row<H: Host>(
     let _ = index;
     let _ = fall;
     let _ = failed;
+    let administration = &mut *unpacking.administration;
     put_back(
-        unpacking.alloc,
+        administration.alloc,
         host,
-        unpacking.lists,
-        unpacking.places,
-        unpacking.plan,
+        &mut administration.lists,
+        &mut administration.places,
+        unpacking.rows,
         unpacking.works.as_slice(),
     )
 }

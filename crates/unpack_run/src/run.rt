@@ -1,140 +1,124 @@
 // The rows of an unpack, with all that is done beside their calls.
-ghost use Rattle.std.specs.Prelude.{◌≡◌, IfOk, false, length};
+ghost use Rattle.std.specs.Prelude.{◌≡◌, IfOk, length};
 ghost use Rattle.host_core.specs.Host.{Counts, Needs};
+ghost use Rattle.held_administration.specs.Open.{CanWrite};
 ghost use Rattle.cleanup_stack.specs.Place.{Fit, Forward};
 ghost use Rattle.cleanup_stack.specs.Stops.{AtEachStop};
 ghost use Rattle.cleanup_stack.specs.Telling.{Begun, HasRun};
 ghost use Rattle.cleanup_stack.specs.Transcripts.{MayRun};
 ghost use Rattle.stack_run.specs.Ended.{IsCauseOf, end_place, ended_as};
 ghost use Rattle.unpack_rows.specs.ForwardRows.{Fits};
-ghost use Rattle.unpack_run.specs.At.{At, IsBegun, IsFileFault, Stops, holding};
-ghost use Rattle.unpack_run.specs.Task.{IsSound, kinds, name, task_of};
+ghost use Rattle.unpack_run.specs.At.{At, IsBegun, IsFileFault, Stops, holding_by};
+ghost use Rattle.unpack_run.specs.Task.{IsSound, kinds, name, task_by};
 
 use crate::around::{Start, Unpacking};
 use crate::plan::Rows;
 use diversions::Diversions;
-use file_lists::FileLists;
 use file_works::Work;
-use host_core::{Host, HostFault, Places};
+use held_administration::Administration;
+use host_core::{Host, HostFault};
 use stack_run::{Unwinding, run_rows};
-use status_db::NotedDatabase;
-use std::alloc::Global;
 use std::snapshot::Snapshot;
 use unwind_stack::{Called, Row};
 
 // The same of an unpack that is there. Its caller learns here that what it lent is still the same.
 fn run_all<H: Host>(
-    alloc: Global,
     host: &mut H,
     unpacking: &mut Unpacking<'_, '_, H>,
-    rows: Vec<Row>,
+    calls: Vec<Row>,
     told: &mut Vec<Called>,
 ) -> Result<Option<Unwinding>, HostFault>
-    requires place { At (task_of (H.state unpacking.old.start.now.host.value)
-        unpacking.old.start.now.database.value unpacking.old.start.now.lists.value
-        unpacking.old.diversions.now.entries unpacking.old.start.now.places.value
-        unpacking.old.start.now.works.value.items unpacking.old.plan.now)
-        (holding unpacking.old.database.now unpacking.old.lists.now unpacking.old.places.now
-        unpacking.old.works.now.items) (H.state host.old) (Forward 0) }
-    requires rows { Fit (Fits (name (task_of (H.state unpacking.old.start.now.host.value)
-        unpacking.old.start.now.database.value unpacking.old.start.now.lists.value
-        unpacking.old.diversions.now.entries unpacking.old.start.now.places.value
-        unpacking.old.start.now.works.value.items unpacking.old.plan.now))
-        (kinds (task_of (H.state unpacking.old.start.now.host.value)
-        unpacking.old.start.now.database.value unpacking.old.start.now.lists.value
-        unpacking.old.diversions.now.entries unpacking.old.start.now.places.value
-        unpacking.old.start.now.works.value.items unpacking.old.plan.now))) rows.items }
+    requires place { At (task_by (H.state unpacking.old.start.now.host.value)
+        unpacking.old.start.now.administration.value unpacking.old.diversions.now.entries
+        unpacking.old.start.now.works.value.items unpacking.old.rows.now)
+        (holding_by unpacking.old.administration.now unpacking.old.works.now.items)
+        (H.state host.old) (Forward 0) }
+    requires rows { Fit (Fits (name (task_by (H.state unpacking.old.start.now.host.value)
+        unpacking.old.start.now.administration.value unpacking.old.diversions.now.entries
+        unpacking.old.start.now.works.value.items unpacking.old.rows.now))
+        (kinds (task_by (H.state unpacking.old.start.now.host.value)
+        unpacking.old.start.now.administration.value unpacking.old.diversions.now.entries
+        unpacking.old.start.now.works.value.items unpacking.old.rows.now))) calls.items }
     ensures calls { IfOk result
-        (λ u. HasRun (IsFileFault (task_of (H.state unpacking.old.start.now.host.value)
-        unpacking.old.start.now.database.value unpacking.old.start.now.lists.value
-        unpacking.old.diversions.now.entries unpacking.old.start.now.places.value
-        unpacking.old.start.now.works.value.items unpacking.old.plan.now)) (ended_as u) rows.items
+        (λ u. HasRun (IsFileFault (task_by (H.state unpacking.old.start.now.host.value)
+        unpacking.old.start.now.administration.value unpacking.old.diversions.now.entries
+        unpacking.old.start.now.works.value.items unpacking.old.rows.now)) (ended_as u) calls.items
         (H.state host.old) (H.state host.new) told.old.items told.new.items) }
-    ensures cause { IfOk result (IsCauseOf rows.items) }
-    ensures told { Begun (MayRun rows.items) (H.state host.old) (H.state host.new) told.old.items
+    ensures cause { IfOk result (IsCauseOf calls.items) }
+    ensures told { Begun (MayRun calls.items) (H.state host.old) (H.state host.new) told.old.items
         told.new.items }
-    ensures there { IfOk result (λ u. At (task_of (H.state unpacking.old.start.now.host.value)
-        unpacking.old.start.now.database.value unpacking.old.start.now.lists.value
-        unpacking.old.diversions.now.entries unpacking.old.start.now.places.value
-        unpacking.old.start.now.works.value.items unpacking.old.plan.now)
-        (holding unpacking.new.database.now unpacking.new.lists.now unpacking.new.places.now
-        unpacking.new.works.now.items) (H.state host.new) (end_place (length rows.items) u)) }
-    ensures any_moment { AtEachStop (Stops (task_of (H.state unpacking.old.start.now.host.value)
-        unpacking.old.start.now.database.value unpacking.old.start.now.lists.value
-        unpacking.old.diversions.now.entries unpacking.old.start.now.places.value
-        unpacking.old.start.now.works.value.items unpacking.old.plan.now)) (H.state host.old)
+    ensures there { IfOk result (λ u. At (task_by (H.state unpacking.old.start.now.host.value)
+        unpacking.old.start.now.administration.value unpacking.old.diversions.now.entries
+        unpacking.old.start.now.works.value.items unpacking.old.rows.now)
+        (holding_by unpacking.new.administration.now unpacking.new.works.now.items)
+        (H.state host.new) (end_place (length calls.items) u)) }
+    ensures any_moment { AtEachStop (Stops (task_by (H.state unpacking.old.start.now.host.value)
+        unpacking.old.start.now.administration.value unpacking.old.diversions.now.entries
+        unpacking.old.start.now.works.value.items unpacking.old.rows.now)) (H.state host.old)
         (H.state host.new) }
-    ensures database_stay { unpacking.new.database.ghost_name ≡ unpacking.old.database.ghost_name }
-    ensures lists_stay { unpacking.new.lists.ghost_name ≡ unpacking.old.lists.ghost_name }
-    ensures places_stay { unpacking.new.places.ghost_name ≡ unpacking.old.places.ghost_name }
+    ensures administration_stay { unpacking.new.administration.ghost_name
+        ≡ unpacking.old.administration.ghost_name }
     ensures works_stay { unpacking.new.works.ghost_name ≡ unpacking.old.works.ghost_name }
     ensures counts { Counts (H.state host.old) (H.state host.new) result }
 {
-    run_rows(alloc, host, unpacking, rows, told)
+    let alloc = unpacking.administration.alloc;
+    run_rows(alloc, host, unpacking, calls, told)
 }
 
-/// Runs the rows of an unpack with their notes, the list and the files. Where one fails, it and those
-/// before it are undone; the answer is how, or none where all succeeded. `works` are the shipped paths in
-/// path order, `places` what scripts leave alone: while the files are written, the shipped places too.
+/// Runs the rows of an unpack with their notes, the list and the files. Where one fails, it and
+/// those before it are undone; the answer is how, or none where all succeeded. `works` are the
+/// shipped paths in path order, and the places of the administration what scripts leave alone:
+/// while the files are written, the shipped places too.
 pub fn run_unpack_rows<'a, H: Host>(
-    alloc: Global,
     host: &mut H,
-    database: &'a mut NotedDatabase,
-    lists: &'a mut FileLists,
-    places: &'a mut Places,
+    administration: &'a mut Administration,
     diversions: &'a Diversions,
-    plan: &'a Rows,
+    rows: &'a Rows,
     works: &'a mut Vec<Work>,
-    rows: Vec<Row>,
+    calls: Vec<Row>,
     told: &mut Vec<Called>,
 ) -> Result<Option<Unwinding>, HostFault>
-    requires sound { IsSound (task_of (H.state host.old) database.old lists.old
-        diversions.now.entries places.old works.old.items plan.now) }
-    requires open { database.old.closed ≡ false }
-    requires lists_open { lists.old.closed ≡ false }
-    requires kinds { plan.now.kinds.items ≡ kinds (task_of (H.state host.old) database.old lists.old
-        diversions.now.entries places.old works.old.items plan.now) }
-    requires rows { Fit (Fits (name (task_of (H.state host.old) database.old lists.old
-        diversions.now.entries places.old works.old.items plan.now))
-        (kinds (task_of (H.state host.old) database.old lists.old diversions.now.entries places.old
-        works.old.items plan.now))) rows.items }
-    requires length { length rows.items
-        ≡ length (kinds (task_of (H.state host.old) database.old lists.old diversions.now.entries
-        places.old works.old.items plan.now)) }
+    requires sound { IsSound (task_by (H.state host.old) administration.old diversions.now.entries
+        works.old.items rows.now) }
+    requires open { CanWrite administration.old }
+    requires kinds { rows.now.kinds.items ≡ kinds (task_by (H.state host.old) administration.old
+        diversions.now.entries works.old.items rows.now) }
+    requires rows { Fit (Fits (name (task_by (H.state host.old) administration.old
+        diversions.now.entries works.old.items rows.now))
+        (kinds (task_by (H.state host.old) administration.old diversions.now.entries
+        works.old.items rows.now))) calls.items }
+    requires length { length calls.items
+        ≡ length (kinds (task_by (H.state host.old) administration.old diversions.now.entries
+        works.old.items rows.now)) }
     requires begun { Needs (H.state host.old)
-        (IsBegun (task_of (H.state host.old) database.old lists.old diversions.now.entries
-        places.old works.old.items plan.now) database.old) }
+        (IsBegun (task_by (H.state host.old) administration.old diversions.now.entries
+        works.old.items rows.now) administration.old.database) }
     ensures calls { IfOk result
-        (λ u. HasRun (IsFileFault (task_of (H.state host.old) database.old lists.old
-        diversions.now.entries places.old works.old.items plan.now)) (ended_as u) rows.items
+        (λ u. HasRun (IsFileFault (task_by (H.state host.old) administration.old
+        diversions.now.entries works.old.items rows.now)) (ended_as u) calls.items
         (H.state host.old) (H.state host.new) told.old.items told.new.items) }
-    ensures cause { IfOk result (IsCauseOf rows.items) }
-    ensures told { Begun (MayRun rows.items) (H.state host.old) (H.state host.new) told.old.items
+    ensures cause { IfOk result (IsCauseOf calls.items) }
+    ensures told { Begun (MayRun calls.items) (H.state host.old) (H.state host.new) told.old.items
         told.new.items }
-    ensures there { IfOk result (λ u. At (task_of (H.state host.old) database.old lists.old
-        diversions.now.entries places.old works.old.items plan.now) (holding database.new lists.new
-        places.new works.new.items) (H.state host.new) (end_place (length rows.items) u)) }
-    ensures any_moment { AtEachStop (Stops (task_of (H.state host.old) database.old lists.old
-        diversions.now.entries places.old works.old.items plan.now)) (H.state host.old)
-        (H.state host.new) }
+    ensures there { IfOk result (λ u. At (task_by (H.state host.old) administration.old
+        diversions.now.entries works.old.items rows.now)
+        (holding_by administration.new works.new.items) (H.state host.new)
+        (end_place (length calls.items) u)) }
+    ensures any_moment { AtEachStop (Stops (task_by (H.state host.old) administration.old
+        diversions.now.entries works.old.items rows.now)) (H.state host.old) (H.state host.new) }
     ensures counts { Counts (H.state host.old) (H.state host.new) result }
 {
     let start = Start {
         host: Snapshot::of(host),
-        database: Snapshot::of(database),
-        lists: Snapshot::of(lists),
-        places: Snapshot::of(places),
+        administration: Snapshot::of(administration),
         works: Snapshot::of(works),
     };
     let mut unpacking = Unpacking {
-        alloc,
-        database,
-        lists,
-        places,
+        administration,
         works,
         diversions,
-        plan,
+        rows,
         start: &start,
     };
-    run_all(alloc, host, &mut unpacking, rows, told)
+    run_all(host, &mut unpacking, calls, told)
 }

@@ -7,7 +7,7 @@ pub returns-in-Divert : goal.returns-in-Divert
 returns-in-Divert g c =
     let session = c.args.session.now in
     let done = c.divert.ensures in
-    subst (λ (asked : Change). HasChanged asked c.divert.result session.database.records session.lists.lists session.diversions.entries (g.H.Host.state session.host) (g.H.Host.state c.divert.new.self.host)) (sym c.in-Divert.is) record {
+    subst (λ (asked : Change). HasChanged asked c.divert.result session.administration.database.records session.administration.lists.lists session.diversions.entries (g.H.Host.state session.host) (g.H.Host.state c.divert.new.self.host)) (sym c.in-Divert.is) record {
       whole = λ none. (c.divert.new.self.diversions.entries, done.whole c.requires none);
       broken = done.broken;
       counts = done.counts c.requires;
@@ -20,7 +20,7 @@ pub returns-in-Undivert : goal.returns-in-Undivert
 returns-in-Undivert g c =
     let session = c.args.session.now in
     let done = c.undivert.ensures in
-    subst (λ (asked : Change). HasChanged asked c.undivert.result session.database.records session.lists.lists session.diversions.entries (g.H.Host.state session.host) (g.H.Host.state c.undivert.new.self.host)) (sym c.in-Undivert.is) record {
+    subst (λ (asked : Change). HasChanged asked c.undivert.result session.administration.database.records session.administration.lists.lists session.diversions.entries (g.H.Host.state session.host) (g.H.Host.state c.undivert.new.self.host)) (sym c.in-Undivert.is) record {
       whole = λ none. (c.undivert.new.self.diversions.entries, done.whole c.requires none);
       broken = done.broken;
       counts = done.counts c.requires;

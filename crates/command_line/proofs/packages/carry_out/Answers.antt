@@ -2,20 +2,20 @@ use Rattle.std.proofs.Common.{ℕ, List, Option, sym, subst, ◌∙◌}
 use Rattle.command_line.specs.Packages.{HasWorked}
 use Rattle.command_line.specs.declared.packages.Work.{Work}
 use Rattle.command_line.specs.declared.packages.Work.TheVariants as work
-use Rattle.unit_reports.specs.Held.{held}
+use Rattle.unit_reports.specs.Held.{held_by}
 use Rattle.command_line.proofs.packages.carry_out.Goals as goal
 
 pub returns-in_ok-names-in-Configure-clause-done : goal.returns-in_ok-names-in-Configure-clause-done
 returns-in_ok-names-in-Configure-clause-done g c =
     let session = c.args.session.now in
-    let before = held session.database session.lists session.diversions in
+    let before = held_by session.administration session.diversions in
     let begun = g.H.Host.state session.host in
     let end = g.H.Host.state c.configure.new.self.host in
     let done = c.configure.ensures in
     subst (λ (asked : Work). HasWorked asked c.configure.result before begun end) (sym c.in-Configure.is)
     (subst (λ (names : Option (List (List ℕ))). HasWorked (work.Configure names c.in-Configure.policy) c.configure.result before begun end) (c.in_ok-names-in-Configure.ensures) record {
       part = done.part c.requires;
-      whole = λ none. record { after = held c.configure.new.self.database c.configure.new.self.lists c.configure.new.self.diversions; run = done.whole c.requires none };
+      whole = λ none. record { after = held_by c.configure.new.self.administration c.configure.new.self.diversions; run = done.whole c.requires none };
       counts = done.counts c.requires;
       told = done.told;
       any_moment = done.any_moment c.requires;
@@ -24,14 +24,14 @@ returns-in_ok-names-in-Configure-clause-done g c =
 pub returns-in_ok-names-in-Remove-clause-done : goal.returns-in_ok-names-in-Remove-clause-done
 returns-in_ok-names-in-Remove-clause-done g c =
     let session = c.args.session.now in
-    let before = held session.database session.lists session.diversions in
+    let before = held_by session.administration session.diversions in
     let begun = g.H.Host.state session.host in
     let end = g.H.Host.state c.remove.new.self.host in
     let done = c.remove.ensures in
     subst (λ (asked : Work). HasWorked asked c.remove.result before begun end) (sym c.in-Remove.is)
     (subst (λ (names : List (List ℕ)). HasWorked (work.Remove names) c.remove.result before begun end) (c.in_ok-names-in-Remove.ensures ∙ c.as_slice.ensures) record {
       part = done.part c.requires;
-      whole = λ none. record { after = held c.remove.new.self.database c.remove.new.self.lists c.remove.new.self.diversions; run = done.whole c.requires none };
+      whole = λ none. record { after = held_by c.remove.new.self.administration c.remove.new.self.diversions; run = done.whole c.requires none };
       counts = done.counts c.requires;
       told = done.told;
       any_moment = done.any_moment c.requires;
@@ -40,14 +40,14 @@ returns-in_ok-names-in-Remove-clause-done g c =
 pub returns-in_ok-names-in-Purge-clause-done : goal.returns-in_ok-names-in-Purge-clause-done
 returns-in_ok-names-in-Purge-clause-done g c =
     let session = c.args.session.now in
-    let before = held session.database session.lists session.diversions in
+    let before = held_by session.administration session.diversions in
     let begun = g.H.Host.state session.host in
     let end = g.H.Host.state c.purge.new.self.host in
     let done = c.purge.ensures in
     subst (λ (asked : Work). HasWorked asked c.purge.result before begun end) (sym c.in-Purge.is)
     (subst (λ (names : List (List ℕ)). HasWorked (work.Purge names) c.purge.result before begun end) (c.in_ok-names-in-Purge.ensures ∙ c.as_slice-in-Purge.ensures) record {
       part = done.part c.requires;
-      whole = λ none. record { after = held c.purge.new.self.database c.purge.new.self.lists c.purge.new.self.diversions; run = done.whole c.requires none };
+      whole = λ none. record { after = held_by c.purge.new.self.administration c.purge.new.self.diversions; run = done.whole c.requires none };
       counts = done.counts c.requires;
       told = done.told;
       any_moment = done.any_moment c.requires;

@@ -1,6 +1,6 @@
 use Rattle.std.proofs.Common.{◌≡◌, ◌<◌, arith, subst, sym}
 use Rattle.command_line.specs.Roots.{Around, around, held_anew}
-use Rattle.unit_reports.specs.Held.{Held, held}
+use Rattle.unit_reports.specs.Held.{Held, held_by}
 use Rattle.command_line.specs.Unpacks.{HasRunTrees}
 use Rattle.command_line.proofs.Trees.{opened_anew, run_within}
 use Rattle.command_line.proofs.unpacking.unpack_on.Goals as goal
@@ -15,12 +15,12 @@ returns-in_ok-done-in-Ok-clause-done g c =
     let session = c.in-Ok.session in
     let begun = g.S.Opened.Host.state session.host in
     let done = c.in_ok-done-in-Ok.field-0 in
-    let before = held session.database session.lists session.diversions in
-    let anew = held_anew session.database.records session.lists.lists session.diversions.entries in
-    let same : before ≡ anew = opened_anew session.database session.lists session.diversions c.in-Ok.ensures.number (session.noting c.in-Ok.ensures.closed) in
+    let before = held_by session.administration session.diversions in
+    let anew = held_anew session.administration.database.records session.administration.lists.lists session.diversions.entries in
+    let same : before ≡ anew = opened_anew session.administration.database session.administration.lists session.diversions c.in-Ok.ensures.number (session.opened c.in-Ok.ensures.closed).noting in
     record {
-      table = session.database.records;
-      lists = session.lists.lists;
+      table = session.administration.database.records;
+      lists = session.administration.lists.lists;
       entries = session.diversions.entries;
       state = begun;
       opened = record {

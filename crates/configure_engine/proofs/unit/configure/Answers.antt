@@ -4,7 +4,7 @@ use Rattle.host_core.specs.World.{World}
 use Rattle.status_db.specs.Records.{record_in}
 use Rattle.texts.specs.PackageNames.{is_package_name}
 use Rattle.unit_stages.specs.Fitting.{AreStagesSettleable}
-use Rattle.unit_stages.specs.Holding.{holding}
+use Rattle.unit_stages.specs.Holding.{holding_of}
 use Rattle.unit_stages.specs.Runs.{HaveRun}
 use Rattle.configure_engine.specs.Stages.{AreConfigureStages}
 use Rattle.configure_engine.specs.Units.{HasConfigured, HasEnded, IsPlanFor, IsPlanOf, given}
@@ -19,15 +19,15 @@ plan-requires g c = record { named = named c.unwrap-entry.result.now }
 pub run_stages-requires-clause-named : goal.run_stages-requires-clause-named
 run_stages-requires-clause-named g c =
     let r = c.unwrap-entry.result.now in
-    let found : record_in c.args.database.now.records c.args.name.now ≡ Some r = sym c.get.ensures ∙ ap option_copied c.unwrap-entry.ensures in
-    subst (λ (n : Path). is_package_name n ≡ true) (is_named c.args.database.now.records c.args.name.now r found) (named r)
+    let found : record_in c.args.administration.now.database.records c.args.name.now ≡ Some r = sym c.get.ensures ∙ ap option_copied c.unwrap-entry.ensures in
+    subst (λ (n : Path). is_package_name n ≡ true) (is_named c.args.administration.now.database.records c.args.name.now r found) (named r)
 
 pub run_stages-requires-clause-fit : goal.run_stages-requires-clause-fit
 run_stages-requires-clause-fit g c =
     let r = c.unwrap-entry.result.now in
     let name = c.args.name.now in
-    let rs = c.args.database.now.records in
-    let ls = c.args.lists.now.lists in
+    let rs = c.args.administration.now.database.records in
+    let ls = c.args.administration.now.lists.lists in
     let found : record_in rs name ≡ Some r = sym c.get.ensures ∙ ap option_copied c.unwrap-entry.ensures in
     let plan = c.in-Ok.ensures.planned in
     stages_fit r name (is_named rs name r found) plan.decisions plan.paths plan.stored c.in-Ok.stages.items rs ls found c.law.ensures c.settling_order.ensures
@@ -37,7 +37,7 @@ pub run_stages-requires-clause-settleable : goal.run_stages-requires-clause-sett
 run_stages-requires-clause-settleable g c = λ h.
     let r = c.unwrap-entry.result.now in
     let name = c.args.name.now in
-    let rs = c.args.database.now.records in
+    let rs = c.args.administration.now.database.records in
     let found : record_in rs name ≡ Some r = sym c.get.ensures ∙ ap option_copied c.unwrap-entry.ensures in
     let plan = c.in-Ok.ensures.planned in
     let old = g.H.Host.state c.args.host.now in
@@ -49,14 +49,14 @@ returns-in-Ok-clause-unit g c =
     let r = c.unwrap-entry.result.now in
     let name = c.args.name.now in
     let entries = c.args.diversions.now.entries in
-    let before = holding c.args.database.now c.args.lists.now in
-    let after = holding c.run_stages.new.database c.run_stages.new.lists in
+    let before = holding_of c.args.administration.now in
+    let after = holding_of c.run_stages.new.administration in
     let G = given name c.args.policy entries before in
     let old = g.H.Host.state c.args.host.now in
     let mid = g.H.Host.state c.plan.new.host in
     let new = g.H.Host.state c.run_stages.new.host in
     let stages = c.in-Ok.stages.items in
-    let found : record_in c.args.database.now.records name ≡ Some r = sym c.get.ensures ∙ ap option_copied c.unwrap-entry.ensures in
+    let found : record_in c.args.administration.now.database.records name ≡ Some r = sym c.get.ensures ∙ ap option_copied c.unwrap-entry.ensures in
     let plan : IsPlanOf G old.world mid.honest stages = record { entry = r; found = found; plan = subst (λ (l : List Path). IsPlanFor r c.args.policy l old.world mid.honest stages) c.list_of.ensures c.in-Ok.ensures.planned } in
     if_ok_one c.run_stages.result (λ failed. HaveRun name entries stages failed before after mid new c.args.told.now.items c.run_stages.new.told.items) (λ failed. HasConfigured G failed after old new c.args.told.now.items c.run_stages.new.told.items)
     (λ failed run. configured_by old mid c.plan.ensures.reads c.plan.ensures.silent G stages plan new c.run_stages.ensures.any_moment.honest c.args.told.now.items c.run_stages.new.told.items failed after run) c.run_stages.ensures.ran
@@ -66,15 +66,15 @@ returns-in-Ok-clause-end g c =
     let r = c.unwrap-entry.result.now in
     let name = c.args.name.now in
     let entries = c.args.diversions.now.entries in
-    let before = holding c.args.database.now c.args.lists.now in
-    let after = holding c.run_stages.new.database c.run_stages.new.lists in
+    let before = holding_of c.args.administration.now in
+    let after = holding_of c.run_stages.new.administration in
     let mid = g.H.Host.state c.plan.new.host in
     let new = g.H.Host.state c.run_stages.new.host in
     let stages = c.in-Ok.stages.items in
-    let found : record_in c.args.database.now.records name ≡ Some r = sym c.get.ensures ∙ ap option_copied c.unwrap-entry.ensures in
+    let found : record_in c.args.administration.now.database.records name ≡ Some r = sym c.get.ensures ∙ ap option_copied c.unwrap-entry.ensures in
     let plan = c.in-Ok.ensures.planned in
-    if_ok_one c.run_stages.result (λ failed. HaveRun name entries stages failed before after mid new c.args.told.now.items c.run_stages.new.told.items) (λ failed. HasEnded name failed c.args.database.now.records c.run_stages.new.database.records)
-    (λ failed run. has_ended r name (is_named c.args.database.now.records name r found) plan.decisions plan.paths plan.stored stages c.list_of.result.now plan.stages_are before found entries failed after mid new c.args.told.now.items c.run_stages.new.told.items run)
+    if_ok_one c.run_stages.result (λ failed. HaveRun name entries stages failed before after mid new c.args.told.now.items c.run_stages.new.told.items) (λ failed. HasEnded name failed c.args.administration.now.database.records c.run_stages.new.administration.database.records)
+    (λ failed run. has_ended r name (is_named c.args.administration.now.database.records name r found) plan.decisions plan.paths plan.stored stages c.list_of.result.now plan.stages_are before found entries failed after mid new c.args.told.now.items c.run_stages.new.told.items run)
     c.run_stages.ensures.ran
 
 pub returns-in-Ok-clause-told : goal.returns-in-Ok-clause-told
@@ -82,13 +82,13 @@ returns-in-Ok-clause-told g c =
     let r = c.unwrap-entry.result.now in
     let name = c.args.name.now in
     let entries = c.args.diversions.now.entries in
-    let before = holding c.args.database.now c.args.lists.now in
+    let before = holding_of c.args.administration.now in
     let G = given name c.args.policy entries before in
     let old = g.H.Host.state c.args.host.now in
     let mid = g.H.Host.state c.plan.new.host in
     let new = g.H.Host.state c.run_stages.new.host in
     let stages = c.in-Ok.stages.items in
-    let found : record_in c.args.database.now.records name ≡ Some r = sym c.get.ensures ∙ ap option_copied c.unwrap-entry.ensures in
+    let found : record_in c.args.administration.now.database.records name ≡ Some r = sym c.get.ensures ∙ ap option_copied c.unwrap-entry.ensures in
     let plan : IsPlanOf G old.world mid.honest stages = record { entry = r; found = found; plan = subst (λ (l : List Path). IsPlanFor r c.args.policy l old.world mid.honest stages) c.list_of.ensures c.in-Ok.ensures.planned } in
     called_by old mid c.plan.ensures.reads c.plan.ensures.silent G stages plan new c.run_stages.ensures.any_moment.honest c.args.told.now.items c.run_stages.new.told.items c.run_stages.ensures.told
 
@@ -97,16 +97,16 @@ returns-in-Ok-clause-any_moment g c =
     let r = c.unwrap-entry.result.now in
     let name = c.args.name.now in
     let entries = c.args.diversions.now.entries in
-    let before = holding c.args.database.now c.args.lists.now in
+    let before = holding_of c.args.administration.now in
     let G = given name c.args.policy entries before in
     let old = g.H.Host.state c.args.host.now in
     let mid = g.H.Host.state c.plan.new.host in
     let new = g.H.Host.state c.run_stages.new.host in
     let stages = c.in-Ok.stages.items in
-    let found : record_in c.args.database.now.records name ≡ Some r = sym c.get.ensures ∙ ap option_copied c.unwrap-entry.ensures in
+    let found : record_in c.args.administration.now.database.records name ≡ Some r = sym c.get.ensures ∙ ap option_copied c.unwrap-entry.ensures in
     let plan : IsPlanOf G old.world mid.honest stages = record { entry = r; found = found; plan = subst (λ (l : List Path). IsPlanFor r c.args.policy l old.world mid.honest stages) c.list_of.ensures c.in-Ok.ensures.planned } in
     unit_moments old mid c.plan.ensures.reads c.plan.ensures.silent G stages plan new c.run_stages.ensures.any_moment.honest c.in-Ok.ensures.counts c.run_stages.ensures.any_moment
 
 pub returns-in-Err-clause-any_moment : goal.returns-in-Err-clause-any_moment
 returns-in-Err-clause-any_moment g c =
-    only_looked (g.H.Host.state c.args.host.now) (g.H.Host.state c.plan.new.host) c.plan.ensures.reads c.plan.ensures.silent (given c.args.name.now c.args.policy c.args.diversions.now.entries (holding c.args.database.now c.args.lists.now))
+    only_looked (g.H.Host.state c.args.host.now) (g.H.Host.state c.plan.new.host) c.plan.ensures.reads c.plan.ensures.silent (given c.args.name.now c.args.policy c.args.diversions.now.entries (holding_of c.args.administration.now))

@@ -1,7 +1,7 @@
 use Rattle.std.proofs.Common.{◌++◌, [], Bool, List, ap, inr, refl, subst, sym, ◌∙◌}
 use Rattle.std.specs.Prelude.{IsTrue}
 use Rattle.dependency_sets.specs.Sets.{has}
-use Rattle.unit_reports.specs.Held.{held}
+use Rattle.unit_reports.specs.Held.{held_by}
 use Rattle.unit_reports.specs.Units.{calls_of}
 use Rattle.unit_reports.specs.declared.report.Reply.TheVariants.{Broken}
 use Rattle.unwind_stack.proofs.Makes.{tells_then}
@@ -18,7 +18,7 @@ use Rattle.configure_run.proofs.Units.{no_calls}
 use Rattle.configure_run.proofs.run.run_all.Goals as goal
 
 pub run_and_renew-requires-clause-order : goal.run_and_renew-requires-clause-order
-run_and_renew-requires-clause-order g c = order_read (held c.args.database.now c.args.lists.now c.args.diversions.now) (g.H.Host.state c.args.host.now) (g.H.Host.state c.begun.new.host) c.begun.ensures.reads c.requires.order
+run_and_renew-requires-clause-order g c = order_read (held_by c.args.administration.now c.args.diversions.now) (g.H.Host.state c.args.host.now) (g.H.Host.state c.begun.new.host) c.begun.ensures.reads c.requires.order
 
 pub returns-in-Ok-run_and_renew-clause-ok : goal.returns-in-Ok-run_and_renew-clause-ok
 returns-in-Ok-run_and_renew-clause-ok g c = record { first = c.refuse_first.new.units.items; refused = c.in-Ok.ensures.ok; silent = (has c.as_slice.result.now); start = c.in-Ok-begun.turns; looked = (g.H.Host.state c.begun.new.host); begins = (record { begun = c.in-Ok-begun.ensures.begun; looks = c.begun.ensures.reads; quiet = c.begun.ensures.silent; seen = subst (λ (l : List Bool). IsTrue (g.H.Host.state c.begun.new.host).honest → AreSilent (g.H.Host.state c.args.host.now).world c.in-Ok-begun.turns (has l)) (sym c.as_slice.ensures.value) c.in-Ok-begun.ensures.seen }); turns = c.in-Ok-run_and_renew.ensures.ok }
@@ -27,10 +27,10 @@ pub returns-in-Ok-run_and_renew-clause-answered : goal.returns-in-Ok-run_and_ren
 returns-in-Ok-run_and_renew-clause-answered g c = answered_then (g.H.Host.state c.args.host.now) (g.H.Host.state c.begun.new.host) (g.H.Host.state c.run_and_renew.new.host) (inr c.begun.ensures.reads) c.in-Ok-run_and_renew.ensures.answered
 
 pub returns-in-Ok-run_and_renew-clause-told : goal.returns-in-Ok-run_and_renew-clause-told
-returns-in-Ok-run_and_renew-clause-told g c = tells_then (g.H.Host.state c.args.host.now) (g.H.Host.state c.begun.new.host) (g.H.Host.state c.run_and_renew.new.host) [] (calls_of c.refuse_first.new.units.items) (calls_of c.run_and_renew.new.units.items) (tells_silent (g.H.Host.state c.args.host.now) (g.H.Host.state c.begun.new.host) [] (calls_of c.refuse_first.new.units.items) c.begun.ensures.silent (refused_calls (early_refusals c.args.database.now.records (each_once c.args.names.now)) c.refuse_first.new.units.items c.in-Ok.ensures.ok)) c.in-Ok-run_and_renew.ensures.told
+returns-in-Ok-run_and_renew-clause-told g c = tells_then (g.H.Host.state c.args.host.now) (g.H.Host.state c.begun.new.host) (g.H.Host.state c.run_and_renew.new.host) [] (calls_of c.refuse_first.new.units.items) (calls_of c.run_and_renew.new.units.items) (tells_silent (g.H.Host.state c.args.host.now) (g.H.Host.state c.begun.new.host) [] (calls_of c.refuse_first.new.units.items) c.begun.ensures.silent (refused_calls (early_refusals c.args.administration.now.database.records (each_once c.args.names.now)) c.refuse_first.new.units.items c.in-Ok.ensures.ok)) c.in-Ok-run_and_renew.ensures.told
 
 pub returns-in-Ok-run_and_renew-clause-any_moment : goal.returns-in-Ok-run_and_renew-clause-any_moment
-returns-in-Ok-run_and_renew-clause-any_moment g c = since_run c.args.names.now c.args.policy (held c.args.database.now c.args.lists.now c.args.diversions.now) (has c.as_slice.result.now) c.in-Ok-begun.turns (g.H.Host.state c.args.host.now) (g.H.Host.state c.begun.new.host) (g.H.Host.state c.run_and_renew.new.host) (record { begun = c.in-Ok-begun.ensures.begun; looks = c.begun.ensures.reads; quiet = c.begun.ensures.silent; seen = subst (λ (l : List Bool). IsTrue (g.H.Host.state c.begun.new.host).honest → AreSilent (g.H.Host.state c.args.host.now).world c.in-Ok-begun.turns (has l)) (sym c.as_slice.ensures.value) c.in-Ok-begun.ensures.seen }) c.run_and_renew.ensures.any_moment
+returns-in-Ok-run_and_renew-clause-any_moment g c = since_run c.args.names.now c.args.policy (held_by c.args.administration.now c.args.diversions.now) (has c.as_slice.result.now) c.in-Ok-begun.turns (g.H.Host.state c.args.host.now) (g.H.Host.state c.begun.new.host) (g.H.Host.state c.run_and_renew.new.host) (record { begun = c.in-Ok-begun.ensures.begun; looks = c.begun.ensures.reads; quiet = c.begun.ensures.silent; seen = subst (λ (l : List Bool). IsTrue (g.H.Host.state c.begun.new.host).honest → AreSilent (g.H.Host.state c.args.host.now).world c.in-Ok-begun.turns (has l)) (sym c.as_slice.ensures.value) c.in-Ok-begun.ensures.seen }) c.run_and_renew.ensures.any_moment
 
 pub returns-in-Ok-run_and_renew-clause-no_fault : goal.returns-in-Ok-run_and_renew-clause-no_fault
 returns-in-Ok-run_and_renew-clause-no_fault g c = c.in-Ok-run_and_renew.ensures.no_fault ∙ c.in-Ok-begun.ensures.counts
@@ -39,22 +39,22 @@ pub returns-in-Ok-begun-clause-err : goal.returns-in-Ok-begun-clause-err
 returns-in-Ok-begun-clause-err g c = HasRun.turning c.refuse_first.new.units.items c.in-Ok.ensures.ok (has c.as_slice.result.now) c.in-Ok-begun.turns (g.H.Host.state c.begun.new.host) (record { begun = c.in-Ok-begun.ensures.begun; looks = c.begun.ensures.reads; quiet = c.begun.ensures.silent; seen = subst (λ (l : List Bool). IsTrue (g.H.Host.state c.begun.new.host).honest → AreSilent (g.H.Host.state c.args.host.now).world c.in-Ok-begun.turns (has l)) (sym c.as_slice.ensures.value) c.in-Ok-begun.ensures.seen }) c.in-Err-run_and_renew.ensures.err
 
 pub returns-in-Ok-begun-clause-told_broken : goal.returns-in-Ok-begun-clause-told_broken
-returns-in-Ok-begun-clause-told_broken g c = tells_then (g.H.Host.state c.args.host.now) (g.H.Host.state c.begun.new.host) (g.H.Host.state c.run_and_renew.new.host) [] (calls_of c.refuse_first.new.units.items) (calls_of c.run_and_renew.new.units.items ++ c.in-Err-run_and_renew.unit.calls.items) (tells_silent (g.H.Host.state c.args.host.now) (g.H.Host.state c.begun.new.host) [] (calls_of c.refuse_first.new.units.items) c.begun.ensures.silent (refused_calls (early_refusals c.args.database.now.records (each_once c.args.names.now)) c.refuse_first.new.units.items c.in-Ok.ensures.ok)) c.in-Err-run_and_renew.ensures.told_broken
+returns-in-Ok-begun-clause-told_broken g c = tells_then (g.H.Host.state c.args.host.now) (g.H.Host.state c.begun.new.host) (g.H.Host.state c.run_and_renew.new.host) [] (calls_of c.refuse_first.new.units.items) (calls_of c.run_and_renew.new.units.items ++ c.in-Err-run_and_renew.unit.calls.items) (tells_silent (g.H.Host.state c.args.host.now) (g.H.Host.state c.begun.new.host) [] (calls_of c.refuse_first.new.units.items) c.begun.ensures.silent (refused_calls (early_refusals c.args.administration.now.database.records (each_once c.args.names.now)) c.refuse_first.new.units.items c.in-Ok.ensures.ok)) c.in-Err-run_and_renew.ensures.told_broken
 
 pub returns-in-Ok-begun-clause-any_moment : goal.returns-in-Ok-begun-clause-any_moment
-returns-in-Ok-begun-clause-any_moment g c = since_run c.args.names.now c.args.policy (held c.args.database.now c.args.lists.now c.args.diversions.now) (has c.as_slice.result.now) c.in-Ok-begun.turns (g.H.Host.state c.args.host.now) (g.H.Host.state c.begun.new.host) (g.H.Host.state c.run_and_renew.new.host) (record { begun = c.in-Ok-begun.ensures.begun; looks = c.begun.ensures.reads; quiet = c.begun.ensures.silent; seen = subst (λ (l : List Bool). IsTrue (g.H.Host.state c.begun.new.host).honest → AreSilent (g.H.Host.state c.args.host.now).world c.in-Ok-begun.turns (has l)) (sym c.as_slice.ensures.value) c.in-Ok-begun.ensures.seen }) c.run_and_renew.ensures.any_moment
+returns-in-Ok-begun-clause-any_moment g c = since_run c.args.names.now c.args.policy (held_by c.args.administration.now c.args.diversions.now) (has c.as_slice.result.now) c.in-Ok-begun.turns (g.H.Host.state c.args.host.now) (g.H.Host.state c.begun.new.host) (g.H.Host.state c.run_and_renew.new.host) (record { begun = c.in-Ok-begun.ensures.begun; looks = c.begun.ensures.reads; quiet = c.begun.ensures.silent; seen = subst (λ (l : List Bool). IsTrue (g.H.Host.state c.begun.new.host).honest → AreSilent (g.H.Host.state c.args.host.now).world c.in-Ok-begun.turns (has l)) (sym c.as_slice.ensures.value) c.in-Ok-begun.ensures.seen }) c.run_and_renew.ensures.any_moment
 
 pub returns-in-Ok-begun-clause-counts : goal.returns-in-Ok-begun-clause-counts
 returns-in-Ok-begun-clause-counts g c = counts_from c.in-Err-run_and_renew.unit.reply (g.H.Host.state c.args.host.now) (g.H.Host.state c.begun.new.host) (g.H.Host.state c.run_and_renew.new.host) c.in-Ok-begun.ensures.counts c.in-Err-run_and_renew.ensures.counts
 
 pub returns-in-Ok-clause-err : goal.returns-in-Ok-clause-err
-returns-in-Ok-clause-err g c = HasRun.refusing (all_refused (early_refusals c.args.database.now.records (each_once c.args.names.now)) c.refuse_first.new.units.items c.in-Ok.ensures.ok) c.begun.ensures.reads (record { broken = broken_by _ c.broken.result.reply c.broken.ensures.reply; untouched = c.broken.ensures.touched; none = record { silent = c.begun.ensures.silent; told = (c.broken.ensures.told ∙ c.new.ensures.items) } })
+returns-in-Ok-clause-err g c = HasRun.refusing (all_refused (early_refusals c.args.administration.now.database.records (each_once c.args.names.now)) c.refuse_first.new.units.items c.in-Ok.ensures.ok) c.begun.ensures.reads (record { broken = broken_by _ c.broken.result.reply c.broken.ensures.reply; untouched = c.broken.ensures.touched; none = record { silent = c.begun.ensures.silent; told = (c.broken.ensures.told ∙ c.new.ensures.items) } })
 
 pub returns-in-Ok-clause-told_broken : goal.returns-in-Ok-clause-told_broken
-returns-in-Ok-clause-told_broken g c = tells_no_more (g.H.Host.state c.args.host.now) (g.H.Host.state c.begun.new.host) [] (calls_of c.refuse_first.new.units.items) c.broken.result.calls.items (tells_silent (g.H.Host.state c.args.host.now) (g.H.Host.state c.begun.new.host) [] (calls_of c.refuse_first.new.units.items) c.begun.ensures.silent (refused_calls (early_refusals c.args.database.now.records (each_once c.args.names.now)) c.refuse_first.new.units.items c.in-Ok.ensures.ok)) (c.broken.ensures.told ∙ c.new.ensures.items)
+returns-in-Ok-clause-told_broken g c = tells_no_more (g.H.Host.state c.args.host.now) (g.H.Host.state c.begun.new.host) [] (calls_of c.refuse_first.new.units.items) c.broken.result.calls.items (tells_silent (g.H.Host.state c.args.host.now) (g.H.Host.state c.begun.new.host) [] (calls_of c.refuse_first.new.units.items) c.begun.ensures.silent (refused_calls (early_refusals c.args.administration.now.database.records (each_once c.args.names.now)) c.refuse_first.new.units.items c.in-Ok.ensures.ok)) (c.broken.ensures.told ∙ c.new.ensures.items)
 
 pub returns-in-Ok-clause-any_moment : goal.returns-in-Ok-clause-any_moment
-returns-in-Ok-clause-any_moment g c = since_run_reads c.args.names.now c.args.policy (held c.args.database.now c.args.lists.now c.args.diversions.now) (g.H.Host.state c.args.host.now) (g.H.Host.state c.begun.new.host) c.begun.ensures.reads
+returns-in-Ok-clause-any_moment g c = since_run_reads c.args.names.now c.args.policy (held_by c.args.administration.now c.args.diversions.now) (g.H.Host.state c.args.host.now) (g.H.Host.state c.begun.new.host) c.begun.ensures.reads
 
 pub returns-in-Ok-clause-counts : goal.returns-in-Ok-clause-counts
 returns-in-Ok-clause-counts g c = counts_broken_by c.begun.result c.in-Err-begun.fault c.broken.result.reply (g.H.Host.state c.args.host.now) (g.H.Host.state c.begun.new.host) c.in-Err-begun.is (c.broken.ensures.reply ∙ ap Broken c.breakage_of.ensures) c.begun.ensures.counts
@@ -66,10 +66,10 @@ pub returns-clause-err : goal.returns-clause-err
 returns-clause-err g c = HasRun.refusing c.in-Err.ensures.err (reads_here (g.H.Host.state c.args.host.now)) (record { broken = broken_by _ c.no_memory.result.reply c.no_memory.ensures.reply; untouched = c.no_memory.ensures.touched; none = no_calls c.no_memory.result (g.H.Host.state c.args.host.now) c.no_memory.ensures.told })
 
 pub returns-clause-told_broken : goal.returns-clause-told_broken
-returns-clause-told_broken g c = tells_no_more (g.H.Host.state c.args.host.now) (g.H.Host.state c.args.host.now) [] (calls_of c.refuse_first.new.units.items) c.no_memory.result.calls.items (tells_silent (g.H.Host.state c.args.host.now) (g.H.Host.state c.args.host.now) [] (calls_of c.refuse_first.new.units.items) (silent_here (g.H.Host.state c.args.host.now)) (some_refused_calls (early_refusals c.args.database.now.records (each_once c.args.names.now)) c.refuse_first.new.units.items c.in-Err.ensures.err)) c.no_memory.ensures.told
+returns-clause-told_broken g c = tells_no_more (g.H.Host.state c.args.host.now) (g.H.Host.state c.args.host.now) [] (calls_of c.refuse_first.new.units.items) c.no_memory.result.calls.items (tells_silent (g.H.Host.state c.args.host.now) (g.H.Host.state c.args.host.now) [] (calls_of c.refuse_first.new.units.items) (silent_here (g.H.Host.state c.args.host.now)) (some_refused_calls (early_refusals c.args.administration.now.database.records (each_once c.args.names.now)) c.refuse_first.new.units.items c.in-Err.ensures.err)) c.no_memory.ensures.told
 
 pub returns-clause-any_moment : goal.returns-clause-any_moment
-returns-clause-any_moment g c = since_run_start c.args.names.now c.args.policy (held c.args.database.now c.args.lists.now c.args.diversions.now) (g.H.Host.state c.args.host.now)
+returns-clause-any_moment g c = since_run_start c.args.names.now c.args.policy (held_by c.args.administration.now c.args.diversions.now) (g.H.Host.state c.args.host.now)
 
 pub returns-clause-counts : goal.returns-clause-counts
 returns-clause-counts g c = counts_no_memory c.no_memory.result.reply (g.H.Host.state c.args.host.now) (g.H.Host.state c.args.host.now) refl c.no_memory.ensures.reply

@@ -1,5 +1,5 @@
 use Rattle.std.proofs.Common.{List, subst, sym, ◌∙◌}
-use Rattle.unit_reports.specs.Held.{held}
+use Rattle.unit_reports.specs.Held.{held_by}
 use Rattle.unit_reports.specs.Units.{calls_of}
 use Rattle.unwind_stack.specs.Transcript.{TellsAll}
 use Rattle.unwind_stack.specs.declared.rows.Called.{Called}
@@ -22,7 +22,7 @@ pub returns-in-Ok-refuse_left-clause-told : goal.returns-in-Ok-refuse_left-claus
 returns-in-Ok-refuse_left-clause-told g c = subst (TellsAll (g.H.Host.state c.args.host.now) (g.H.Host.state c.take_turns.new.host) (calls_of c.args.units.now.items)) (sym {A = List Called} (refused_left_calls c.in-Ok.left c.take_turns.new.units.items c.refuse_left.new.units.items c.in-Ok-refuse_left.ensures.ok)) c.in-Ok.ensures.told
 
 pub returns-in-Err-refuse_left-clause-err : goal.returns-in-Err-refuse_left-clause-err
-returns-in-Err-refuse_left-clause-err g c = StopTurns.leaving c.in-Ok.left (held c.take_turns.new.database c.take_turns.new.lists c.args.diversions.now) c.take_turns.new.units.items c.in-Ok.ensures.ok c.in-Ok.ensures.ended c.in-Err-refuse_left.ensures.err (record { broken = broken_by _ c.no_memory.result.reply c.no_memory.ensures.reply; untouched = c.no_memory.ensures.touched; none = no_calls c.no_memory.result (g.H.Host.state c.take_turns.new.host) c.no_memory.ensures.told })
+returns-in-Err-refuse_left-clause-err g c = StopTurns.leaving c.in-Ok.left (held_by c.take_turns.new.administration c.args.diversions.now) c.take_turns.new.units.items c.in-Ok.ensures.ok c.in-Ok.ensures.ended c.in-Err-refuse_left.ensures.err (record { broken = broken_by _ c.no_memory.result.reply c.no_memory.ensures.reply; untouched = c.no_memory.ensures.touched; none = no_calls c.no_memory.result (g.H.Host.state c.take_turns.new.host) c.no_memory.ensures.told })
 
 pub returns-in-Err-refuse_left-clause-told_broken : goal.returns-in-Err-refuse_left-clause-told_broken
 returns-in-Err-refuse_left-clause-told_broken g c = tells_no_more (g.H.Host.state c.args.host.now) (g.H.Host.state c.take_turns.new.host) (calls_of c.args.units.now.items) (calls_of c.refuse_left.new.units.items) c.no_memory.result.calls.items (subst (TellsAll (g.H.Host.state c.args.host.now) (g.H.Host.state c.take_turns.new.host) (calls_of c.args.units.now.items)) (sym {A = List Called} (some_left_calls c.in-Ok.left c.take_turns.new.units.items c.refuse_left.new.units.items c.in-Err-refuse_left.ensures.err)) c.in-Ok.ensures.told) c.no_memory.ensures.told

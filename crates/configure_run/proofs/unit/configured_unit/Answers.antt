@@ -33,14 +33,8 @@ returns-in-Ok-clause-not_closed g c = answer_not_closed _ _ _ c.answered.result 
 pub returns-in-Err-clause-unit : goal.returns-in-Err-clause-unit
 returns-in-Err-clause-unit g c = inl (broken_by _ c.broken.result.reply c.broken.ensures.reply)
 
-pub returns-in-Err-clause-noting : goal.returns-in-Err-clause-noting
-returns-in-Err-clause-noting g c = inl (broken_by _ c.broken.result.reply c.broken.ensures.reply)
-
-pub returns-in-Err-clause-listing : goal.returns-in-Err-clause-listing
-returns-in-Err-clause-listing g c = inl (broken_by _ c.broken.result.reply c.broken.ensures.reply)
-
-pub returns-in-Err-clause-kept : goal.returns-in-Err-clause-kept
-returns-in-Err-clause-kept g c = inl (broken_by _ c.broken.result.reply c.broken.ensures.reply)
+pub returns-in-Err-clause-open : goal.returns-in-Err-clause-open
+returns-in-Err-clause-open g c = inl (broken_by _ c.broken.result.reply c.broken.ensures.reply)
 
 pub returns-in-Err-clause-on_disk : goal.returns-in-Err-clause-on_disk
 returns-in-Err-clause-on_disk g c = inl (broken_by _ c.broken.result.reply c.broken.ensures.reply)

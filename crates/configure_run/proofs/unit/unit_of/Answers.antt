@@ -2,7 +2,7 @@ use Rattle.std.proofs.Common.{◌<◌, List, length, inr, refl, subst, sym}
 use Rattle.dependency_check.specs.Roles.{plays}
 use Rattle.dependency_check.specs.declared.roles.Role.TheVariants.{Breaking}
 use Rattle.relation_index.specs.declared.package.Package.{Package}
-use Rattle.unit_reports.specs.Held.{held}
+use Rattle.unit_reports.specs.Held.{held_by}
 use Rattle.unit_reports.specs.Units.{IsBrokenBy, IsRefusedUnit}
 use Rattle.unit_reports.specs.declared.refusal.Rule.TheVariants.{BrokenBy}
 use Rattle.unit_reports.specs.declared.report.Breakage.TheVariants.{NoMemory}
@@ -26,10 +26,10 @@ pub returns-in-Some-clause-answered : goal.returns-in-Some-clause-answered
 returns-in-Some-clause-answered g c = inr (answered_here (g.H.Host.state c.args.host.now))
 
 pub returns-in-Some-clause-told : goal.returns-in-Some-clause-told
-returns-in-Some-clause-told g c = called_nothing c.args.policy c.args.of.now.name (held c.args.database.now c.args.lists.now c.args.diversions.now) c.refused_for.result (g.H.Host.state c.args.host.now) (g.H.Host.state c.args.host.now) (silent_here (g.H.Host.state c.args.host.now)) (λ honest. refl) c.refused_for.ensures.told
+returns-in-Some-clause-told g c = called_nothing c.args.policy c.args.of.now.name (held_by c.args.administration.now c.args.diversions.now) c.refused_for.result (g.H.Host.state c.args.host.now) (g.H.Host.state c.args.host.now) (silent_here (g.H.Host.state c.args.host.now)) (λ honest. refl) c.refused_for.ensures.told
 
 pub returns-in-Some-clause-any_moment : goal.returns-in-Some-clause-any_moment
-returns-in-Some-clause-any_moment g c = since_unit_start c.args.policy c.args.of.now.name (held c.args.database.now c.args.lists.now c.args.diversions.now) (g.H.Host.state c.args.host.now)
+returns-in-Some-clause-any_moment g c = since_unit_start c.args.policy c.args.of.now.name (held_by c.args.administration.now c.args.diversions.now) (g.H.Host.state c.args.host.now)
 
 pub returns-in-Some-clause-counts : goal.returns-in-Some-clause-counts
 returns-in-Some-clause-counts g c = counts_refused (BrokenBy (name_at c.args.packages.now c.in-Some.breaking)) c.args.of.now.name c.refused_for.result (g.H.Host.state c.args.host.now) (g.H.Host.state c.args.host.now) refl (subst (λ (l : List Package). IsBrokenBy NoMemory c.refused_for.result.reply ⊎ IsRefusedUnit (BrokenBy (name_at l c.in-Some.breaking)) c.args.of.now.name c.refused_for.result) c.as_slice.ensures.list c.refused_for.ensures.unit)

@@ -1,7 +1,7 @@
 use Rattle.std.proofs.Common.{[], ◌∷◌, None, refl, sym}
 use Rattle.std.proofs.lemmas.Option.{MatchOption-at_none, MatchOption-at_some}
 use Rattle.std.proofs.lemmas.List.{append-nil}
-use Rattle.unit_stages.specs.Holding.{holding}
+use Rattle.unit_stages.specs.Holding.{holding, holding_of}
 use Rattle.disappearance.specs.Stages.{IsPlan, disappear_row}
 use Rattle.disappearance.specs.Units.{HasCalledOne}
 use Rattle.disappearance.specs.Verdicts.{Goes, Stays}
@@ -11,7 +11,7 @@ use Rattle.disappearance.proofs.unit.disappear.Goals as goal
 
 pub run_both-requires-clause-planned : goal.run_both-requires-clause-planned
 run_both-requires-clause-planned g c =
-    let h = holding c.args.database.now c.args.lists.now in
+    let h = holding_of c.args.administration.now in
     let old = g.H.Host.state c.args.host.now in
     let mid = g.H.Host.state c.decide.new.host in
     let found = MatchOption-at_some (Stays c.args.incoming.now c.args.diversions.now.entries c.args.losing.now h old.world mid.honest)
@@ -21,13 +21,13 @@ run_both-requires-clause-planned g c =
 
 pub returns-in-Ok-clause-decided : goal.returns-in-Ok-clause-decided
 returns-in-Ok-clause-decided g c =
-    let h = holding c.args.database.now c.args.lists.now in
+    let h = holding_of c.args.administration.now in
     let old = g.H.Host.state c.args.host.now in
     let mid = g.H.Host.state c.decide.new.host in
     let new = g.H.Host.state c.run_both.new.host in
     let own = c.args.losing.now.name ∷ [] in
     let plan = c.in-Ok-Some.plan in
-    let after = holding c.run_both.new.database c.run_both.new.lists in
+    let after = holding_of c.run_both.new.administration in
     let told = c.args.told.now.items in
     let now = c.run_both.new.told.items in
     let found = MatchOption-at_some (Stays c.args.incoming.now c.args.diversions.now.entries c.args.losing.now h old.world mid.honest)
@@ -38,13 +38,13 @@ returns-in-Ok-clause-decided g c =
       own,
       c.in-Ok.ensures,
       gone_by old mid c.in-Ok-Some.ensures.reads c.in-Ok-Some.ensures.silent c.args.incoming.now c.args.version.now c.args.diversions.now.entries c.args.losing.now h plan.call.items plan.gone.items found.0 found.1 new
-          c.run_both.ensures.any_moment.honest own failed after told now refl run (λ honest. record { recorded = c.run_both.new.database; are = refl; order = order honest }),
+          c.run_both.ensures.any_moment.honest own failed after told now refl run (λ honest. record { recorded = c.run_both.new.administration.database; are = refl; order = order honest }),
     ))
     c.run_both.ensures.ran c.run_both.ensures.order
 
 pub returns-in-Ok-clause-told : goal.returns-in-Ok-clause-told
 returns-in-Ok-clause-told g c =
-    let h = holding c.args.database.now c.args.lists.now in
+    let h = holding_of c.args.administration.now in
     let old = g.H.Host.state c.args.host.now in
     let mid = g.H.Host.state c.decide.new.host in
     let new = g.H.Host.state c.run_both.new.host in
@@ -57,8 +57,8 @@ returns-in-Ok-clause-told g c =
 
 pub returns-in-Ok-clause-any_moment : goal.returns-in-Ok-clause-any_moment
 returns-in-Ok-clause-any_moment g c =
-    let d = c.args.database.now in
-    let f = c.args.lists.now in
+    let d = c.args.administration.now.database in
+    let f = c.args.administration.now.lists in
     let h = holding d f in
     let old = g.H.Host.state c.args.host.now in
     let mid = g.H.Host.state c.decide.new.host in
@@ -75,13 +75,13 @@ returns-in-Err-push_name-clause-told g c = HasCalledOne.uncalled c.in-Ok-Some.en
 
 pub returns-in-Err-push_name-clause-any_moment : goal.returns-in-Err-push_name-clause-any_moment
 returns-in-Err-push_name-clause-any_moment g c =
-    let d = c.args.database.now in
-    let f = c.args.lists.now in
+    let d = c.args.administration.now.database in
+    let f = c.args.administration.now.lists in
     looking_moments (g.H.Host.state c.args.host.now) (g.H.Host.state c.decide.new.host) c.decide.ensures.reads c.decide.ensures.silent c.args.incoming.now c.args.version.now c.args.diversions.now.entries c.args.losing.now (holding d f) d f.lists c.requires.order
 
 pub returns-in-Ok-None-clause-decided : goal.returns-in-Ok-None-clause-decided
 returns-in-Ok-None-clause-decided g c =
-    let h = holding c.args.database.now c.args.lists.now in
+    let h = holding_of c.args.administration.now in
     let old = g.H.Host.state c.args.host.now in
     let mid = g.H.Host.state c.decide.new.host in
     let found = MatchOption-at_none (Stays c.args.incoming.now c.args.diversions.now.entries c.args.losing.now h old.world mid.honest)
@@ -94,8 +94,8 @@ returns-in-Ok-None-clause-told g c = HasCalledOne.uncalled c.in-Ok-None.ensures.
 
 pub returns-in-Ok-None-clause-any_moment : goal.returns-in-Ok-None-clause-any_moment
 returns-in-Ok-None-clause-any_moment g c =
-    let d = c.args.database.now in
-    let f = c.args.lists.now in
+    let d = c.args.administration.now.database in
+    let f = c.args.administration.now.lists in
     looking_moments (g.H.Host.state c.args.host.now) (g.H.Host.state c.decide.new.host) c.decide.ensures.reads c.decide.ensures.silent c.args.incoming.now c.args.version.now c.args.diversions.now.entries c.args.losing.now (holding d f) d f.lists c.requires.order
 
 pub returns-in-Err-clause-told : goal.returns-in-Err-clause-told
@@ -103,6 +103,6 @@ returns-in-Err-clause-told g c = HasCalledOne.uncalled c.decide.ensures.silent r
 
 pub returns-in-Err-clause-any_moment : goal.returns-in-Err-clause-any_moment
 returns-in-Err-clause-any_moment g c =
-    let d = c.args.database.now in
-    let f = c.args.lists.now in
+    let d = c.args.administration.now.database in
+    let f = c.args.administration.now.lists in
     looking_moments (g.H.Host.state c.args.host.now) (g.H.Host.state c.decide.new.host) c.decide.ensures.reads c.decide.ensures.silent c.args.incoming.now c.args.version.now c.args.diversions.now.entries c.args.losing.now (holding d f) d f.lists c.requires.order

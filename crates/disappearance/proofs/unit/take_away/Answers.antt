@@ -1,4 +1,4 @@
-use Rattle.unit_stages.specs.Holding.{holding}
+use Rattle.unit_stages.specs.Holding.{holding_of}
 use Rattle.disappearance.proofs.Plans.{gone_begun, gone_records, gone_settleable, gone_taken}
 use Rattle.disappearance.proofs.Renewing.{same_but}
 use Rattle.disappearance.proofs.unit.take_away.Goals as goal
@@ -8,7 +8,7 @@ run_stages-requires-clause-settleable g c = λ h. gone_settleable c.args.gone.it
 
 pub returns-clause-taken : goal.returns-clause-taken
 returns-clause-taken g c =
-    gone_taken c.args.name.now c.args.diversions.now.entries c.args.gone.items c.requires.quiet.0 c.requires.quiet.1 c.in_ok-run_stages.field-0 (holding c.args.database.now c.args.lists.now) (holding c.run_stages.new.database c.run_stages.new.lists)
+    gone_taken c.args.name.now c.args.diversions.now.entries c.args.gone.items c.requires.quiet.0 c.requires.quiet.1 c.in_ok-run_stages.field-0 (holding_of c.args.administration.now) (holding_of c.run_stages.new.administration)
     (g.H.Host.state c.args.host.now) (g.H.Host.state c.run_stages.new.host) c.args.told.now.items c.run_stages.new.told.items c.in_ok-run_stages.ensures.ran
 
 pub returns-clause-untold : goal.returns-clause-untold
@@ -40,11 +40,11 @@ returns-clause-indexed g c =
     let name = c.args.name.now in
     let entries = c.args.diversions.now.entries in
     let gone = c.args.gone.items in
-    let before = holding c.args.database.now c.args.lists.now in
-    let after = holding c.run_stages.new.database c.run_stages.new.lists in
+    let before = holding_of c.args.administration.now in
+    let after = holding_of c.run_stages.new.administration in
     let s = g.H.Host.state c.args.host.now in
     let t = g.H.Host.state c.run_stages.new.host in
     let now = c.run_stages.new.told.items in
     let taken = gone_taken name entries gone c.requires.quiet.0 c.requires.quiet.1 c.in_ok-run_stages.field-0 before after s t c.args.told.now.items now c.in_ok-run_stages.ensures.ran in
-    c.in_ok-renew_one.ensures.ok c.args.database.now.records c.law.ensures.order c.requires.indexed
-    (same_but name c.args.database.now.records c.run_stages.new.database.records (gone_records name entries gone c.requires.quiet.0 c.requires.quiet.1 before after s t now now taken))
+    c.in_ok-renew_one.ensures.ok c.args.administration.now.database.records c.law.ensures.order c.requires.indexed
+    (same_but name c.args.administration.now.database.records c.run_stages.new.administration.database.records (gone_records name entries gone c.requires.quiet.0 c.requires.quiet.1 before after s t now now taken))

@@ -2,7 +2,7 @@ use Rattle.std.specs.Prelude.{ℕ, List, Contains}
 use Rattle.std.proofs.Common.{◌≡◌}
 use Rattle.status_db.specs.Records.{record_in}
 use Rattle.unit_stages.proofs.RunLaws.{if_ok_one}
-use Rattle.unit_stages.specs.Holding.{holding}
+use Rattle.unit_stages.specs.Holding.{holding_of}
 use Rattle.displaced_packages.specs.Displacing.{HaveBeenRemovedBehind, HaveGone}
 use Rattle.displaced_packages.proofs.Going.{called_behind, called_first, gone_behind, if_ok_with, others_kept, since_disappearing, since_removing}
 use Rattle.displaced_packages.proofs.displacing.displace_all.Goals as goal
@@ -10,9 +10,9 @@ use Rattle.displaced_packages.proofs.displacing.displace_all.Goals as goal
 pub returns-in-Ok-clause-gone : goal.returns-in-Ok-clause-gone
 returns-in-Ok-clause-gone g c =
     let d = c.in-Ok.disappeared in
-    let before = holding c.args.database.now c.args.lists.now in
-    let mid = holding c.disappear_packages.new.database c.disappear_packages.new.lists in
-    let after = holding c.remove_behind.new.database c.remove_behind.new.lists in
+    let before = holding_of c.args.administration.now in
+    let mid = holding_of c.disappear_packages.new.administration in
+    let after = holding_of c.remove_behind.new.administration in
     let s = g.H.Host.state c.args.host.now in
     let m = g.H.Host.state c.disappear_packages.new.host in
     let t = g.H.Host.state c.remove_behind.new.host in
@@ -27,11 +27,11 @@ returns-in-Ok-clause-gone g c =
 pub returns-in-Ok-clause-others : goal.returns-in-Ok-clause-others
 returns-in-Ok-clause-others g c =
     let d = c.in-Ok.disappeared in
-    let old = c.args.database.now.records in
-    let mid = c.disappear_packages.new.database.records in
-    let new = c.remove_behind.new.database.records in
-    let removed = holding c.disappear_packages.new.database c.disappear_packages.new.lists in
-    let after = holding c.remove_behind.new.database c.remove_behind.new.lists in
+    let old = c.args.administration.now.database.records in
+    let mid = c.disappear_packages.new.administration.database.records in
+    let new = c.remove_behind.new.administration.database.records in
+    let removed = holding_of c.disappear_packages.new.administration in
+    let after = holding_of c.remove_behind.new.administration in
     if_ok_with c.remove_behind.result (λ e. HaveBeenRemovedBehind c.args.diversions.now.entries c.args.conflicting.now d.names d.failed e.names e.failed removed after (g.H.Host.state c.disappear_packages.new.host) (g.H.Host.state c.remove_behind.new.host)
     c.disappear_packages.new.told.items c.remove_behind.new.told.items)
     (λ e. (q : List ℕ) → (Contains e.names q → ⊥) → record_in new q ≡ record_in old q)
@@ -39,22 +39,22 @@ returns-in-Ok-clause-others g c =
 
 pub returns-in-Ok-clause-told : goal.returns-in-Ok-clause-told
 returns-in-Ok-clause-told g c =
-    called_behind c.args.incoming.now c.args.version.now c.args.diversions.now.entries c.args.losing.now c.args.conflicting.now (holding c.args.database.now c.args.lists.now) c.in-Ok.disappeared.names c.in-Ok.disappeared.failed
-    (holding c.disappear_packages.new.database c.disappear_packages.new.lists) (g.H.Host.state c.args.host.now) (g.H.Host.state c.disappear_packages.new.host) (g.H.Host.state c.remove_behind.new.host) c.args.told.now.items c.disappear_packages.new.told.items
+    called_behind c.args.incoming.now c.args.version.now c.args.diversions.now.entries c.args.losing.now c.args.conflicting.now (holding_of c.args.administration.now) c.in-Ok.disappeared.names c.in-Ok.disappeared.failed
+    (holding_of c.disappear_packages.new.administration) (g.H.Host.state c.args.host.now) (g.H.Host.state c.disappear_packages.new.host) (g.H.Host.state c.remove_behind.new.host) c.args.told.now.items c.disappear_packages.new.told.items
     c.in-Ok.ensures.disappeared c.remove_behind.new.told.items c.remove_behind.ensures.told
 
 pub returns-in-Err-clause-told : goal.returns-in-Err-clause-told
 returns-in-Err-clause-told g c =
-    called_first c.args.incoming.now c.args.version.now c.args.diversions.now.entries c.args.losing.now c.args.conflicting.now (holding c.args.database.now c.args.lists.now) (g.H.Host.state c.args.host.now) (g.H.Host.state c.disappear_packages.new.host) c.args.told.now.items c.disappear_packages.new.told.items
+    called_first c.args.incoming.now c.args.version.now c.args.diversions.now.entries c.args.losing.now c.args.conflicting.now (holding_of c.args.administration.now) (g.H.Host.state c.args.host.now) (g.H.Host.state c.disappear_packages.new.host) c.args.told.now.items c.disappear_packages.new.told.items
     c.disappear_packages.ensures.told
 
 pub returns-in-Ok-clause-any_moment : goal.returns-in-Ok-clause-any_moment
 returns-in-Ok-clause-any_moment g c =
-    since_removing c.args.incoming.now c.args.version.now c.args.diversions.now.entries c.args.losing.now c.args.conflicting.now (holding c.args.database.now c.args.lists.now) c.in-Ok.disappeared.names c.in-Ok.disappeared.failed
-    (holding c.disappear_packages.new.database c.disappear_packages.new.lists) (g.H.Host.state c.args.host.now) (g.H.Host.state c.disappear_packages.new.host) (g.H.Host.state c.remove_behind.new.host) c.args.told.now.items c.disappear_packages.new.told.items
+    since_removing c.args.incoming.now c.args.version.now c.args.diversions.now.entries c.args.losing.now c.args.conflicting.now (holding_of c.args.administration.now) c.in-Ok.disappeared.names c.in-Ok.disappeared.failed
+    (holding_of c.disappear_packages.new.administration) (g.H.Host.state c.args.host.now) (g.H.Host.state c.disappear_packages.new.host) (g.H.Host.state c.remove_behind.new.host) c.args.told.now.items c.disappear_packages.new.told.items
     c.in-Ok.ensures.disappeared c.disappear_packages.ensures.any_moment c.remove_behind.ensures.any_moment
 
 pub returns-in-Err-clause-any_moment : goal.returns-in-Err-clause-any_moment
 returns-in-Err-clause-any_moment g c =
-    since_disappearing c.args.incoming.now c.args.version.now c.args.diversions.now.entries c.args.losing.now c.args.conflicting.now (holding c.args.database.now c.args.lists.now) (g.H.Host.state c.args.host.now) (g.H.Host.state c.disappear_packages.new.host)
+    since_disappearing c.args.incoming.now c.args.version.now c.args.diversions.now.entries c.args.losing.now c.args.conflicting.now (holding_of c.args.administration.now) (g.H.Host.state c.args.host.now) (g.H.Host.state c.disappear_packages.new.host)
     c.disappear_packages.ensures.any_moment

@@ -1,6 +1,6 @@
 use Rattle.std.proofs.Common.{◌≡◌, ◌++◌, List, sym, subst, ◌∙◌, rules}
 use Rattle.std.proofs.lemmas.List.{append-nil}
-use Rattle.unit_reports.specs.Held.{held}
+use Rattle.unit_reports.specs.Held.{held_by}
 use Rattle.unit_reports.specs.Watching.{IsTold}
 use Rattle.unit_reports.specs.declared.report.Unit.{Unit as AUnit}
 use Rattle.dpkg_session.proofs.Installs.{answered_both, installed_both, installed_part, none_both}
@@ -26,7 +26,7 @@ returns-clause-run g c =
       run.0,
       run.1,
       installed_both c.args.auto_deconfigure run.0 _ c.args.policy c.run_units-unpacked.result c.configure_done-configured.result c.as_slice-2.result.now c.as_slice.result.now
-          _ (held c.run_units-unpacked.new.database c.run_units-unpacked.new.lists c.args.diversions.now) _ _ _ _ (c.as_slice.ensures ∙ run.3 none) told none (g.H.Host.settled c.configure_done-configured.new.host) run.2 configured.whole configured.part configured.any_moment,
+          _ (held_by c.run_units-unpacked.new.administration c.args.diversions.now) _ _ _ _ (c.as_slice.ensures ∙ run.3 none) told none (g.H.Host.settled c.configure_done-configured.new.host) run.2 configured.whole configured.part configured.any_moment,
     )
 
 pub returns-clause-watched : goal.returns-clause-watched
@@ -40,3 +40,6 @@ returns-clause-answered g c = λ none.
 
 pub returns-clause-order : goal.returns-clause-order
 returns-clause-order g c = λ none. c.configure_done-configured.ensures.order (none_both c.run_units-unpacked.result.last c.configure_done-configured.result.last (sym c.is_some.ensures ∙ c.if-is_some.false) none)
+
+pub returns-clause-open : goal.returns-clause-open
+returns-clause-open g c = λ none. c.configure_done-configured.ensures.open (none_both c.run_units-unpacked.result.last c.configure_done-configured.result.last (sym c.is_some.ensures ∙ c.if-is_some.false) none)

@@ -1,6 +1,6 @@
 use Rattle.std.proofs.Common.{◌≡◌, [], ◌∷◌, ◌++◌, refl, sym, ◌∙◌, rules}
 use Rattle.std.proofs.lemmas.List.{append-nil}
-use Rattle.unit_reports.specs.Held.{held}
+use Rattle.unit_reports.specs.Held.{held_by}
 use Rattle.dpkg_session.proofs.Amid.{since_unit_start}
 use Rattle.dpkg_session.proofs.Runs.{broken_by, counts_no_memory, counts_whole, is_broken_off, is_whole, not_broken}
 use Rattle.dpkg_session.proofs.Told.{called_tells, not_begun, tells_unit}
@@ -12,14 +12,8 @@ returns-clause-ok g c =
     let grown : c.push.new.self.items ≡ c.args.units.now.items ++ unit ∷ [] = search rules in
     record { unit = unit; grown = grown; is = not_broken unit.reply c.is_broken.result c.if-is_broken.false c.is_broken.ensures c.unit_of-unit.ensures.unit }
 
-pub returns-clause-noting : goal.returns-clause-noting
-returns-clause-noting g c = not_broken c.unit_of-unit.result.reply c.is_broken.result c.if-is_broken.false c.is_broken.ensures c.unit_of-unit.ensures.noting
-
-pub returns-clause-listing : goal.returns-clause-listing
-returns-clause-listing g c = not_broken c.unit_of-unit.result.reply c.is_broken.result c.if-is_broken.false c.is_broken.ensures c.unit_of-unit.ensures.listing
-
-pub returns-clause-kept : goal.returns-clause-kept
-returns-clause-kept g c = not_broken c.unit_of-unit.result.reply c.is_broken.result c.if-is_broken.false c.is_broken.ensures c.unit_of-unit.ensures.kept
+pub returns-clause-open : goal.returns-clause-open
+returns-clause-open g c = not_broken c.unit_of-unit.result.reply c.is_broken.result c.if-is_broken.false c.is_broken.ensures c.unit_of-unit.ensures.open
 
 pub returns-clause-indexed : goal.returns-clause-indexed
 returns-clause-indexed g c = not_broken c.unit_of-unit.result.reply c.is_broken.result c.if-is_broken.false c.is_broken.ensures c.unit_of-unit.ensures.indexed
@@ -29,16 +23,16 @@ returns-clause-told g c =
     let unit = c.unit_of-unit.result in
     let grown : c.push.new.self.items ≡ c.args.units.now.items ++ unit ∷ [] = search rules in
     tells_unit (g.H.Host.state c.args.host.now) (g.H.Host.state c.unit_of-unit.new.host) c.args.units.now.items c.push.new.self.items unit grown
-    (called_tells c.args.auto_deconfigure c.args.candidate.tree (held c.args.database.now c.args.lists.now c.args.diversions.now) unit (g.H.Host.state c.args.host.now) (g.H.Host.state c.unit_of-unit.new.host) c.unit_of-unit.ensures.told)
+    (called_tells c.args.auto_deconfigure c.args.candidate.tree (held_by c.args.administration.now c.args.diversions.now) unit (g.H.Host.state c.args.host.now) (g.H.Host.state c.unit_of-unit.new.host) c.unit_of-unit.ensures.told)
 
 pub returns-then-is_err-clause-any_moment : goal.returns-then-is_err-clause-any_moment
-returns-then-is_err-clause-any_moment g c = since_unit_start c.args.auto_deconfigure c.args.candidate.tree (held c.args.database.now c.args.lists.now c.args.diversions.now) (g.H.Host.state c.args.host.now)
+returns-then-is_err-clause-any_moment g c = since_unit_start c.args.auto_deconfigure c.args.candidate.tree (held_by c.args.administration.now c.args.diversions.now) (g.H.Host.state c.args.host.now)
 
 pub returns-then-is_err-clause-broken_off : goal.returns-then-is_err-clause-broken_off
 returns-then-is_err-clause-broken_off g c = record {
   broken = broken_by _ c.broken.result.reply c.broken.ensures.reply;
   untouched = c.broken.ensures.touched;
-  called = not_begun c.args.auto_deconfigure c.args.candidate.tree (held c.args.database.now c.args.lists.now c.args.diversions.now) c.broken.result (g.H.Host.state c.args.host.now) (c.broken.ensures.told ∙ c.new.ensures.items);
+  called = not_begun c.args.auto_deconfigure c.args.candidate.tree (held_by c.args.administration.now c.args.diversions.now) c.broken.result (g.H.Host.state c.args.host.now) (c.broken.ensures.told ∙ c.new.ensures.items);
 }
 
 pub returns-then-is_broken-clause-broken_off : goal.returns-then-is_broken-clause-broken_off

@@ -3,7 +3,7 @@ use Rattle.std.proofs.lemmas.Option.{MatchOption-at_none, MatchOption-at_some}
 use Rattle.unwind_stack.specs.Transcript.{TellsAll}
 use Rattle.unwind_stack.proofs.Makes.{tells_none, tells_then}
 use Rattle.unit_reports.specs.declared.report.Unit.{Unit as AUnit}
-use Rattle.unit_reports.specs.Held.{held}
+use Rattle.unit_reports.specs.Held.{held_by}
 use Rattle.unit_reports.specs.Units.{calls_of}
 use Rattle.unit_reports.specs.Watching.{IsTold}
 use Rattle.dpkg_session.specs.declared.report.Candidate.{Candidate}
@@ -15,16 +15,14 @@ use Rattle.dpkg_session.proofs.units.run_units.Goals as goal
 pub loop-candidate-init : goal.loop-candidate-init
 loop-candidate-init g c =
     let old = g.H.Host.state c.args.host.now in
-    let before = held c.args.database.now c.args.lists.now c.args.diversions.now in
+    let before = held_by c.args.administration.now c.args.diversions.now in
     record {
       so_far = read_start g.T.Trees.reads c.args.auto_deconfigure c.args.trees.now c.new-units.result.items c.args.labels.now before old c.new-units.ensures.items c.requires.none;
       watched = subst (λ us. IsTold g.W.Watcher.tells c.args.watcher.now us c.args.watcher.now) (sym c.new-units.ensures.items) refl;
       no_fault = refl;
       told = tells_none old old [] (calls_of c.new-units.result.items) refl (ap calls_of c.new-units.ensures.items);
       ready = c.requires.order;
-      noting = c.requires.noting;
-      listing = c.requires.listing;
-      kept = c.requires.kept;
+      is_open = c.requires.open;
       indexed = c.requires.indexed;
     }
 
@@ -35,9 +33,9 @@ loop-candidate-preserved g c =
     let p = c.in-Some.candidate in
     let auto = c.args.auto_deconfigure in
     let adds = c.in-Ok.ensures.ok in
-    let before = held c.args.database.now c.args.lists.now c.args.diversions.now in
-    let mid = held l.database l.lists c.args.diversions.now in
-    let after = held c.run_one.new.database c.run_one.new.lists c.args.diversions.now in
+    let before = held_by c.args.administration.now c.args.diversions.now in
+    let mid = held_by l.administration c.args.diversions.now in
+    let after = held_by c.run_one.new.administration c.args.diversions.now in
     let old = g.H.Host.state c.args.host.now in
     let now = g.H.Host.state l.host in
     let new = g.H.Host.state c.run_one.new.host in
@@ -51,9 +49,7 @@ loop-candidate-preserved g c =
       no_fault = c.in-Ok.ensures.no_fault ∙ inv.no_fault;
       told = tells_then old now new [] (calls_of l.units.items) (calls_of c.run_one.new.units.items) inv.told c.in-Ok.ensures.told;
       ready = ready_after auto p mid after adds.unit now new inv.ready adds.is;
-      noting = c.in-Ok.ensures.noting;
-      listing = c.in-Ok.ensures.listing;
-      kept = c.in-Ok.ensures.kept;
+      is_open = c.in-Ok.ensures.open;
       indexed = c.in-Ok.ensures.indexed;
     }
 
@@ -68,9 +64,9 @@ pub returns-in-Err-clause-run : goal.returns-in-Err-clause-run
 returns-in-Err-clause-run g c =
     let l = c.loop-candidate in
     let p = c.in-Some.candidate in
-    let before = held c.args.database.now c.args.lists.now c.args.diversions.now in
-    let mid = held l.database l.lists c.args.diversions.now in
-    let after = held c.run_one.new.database c.run_one.new.lists c.args.diversions.now in
+    let before = held_by c.args.administration.now c.args.diversions.now in
+    let mid = held_by l.administration c.args.diversions.now in
+    let after = held_by c.run_one.new.administration c.args.diversions.now in
     let words = g.T.Trees.words in
     let next = MatchOption-at_some ((words l.trees ≡ []) × (c.next.new.self ≡ l.trees)) (λ (x : Candidate). g.T.Trees.reads l.trees x c.next.new.self × (words l.trees ≡ x.label ∷ words c.next.new.self)) p c.in-Some.is c.next.ensures in
     broken_read g.T.Trees.reads c.args.auto_deconfigure c.args.trees.now l.trees c.next.new.self l.units.items l.labels before mid after (g.H.Host.state c.args.host.now) (g.H.Host.state l.host) (g.H.Host.state c.run_one.new.host) l.invariant.so_far
@@ -83,7 +79,7 @@ returns-in-Err-clause-told g c =
     let new = g.H.Host.state c.run_one.new.host in
     let unit = c.in-Err.unit in
     subst (λ us. TellsAll old new [] (calls_of us ++ unit.calls.items)) (sym {A = List AUnit} c.in-Err.ensures.err)
-    (tells_last old (g.H.Host.state l.host) new l.units.items unit l.invariant.told (called_tells c.args.auto_deconfigure c.in-Some.candidate.tree (held l.database l.lists c.args.diversions.now) unit (g.H.Host.state l.host) new c.in-Err.ensures.broken_off.called))
+    (tells_last old (g.H.Host.state l.host) new l.units.items unit l.invariant.told (called_tells c.args.auto_deconfigure c.in-Some.candidate.tree (held_by l.administration c.args.diversions.now) unit (g.H.Host.state l.host) new c.in-Err.ensures.broken_off.called))
 
 pub returns-in-Err-clause-counts : goal.returns-in-Err-clause-counts
 returns-in-Err-clause-counts g c =
@@ -98,8 +94,8 @@ returns-in-Err-clause-watched g c =
 pub returns-in-None-clause-run : goal.returns-in-None-clause-run
 returns-in-None-clause-run g c =
     let l = c.loop-candidate in
-    let before = held c.args.database.now c.args.lists.now c.args.diversions.now in
-    let mid = held l.database l.lists c.args.diversions.now in
+    let before = held_by c.args.administration.now c.args.diversions.now in
+    let mid = held_by l.administration c.args.diversions.now in
     let now = g.H.Host.state l.host in
     let words = g.T.Trees.words in
     let next = MatchOption-at_none ((words l.trees ≡ []) × (c.next.new.self ≡ l.trees)) (λ (x : Candidate). g.T.Trees.reads l.trees x c.next.new.self × (words l.trees ≡ x.label ∷ words c.next.new.self)) c.in-None.is c.next.ensures in

@@ -1,10 +1,10 @@
-use Rattle.std.proofs.Common.{◌≡◌, [], false, length}
+use Rattle.std.proofs.Common.{◌≡◌, [], length}
 use Rattle.std.specs.Prelude.{IfSome}
 use Rattle.host_core.specs.Host.{faults}
-use Rattle.file_lists.specs.Owners.{places_in}
+use Rattle.held_administration.specs.Open.{IsOpen}
 use Rattle.recorded_packages.specs.Packages.{ArePackagesOf}
 use Rattle.unwind_stack.specs.Transcript.{TellsAll}
-use Rattle.unit_reports.specs.Held.{held}
+use Rattle.unit_reports.specs.Held.{held_by}
 use Rattle.unit_reports.specs.Units.{calls_of}
 use Rattle.unit_reports.specs.Watching.{IsTold}
 use Rattle.dpkg_session.proofs.Reading.{HasReadTo}
@@ -15,18 +15,16 @@ abbrev pub invariant-loop-candidate : goal.invariant-loop-candidate
 invariant-loop-candidate g l =
     let old = g.H.Host.state l.fn.host in
     let now = g.H.Host.state l.host in
-    let before = held l.fn.database l.fn.lists l.diversions in
-    let mid = held l.database l.lists l.diversions in
+    let before = held_by l.fn.administration l.diversions in
+    let mid = held_by l.administration l.diversions in
     record {
       so_far : HasReadTo g.T.Trees.reads l.auto_deconfigure l.fn.trees l.trees l.units.items l.labels before mid old now;
       watched : IsTold g.W.Watcher.tells l.fn.watcher l.units.items l.watcher;
       no_fault : faults now ≡ faults old;
       told : TellsAll old now [] (calls_of l.units.items);
       ready : Ready mid now;
-      noting : l.database.closed ≡ false;
-      listing : l.lists.closed ≡ false;
-      kept : l.places ≡ places_in l.diversions.entries l.lists.lists;
-      indexed : IfSome l.packages (ArePackagesOf l.database.records);
+      is_open : IsOpen l.diversions.entries l.administration;
+      indexed : IfSome l.administration.packages (ArePackagesOf l.administration.database.records);
     }
 
 abbrev pub decreases-loop-candidate : goal.decreases-loop-candidate

@@ -1,5 +1,5 @@
 use Rattle.std.proofs.Common.{inr}
-use Rattle.unit_reports.specs.Held.{held}
+use Rattle.unit_reports.specs.Held.{held_by}
 use Rattle.dpkg_session.proofs.Amid.{since_read, since_unit_start}
 use Rattle.dpkg_session.proofs.Barriers.{answered_here}
 use Rattle.dpkg_session.proofs.Runs.{counts_refused, of_read, of_unread}
@@ -16,13 +16,13 @@ pub returns-in-Ok-clause-any_moment : goal.returns-in-Ok-clause-any_moment
 returns-in-Ok-clause-any_moment g c = since_read c.args.auto_deconfigure _ _ _ _ _ c.in-Ok.is c.unit_of_package.ensures.any_moment
 
 pub returns-in-Err-clause-any_moment : goal.returns-in-Err-clause-any_moment
-returns-in-Err-clause-any_moment g c = since_unit_start c.args.auto_deconfigure c.args.candidate.tree (held c.args.database.now c.args.lists.now c.args.diversions.now) (g.H.Host.state c.args.host.now)
+returns-in-Err-clause-any_moment g c = since_unit_start c.args.auto_deconfigure c.args.candidate.tree (held_by c.args.administration.now c.args.diversions.now) (g.H.Host.state c.args.host.now)
 
 pub returns-in-Ok-clause-told : goal.returns-in-Ok-clause-told
 returns-in-Ok-clause-told g c = called_read c.args.auto_deconfigure _ _ _ c.unit_of_package.result _ _ c.in-Ok.is c.unit_of_package.ensures.told
 
 pub returns-in-Err-clause-told : goal.returns-in-Err-clause-told
-returns-in-Err-clause-told g c = not_begun c.args.auto_deconfigure c.args.candidate.tree (held c.args.database.now c.args.lists.now c.args.diversions.now) c.refused.result (g.H.Host.state c.args.host.now) c.refused.ensures.calls
+returns-in-Err-clause-told g c = not_begun c.args.auto_deconfigure c.args.candidate.tree (held_by c.args.administration.now c.args.diversions.now) c.refused.result (g.H.Host.state c.args.host.now) c.refused.ensures.calls
 
 pub returns-in-Err-clause-counts : goal.returns-in-Err-clause-counts
 returns-in-Err-clause-counts g c = counts_refused _ _ c.refused.result (g.H.Host.state c.args.host.now) c.refused.ensures

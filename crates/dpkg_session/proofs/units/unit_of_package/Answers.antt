@@ -1,15 +1,22 @@
-use Rattle.std.proofs.Common.{◌∙◌}
-use Rattle.unit_reports.specs.Held.{held}
+use Rattle.std.proofs.Common.{inl, inr, ◌∙◌}
+use Rattle.unit_reports.specs.Held.{held_by}
 use Rattle.dpkg_session.proofs.Amid.{since_package_start}
 use Rattle.dpkg_session.proofs.Runs.{counts_no_memory}
 use Rattle.dpkg_session.proofs.Told.{not_begun_package}
 use Rattle.dpkg_session.proofs.units.unit_of_package.Goals as goal
 
+pub decide_and_unpack-unit-requires-clause-open : goal.decide_and_unpack-unit-requires-clause-open
+decide_and_unpack-unit-requires-clause-open g c = record { noting = c.requires.open.noting; listing = c.requires.open.listing; kept = c.requires.open.kept }
+
+pub returns-in-Ok-clause-open : goal.returns-in-Ok-clause-open
+returns-in-Ok-clause-open g c =
+    elim c.decide_and_unpack-unit.ensures.open [ inl broken ↦ inl broken | inr is ↦ inr (record { noting = is.noting; listing = is.listing; kept = is.kept }) ]
+
 pub returns-in-Err-clause-any_moment : goal.returns-in-Err-clause-any_moment
-returns-in-Err-clause-any_moment g c = since_package_start c.args.auto_deconfigure c.args.incoming (held c.args.database.now c.args.lists.now c.args.diversions.now) (g.H.Host.state c.args.host.now)
+returns-in-Err-clause-any_moment g c = since_package_start c.args.auto_deconfigure c.args.incoming (held_by c.args.administration.now c.args.diversions.now) (g.H.Host.state c.args.host.now)
 
 pub returns-in-Err-clause-told : goal.returns-in-Err-clause-told
-returns-in-Err-clause-told g c = not_begun_package c.args.auto_deconfigure c.args.incoming (held c.args.database.now c.args.lists.now c.args.diversions.now) c.broken.result _ (c.broken.ensures.told ∙ c.new.ensures.items)
+returns-in-Err-clause-told g c = not_begun_package c.args.auto_deconfigure c.args.incoming (held_by c.args.administration.now c.args.diversions.now) c.broken.result _ (c.broken.ensures.told ∙ c.new.ensures.items)
 
 pub returns-in-Err-clause-counts : goal.returns-in-Err-clause-counts
 returns-in-Err-clause-counts g c = counts_no_memory c.broken.result.reply (g.H.Host.state c.args.host.now) c.broken.ensures.reply

@@ -1,6 +1,6 @@
 use Rattle.std.proofs.Common.{ap, refl, ◌∙◌}
 use Rattle.unit_reports.specs.declared.report.Reply.TheVariants.{Broken}
-use Rattle.unit_reports.specs.Held.{held}
+use Rattle.unit_reports.specs.Held.{held_by}
 use Rattle.dpkg_session.specs.declared.displacing.UnpackEnd.{UnpackEnd}
 use Rattle.dpkg_session.proofs.Runs.{answer_not_closed, counts_answered, counts_broken, is_unpacked}
 use Rattle.dpkg_session.proofs.Told.{called_as}
@@ -11,10 +11,10 @@ returns-in-Ok-clause-unit g c =
     is_unpacked _ _ _ _ c.answered.result c.args.behind _ _ _ _ _ _ _ _ c.requires.behind.name c.requires.known c.new-calls.ensures.items c.answered.ensures.told c.in-Ok.ensures.unit c.in-Ok.ensures.order refl c.in-Ok.ensures.touched c.answered.ensures.answer
 
 pub returns-in-Ok-clause-told : goal.returns-in-Ok-clause-told
-returns-in-Ok-clause-told g c = called_as _ _ (held c.args.database.now c.args.lists.now c.args.diversions.now) _ _ _ _ _ c.new-calls.ensures.items c.answered.ensures.told c.unpack_whole.ensures.told
+returns-in-Ok-clause-told g c = called_as _ _ (held_by c.args.administration.now c.args.diversions.now) _ _ _ _ _ c.new-calls.ensures.items c.answered.ensures.told c.unpack_whole.ensures.told
 
 pub returns-in-Err-clause-told : goal.returns-in-Err-clause-told
-returns-in-Err-clause-told g c = called_as _ _ (held c.args.database.now c.args.lists.now c.args.diversions.now) _ _ _ _ _ c.new-calls.ensures.items c.broken.ensures.told c.unpack_whole.ensures.told
+returns-in-Err-clause-told g c = called_as _ _ (held_by c.args.administration.now c.args.diversions.now) _ _ _ _ _ c.new-calls.ensures.items c.broken.ensures.told c.unpack_whole.ensures.told
 
 pub returns-in-Ok-clause-counts : goal.returns-in-Ok-clause-counts
 returns-in-Ok-clause-counts g c = counts_answered _ _ _ _ _ _ _ _ c.answered.result (g.H.Host.state c.args.host.now) (g.H.Host.state c.unpack_whole.new.host) c.in-Ok.ensures.counts c.answered.ensures.answer

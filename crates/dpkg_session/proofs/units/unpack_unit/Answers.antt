@@ -1,15 +1,15 @@
 use Rattle.std.proofs.Common.{◌∙◌}
-use Rattle.unit_reports.specs.Held.{held}
+use Rattle.unit_reports.specs.Held.{held_by}
 use Rattle.dpkg_session.proofs.Amid.{since_unpack_start}
 use Rattle.dpkg_session.proofs.Runs.{counts_no_memory}
 use Rattle.dpkg_session.proofs.Told.{called_nothing}
 use Rattle.dpkg_session.proofs.units.unpack_unit.Goals as goal
 
 pub returns-in-Err-clause-any_moment : goal.returns-in-Err-clause-any_moment
-returns-in-Err-clause-any_moment g c = since_unpack_start c.args.incoming c.args.beside.now (held c.args.database.now c.args.lists.now c.args.diversions.now) (g.H.Host.state c.args.host.now)
+returns-in-Err-clause-any_moment g c = since_unpack_start c.args.incoming c.args.beside.now (held_by c.args.administration.now c.args.diversions.now) (g.H.Host.state c.args.host.now)
 
 pub returns-in-Err-clause-told : goal.returns-in-Err-clause-told
-returns-in-Err-clause-told g c = called_nothing c.args.incoming c.args.beside.now (held c.args.database.now c.args.lists.now c.args.diversions.now) _ _ (c.broken.ensures.told ∙ c.new.ensures.items)
+returns-in-Err-clause-told g c = called_nothing c.args.incoming c.args.beside.now (held_by c.args.administration.now c.args.diversions.now) _ _ (c.broken.ensures.told ∙ c.new.ensures.items)
 
 pub returns-in-Err-clause-counts : goal.returns-in-Err-clause-counts
 returns-in-Err-clause-counts g c = counts_no_memory c.broken.result.reply (g.H.Host.state c.args.host.now) c.broken.ensures.reply

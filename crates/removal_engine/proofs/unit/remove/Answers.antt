@@ -5,7 +5,7 @@ use Rattle.texts.specs.PackageNames.{is_package_name}
 use Rattle.host_core.specs.Host.{AtEachMomentOf}
 use Rattle.file_lists.specs.Filed.{Filed}
 use Rattle.status_db.specs.declared.record.Record.{Record}
-use Rattle.unit_stages.specs.Holding.{holding}
+use Rattle.unit_stages.specs.Holding.{holding, holding_of}
 use Rattle.removal_engine.specs.Extents.{BeginsFrom}
 use Rattle.removal_engine.specs.Stages.{Planned}
 use Rattle.removal_engine.specs.Units.{HasCalled, HasRemoved, IsAmidUnit, IsPlanOf, given}
@@ -23,13 +23,13 @@ pub run_stages-requires-clause-named : goal.run_stages-requires-clause-named
 run_stages-requires-clause-named g c =
     let r = c.unwrap-entry.result.now in
     let found = sym c.get.ensures ∙ ap option_copied c.unwrap-entry.ensures in
-    ap is_package_name (sym (is_named c.args.database.now.records c.args.name.now r found)) ∙ named r
+    ap is_package_name (sym (is_named c.args.administration.now.database.records c.args.name.now r found)) ∙ named r
 
 pub run_stages-requires-clause-fit : goal.run_stages-requires-clause-fit
 run_stages-requires-clause-fit g c =
     let r = c.unwrap-entry.result.now in
     let name = c.args.name.now in
-    let rs = c.args.database.now.records in
+    let rs = c.args.administration.now.database.records in
     let ls = c.index.new.self.lists in
     let plan = c.in-Ok.ensures.planned in
     let found = sym c.get.ensures ∙ ap option_copied c.unwrap-entry.ensures in
@@ -50,13 +50,13 @@ returns-in-Ok-clause-unit g c =
     let new = g.H.Host.state c.run_stages.new.host in
     let told = c.args.told.now.items in
     let now = c.run_stages.new.told.items in
-    let at = λ (f : Filed). given c.args.extent c.args.name.now c.args.diversions.now.entries (holding c.args.database.now f) in
+    let at = λ (f : Filed). given c.args.extent c.args.name.now c.args.diversions.now.entries (holding c.args.administration.now.database f) in
     let found = sym c.get.ensures ∙ ap option_copied c.unwrap-entry.ensures in
     let plan : IsPlanOf (at c.index.new.self) old.world mid.honest c.in-Ok.stages.items = record { entry = c.unwrap-entry.result.now; found = found; plan = c.in-Ok.ensures.planned } in
-    let after = holding c.run_stages.new.database c.run_stages.new.lists in
+    let after = holding_of c.run_stages.new.administration in
     let r = c.unwrap-entry.result.now in
     let name = c.args.name.now in
-    let rs = c.args.database.now.records in
+    let rs = c.args.administration.now.database.records in
     let ls = c.index.new.self.lists in
     let planned = c.in-Ok.ensures.planned in
     let fit = stages_fit name c.in-Ok.stages.items rs ls
@@ -72,13 +72,13 @@ pub returns-in-Ok-clause-end : goal.returns-in-Ok-clause-end
 returns-in-Ok-clause-end g c =
     let r = c.unwrap-entry.result.now in
     let name = c.args.name.now in
-    let rs = c.args.database.now.records in
+    let rs = c.args.administration.now.database.records in
     let plan = c.in-Ok.ensures.planned in
     let found = sym c.get.ensures ∙ ap option_copied c.unwrap-entry.ensures in
     let same = one_record r c.requires.removable.entry (sym found ∙ c.requires.removable.found) in
     if_ok_one c.run_stages.result _ _ (λ failed run.
     has_ended c.args.diversions.now.entries c.index.new.self.lists plan.stored r plan.to_come name (is_named rs name r found) c.args.extent c.in-Ok.stages.items plan.are
-    (subst (λ (x : Record). BeginsFrom c.args.extent x.state) (sym same) c.requires.removable.begins) failed (holding c.args.database.now c.index.new.self) (holding c.run_stages.new.database c.run_stages.new.lists)
+    (subst (λ (x : Record). BeginsFrom c.args.extent x.state) (sym same) c.requires.removable.begins) failed (holding c.args.administration.now.database c.index.new.self) (holding_of c.run_stages.new.administration)
     (g.H.Host.state c.plan.new.host) (g.H.Host.state c.run_stages.new.host) c.args.told.now.items c.run_stages.new.told.items found run)
     c.run_stages.ensures.ran
 
@@ -89,7 +89,7 @@ returns-in-Ok-clause-told g c =
     let new = g.H.Host.state c.run_stages.new.host in
     let told = c.args.told.now.items in
     let now = c.run_stages.new.told.items in
-    let at = λ (f : Filed). given c.args.extent c.args.name.now c.args.diversions.now.entries (holding c.args.database.now f) in
+    let at = λ (f : Filed). given c.args.extent c.args.name.now c.args.diversions.now.entries (holding c.args.administration.now.database f) in
     let found = sym c.get.ensures ∙ ap option_copied c.unwrap-entry.ensures in
     let plan : IsPlanOf (at c.index.new.self) old.world mid.honest c.in-Ok.stages.items = record { entry = c.unwrap-entry.result.now; found = found; plan = c.in-Ok.ensures.planned } in
     subst (λ (f : Filed). HasCalled (at f) old new told now) c.index.ensures
@@ -100,7 +100,7 @@ returns-in-Ok-clause-any_moment g c =
     let old = g.H.Host.state c.args.host.now in
     let mid = g.H.Host.state c.plan.new.host in
     let new = g.H.Host.state c.run_stages.new.host in
-    let at = λ (f : Filed). given c.args.extent c.args.name.now c.args.diversions.now.entries (holding c.args.database.now f) in
+    let at = λ (f : Filed). given c.args.extent c.args.name.now c.args.diversions.now.entries (holding c.args.administration.now.database f) in
     let found = sym c.get.ensures ∙ ap option_copied c.unwrap-entry.ensures in
     let plan : IsPlanOf (at c.index.new.self) old.world mid.honest c.in-Ok.stages.items = record { entry = c.unwrap-entry.result.now; found = found; plan = c.in-Ok.ensures.planned } in
     subst (λ (f : Filed). AtEachMomentOf (IsAmidUnit (at f)) old new) c.index.ensures
@@ -108,4 +108,4 @@ returns-in-Ok-clause-any_moment g c =
 
 pub returns-in-Err-clause-any_moment : goal.returns-in-Err-clause-any_moment
 returns-in-Err-clause-any_moment g c =
-    only_looked (g.H.Host.state c.args.host.now) (g.H.Host.state c.plan.new.host) c.plan.ensures.reads c.plan.ensures.silent (given c.args.extent c.args.name.now c.args.diversions.now.entries (holding c.args.database.now c.args.lists.now))
+    only_looked (g.H.Host.state c.args.host.now) (g.H.Host.state c.plan.new.host) c.plan.ensures.reads c.plan.ensures.silent (given c.args.extent c.args.name.now c.args.diversions.now.entries (holding_of c.args.administration.now))

@@ -2,14 +2,14 @@ use Rattle.std.proofs.Common.{ap, inl, inr, refl, ◌∙◌}
 use Rattle.host_core.specs.declared.call.Call.{Call}
 use Rattle.std.specs.Prelude.{Option}
 use Rattle.unit_reports.specs.declared.report.Reply.TheVariants.{Broken}
-use Rattle.unit_reports.specs.Held.{held}
+use Rattle.unit_reports.specs.Held.{held_by}
 use Rattle.removal_run.proofs.Removals.{called_as, is_removal}
 use Rattle.removal_run.proofs.Replies.{answer_not_closed, counts_answered, counts_broken, fault_not_closed}
 use Rattle.removal_run.proofs.units.remove_named.Goals as goal
 
 pub returns-in-Ok-clause-unit : goal.returns-in-Ok-clause-unit
 returns-in-Ok-clause-unit g c =
-    is_removal c.args.purge _ _ (held c.args.database.now c.args.lists.now c.args.diversions.now) (held c.remove_to_disk.new.database c.remove_to_disk.new.lists c.args.diversions.now) c.answered.result _ _ _ _ c.new-calls.ensures.items c.answered.ensures.told c.in-Ok.ensures.unit c.in-Ok.ensures.order refl c.answered.ensures.answer
+    is_removal c.args.purge _ _ (held_by c.args.administration.now c.args.diversions.now) (held_by c.remove_to_disk.new.administration c.args.diversions.now) c.answered.result _ _ _ _ c.new-calls.ensures.items c.answered.ensures.told c.in-Ok.ensures.unit c.in-Ok.ensures.order refl c.answered.ensures.answer
 
 pub returns-in-Ok-clause-answered : goal.returns-in-Ok-clause-answered
 returns-in-Ok-clause-answered g c = inr (inl c.in-Ok.ensures.on_disk)

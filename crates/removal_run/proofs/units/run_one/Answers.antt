@@ -1,5 +1,5 @@
 use Rattle.std.proofs.Common.{rules, ◌≡◌, ◌++◌, ◌∷◌, [], refl, ◌∙◌}
-use Rattle.unit_reports.specs.Held.{held}
+use Rattle.unit_reports.specs.Held.{held_by}
 use Rattle.removal_run.proofs.Calling.{removing_tells}
 use Rattle.removal_run.proofs.Removals.{called_none, since_removal_start, tells_unit}
 use Rattle.removal_run.proofs.Replies.{broken_by, counts_no_memory, counts_whole, is_broken_off, is_whole, no_memory_not_closed, not_broken}
@@ -19,14 +19,8 @@ returns-clause-ok g c =
       };
     }
 
-pub returns-clause-noting : goal.returns-clause-noting
-returns-clause-noting g c = not_broken c.remove_named-unit.result.reply c.is_broken.result c.if-is_broken.false c.is_broken.ensures c.remove_named-unit.ensures.noting
-
-pub returns-clause-listing : goal.returns-clause-listing
-returns-clause-listing g c = not_broken c.remove_named-unit.result.reply c.is_broken.result c.if-is_broken.false c.is_broken.ensures c.remove_named-unit.ensures.listing
-
-pub returns-clause-kept : goal.returns-clause-kept
-returns-clause-kept g c = not_broken c.remove_named-unit.result.reply c.is_broken.result c.if-is_broken.false c.is_broken.ensures c.remove_named-unit.ensures.kept
+pub returns-clause-open : goal.returns-clause-open
+returns-clause-open g c = not_broken c.remove_named-unit.result.reply c.is_broken.result c.if-is_broken.false c.is_broken.ensures c.remove_named-unit.ensures.open
 
 pub returns-clause-others : goal.returns-clause-others
 returns-clause-others g c = not_broken c.remove_named-unit.result.reply c.is_broken.result c.if-is_broken.false c.is_broken.ensures c.remove_named-unit.ensures.others
@@ -39,13 +33,13 @@ returns-clause-told g c =
     (removing_tells _ _ _ (g.H.Host.state c.args.host.now) (g.H.Host.state c.remove_named-unit.new.host) _ _ c.remove_named-unit.ensures.told)
 
 pub returns-then-is_err-clause-any_moment : goal.returns-then-is_err-clause-any_moment
-returns-then-is_err-clause-any_moment g c = since_removal_start c.args.purge c.args.«package» (held c.args.database.now c.args.lists.now c.args.diversions.now) (g.H.Host.state c.args.host.now)
+returns-then-is_err-clause-any_moment g c = since_removal_start c.args.purge c.args.«package» (held_by c.args.administration.now c.args.diversions.now) (g.H.Host.state c.args.host.now)
 
 pub returns-then-is_err-clause-broken_off : goal.returns-then-is_err-clause-broken_off
 returns-then-is_err-clause-broken_off g c = record {
   broken = broken_by _ c.broken.result.reply c.broken.ensures.reply;
   untouched = c.broken.ensures.touched;
-  called = called_none c.args.purge c.args.«package» (held c.args.database.now c.args.lists.now c.args.diversions.now) (g.H.Host.state c.args.host.now) c.broken.result.calls.items (c.broken.ensures.told ∙ c.new.ensures.items);
+  called = called_none c.args.purge c.args.«package» (held_by c.args.administration.now c.args.diversions.now) (g.H.Host.state c.args.host.now) c.broken.result.calls.items (c.broken.ensures.told ∙ c.new.ensures.items);
 }
 
 pub returns-then-is_broken-clause-broken_off : goal.returns-then-is_broken-clause-broken_off

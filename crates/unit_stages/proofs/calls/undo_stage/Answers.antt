@@ -8,40 +8,40 @@ use Rattle.unit_stages.proofs.Tellings.{nothing_done, undo_told}
 use Rattle.unit_stages.proofs.calls.undo_stage.Goals as goal
 
 pub do_and_keep-requires-clause-order : goal.do_and_keep-requires-clause-order
-do_and_keep-requires-clause-order g c = order_after c.args.places.now c.args.database.now c.args.lists.now.lists (g.H.Host.state c.args.host.now) (g.H.Host.state c.undo_call.new.host) c.requires.order c.undo_call.ensures.any_moment
+do_and_keep-requires-clause-order g c = order_after c.args.administration.now.places c.args.administration.now.database c.args.administration.now.lists.lists (g.H.Host.state c.args.host.now) (g.H.Host.state c.undo_call.new.host) c.requires.order c.undo_call.ensures.any_moment
 
 pub do_and_keep-requires-clause-settleable : goal.do_and_keep-requires-clause-settleable
 do_and_keep-requires-clause-settleable g c = λ h. none_settleable c.args.restore.items (g.H.Host.state c.undo_call.new.host).world (c.requires.settled (c.undo_call.ensures.any_moment.honest h))
 
 pub returns-in-Ok-true-clause-order : goal.returns-in-Ok-true-clause-order
-returns-in-Ok-true-clause-order g c = order_after c.args.places.now c.args.database.now c.args.lists.now.lists (g.H.Host.state c.args.host.now) (g.H.Host.state c.undo_call.new.host) c.requires.order c.undo_call.ensures.any_moment
+returns-in-Ok-true-clause-order g c = order_after c.args.administration.now.places c.args.administration.now.database c.args.administration.now.lists.lists (g.H.Host.state c.args.host.now) (g.H.Host.state c.undo_call.new.host) c.requires.order c.undo_call.ensures.any_moment
 
 pub returns-in-Ok-true-clause-told : goal.returns-in-Ok-true-clause-told
-returns-in-Ok-true-clause-told g c = undo_told (is_kept c.args.places.now) c.args.row.now _ _ _ _ _ c.undo_call.ensures.told (nothing_done (g.H.Host.state c.undo_call.new.host))
+returns-in-Ok-true-clause-told g c = undo_told (is_kept c.args.administration.now.places) c.args.row.now _ _ _ _ _ c.undo_call.ensures.told (nothing_done (g.H.Host.state c.undo_call.new.host))
 
 pub returns-in-Ok-true-clause-any_moment : goal.returns-in-Ok-true-clause-any_moment
 returns-in-Ok-true-clause-any_moment g c =
     let a = g.H.Host.state c.args.host.now in
     let b = g.H.Host.state c.undo_call.new.host in
-    since_called c.args.name.now c.args.diversions.now.entries c.args.database.now c.args.lists.now c.args.restore.items a b c.requires.order
-    (subst (λ l. Since (OnlyScripts (is_kept l) a.world) a b) c.requires.kept c.undo_call.ensures.any_moment)
+    since_called c.args.name.now c.args.diversions.now.entries c.args.administration.now.database c.args.administration.now.lists c.args.restore.items a b c.requires.order
+    (subst (λ l. Since (OnlyScripts (is_kept l) a.world) a b) c.requires.open.kept c.undo_call.ensures.any_moment)
 
 pub returns-in-Ok-false-clause-told : goal.returns-in-Ok-false-clause-told
-returns-in-Ok-false-clause-told g c = undo_told (is_kept c.args.places.now) c.args.row.now _ _ _ _ _ c.undo_call.ensures.told c.do_and_keep.ensures.silent
+returns-in-Ok-false-clause-told g c = undo_told (is_kept c.args.administration.now.places) c.args.row.now _ _ _ _ _ c.undo_call.ensures.told c.do_and_keep.ensures.silent
 
 pub returns-in-Ok-false-clause-any_moment : goal.returns-in-Ok-false-clause-any_moment
 returns-in-Ok-false-clause-any_moment g c =
     let a = g.H.Host.state c.args.host.now in
     let b = g.H.Host.state c.undo_call.new.host in
-    since_restored c.args.name.now c.args.diversions.now.entries c.args.database.now c.args.lists.now c.args.restore.items a b (g.H.Host.state c.do_and_keep.new.host) c.requires.order
-    (subst (λ l. Since (OnlyScripts (is_kept l) a.world) a b) c.requires.kept c.undo_call.ensures.any_moment) c.do_and_keep.ensures.silent c.do_and_keep.ensures.any_moment
+    since_restored c.args.name.now c.args.diversions.now.entries c.args.administration.now.database c.args.administration.now.lists c.args.restore.items a b (g.H.Host.state c.do_and_keep.new.host) c.requires.order
+    (subst (λ l. Since (OnlyScripts (is_kept l) a.world) a b) c.requires.open.kept c.undo_call.ensures.any_moment) c.do_and_keep.ensures.silent c.do_and_keep.ensures.any_moment
 
 pub returns-in-Err-clause-told : goal.returns-in-Err-clause-told
-returns-in-Err-clause-told g c = undo_told (is_kept c.args.places.now) c.args.row.now _ _ _ _ _ c.undo_call.ensures.told (nothing_done (g.H.Host.state c.undo_call.new.host))
+returns-in-Err-clause-told g c = undo_told (is_kept c.args.administration.now.places) c.args.row.now _ _ _ _ _ c.undo_call.ensures.told (nothing_done (g.H.Host.state c.undo_call.new.host))
 
 pub returns-in-Err-clause-any_moment : goal.returns-in-Err-clause-any_moment
 returns-in-Err-clause-any_moment g c =
     let a = g.H.Host.state c.args.host.now in
     let b = g.H.Host.state c.undo_call.new.host in
-    since_called c.args.name.now c.args.diversions.now.entries c.args.database.now c.args.lists.now c.args.restore.items a b c.requires.order
-    (subst (λ l. Since (OnlyScripts (is_kept l) a.world) a b) c.requires.kept c.undo_call.ensures.any_moment)
+    since_called c.args.name.now c.args.diversions.now.entries c.args.administration.now.database c.args.administration.now.lists c.args.restore.items a b c.requires.order
+    (subst (λ l. Since (OnlyScripts (is_kept l) a.world) a b) c.requires.open.kept c.undo_call.ensures.any_moment)

@@ -9,20 +9,20 @@ use Rattle.unit_stages.proofs.parts.do_and_keep.Goals as goal
 
 pub keep_places-requires-clause-had : goal.keep_places-requires-clause-had
 keep_places-requires-clause-had g c =
-    let had = c.args.lists.now.lists in
+    let had = c.args.administration.now.lists.lists in
     let name = c.args.name.now in
     record {
       before = had;
       sound = c.law.ensures;
       same = subst (AreSameBeside name had) (sym c.in_ok-do_parts.ensures.lists) (parts_beside name c.args.parts.items had);
-      is = c.requires.kept;
+      is = c.requires.open.kept;
     }
 
 pub keep_places-requires-clause-unwritten : goal.keep_places-requires-clause-unwritten
 keep_places-requires-clause-unwritten g c = λ written.
     let none : list_any is_listing c.args.parts.items ≡ false = ap (list_any is_listing) (sym c.as_slice.ensures.value) ∙ sym c.have_listing-written.ensures ∙ written in
-    c.requires.kept
-    ∙ ap (places_in c.args.diversions.now.entries) (sym (unlisted c.args.name.now c.args.parts.items c.args.lists.now.lists none))
+    c.requires.open.kept
+    ∙ ap (places_in c.args.diversions.now.entries) (sym (unlisted c.args.name.now c.args.parts.items c.args.administration.now.lists.lists none))
     ∙ ap (places_in c.args.diversions.now.entries) (sym c.in_ok-do_parts.ensures.lists)
 
 pub returns-clause-done : goal.returns-clause-done

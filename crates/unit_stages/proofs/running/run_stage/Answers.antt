@@ -1,5 +1,5 @@
 use Rattle.std.proofs.Common.{[], ◌∷◌}
-use Rattle.unit_stages.specs.Holding.{holding}
+use Rattle.unit_stages.specs.Holding.{holding_of}
 use Rattle.unit_stages.specs.Runs.{HasCalled, HaveRun}
 use Rattle.unit_stages.proofs.Moments.{since_parts, since_stage}
 use Rattle.unit_stages.proofs.RunLaws.{if_ok_one, stage_ran}
@@ -11,9 +11,9 @@ returns-in-Ok-clause-ran g c =
     let name = c.args.name.now in
     let entries = c.args.diversions.now.entries in
     let stage = c.args.stage in
-    let before = holding c.args.database.now c.args.lists.now in
-    let mid = holding c.do_and_keep.new.database c.do_and_keep.new.lists in
-    let after = holding c.call_stage.new.database c.call_stage.new.lists in
+    let before = holding_of c.args.administration.now in
+    let mid = holding_of c.do_and_keep.new.administration in
+    let after = holding_of c.call_stage.new.administration in
     let s = g.H.Host.state c.args.host.now in
     let ready = g.H.Host.state c.do_and_keep.new.host in
     let t = g.H.Host.state c.call_stage.new.host in
@@ -27,7 +27,7 @@ returns-in-Ok-clause-told g c = stage_told c.args.stage _ _ _ c.do_and_keep.ensu
 
 pub returns-in-Ok-clause-any_moment : goal.returns-in-Ok-clause-any_moment
 returns-in-Ok-clause-any_moment g c =
-    since_stage c.args.name.now c.args.diversions.now.entries c.args.stage (holding c.args.database.now c.args.lists.now) (holding c.do_and_keep.new.database c.do_and_keep.new.lists)
+    since_stage c.args.name.now c.args.diversions.now.entries c.args.stage (holding_of c.args.administration.now) (holding_of c.do_and_keep.new.administration)
     (g.H.Host.state c.args.host.now) (g.H.Host.state c.do_and_keep.new.host) (g.H.Host.state c.call_stage.new.host) c.in-Ok.ensures.left c.in-Ok.ensures.done c.do_and_keep.ensures.any_moment c.call_stage.ensures.any_moment
 
 pub returns-in-Err-clause-told : goal.returns-in-Err-clause-told
@@ -35,4 +35,4 @@ returns-in-Err-clause-told g c = parts_told c.args.stage _ _ _ c.do_and_keep.ens
 
 pub returns-in-Err-clause-any_moment : goal.returns-in-Err-clause-any_moment
 returns-in-Err-clause-any_moment g c =
-    since_parts c.args.name.now c.args.diversions.now.entries c.args.stage (holding c.args.database.now c.args.lists.now) (g.H.Host.state c.args.host.now) (g.H.Host.state c.do_and_keep.new.host) c.do_and_keep.ensures.silent c.do_and_keep.ensures.any_moment
+    since_parts c.args.name.now c.args.diversions.now.entries c.args.stage (holding_of c.args.administration.now) (g.H.Host.state c.args.host.now) (g.H.Host.state c.do_and_keep.new.host) c.do_and_keep.ensures.silent c.do_and_keep.ensures.any_moment

@@ -1,7 +1,7 @@
 use Rattle.std.proofs.Common.{◌≡◌, List, [], ◌∷◌, ◌++◌, Option, Some, None, refl, sym, subst, ◌∙◌, append_assoc, rules}
 use Rattle.host_core.specs.declared.call.Call.{Call}
 use Rattle.unit_stages.specs.Fitting.{AreStagesFit, AreStagesSettleable, IsStageFit}
-use Rattle.unit_stages.specs.Holding.{Holding, holding}
+use Rattle.unit_stages.specs.Holding.{Holding, holding, holding_of}
 use Rattle.unit_stages.specs.Runs.{HaveRun}
 use Rattle.unit_stages.specs.declared.stage.Stage.{Stage}
 use Rattle.unit_stages.proofs.RunLaws.{run_ended, run_left, run_made, run_on}
@@ -12,15 +12,13 @@ use Rattle.unit_stages.proofs.running.run_stages.Goals as goal
 pub loop-stage-init : goal.loop-stage-init
 loop-stage-init g c =
     let a = g.H.Host.state c.args.host.now in
-    let d = c.args.database.now in
-    let f = c.args.lists.now in
+    let d = c.args.administration.now.database in
+    let f = c.args.administration.now.lists in
     record {
       left = search rules;
       ran = (refl, refl {a = holding d f}, refl {a = a}, refl {a = c.args.told.now.items});
       order = c.requires.order;
-      kept = c.requires.kept;
-      noting = c.requires.noting;
-      listing = c.requires.listing;
+      is_open = c.requires.open;
       any_moment = run_starts c.args.name.now c.args.diversions.now.entries c.args.stages.items (holding d f) d f a refl c.requires.order;
       counts = refl;
     }
@@ -29,8 +27,8 @@ pub run_stage-requires-clause-fit : goal.run_stage-requires-clause-fit
 run_stage-requires-clause-fit g c =
     let name = c.args.name.now in
     let entries = c.args.diversions.now.entries in
-    let before = holding c.args.database.now c.args.lists.now in
-    let mid = holding c.loop-stage.database c.loop-stage.lists in
+    let before = holding_of c.args.administration.now in
+    let mid = holding_of c.loop-stage.administration in
     let stage = c.in-Some.stage in
     let walk : c.args.stages.items ≡ c.loop-stage.yielded ++ stage ∷ c.next.new.self.rest.items = search rules in
     subst (λ (h : Holding). IsStageFit name stage h.records h.lists)
@@ -43,7 +41,7 @@ run_stage-requires-clause-settleable g c = λ h.
     let b = g.H.Host.state c.loop-stage.host in
     let walk : c.args.stages.items ≡ c.loop-stage.yielded ++ c.in-Some.stage ∷ c.next.new.self.rest.items = search rules in
     stage_settleable c.next.new.self.rest.items c.in-Some.stage a.world b.world c.loop-stage.yielded
-    (unmoved c.args.name.now c.args.diversions.now.entries c.loop-stage.yielded (holding c.args.database.now c.args.lists.now) (holding c.loop-stage.database c.loop-stage.lists) a b c.args.told.now.items c.loop-stage.told.items c.loop-stage.invariant.ran)
+    (unmoved c.args.name.now c.args.diversions.now.entries c.loop-stage.yielded (holding_of c.args.administration.now) (holding_of c.loop-stage.administration) a b c.args.told.now.items c.loop-stage.told.items c.loop-stage.invariant.ran)
     (subst (λ (l : List Stage). AreStagesSettleable l a.world) walk (c.requires.settleable (c.loop-stage.invariant.any_moment.honest h)))
 
 pub run_stage-requires-clause-settled : goal.run_stage-requires-clause-settled
@@ -58,8 +56,8 @@ pub returns-in_err-call-clause-told : goal.returns-in_err-call-clause-told
 returns-in_err-call-clause-told g c =
     let a = g.H.Host.state c.args.host.now in
     let b = g.H.Host.state c.loop-stage.host in
-    let before = holding c.args.database.now c.args.lists.now in
-    let mid = holding c.loop-stage.database c.loop-stage.lists in
+    let before = holding_of c.args.administration.now in
+    let mid = holding_of c.loop-stage.administration in
     let walk : c.args.stages.items ≡ c.loop-stage.yielded ++ c.in-Some.stage ∷ c.next.new.self.rest.items = search rules in
     run_told c.args.stages.items c.loop-stage.yielded c.next.new.self.rest.items c.in-Some.stage a b (g.H.Host.state c.run_stage.new.host) c.args.told.now.items c.loop-stage.told.items c.run_stage.new.told.items walk
     (run_made c.args.name.now c.args.diversions.now.entries c.loop-stage.yielded None before mid a b c.args.told.now.items c.loop-stage.told.items c.loop-stage.invariant.ran) c.run_stage.ensures.told
@@ -68,8 +66,8 @@ pub returns-in_err-call-clause-any_moment : goal.returns-in_err-call-clause-any_
 returns-in_err-call-clause-any_moment g c =
     let a = g.H.Host.state c.args.host.now in
     let b = g.H.Host.state c.loop-stage.host in
-    let before = holding c.args.database.now c.args.lists.now in
-    let mid = holding c.loop-stage.database c.loop-stage.lists in
+    let before = holding_of c.args.administration.now in
+    let mid = holding_of c.loop-stage.administration in
     let walk : c.args.stages.items ≡ c.loop-stage.yielded ++ c.in-Some.stage ∷ c.next.new.self.rest.items = search rules in
     run_goes_on c.args.name.now c.args.diversions.now.entries c.args.stages.items before c.loop-stage.yielded c.next.new.self.rest.items c.in-Some.stage walk mid a b (g.H.Host.state c.run_stage.new.host) c.args.told.now.items c.loop-stage.told.items
     c.loop-stage.invariant.ran c.loop-stage.invariant.any_moment c.run_stage.ensures.any_moment
@@ -81,9 +79,9 @@ returns-in-Some-2-clause-ran g c =
     let a = g.H.Host.state c.args.host.now in
     let b = g.H.Host.state c.loop-stage.host in
     let d = g.H.Host.state c.run_stage.new.host in
-    let before = holding c.args.database.now c.args.lists.now in
-    let mid = holding c.loop-stage.database c.loop-stage.lists in
-    let after = holding c.run_stage.new.database c.run_stage.new.lists in
+    let before = holding_of c.args.administration.now in
+    let mid = holding_of c.loop-stage.administration in
+    let after = holding_of c.run_stage.new.administration in
     let stage = c.in-Some.stage in
     let rest = c.next.new.self.rest.items in
     let told = c.args.told.now.items in
@@ -100,8 +98,8 @@ pub returns-in-Some-2-clause-told : goal.returns-in-Some-2-clause-told
 returns-in-Some-2-clause-told g c =
     let a = g.H.Host.state c.args.host.now in
     let b = g.H.Host.state c.loop-stage.host in
-    let before = holding c.args.database.now c.args.lists.now in
-    let mid = holding c.loop-stage.database c.loop-stage.lists in
+    let before = holding_of c.args.administration.now in
+    let mid = holding_of c.loop-stage.administration in
     let walk : c.args.stages.items ≡ c.loop-stage.yielded ++ c.in-Some.stage ∷ c.next.new.self.rest.items = search rules in
     run_told c.args.stages.items c.loop-stage.yielded c.next.new.self.rest.items c.in-Some.stage a b (g.H.Host.state c.run_stage.new.host) c.args.told.now.items c.loop-stage.told.items c.run_stage.new.told.items walk
     (run_made c.args.name.now c.args.diversions.now.entries c.loop-stage.yielded None before mid a b c.args.told.now.items c.loop-stage.told.items c.loop-stage.invariant.ran) c.run_stage.ensures.told
@@ -110,8 +108,8 @@ pub returns-in-Some-2-clause-any_moment : goal.returns-in-Some-2-clause-any_mome
 returns-in-Some-2-clause-any_moment g c =
     let a = g.H.Host.state c.args.host.now in
     let b = g.H.Host.state c.loop-stage.host in
-    let before = holding c.args.database.now c.args.lists.now in
-    let mid = holding c.loop-stage.database c.loop-stage.lists in
+    let before = holding_of c.args.administration.now in
+    let mid = holding_of c.loop-stage.administration in
     let walk : c.args.stages.items ≡ c.loop-stage.yielded ++ c.in-Some.stage ∷ c.next.new.self.rest.items = search rules in
     run_goes_on c.args.name.now c.args.diversions.now.entries c.args.stages.items before c.loop-stage.yielded c.next.new.self.rest.items c.in-Some.stage walk mid a b (g.H.Host.state c.run_stage.new.host) c.args.told.now.items c.loop-stage.told.items
     c.loop-stage.invariant.ran c.loop-stage.invariant.any_moment c.run_stage.ensures.any_moment
@@ -124,9 +122,9 @@ loop-stage-preserved g c =
     let a = g.H.Host.state c.args.host.now in
     let b = g.H.Host.state c.loop-stage.host in
     let d = g.H.Host.state c.run_stage.new.host in
-    let before = holding c.args.database.now c.args.lists.now in
-    let mid = holding c.loop-stage.database c.loop-stage.lists in
-    let after = holding c.run_stage.new.database c.run_stage.new.lists in
+    let before = holding_of c.args.administration.now in
+    let mid = holding_of c.loop-stage.administration in
+    let after = holding_of c.run_stage.new.administration in
     let stage = c.in-Some.stage in
     let told = c.args.told.now.items in
     let more = c.loop-stage.told.items in
@@ -137,9 +135,7 @@ loop-stage-preserved g c =
       left = walk ∙ sym (append_assoc c.loop-stage.yielded (stage ∷ []) c.next.new.self.rest.items);
       ran = run_on name entries c.loop-stage.yielded (stage ∷ []) None before mid after a b d told more now inv.ran one;
       order = c.in_ok-call.ensures.order;
-      kept = c.in_ok-call.ensures.kept;
-      noting = c.in_ok-call.ensures.noting;
-      listing = c.in_ok-call.ensures.listing;
+      is_open = c.in_ok-call.ensures.open;
       any_moment = run_goes_on name entries c.args.stages.items before c.loop-stage.yielded c.next.new.self.rest.items stage walk mid a b d told more inv.ran inv.any_moment c.run_stage.ensures.any_moment;
       counts = c.in_ok-call.ensures.counts ∙ inv.counts;
     }
@@ -148,7 +144,7 @@ pub returns-clause-told : goal.returns-clause-told
 returns-clause-told g c =
     let a = g.H.Host.state c.args.host.now in
     let b = g.H.Host.state c.loop-stage.host in
-    let before = holding c.args.database.now c.args.lists.now in
-    let mid = holding c.loop-stage.database c.loop-stage.lists in
+    let before = holding_of c.args.administration.now in
+    let mid = holding_of c.loop-stage.administration in
     passed_told c.args.stages.items c.loop-stage.yielded c.loop-stage.stage-iterator.rest.items a b c.args.told.now.items c.loop-stage.told.items c.loop-stage.invariant.left
     (run_made c.args.name.now c.args.diversions.now.entries c.loop-stage.yielded None before mid a b c.args.told.now.items c.loop-stage.told.items c.loop-stage.invariant.ran)

@@ -7,7 +7,7 @@ use Rattle.stack_run.specs.Ended.{ended_as}
 use Rattle.stack_run.specs.declared.unwinding.Unwinding.{Unwinding}
 use Rattle.status_db.specs.Records.{record_in}
 use Rattle.unpack_rows.specs.EndStates.{own_name}
-use Rattle.unpack_engine.specs.Courses.{changes_from, ended_lists, ended_records, ended_table, records_from}
+use Rattle.unpack_engine.specs.Endings.{changes_from, ended_lists, ended_records, ended_table, records_from}
 use Rattle.unpack_engine.specs.Touched.{AreTold, deconfigured}
 use Rattle.unpack_engine.specs.Units.{HasDropped, HasLeft, MayDrop, MayLeave, MayLeaveBy}
 use Rattle.unpack_engine.proofs.Dropping.{dropped_kept, laying_kept}
@@ -20,19 +20,19 @@ moved P n own y ys u same_name same_yields none has = subst (P own ys) (sym none
 
 pub returns-in-Ok-clause-told : goal.returns-in-Ok-clause-told
 returns-in-Ok-clause-told g c =
-    moved (λ n y u. AreTold n (ended_records (ended_as u) (records_from n y c.args.diversions.now.entries c.args.lists.now.lists c.args.works.now c.args.rest c.args.database.now.records) ++ deconfigured c.finish_committed.new.database.records c.args.rows.now.others.items) c.in-Ok.touched)
+    moved (λ n y u. AreTold n (ended_records (ended_as u) (records_from n y c.args.diversions.now.entries c.args.lists.now.lists c.args.works.now c.args.commit c.args.database.now.records) ++ deconfigured c.finish_committed.new.database.records c.args.rows.now.others.items) c.in-Ok.touched)
     c.name-name.result.now _ c.as_slice-yields.result.now _ c.args.unwinding c.name-name.ensures c.as_slice-yields.ensures c.in-None.is
-    (subst (λ os. AreTold c.name-name.result.now (records_from c.name-name.result.now c.as_slice-yields.result.now c.args.diversions.now.entries c.args.lists.now.lists c.args.works.now c.args.rest c.args.database.now.records ++ deconfigured c.finish_committed.new.database.records os) c.in-Ok.touched)
+    (subst (λ os. AreTold c.name-name.result.now (records_from c.name-name.result.now c.as_slice-yields.result.now c.args.diversions.now.entries c.args.lists.now.lists c.args.works.now c.args.commit c.args.database.now.records ++ deconfigured c.finish_committed.new.database.records os) c.in-Ok.touched)
     c.as_slice-others.ensures.value c.in-Ok.ensures.told)
 
 pub returns-in-Ok-clause-lists : goal.returns-in-Ok-clause-lists
 returns-in-Ok-clause-lists g c =
-    moved (λ n y u. c.finish_committed.new.lists ≡ record c.args.lists.now { lists = ended_lists (ended_as u) (changes_from n y c.args.diversions.now.entries c.args.lists.now.lists c.args.works.now c.args.rest) c.args.diversions.now.entries c.args.lists.now.lists })
+    moved (λ n y u. c.finish_committed.new.lists ≡ record c.args.lists.now { lists = ended_lists (ended_as u) (changes_from n y c.args.diversions.now.entries c.args.lists.now.lists c.args.works.now c.args.commit) c.args.diversions.now.entries c.args.lists.now.lists })
     c.name-name.result.now _ c.as_slice-yields.result.now _ c.args.unwinding c.name-name.ensures c.as_slice-yields.ensures c.in-None.is c.in-Ok.ensures.lists
 
 pub returns-in-Ok-clause-records : goal.returns-in-Ok-clause-records
 returns-in-Ok-clause-records g c =
-    moved (λ n y u. c.finish_committed.new.database.records ≡ ended_table (ended_as u) (records_from n y c.args.diversions.now.entries c.args.lists.now.lists c.args.works.now c.args.rest c.args.database.now.records) c.args.database.now.records)
+    moved (λ n y u. c.finish_committed.new.database.records ≡ ended_table (ended_as u) (records_from n y c.args.diversions.now.entries c.args.lists.now.lists c.args.works.now c.args.commit c.args.database.now.records) c.args.database.now.records)
     c.name-name.result.now _ c.as_slice-yields.result.now _ c.args.unwinding c.name-name.ensures c.as_slice-yields.ensures c.in-None.is c.in-Ok.ensures.records
 
 pub returns-in-Ok-clause-left : goal.returns-in-Ok-clause-left
@@ -40,10 +40,10 @@ returns-in-Ok-clause-left g c = λ h.
     let entries = c.args.diversions.now.entries in
     let lists = c.args.lists.now.lists in
     let before = c.args.database.now.records in
-    moved (λ n y u. HasLeft (changes_from n y entries lists c.args.works.now c.args.rest) (records_from n y entries lists c.args.works.now c.args.rest before) entries lists before (length c.args.rows.now.others.items) (ended_as u)
+    moved (λ n y u. HasLeft (changes_from n y entries lists c.args.works.now c.args.commit) (records_from n y entries lists c.args.works.now c.args.commit before) entries lists before (length c.args.rows.now.others.items) (ended_as u)
     (g.H.Host.state c.args.host.now).world (g.H.Host.state c.finish_committed.new.host).world)
     c.name-name.result.now _ c.as_slice-yields.result.now _ c.args.unwinding c.name-name.ensures c.as_slice-yields.ensures c.in-None.is
-    (subst (λ os. HasLeft (changes_from c.name-name.result.now c.as_slice-yields.result.now entries lists c.args.works.now c.args.rest) (records_from c.name-name.result.now c.as_slice-yields.result.now entries lists c.args.works.now c.args.rest before) entries lists before (length os) Committed
+    (subst (λ os. HasLeft (changes_from c.name-name.result.now c.as_slice-yields.result.now entries lists c.args.works.now c.args.commit) (records_from c.name-name.result.now c.as_slice-yields.result.now entries lists c.args.works.now c.args.commit before) entries lists before (length os) Committed
     (g.H.Host.state c.args.host.now).world (g.H.Host.state c.finish_committed.new.host).world) c.as_slice-others.ensures.value (c.in-Ok.ensures.left h))
 
 pub returns-in-Ok-clause-any_moment : goal.returns-in-Ok-clause-any_moment
@@ -51,10 +51,10 @@ returns-in-Ok-clause-any_moment g c =
     let entries = c.args.diversions.now.entries in
     let lists = c.args.lists.now.lists in
     let before = c.args.database.now.records in
-    moved (λ n y u. AtEachMoment (MayLeave (changes_from n y entries lists c.args.works.now c.args.rest) (records_from n y entries lists c.args.works.now c.args.rest before) entries lists before (length c.args.rows.now.others.items) (ended_as u))
+    moved (λ n y u. AtEachMoment (MayLeave (changes_from n y entries lists c.args.works.now c.args.commit) (records_from n y entries lists c.args.works.now c.args.commit before) entries lists before (length c.args.rows.now.others.items) (ended_as u))
     (g.H.Host.state c.args.host.now) (g.H.Host.state c.finish_committed.new.host))
     c.name-name.result.now _ c.as_slice-yields.result.now _ c.args.unwinding c.name-name.ensures c.as_slice-yields.ensures c.in-None.is
-    (subst (λ os. AtEachMoment (MayLeave (changes_from c.name-name.result.now c.as_slice-yields.result.now entries lists c.args.works.now c.args.rest) (records_from c.name-name.result.now c.as_slice-yields.result.now entries lists c.args.works.now c.args.rest before) entries lists before (length os) Committed)
+    (subst (λ os. AtEachMoment (MayLeave (changes_from c.name-name.result.now c.as_slice-yields.result.now entries lists c.args.works.now c.args.commit) (records_from c.name-name.result.now c.as_slice-yields.result.now entries lists c.args.works.now c.args.commit before) entries lists before (length os) Committed)
     (g.H.Host.state c.args.host.now) (g.H.Host.state c.finish_committed.new.host)) c.as_slice-others.ensures.value c.finish_committed.ensures.any_moment)
 
 pub returns-in-None-clause-any_moment : goal.returns-in-None-clause-any_moment
@@ -62,10 +62,10 @@ returns-in-None-clause-any_moment g c =
     let entries = c.args.diversions.now.entries in
     let lists = c.args.lists.now.lists in
     let before = c.args.database.now.records in
-    moved (λ n y u. AtEachMoment (MayLeave (changes_from n y entries lists c.args.works.now c.args.rest) (records_from n y entries lists c.args.works.now c.args.rest before) entries lists before (length c.args.rows.now.others.items) (ended_as u))
+    moved (λ n y u. AtEachMoment (MayLeave (changes_from n y entries lists c.args.works.now c.args.commit) (records_from n y entries lists c.args.works.now c.args.commit before) entries lists before (length c.args.rows.now.others.items) (ended_as u))
     (g.H.Host.state c.args.host.now) (g.H.Host.state c.finish_committed.new.host))
     c.name-name.result.now _ c.as_slice-yields.result.now _ c.args.unwinding c.name-name.ensures c.as_slice-yields.ensures c.in-None.is
-    (subst (λ os. AtEachMoment (MayLeave (changes_from c.name-name.result.now c.as_slice-yields.result.now entries lists c.args.works.now c.args.rest) (records_from c.name-name.result.now c.as_slice-yields.result.now entries lists c.args.works.now c.args.rest before) entries lists before (length os) Committed)
+    (subst (λ os. AtEachMoment (MayLeave (changes_from c.name-name.result.now c.as_slice-yields.result.now entries lists c.args.works.now c.args.commit) (records_from c.name-name.result.now c.as_slice-yields.result.now entries lists c.args.works.now c.args.commit before) entries lists before (length os) Committed)
     (g.H.Host.state c.args.host.now) (g.H.Host.state c.finish_committed.new.host)) c.as_slice-others.ensures.value c.finish_committed.ensures.any_moment)
 
 pub finish_unwound-requires-clause-ready : goal.finish_unwound-requires-clause-ready
@@ -88,7 +88,7 @@ returns-in-Ok-finish_unwound-clause-any_moment g c =
     let before = c.args.database.now.records in
     let old = g.H.Host.state c.args.host.now in
     let new = g.H.Host.state c.finish_unwound.new.host in
-    subst (λ u. AtEachMoment (MayLeave (changes_from (own_name c.args.rows.now.found c.args.rows.now.incoming) c.args.rows.now.yields c.args.diversions.now.entries c.args.lists.now.lists c.args.works.now c.args.rest) (records_from (own_name c.args.rows.now.found c.args.rows.now.incoming) c.args.rows.now.yields c.args.diversions.now.entries c.args.lists.now.lists c.args.works.now c.args.rest before) c.args.diversions.now.entries c.args.lists.now.lists before (length c.args.rows.now.others.items) (ended_as u)) old new) (sym c.in-Some.is)
+    subst (λ u. AtEachMoment (MayLeave (changes_from (own_name c.args.rows.now.found c.args.rows.now.incoming) c.args.rows.now.yields c.args.diversions.now.entries c.args.lists.now.lists c.args.works.now c.args.commit) (records_from (own_name c.args.rows.now.found c.args.rows.now.incoming) c.args.rows.now.yields c.args.diversions.now.entries c.args.lists.now.lists c.args.works.now c.args.commit before) c.args.diversions.now.entries c.args.lists.now.lists before (length c.args.rows.now.others.items) (ended_as u)) old new) (sym c.in-Some.is)
     (subst (λ n. AtEachMoment (MayLeaveBy (HasDropped (nat_le (length c.args.rows.now.others.items) c.in-Some.unwinding.fall.row) (record_in before n) n) (MayDrop (nat_le (length c.args.rows.now.others.items) c.in-Some.unwinding.fall.row) (record_in before n) n)) old new) c.name-name.ensures
     (subst (λ os. AtEachMoment (MayLeaveBy (HasDropped (nat_le (length os) c.in-Some.unwinding.fall.row) (record_in before c.name-name.result.now) c.name-name.result.now) (MayDrop (nat_le (length os) c.in-Some.unwinding.fall.row) (record_in before c.name-name.result.now) c.name-name.result.now)) old new)
     c.as_slice-others.ensures.value c.finish_unwound.ensures.any_moment))
@@ -98,7 +98,7 @@ returns-clause-any_moment g c =
     let before = c.args.database.now.records in
     let old = g.H.Host.state c.args.host.now in
     let new = g.H.Host.state c.finish_unwound.new.host in
-    subst (λ u. AtEachMoment (MayLeave (changes_from (own_name c.args.rows.now.found c.args.rows.now.incoming) c.args.rows.now.yields c.args.diversions.now.entries c.args.lists.now.lists c.args.works.now c.args.rest) (records_from (own_name c.args.rows.now.found c.args.rows.now.incoming) c.args.rows.now.yields c.args.diversions.now.entries c.args.lists.now.lists c.args.works.now c.args.rest before) c.args.diversions.now.entries c.args.lists.now.lists before (length c.args.rows.now.others.items) (ended_as u)) old new) (sym c.in-Some.is)
+    subst (λ u. AtEachMoment (MayLeave (changes_from (own_name c.args.rows.now.found c.args.rows.now.incoming) c.args.rows.now.yields c.args.diversions.now.entries c.args.lists.now.lists c.args.works.now c.args.commit) (records_from (own_name c.args.rows.now.found c.args.rows.now.incoming) c.args.rows.now.yields c.args.diversions.now.entries c.args.lists.now.lists c.args.works.now c.args.commit before) c.args.diversions.now.entries c.args.lists.now.lists before (length c.args.rows.now.others.items) (ended_as u)) old new) (sym c.in-Some.is)
     (subst (λ n. AtEachMoment (MayLeaveBy (HasDropped (nat_le (length c.args.rows.now.others.items) c.in-Some.unwinding.fall.row) (record_in before n) n) (MayDrop (nat_le (length c.args.rows.now.others.items) c.in-Some.unwinding.fall.row) (record_in before n) n)) old new) c.name-name.ensures
     (subst (λ os. AtEachMoment (MayLeaveBy (HasDropped (nat_le (length os) c.in-Some.unwinding.fall.row) (record_in before c.name-name.result.now) c.name-name.result.now) (MayDrop (nat_le (length os) c.in-Some.unwinding.fall.row) (record_in before c.name-name.result.now) c.name-name.result.now)) old new)
     c.as_slice-others.ensures.value c.finish_unwound.ensures.any_moment))

@@ -9,7 +9,7 @@ use Rattle.host_core.specs.Host.{AtEachMoment}
 use Rattle.unpack_commit.specs.Commit.{Changes, changes_of}
 use Rattle.unpack_moves.specs.Closing.{SparesAdministration}
 use Rattle.unpack_moves.specs.Concluding.{AreElsewhere}
-use Rattle.unpack_engine.specs.Courses.{records_from}
+use Rattle.unpack_engine.specs.Endings.{records_from}
 use Rattle.unpack_engine.specs.Units.{HasLeft, MayLeave}
 use Rattle.unpack_engine.proofs.Losing.{loser_named}
 use Rattle.unpack_engine.proofs.Ready.{list_ready, members_ready}
@@ -64,7 +64,7 @@ returns-in-Ok-clause-left g c = λ h.
     let made = changes_of c.in-Ok.committing.change c.in-Ok.committing.new_list in
     let noted = c.in-Ok.committing.records.items in
     on_ok c.finish_ready.result (HasLeft made noted entries lists before (length c.args.others.now) Committed old new) _
-    (λ left. subst (λ x. HasLeft x (records_from c.args.name.now c.args.yields.now entries lists c.args.works.now c.args.rest before) entries lists before (length c.args.others.now) Committed old new) c.in-Ok.ensures.change
+    (λ left. subst (λ x. HasLeft x (records_from c.args.name.now c.args.yields.now entries lists c.args.works.now c.args.commit before) entries lists before (length c.args.others.now) Committed old new) c.in-Ok.ensures.change
     (subst (λ r. HasLeft made r entries lists before (length c.args.others.now) Committed old new) c.in-Ok.ensures.records left)) (c.finish_ready.ensures.left h)
 
 pub returns-in-Ok-clause-any_moment : goal.returns-in-Ok-clause-any_moment
@@ -75,5 +75,5 @@ returns-in-Ok-clause-any_moment g c =
     let old = g.H.Host.state c.args.host.now in
     let new = g.H.Host.state c.finish_ready.new.host in
     let made = changes_of c.in-Ok.committing.change c.in-Ok.committing.new_list in
-    subst (λ x. AtEachMoment (MayLeave x (records_from c.args.name.now c.args.yields.now entries lists c.args.works.now c.args.rest before) entries lists before (length c.args.others.now) Committed) old new) c.in-Ok.ensures.change
+    subst (λ x. AtEachMoment (MayLeave x (records_from c.args.name.now c.args.yields.now entries lists c.args.works.now c.args.commit before) entries lists before (length c.args.others.now) Committed) old new) c.in-Ok.ensures.change
     (subst (λ r. AtEachMoment (MayLeave made r entries lists before (length c.args.others.now) Committed) old new) c.in-Ok.ensures.records c.finish_ready.ensures.any_moment)

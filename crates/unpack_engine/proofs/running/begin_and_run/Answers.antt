@@ -2,8 +2,8 @@ use Rattle.std.proofs.Common.{length, subst}
 use Rattle.host_core.proofs.Moments.{since_now}
 use Rattle.control_members.specs.LaidOut.{IsLaying}
 use Rattle.unpack_rows.specs.EndStates.{own_name}
-use Rattle.unpack_run.specs.Task.{task_of}
-use Rattle.unpack_run.specs.At.{At, holding}
+use Rattle.unpack_run.specs.Task.{task_by}
+use Rattle.unpack_run.specs.At.{At, holding_by}
 use Rattle.unpack_engine.specs.Units.{HasBegun}
 use Rattle.unpack_engine.proofs.Carrying.{same_end}
 use Rattle.unpack_engine.proofs.Order.{home_there, list_begun, members_begun, records_begun}
@@ -12,7 +12,7 @@ use Rattle.unpack_engine.proofs.running.begin_and_run.Goals as goal
 
 pub lay_out-requires-clause-home : goal.lay_out-requires-clause-home
 lay_out-requires-clause-home g c = λ h.
-    home_there c.args.database.now c.args.lists.now.lists (g.H.Host.state c.args.host.now).world (c.requires.order h)
+    home_there c.args.administration.now.database c.args.administration.now.lists.lists (g.H.Host.state c.args.host.now).world (c.requires.order h)
 
 pub lay_out-requires-clause-absent : goal.lay_out-requires-clause-absent
 lay_out-requires-clause-absent g c = λ h. (c.requires.order h).tmp
@@ -29,9 +29,9 @@ run_unpack_rows-requires-clause-begun g c = λ h.
       laid = c.in-Ok.ensures.laid h;
     } in
     record {
-      kept = records_begun c.args.database.now c.args.lists.now.lists old.world order name c.requires.sound.named c.args.members.now new.world begun;
-      ready = list_begun c.args.database.now c.args.lists.now.lists old.world order name c.requires.sound.named c.args.members.now new.world begun;
-      members = members_begun c.args.database.now c.args.lists.now.lists old.world order name c.requires.sound.named c.args.members.now new.world begun;
+      kept = records_begun c.args.administration.now.database c.args.administration.now.lists.lists old.world order name c.requires.sound.named c.args.members.now new.world begun;
+      ready = list_begun c.args.administration.now.database c.args.administration.now.lists.lists old.world order name c.requires.sound.named c.args.members.now new.world begun;
+      members = members_begun c.args.administration.now.database c.args.administration.now.lists.lists old.world order name c.requires.sound.named c.args.members.now new.world begun;
     }
 
 pub returns-in-Ok-clause-ran : goal.returns-in-Ok-clause-ran
@@ -49,8 +49,8 @@ returns-in-Ok-clause-ran g c =
           record { lays = (since_now (λ so_far. IsLaying old.world) old mid c.lay_out.ensures.any_moment at_mid).rest; laid = c.in-Ok.ensures.laid at_mid };
       run = made;
       between = later _ mid end c.run_unpack_rows.ensures.any_moment;
-      rows_end = subst (λ place. At (task_of mid c.args.database.now c.args.lists.now c.args.diversions.now.entries c.args.places.now c.args.works.now.items rows)
-          (holding c.run_unpack_rows.new.database c.run_unpack_rows.new.lists c.run_unpack_rows.new.places c.run_unpack_rows.new.works.items) end place) (same_end (length c.args.calls.items) u) there;
+      rows_end = subst (λ place. At (task_by mid c.args.administration.now c.args.diversions.now.entries c.args.works.now.items rows)
+          (holding_by c.run_unpack_rows.new.administration c.run_unpack_rows.new.works.items) end place) (same_end (length c.args.calls.items) u) there;
     }) c.run_unpack_rows.ensures.calls c.run_unpack_rows.ensures.there
 
 pub returns-in-Ok-clause-any_moment : goal.returns-in-Ok-clause-any_moment
@@ -60,7 +60,7 @@ returns-in-Ok-clause-any_moment g c =
     let mid = g.H.Host.state c.lay_out.new.host in
     let end = g.H.Host.state c.run_unpack_rows.new.host in
     since_running (HasBegun c.args.members.now) IsLaying
-    (λ s. task_of s c.args.database.now c.args.lists.now c.args.diversions.now.entries c.args.places.now c.args.works.now.items rows) old mid c.lay_out.ensures.silent c.lay_out.ensures.any_moment end
+    (λ s. task_by s c.args.administration.now c.args.diversions.now.entries c.args.works.now.items rows) old mid c.lay_out.ensures.silent c.lay_out.ensures.any_moment end
     (λ h. record { lays = (since_now (λ so_far. IsLaying old.world) old mid c.lay_out.ensures.any_moment h).rest; laid = c.in-Ok.ensures.laid h }) c.run_unpack_rows.ensures.any_moment
 
 pub returns-in-Err-clause-any_moment : goal.returns-in-Err-clause-any_moment
@@ -69,4 +69,4 @@ returns-in-Err-clause-any_moment g c =
     let old = g.H.Host.state c.args.host.now in
     let mid = g.H.Host.state c.lay_out.new.host in
     since_beginning (HasBegun c.args.members.now) IsLaying
-    (λ s. task_of s c.args.database.now c.args.lists.now c.args.diversions.now.entries c.args.places.now c.args.works.now.items rows) old mid c.lay_out.ensures.silent c.lay_out.ensures.any_moment
+    (λ s. task_by s c.args.administration.now c.args.diversions.now.entries c.args.works.now.items rows) old mid c.lay_out.ensures.silent c.lay_out.ensures.any_moment

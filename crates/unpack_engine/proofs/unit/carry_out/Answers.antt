@@ -1,14 +1,103 @@
-use Rattle.std.proofs.Common.{◌++◌, refl, sym, subst}
-use Rattle.unpack_commit.specs.Takeover.{yields_of}
+use Rattle.std.proofs.Common.{◌≡◌, ◌++◌, List, length, sym, ap, subst, ◌∙◌}
+use Rattle.host_core.specs.Host.{AtEachMoment}
+use Rattle.stack_run.specs.Ended.{IsCauseOf, ended_as}
+use Rattle.status_db.specs.Records.{AreStanding}
+use Rattle.status_db.proofs.Ordered.{order_apart, same_standing}
+use Rattle.file_works.specs.declared.work.Work.{Work}
+use Rattle.held_administration.specs.declared.administration.Administration.{Administration}
+use Rattle.unpack_rows.specs.EndStates.{own_name}
+use Rattle.unpack_run.specs.At.{holding_by}
 use Rattle.unpack_plan.specs.Planned.{planned}
-use Rattle.unpack_engine.specs.Units.{IsPlanBy, ground}
-use Rattle.unpack_engine.proofs.Planning.{start_under_way}
+use Rattle.unpack_engine.specs.Endings.{changes_from, ended_lists, ended_records, ended_table, records_from}
+use Rattle.unpack_engine.specs.Touched.{AreTold, deconfigured}
+use Rattle.unpack_engine.specs.Units.{HasCarriedOut, HasLeft, IsTouched, MayLeave, ground_by}
+use Rattle.unpack_engine.proofs.Carrying.{carried_out}
+use Rattle.unpack_engine.proofs.Sequel.{called_then, if_ok_one}
+use Rattle.unpack_engine.proofs.UnitMoments.{plan_begins, plan_moments}
+use Rattle.unpack_engine.proofs.Whole.{can_write_still, if_ok_all, if_ok_with, parts_info, parts_kept, parts_kinds, parts_laid, parts_length, parts_loose, parts_rows, parts_sound, parts_stand, parts_touched}
 use Rattle.unpack_engine.proofs.unit.carry_out.Goals as goal
 
-pub run_course-requires-clause-plan : goal.run_course-requires-clause-plan
-run_course-requires-clause-plan g c = subst (IsPlanBy c.args.database.now.records) (sym c.in-Ok.ensures.parts) c.requires.plan
+pub begin_and_run-requires-clause-sound : goal.begin_and_run-requires-clause-sound
+begin_and_run-requires-clause-sound g c = parts_sound c.args.administration.now c.args.diversions.now.entries c.args.plan.rows c.args.plan.works.items c.args.plan.calls.items c.args.plan.commit c.requires.plan (same_standing c.args.administration.now.database.records c.law.ensures.standing) (g.H.Host.state c.args.host.now)
+
+pub begin_and_run-requires-clause-kinds : goal.begin_and_run-requires-clause-kinds
+begin_and_run-requires-clause-kinds g c = parts_kinds c.args.administration.now c.args.diversions.now.entries c.args.plan.rows c.args.plan.works.items c.args.plan.calls.items c.args.plan.commit c.requires.plan
+
+pub begin_and_run-requires-clause-rows : goal.begin_and_run-requires-clause-rows
+begin_and_run-requires-clause-rows g c = parts_rows c.args.administration.now c.args.diversions.now.entries c.args.plan.rows c.args.plan.works.items c.args.plan.calls.items c.args.plan.commit c.requires.plan
+
+pub begin_and_run-requires-clause-length : goal.begin_and_run-requires-clause-length
+begin_and_run-requires-clause-length g c = parts_length c.args.administration.now c.args.diversions.now.entries c.args.plan.rows c.args.plan.works.items c.args.plan.calls.items c.args.plan.commit c.requires.plan
+
+pub finish-requires-clause-noting : goal.finish-requires-clause-noting
+finish-requires-clause-noting g c = c.in-Ok.ensures.ran.rows_end.opened
+
+pub finish-requires-clause-opened : goal.finish-requires-clause-opened
+finish-requires-clause-opened g c = c.in-Ok.ensures.ran.rows_end.lists_open
+
+pub finish-requires-clause-named : goal.finish-requires-clause-named
+finish-requires-clause-named g c = c.in-Ok.ensures.ran.rows_end.sound.named
+
+pub finish-requires-clause-spared : goal.finish-requires-clause-spared
+finish-requires-clause-spared g c = c.requires.plan.planned.lists_are.spares
+
+pub finish-requires-clause-paths : goal.finish-requires-clause-paths
+finish-requires-clause-paths g c = c.requires.plan.planned.lists_are.new_is.paths_are
+
+pub finish-requires-clause-elsewhere : goal.finish-requires-clause-elsewhere
+finish-requires-clause-elsewhere g c = c.requires.plan.planned.names_are.elsewhere
+
+pub finish-requires-clause-stands : goal.finish-requires-clause-stands
+finish-requires-clause-stands g c =
+    subst (λ (x : List Work). AreStanding (records_from (own_name c.args.plan.rows.found c.args.plan.rows.incoming) c.args.plan.rows.yields c.args.diversions.now.entries c.begin_and_run.new.administration.lists.lists x c.args.plan.commit c.begin_and_run.new.administration.database.records)) (sym c.as_slice-shipped.ensures.value)
+    (parts_stand c.args.administration.now c.args.diversions.now.entries c.args.plan.rows c.args.plan.works.items c.args.plan.calls.items c.args.plan.commit c.requires.plan (ended_as c.in-Ok.unwinding) (holding_by c.begin_and_run.new.administration c.begin_and_run.new.works.items) (g.H.Host.state c.args.host.now) (g.H.Host.state c.begin_and_run.new.host) c.requires.order (g.H.Host.tree c.args.host.now) c.args.told.now.items c.begin_and_run.new.told.items c.in-Ok.ensures.ran (same_standing c.begin_and_run.new.administration.database.records c.law-in-Ok.ensures.standing))
+
+pub finish-requires-clause-info : goal.finish-requires-clause-info
+finish-requires-clause-info g c = parts_info c.args.administration.now c.args.diversions.now.entries c.args.plan.rows c.args.plan.works.items c.args.plan.calls.items c.args.plan.commit c.requires.plan (ended_as c.in-Ok.unwinding) (holding_by c.begin_and_run.new.administration c.begin_and_run.new.works.items) (g.H.Host.state c.args.host.now) (g.H.Host.state c.begin_and_run.new.host) c.requires.order (g.H.Host.tree c.args.host.now) c.args.told.now.items c.begin_and_run.new.told.items c.in-Ok.ensures.ran
+
+pub finish-requires-clause-loose : goal.finish-requires-clause-loose
+finish-requires-clause-loose g c = parts_loose c.args.administration.now c.args.diversions.now.entries c.args.plan.rows c.args.plan.works.items c.args.plan.calls.items c.args.plan.commit c.requires.plan (ended_as c.in-Ok.unwinding) (holding_by c.begin_and_run.new.administration c.begin_and_run.new.works.items) (g.H.Host.state c.args.host.now) (g.H.Host.state c.begin_and_run.new.host) c.requires.order (g.H.Host.tree c.args.host.now) c.args.told.now.items c.begin_and_run.new.told.items c.in-Ok.ensures.ran
+
+pub finish-requires-clause-kept : goal.finish-requires-clause-kept
+finish-requires-clause-kept g c = parts_kept c.args.administration.now c.args.diversions.now.entries c.args.plan.rows c.args.plan.works.items c.args.plan.calls.items c.args.plan.commit c.requires.plan (ended_as c.in-Ok.unwinding) (holding_by c.begin_and_run.new.administration c.begin_and_run.new.works.items) (g.H.Host.state c.args.host.now) (g.H.Host.state c.begin_and_run.new.host) c.requires.order (g.H.Host.tree c.args.host.now) c.args.told.now.items c.begin_and_run.new.told.items c.in-Ok.ensures.ran
+
+pub finish-requires-clause-laid : goal.finish-requires-clause-laid
+finish-requires-clause-laid g c = parts_laid c.args.administration.now c.args.diversions.now.entries c.args.plan.rows c.args.plan.works.items c.args.plan.calls.items c.args.plan.commit c.requires.plan (ended_as c.in-Ok.unwinding) (holding_by c.begin_and_run.new.administration c.begin_and_run.new.works.items) (g.H.Host.state c.args.host.now) (g.H.Host.state c.begin_and_run.new.host) c.requires.order (g.H.Host.tree c.args.host.now) c.args.told.now.items c.begin_and_run.new.told.items c.in-Ok.ensures.ran
+
+pub returns-in-Ok-clause-unit : goal.returns-in-Ok-clause-unit
+returns-in-Ok-clause-unit g c =
+    if_ok_all c.finish.result (λ u. u.unwinding ≡ c.in-Ok.unwinding) (λ u. HasCarriedOut (ground_by c.args.administration.now c.args.diversions.now.entries c.args.plan.rows.yields) (planned c.args.plan) (ended_as u.unwinding) c.finish.new.database c.finish.new.lists.lists (g.H.Host.state c.args.host.now) (g.H.Host.state c.finish.new.host) c.args.told.now.items c.begin_and_run.new.told.items)
+    _ _ _ _ (λ u same table lists_are left.
+    carried_out c.args.administration.now c.args.diversions.now.entries c.args.plan.rows c.args.plan.works.items c.args.plan.calls.items c.args.plan.commit (ended_as c.in-Ok.unwinding) (ended_as u.unwinding) (holding_by c.begin_and_run.new.administration c.begin_and_run.new.works.items) c.finish.new.database c.finish.new.lists (g.H.Host.state c.args.host.now) (g.H.Host.state c.begin_and_run.new.host) (g.H.Host.state c.finish.new.host) c.args.told.now.items c.begin_and_run.new.told.items
+    (ap ended_as (sym same)) c.in-Ok.ensures.ran c.finish.ensures.silent (subst (λ (x : List Work). AtEachMoment (MayLeave (changes_from (own_name c.args.plan.rows.found c.args.plan.rows.incoming) c.args.plan.rows.yields c.args.diversions.now.entries c.begin_and_run.new.administration.lists.lists x c.args.plan.commit) (records_from (own_name c.args.plan.rows.found c.args.plan.rows.incoming) c.args.plan.rows.yields c.args.diversions.now.entries c.begin_and_run.new.administration.lists.lists x c.args.plan.commit c.begin_and_run.new.administration.database.records) c.args.diversions.now.entries c.begin_and_run.new.administration.lists.lists c.begin_and_run.new.administration.database.records (length c.args.plan.rows.others.items) (ended_as c.in-Ok.unwinding)) (g.H.Host.state c.begin_and_run.new.host) (g.H.Host.state c.finish.new.host)) c.as_slice-shipped.ensures.value c.finish.ensures.any_moment)
+    (λ h. subst (λ (x : List Work). HasLeft (changes_from (own_name c.args.plan.rows.found c.args.plan.rows.incoming) c.args.plan.rows.yields c.args.diversions.now.entries c.begin_and_run.new.administration.lists.lists x c.args.plan.commit) (records_from (own_name c.args.plan.rows.found c.args.plan.rows.incoming) c.args.plan.rows.yields c.args.diversions.now.entries c.begin_and_run.new.administration.lists.lists x c.args.plan.commit c.begin_and_run.new.administration.database.records) c.args.diversions.now.entries c.begin_and_run.new.administration.lists.lists c.begin_and_run.new.administration.database.records (length c.args.plan.rows.others.items) (ended_as c.in-Ok.unwinding) (g.H.Host.state c.begin_and_run.new.host).world (g.H.Host.state c.finish.new.host).world) c.as_slice-shipped.ensures.value (left h))
+    (table ∙ ap (λ (x : List Work). ended_table (ended_as c.in-Ok.unwinding) (records_from (own_name c.args.plan.rows.found c.args.plan.rows.incoming) c.args.plan.rows.yields c.args.diversions.now.entries c.begin_and_run.new.administration.lists.lists x c.args.plan.commit c.begin_and_run.new.administration.database.records) c.begin_and_run.new.administration.database.records) c.as_slice-shipped.ensures.value)
+    (ap (λ l. l.lists) lists_are ∙ ap (λ (x : List Work). ended_lists (ended_as c.in-Ok.unwinding) (changes_from (own_name c.args.plan.rows.found c.args.plan.rows.incoming) c.args.plan.rows.yields c.args.diversions.now.entries c.begin_and_run.new.administration.lists.lists x c.args.plan.commit) c.args.diversions.now.entries c.begin_and_run.new.administration.lists.lists) c.as_slice-shipped.ensures.value))
+    c.finish.ensures.unwinding c.finish.ensures.records c.finish.ensures.lists c.finish.ensures.left
+
+pub returns-in-Ok-clause-cause : goal.returns-in-Ok-clause-cause
+returns-in-Ok-clause-cause g c = if_ok_one c.finish.result (λ u. u.unwinding ≡ c.in-Ok.unwinding) (λ u. IsCauseOf c.args.plan.calls.items u.unwinding) (λ u same. subst (IsCauseOf c.args.plan.calls.items) (sym same) c.in-Ok.ensures.cause) c.finish.ensures.unwinding
+
+pub returns-in-Ok-clause-touched : goal.returns-in-Ok-clause-touched
+returns-in-Ok-clause-touched g c =
+    if_ok_with c.finish.result (λ u. AreTold (own_name c.args.plan.rows.found c.args.plan.rows.incoming) (ended_records (ended_as c.in-Ok.unwinding) (records_from (own_name c.args.plan.rows.found c.args.plan.rows.incoming) c.args.plan.rows.yields c.args.diversions.now.entries c.begin_and_run.new.administration.lists.lists c.as_slice-shipped.result.now c.args.plan.commit c.begin_and_run.new.administration.database.records) ++ deconfigured c.finish.new.database.records c.args.plan.rows.others.items) u.touched) (λ u. IsTouched (own_name c.args.plan.rows.found c.args.plan.rows.incoming) c.args.administration.now.database.records c.finish.new.database.records u.touched) _
+    (λ u told table. parts_touched c.args.administration.now c.args.diversions.now.entries c.args.plan.rows c.args.plan.works.items c.args.plan.calls.items c.args.plan.commit c.requires.plan (ended_as c.in-Ok.unwinding) (holding_by c.begin_and_run.new.administration c.begin_and_run.new.works.items) (g.H.Host.state c.args.host.now) (g.H.Host.state c.begin_and_run.new.host) c.requires.order (g.H.Host.tree c.args.host.now) c.args.told.now.items c.begin_and_run.new.told.items c.in-Ok.ensures.ran (order_apart c.begin_and_run.new.administration.database.records c.law-in-Ok.ensures.order) c.finish.new.database.records u.touched
+    (table ∙ ap (λ (x : List Work). ended_table (ended_as c.in-Ok.unwinding) (records_from (own_name c.args.plan.rows.found c.args.plan.rows.incoming) c.args.plan.rows.yields c.args.diversions.now.entries c.begin_and_run.new.administration.lists.lists x c.args.plan.commit c.begin_and_run.new.administration.database.records) c.begin_and_run.new.administration.database.records) c.as_slice-shipped.ensures.value)
+    (subst (λ (x : List Work). AreTold (own_name c.args.plan.rows.found c.args.plan.rows.incoming) (ended_records (ended_as c.in-Ok.unwinding) (records_from (own_name c.args.plan.rows.found c.args.plan.rows.incoming) c.args.plan.rows.yields c.args.diversions.now.entries c.begin_and_run.new.administration.lists.lists x c.args.plan.commit c.begin_and_run.new.administration.database.records) ++ deconfigured c.finish.new.database.records c.args.plan.rows.others.items) u.touched) c.as_slice-shipped.ensures.value told))
+    c.finish.ensures.told c.finish.ensures.records
+
+pub returns-in-Ok-clause-open : goal.returns-in-Ok-clause-open
+returns-in-Ok-clause-open g c =
+    let behind : Administration = record c.begin_and_run.new.administration { database = c.finish.new.database; lists = c.finish.new.lists } in
+    can_write_still c.finish.result behind c.begin_and_run.new.administration.lists _ c.in-Ok.ensures.ran.rows_end.lists_open c.finish.ensures.opened c.finish.ensures.lists
+
+pub returns-in-Ok-clause-told : goal.returns-in-Ok-clause-told
+returns-in-Ok-clause-told g c = called_then c.args.plan.calls.items (g.H.Host.state c.args.host.now) (g.H.Host.state c.begin_and_run.new.host) (g.H.Host.state c.finish.new.host) c.args.told.now.items c.begin_and_run.new.told.items c.begin_and_run.ensures.told c.finish.ensures.silent
+
+pub returns-in-Ok-clause-any_moment : goal.returns-in-Ok-clause-any_moment
+returns-in-Ok-clause-any_moment g c =
+    plan_moments c.args.administration.now c.args.diversions.now.entries c.args.plan.rows c.args.plan.works.items c.args.plan.calls.items c.args.plan.commit c.requires.plan.job c.requires.plan.planned (g.H.Host.state c.args.host.now) (g.H.Host.state c.begin_and_run.new.host) c.requires.order (g.H.Host.tree c.args.host.now) (g.H.Host.state c.finish.new.host) (ended_as c.in-Ok.unwinding) (holding_by c.begin_and_run.new.administration c.begin_and_run.new.works.items) c.args.told.now.items c.begin_and_run.new.told.items c.begin_and_run.ensures.any_moment c.in-Ok.ensures.ran c.finish.ensures.silent
+    (subst (λ (x : List Work). AtEachMoment (MayLeave (changes_from (own_name c.args.plan.rows.found c.args.plan.rows.incoming) c.args.plan.rows.yields c.args.diversions.now.entries c.begin_and_run.new.administration.lists.lists x c.args.plan.commit) (records_from (own_name c.args.plan.rows.found c.args.plan.rows.incoming) c.args.plan.rows.yields c.args.diversions.now.entries c.begin_and_run.new.administration.lists.lists x c.args.plan.commit c.begin_and_run.new.administration.database.records) c.args.diversions.now.entries c.begin_and_run.new.administration.lists.lists c.begin_and_run.new.administration.database.records (length c.args.plan.rows.others.items) (ended_as c.in-Ok.unwinding)) (g.H.Host.state c.begin_and_run.new.host) (g.H.Host.state c.finish.new.host)) c.as_slice-shipped.ensures.value c.finish.ensures.any_moment)
 
 pub returns-in-Err-clause-any_moment : goal.returns-in-Err-clause-any_moment
-returns-in-Err-clause-any_moment g c =
-    start_under_way (ground c.args.database.now.records c.args.lists.now.lists c.args.diversions.now.entries c.args.places.now (yields_of c.args.database.now.records ++ c.args.yields))
-    c.requires.plan.job (planned c.args.plan) c.requires.plan.planned c.args.database.now c.args.lists.now.lists refl (g.H.Host.state c.args.host.now) c.requires.order (g.H.Host.tree c.args.host.now)
+returns-in-Err-clause-any_moment g c = plan_begins c.args.administration.now c.args.diversions.now.entries c.args.plan.rows c.args.plan.works.items c.args.plan.calls.items c.args.plan.commit c.requires.plan.job c.requires.plan.planned (g.H.Host.state c.args.host.now) (g.H.Host.state c.begin_and_run.new.host) c.requires.order (g.H.Host.tree c.args.host.now) c.begin_and_run.ensures.any_moment

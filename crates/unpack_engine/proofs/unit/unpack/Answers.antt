@@ -7,38 +7,38 @@ use Rattle.unpack_engine.specs.Order.{IsInOrder}
 use Rattle.unpack_engine.specs.Units.{HasCalled, HasFailedFor, HasUnpacked, IsAmidUnit, given_beside}
 use Rattle.unpack_engine.proofs.unit.unpack.Goals as goal
 
-pub plan_and_carry_out-requires-clause-listing : goal.plan_and_carry_out-requires-clause-listing
-plan_and_carry_out-requires-clause-listing g c = ap (λ (f : Filed). f.closed) c.index_where_many.ensures ∙ c.requires.listing
+pub plan_and_carry_out-requires-clause-open : goal.plan_and_carry_out-requires-clause-open
+plan_and_carry_out-requires-clause-open g c = record { noting = c.requires.open.noting; listing = ap (λ (f : Filed). f.closed) c.index_where_many.ensures ∙ c.requires.open.listing }
 
 pub plan_and_carry_out-requires-clause-order : goal.plan_and_carry_out-requires-clause-order
 plan_and_carry_out-requires-clause-order g c =
-    subst (λ (f : Filed). Needs (g.H.Host.state c.args.host.now) (IsInOrder c.args.database.now f.lists)) (sym c.index_where_many.ensures) c.requires.order
+    subst (λ (f : Filed). Needs (g.H.Host.state c.args.host.now) (IsInOrder c.args.administration.now.database f.lists)) (sym c.index_where_many.ensures) c.requires.order
 
 pub returns-clause-unit : goal.returns-clause-unit
 returns-clause-unit g c =
     let old = g.H.Host.state c.args.host.now in
     let new = g.H.Host.state c.plan_and_carry_out.new.host in
-    let at = λ (f : Filed). given_beside c.args.incoming c.args.database.now.records f.lists c.args.diversions.now.entries c.args.others.packages.items c.args.others.yields in
-    subst (λ (f : Filed). IfOk c.plan_and_carry_out.result (λ u. HasUnpacked (at f) c.args.places.now (ended_as u.unwinding) c.plan_and_carry_out.new.database c.plan_and_carry_out.new.lists.lists old new c.args.told.now.items c.plan_and_carry_out.new.told.items))
+    let at = λ (f : Filed). given_beside c.args.incoming c.args.administration.now.database.records f.lists c.args.diversions.now.entries c.args.others.packages.items c.args.others.yields in
+    subst (λ (f : Filed). IfOk c.plan_and_carry_out.result (λ u. HasUnpacked (at f) c.args.administration.now.places (ended_as u.unwinding) c.plan_and_carry_out.new.administration.database c.plan_and_carry_out.new.administration.lists.lists old new c.args.told.now.items c.plan_and_carry_out.new.told.items))
     c.index_where_many.ensures c.plan_and_carry_out.ensures.unit
 
 pub returns-clause-cause : goal.returns-clause-cause
 returns-clause-cause g c =
     let old = g.H.Host.state c.args.host.now in
     let new = g.H.Host.state c.plan_and_carry_out.new.host in
-    let at = λ (f : Filed). given_beside c.args.incoming c.args.database.now.records f.lists c.args.diversions.now.entries c.args.others.packages.items c.args.others.yields in
+    let at = λ (f : Filed). given_beside c.args.incoming c.args.administration.now.database.records f.lists c.args.diversions.now.entries c.args.others.packages.items c.args.others.yields in
     subst (λ (f : Filed). IfOk c.plan_and_carry_out.result (λ u. HasFailedFor (at f) old new u.unwinding)) c.index_where_many.ensures c.plan_and_carry_out.ensures.cause
 
 pub returns-clause-told : goal.returns-clause-told
 returns-clause-told g c =
     let old = g.H.Host.state c.args.host.now in
     let new = g.H.Host.state c.plan_and_carry_out.new.host in
-    let at = λ (f : Filed). given_beside c.args.incoming c.args.database.now.records f.lists c.args.diversions.now.entries c.args.others.packages.items c.args.others.yields in
+    let at = λ (f : Filed). given_beside c.args.incoming c.args.administration.now.database.records f.lists c.args.diversions.now.entries c.args.others.packages.items c.args.others.yields in
     subst (λ (f : Filed). HasCalled (at f) old new c.args.told.now.items c.plan_and_carry_out.new.told.items) c.index_where_many.ensures c.plan_and_carry_out.ensures.told
 
 pub returns-clause-any_moment : goal.returns-clause-any_moment
 returns-clause-any_moment g c =
     let old = g.H.Host.state c.args.host.now in
     let new = g.H.Host.state c.plan_and_carry_out.new.host in
-    let at = λ (f : Filed). given_beside c.args.incoming c.args.database.now.records f.lists c.args.diversions.now.entries c.args.others.packages.items c.args.others.yields in
-    subst (λ (f : Filed). AtEachMomentOf (IsAmidUnit (at f) c.args.places.now) old new) c.index_where_many.ensures c.plan_and_carry_out.ensures.any_moment
+    let at = λ (f : Filed). given_beside c.args.incoming c.args.administration.now.database.records f.lists c.args.diversions.now.entries c.args.others.packages.items c.args.others.yields in
+    subst (λ (f : Filed). AtEachMomentOf (IsAmidUnit (at f) c.args.administration.now.places) old new) c.index_where_many.ensures c.plan_and_carry_out.ensures.any_moment

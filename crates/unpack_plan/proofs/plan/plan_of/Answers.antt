@@ -5,8 +5,8 @@ use Rattle.unpack_plan.specs.Names.{cleared_names}
 use Rattle.unpack_plan.proofs.Parts.{lists_planned, names_planned, records_planned, rows_planned}
 use Rattle.unpack_plan.proofs.plan.plan_of.Goals as goal
 
-pub returns : goal.returns
-returns c =
+pub returns-clause-planned : goal.returns-clause-planned
+returns-clause-planned c =
     let p = c.args.incoming in
     let same = c.in_ok-records.ensures.found in
     let changes = c.in_ok-changes.ensures in

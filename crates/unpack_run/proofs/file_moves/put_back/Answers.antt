@@ -11,4 +11,4 @@ pub returns-in_err-listed-clause-any_moment : goal.returns-in_err-listed-clause-
 returns-in_err-listed-clause-any_moment g c =
     let s = g.H.Host.state c.args.host.now in
     let works = c.args.works.now in
-    quiet_moments (MayUnlist (list_path (own_name c.args.plan.now.found c.args.plan.now.incoming)) (list_file c.args.plan.now.listed) works s.world) s (λ h. inl (going_none works s.world))
+    quiet_moments (MayUnlist (list_path (own_name c.args.rows.now.found c.args.rows.now.incoming)) (list_file c.args.rows.now.listed) works s.world) s (λ h. inl (going_none works s.world))

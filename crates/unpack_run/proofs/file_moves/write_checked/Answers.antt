@@ -9,11 +9,11 @@ use Rattle.unpack_run.proofs.file_moves.write_checked.Goals as goal
 pub returns-in_err-push_places-clause-any_moment : goal.returns-in_err-push_places-clause-any_moment
 returns-in_err-push_places-clause-any_moment g c =
     let s = g.H.Host.state c.args.host.now in
-    quiet_moments (MayList (list_path (own_name c.args.plan.now.found c.args.plan.now.incoming)) (list_file c.args.plan.now.union) c.args.works.now.items s.world) s
+    quiet_moments (MayList (list_path (own_name c.args.rows.now.found c.args.rows.now.incoming)) (list_file c.args.rows.now.union) c.args.works.now.items s.world) s
     (λ h. inl (record { target = inl refl; spare = (c.requires.ready h).spare; rest = λ q a b. refl }))
 
 pub returns-in_err-union-clause-any_moment : goal.returns-in_err-union-clause-any_moment
 returns-in_err-union-clause-any_moment g c =
     let s = g.H.Host.state c.args.host.now in
-    quiet_moments (MayList (list_path (own_name c.args.plan.now.found c.args.plan.now.incoming)) (list_file c.args.plan.now.union) c.args.works.now.items s.world) s
+    quiet_moments (MayList (list_path (own_name c.args.rows.now.found c.args.rows.now.incoming)) (list_file c.args.rows.now.union) c.args.works.now.items s.world) s
     (λ h. inl (record { target = inl refl; spare = (c.requires.ready h).spare; rest = λ q a b. refl }))

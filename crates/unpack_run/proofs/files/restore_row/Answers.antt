@@ -8,7 +8,7 @@ use Rattle.file_works.specs.Names.{AllInOrder, IsNamed}
 use Rattle.file_writing.specs.Back.{CanGoBack}
 use Rattle.unpack_moves.specs.Listing.{HasUnlisted, MayUnlist}
 use Rattle.unpack_run.specs.FileMoves.{places_before}
-use Rattle.unpack_run.specs.Task.{Task, name, task_of}
+use Rattle.unpack_run.specs.Task.{Task, name, task_by}
 use Rattle.unpack_run.proofs.Answering.{back_placed}
 use Rattle.unpack_run.proofs.FileRow.{back_stops, can_go_back, enough, ordered_there}
 use Rattle.unpack_run.proofs.files.restore_row.Goals as goal
@@ -32,46 +32,46 @@ put_back-requires-clause-ready g c =
 pub put_back-requires-clause-named : goal.put_back-requires-clause-named
 put_back-requires-clause-named g c =
     let self = c.args.unpacking.now in
-    let t : Task = task_of (g.H.Host.state self.start.now.host.value) self.start.now.database.value self.start.now.lists.value self.diversions.now.entries self.start.now.places.value self.start.now.works.value.items self.plan.now in
+    let t : Task = task_by (g.H.Host.state self.start.now.host.value) self.start.now.administration.value self.diversions.now.entries self.start.now.works.value.items self.rows.now in
     let s = g.H.Host.state c.args.host.now in
-    subst (Each IsNamed) (sym c.as_slice.ensures.value) (ordered_there t self.database.now self.lists.now self.places.now self.works.now.items s c.args.index c.args.fall.now c.args.failed.now c.requires.row c.requires.wrote c.requires.place).named
+    subst (Each IsNamed) (sym c.as_slice.ensures.value) (ordered_there t self.administration.now.database self.administration.now.lists self.administration.now.places self.works.now.items s c.args.index c.args.fall.now c.args.failed.now c.requires.row c.requires.wrote c.requires.place).named
 
 pub put_back-requires-clause-order : goal.put_back-requires-clause-order
 put_back-requires-clause-order g c =
     let self = c.args.unpacking.now in
-    let t : Task = task_of (g.H.Host.state self.start.now.host.value) self.start.now.database.value self.start.now.lists.value self.diversions.now.entries self.start.now.places.value self.start.now.works.value.items self.plan.now in
+    let t : Task = task_by (g.H.Host.state self.start.now.host.value) self.start.now.administration.value self.diversions.now.entries self.start.now.works.value.items self.rows.now in
     let s = g.H.Host.state c.args.host.now in
-    subst AllInOrder (sym c.as_slice.ensures.value) (ordered_there t self.database.now self.lists.now self.places.now self.works.now.items s c.args.index c.args.fall.now c.args.failed.now c.requires.row c.requires.wrote c.requires.place).order
+    subst AllInOrder (sym c.as_slice.ensures.value) (ordered_there t self.administration.now.database self.administration.now.lists self.administration.now.places self.works.now.items s c.args.index c.args.fall.now c.args.failed.now c.requires.row c.requires.wrote c.requires.place).order
 
 pub put_back-requires-clause-written : goal.put_back-requires-clause-written
 put_back-requires-clause-written g c =
     let self = c.args.unpacking.now in
-    let t : Task = task_of (g.H.Host.state self.start.now.host.value) self.start.now.database.value self.start.now.lists.value self.diversions.now.entries self.start.now.places.value self.start.now.works.value.items self.plan.now in
+    let t : Task = task_by (g.H.Host.state self.start.now.host.value) self.start.now.administration.value self.diversions.now.entries self.start.now.works.value.items self.rows.now in
     let s = g.H.Host.state c.args.host.now in
-    λ h. subst (λ (l : List Work). CanGoBack l s.world) (sym c.as_slice.ensures.value) (can_go_back t self.database.now self.lists.now self.places.now self.works.now.items s c.args.index c.args.fall.now c.args.failed.now c.requires.row c.requires.wrote c.requires.place h)
+    λ h. subst (λ (l : List Work). CanGoBack l s.world) (sym c.as_slice.ensures.value) (can_go_back t self.administration.now.database self.administration.now.lists self.administration.now.places self.works.now.items s c.args.index c.args.fall.now c.args.failed.now c.requires.row c.requires.wrote c.requires.place h)
 
 pub put_back-requires-clause-grown : goal.put_back-requires-clause-grown
 put_back-requires-clause-grown g c =
     let self = c.args.unpacking.now in
-    let t : Task = task_of (g.H.Host.state self.start.now.host.value) self.start.now.database.value self.start.now.lists.value self.diversions.now.entries self.start.now.places.value self.start.now.works.value.items self.plan.now in
+    let t : Task = task_by (g.H.Host.state self.start.now.host.value) self.start.now.administration.value self.diversions.now.entries self.start.now.works.value.items self.rows.now in
     let s = g.H.Host.state c.args.host.now in
-    subst (λ (l : List Work). length l ≤ length self.places.now) (sym c.as_slice.ensures.value) (enough t self.database.now self.lists.now self.places.now self.works.now.items s c.args.index c.args.fall.now c.args.failed.now c.requires.row c.requires.wrote c.requires.place)
+    subst (λ (l : List Work). length l ≤ length self.administration.now.places) (sym c.as_slice.ensures.value) (enough t self.administration.now.database self.administration.now.lists self.administration.now.places self.works.now.items s c.args.index c.args.fall.now c.args.failed.now c.requires.row c.requires.wrote c.requires.place)
 
 pub returns-clause-place : goal.returns-clause-place
 returns-clause-place g c =
     let self = c.args.unpacking.now in
-    let t : Task = task_of (g.H.Host.state self.start.now.host.value) self.start.now.database.value self.start.now.lists.value self.diversions.now.entries self.start.now.places.value self.start.now.works.value.items self.plan.now in
+    let t : Task = task_by (g.H.Host.state self.start.now.host.value) self.start.now.administration.value self.diversions.now.entries self.start.now.works.value.items self.rows.now in
     let s = g.H.Host.state c.args.host.now in
     let u = g.H.Host.state c.put_back.new.host in
-    back_placed t self.database.now self.lists.now self.places.now self.works.now.items s c.args.index c.args.fall.now c.args.failed.now c.requires.row c.requires.wrote c.requires.place u c.put_back.ensures.silent c.put_back.result (λ so_far. MayUnlist (list_path (name t)) (list_file t.listed) c.as_slice.result.now s.world) c.put_back.ensures.any_moment
-    c.put_back.new.lists c.put_back.new.places c.put_back.ensures.lists (subst (λ (l : List Work). OnOk c.put_back.result (c.put_back.new.places ≡ places_before self.places.now l)) c.as_slice.ensures.value c.put_back.ensures.places)
+    back_placed t self.administration.now.database self.administration.now.lists self.administration.now.places self.works.now.items s c.args.index c.args.fall.now c.args.failed.now c.requires.row c.requires.wrote c.requires.place u c.put_back.ensures.silent c.put_back.result (λ so_far. MayUnlist (list_path (name t)) (list_file t.listed) c.as_slice.result.now s.world) c.put_back.ensures.any_moment
+    c.put_back.new.lists c.put_back.new.places c.put_back.ensures.lists (subst (λ (l : List Work). OnOk c.put_back.result (c.put_back.new.places ≡ places_before self.administration.now.places l)) c.as_slice.ensures.value c.put_back.ensures.places)
     (subst (λ (l : List Work). Leaves c.put_back.result (HasUnlisted (list_path (name t)) (list_file t.listed) l) s u) c.as_slice.ensures.value c.put_back.ensures.unlisted)
 
 pub returns-clause-any_moment : goal.returns-clause-any_moment
 returns-clause-any_moment g c =
     let self = c.args.unpacking.now in
-    let t : Task = task_of (g.H.Host.state self.start.now.host.value) self.start.now.database.value self.start.now.lists.value self.diversions.now.entries self.start.now.places.value self.start.now.works.value.items self.plan.now in
+    let t : Task = task_by (g.H.Host.state self.start.now.host.value) self.start.now.administration.value self.diversions.now.entries self.start.now.works.value.items self.rows.now in
     let s = g.H.Host.state c.args.host.now in
     let u = g.H.Host.state c.put_back.new.host in
-    back_stops t self.database.now self.lists.now self.places.now self.works.now.items s c.args.index c.args.fall.now c.args.failed.now c.requires.row c.requires.wrote c.requires.place u c.put_back.ensures.silent
+    back_stops t self.administration.now.database self.administration.now.lists self.administration.now.places self.works.now.items s c.args.index c.args.fall.now c.args.failed.now c.requires.row c.requires.wrote c.requires.place u c.put_back.ensures.silent
     (subst (λ (l : List Work). AtEachMoment (MayUnlist (list_path (name t)) (list_file t.listed) l) s u) c.as_slice.ensures.value c.put_back.ensures.any_moment)

@@ -5,18 +5,21 @@ use Rattle.dpkg_session.proofs.Told.{tells_silent}
 use Rattle.dpkg_session.proofs.Retabled.{standing_diverted}
 use Rattle.dpkg_session.proofs.session.Session.divert.Goals as goal
 
+pub divert_on-report-requires-clause-kept : goal.divert_on-report-requires-clause-kept
+divert_on-report-requires-clause-kept g c = (c.args.self.now.opened c.if-self.false).kept
+
 pub invariant_of-self : goal.invariant_of-self
 invariant_of-self g c =
     let report = c.divert_on-report.ensures in
     record {
       ready = λ open_still h.
           let one = report.whole (sym c.is_some-self.ensures ∙ open_still) in
-          standing_diverted c.args.self.now.database c.args.self.now.lists.lists _ _ _ _ one.0 _ _ one.2 h (c.args.self.now.ready c.if-self.false (report.silent.honest h));
-      kept = λ open_still. report.kept (sym c.is_some-self.ensures ∙ open_still);
+          standing_diverted c.args.self.now.administration.database c.args.self.now.administration.lists.lists _ _ _ _ one.0 _ _ one.2 h (c.args.self.now.ready c.if-self.false (report.silent.honest h));
+      opened = λ open_still.
+          let was = c.args.self.now.opened c.if-self.false in
+          record { noting = was.noting; listing = was.listing; kept = report.kept (sym c.is_some-self.ensures ∙ open_still) };
       indexed = λ open_still. c.args.self.now.indexed c.if-self.false;
       writable = λ open_still. report.writable (sym c.is_some-self.ensures ∙ open_still);
-      noting = λ open_still. c.args.self.now.noting c.if-self.false;
-      listing = λ open_still. c.args.self.now.listing c.if-self.false;
     }
 
 pub returns-clause-told : goal.returns-clause-told

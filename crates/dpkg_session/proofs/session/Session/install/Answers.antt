@@ -8,6 +8,9 @@ use Rattle.dpkg_session.proofs.session.Session.install.Goals as goal
 pub unpack_and_configure-installed-requires-clause-order : goal.unpack_and_configure-installed-requires-clause-order
 unpack_and_configure-installed-requires-clause-order g c = λ h. parts_standing _ _ (c.args.self.now.ready c.if-self.false h)
 
+pub unpack_and_configure-installed-requires-clause-open : goal.unpack_and_configure-installed-requires-clause-open
+unpack_and_configure-installed-requires-clause-open g c = c.args.self.now.opened c.if-self.false
+
 pub unpack_and_configure-installed-requires-clause-indexed : goal.unpack_and_configure-installed-requires-clause-indexed
 unpack_and_configure-installed-requires-clause-indexed g c = packages_known _ _ (c.args.self.now.indexed c.if-self.false)
 
@@ -18,11 +21,9 @@ invariant_of-self g c =
       ready = λ open_still h.
           let whole = installed.run.2.whole (sym c.is_broken-self.ensures ∙ open_still) in
           install_standing _ _ _ _ _ _ _ _ _ whole h (c.args.self.now.ready c.if-self.false (install_falls _ _ _ _ _ _ _ _ _ whole h));
-      kept = λ open_still. installed.kept (sym c.is_broken-self.ensures ∙ open_still);
+      opened = λ open_still. installed.open (sym c.is_broken-self.ensures ∙ open_still);
       indexed = λ open_still. packages_kept _ _ (installed.indexed (sym c.is_broken-self.ensures ∙ open_still));
       writable = λ open_still. c.args.self.now.writable c.if-self.false;
-      noting = λ open_still. installed.noting (sym c.is_broken-self.ensures ∙ open_still);
-      listing = λ open_still. installed.listing (sym c.is_broken-self.ensures ∙ open_still);
     }
 
 pub returns-clause-stands : goal.returns-clause-stands

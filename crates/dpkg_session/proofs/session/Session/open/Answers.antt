@@ -6,11 +6,9 @@ use Rattle.dpkg_session.proofs.session.Session.open.Goals as goal
 pub invariant_of-result : goal.invariant_of-result
 invariant_of-result g c = record {
   ready = λ open_still h. standing_opened c.in-Ok.field-0.database c.in-Ok.field-0.lists c.in-Ok.field-0.diversions _ c.in-Ok.ensures.number (c.in-Ok.ensures.opened h);
-  kept = λ open_still. c.in-Ok-places.ensures;
+  opened = λ open_still. record { noting = c.in-Ok.ensures.noting; listing = c.in-Ok.ensures.listing; kept = c.in-Ok-places.ensures };
   indexed = λ open_still. packages_kept _ _ tt;
   writable = λ open_still. c.in-Ok.ensures.writable;
-  noting = λ open_still. c.in-Ok.ensures.noting;
-  listing = λ open_still. c.in-Ok.ensures.listing;
 }
 
 pub returns-in-Ok-places-clause-loss : goal.returns-in-Ok-places-clause-loss

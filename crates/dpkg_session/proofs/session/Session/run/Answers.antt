@@ -8,6 +8,9 @@ use Rattle.dpkg_session.proofs.session.Session.run.Goals as goal
 pub run_units-report-requires-clause-order : goal.run_units-report-requires-clause-order
 run_units-report-requires-clause-order g c = λ h. order_standing _ _ (c.args.self.now.ready c.if-self.false h)
 
+pub run_units-report-requires-clause-open : goal.run_units-report-requires-clause-open
+run_units-report-requires-clause-open g c = c.args.self.now.opened c.if-self.false
+
 pub run_units-report-requires-clause-indexed : goal.run_units-report-requires-clause-indexed
 run_units-report-requires-clause-indexed g c = packages_known _ _ (c.args.self.now.indexed c.if-self.false)
 
@@ -19,11 +22,9 @@ invariant_of-self g c =
           let left = sym c.is_some-self.ensures ∙ open_still in
           let run = report.run.2.whole left in
           standing_run _ _ _ _ _ _ _ run h (report.order left h) (c.args.self.now.ready c.if-self.false (falls_run _ _ _ _ _ _ _ run h));
-      kept = λ open_still. report.kept (sym c.is_some-self.ensures ∙ open_still);
+      opened = λ open_still. report.open (sym c.is_some-self.ensures ∙ open_still);
       indexed = λ open_still. packages_kept _ _ (report.indexed (sym c.is_some-self.ensures ∙ open_still));
       writable = λ open_still. c.args.self.now.writable c.if-self.false;
-      noting = λ open_still. report.noting (sym c.is_some-self.ensures ∙ open_still);
-      listing = λ open_still. report.listing (sym c.is_some-self.ensures ∙ open_still);
     }
 
 pub returns-clause-run : goal.returns-clause-run

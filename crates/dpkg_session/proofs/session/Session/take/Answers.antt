@@ -8,6 +8,9 @@ use Rattle.dpkg_session.proofs.session.Session.take.Goals as goal
 pub remove_named-report-requires-clause-order : goal.remove_named-report-requires-clause-order
 remove_named-report-requires-clause-order g c = λ h. parts_standing _ _ (c.args.self.now.ready c.if-self.false h)
 
+pub remove_named-report-requires-clause-open : goal.remove_named-report-requires-clause-open
+remove_named-report-requires-clause-open g c = c.args.self.now.opened c.if-self.false
+
 pub remove_named-report-requires-clause-indexed : goal.remove_named-report-requires-clause-indexed
 remove_named-report-requires-clause-indexed g c = packages_known _ _ (c.args.self.now.indexed c.if-self.false)
 
@@ -18,11 +21,9 @@ invariant_of-self g c =
       ready = λ open_still h.
           let carries = removal_carries _ _ _ _ _ _ _ (report.whole (sym c.is_some-self.ensures ∙ open_still)) in
           carries_standing _ _ _ _ carries h (c.args.self.now.ready c.if-self.false (carries.falls h));
-      kept = λ open_still. report.kept (sym c.is_some-self.ensures ∙ open_still);
+      opened = λ open_still. report.open (sym c.is_some-self.ensures ∙ open_still);
       indexed = λ open_still. packages_kept _ _ (report.indexed (sym c.is_some-self.ensures ∙ open_still));
       writable = λ open_still. c.args.self.now.writable c.if-self.false;
-      noting = λ open_still. report.noting (sym c.is_some-self.ensures ∙ open_still);
-      listing = λ open_still. report.listing (sym c.is_some-self.ensures ∙ open_still);
     }
 
 pub returns-clause-loss : goal.returns-clause-loss

@@ -2,15 +2,15 @@ use Rattle.cleanup_stack.specs.Place.{Ready}
 use Rattle.unpack_run.proofs.Hooks.{stops_here}
 use Rattle.unpack_run.proofs.HookRows.{concluded}
 use Rattle.unpack_run.proofs.RowKinds.{kind_at, not_files}
-use Rattle.unpack_run.specs.At.{Holding, holding}
-use Rattle.unpack_run.specs.Task.{Task, kinds, name, task_of}
+use Rattle.unpack_run.specs.At.{Holding, holding_by}
+use Rattle.unpack_run.specs.Task.{Task, kinds, name, task_by}
 use Rattle.unpack_run.proofs.around.UnpackingAround.conclude.Goals as goal
 
 pub returns-clause-place : goal.returns-clause-place
 returns-clause-place g c =
     let self = c.args.self.now in
-    let t : Task = task_of (g.H.Host.state self.start.now.host.value) self.start.now.database.value self.start.now.lists.value self.diversions.now.entries self.start.now.places.value self.start.now.works.value.items self.plan.now in
-    let h : Holding = holding self.database.now self.lists.now self.places.now self.works.now.items in
+    let t : Task = task_by (g.H.Host.state self.start.now.host.value) self.start.now.administration.value self.diversions.now.entries self.start.now.works.value.items self.rows.now in
+    let h : Holding = holding_by self.administration.now self.works.now.items in
     let s = g.H.Host.state c.args._host.now in
     let at = c.requires.place in
     let found = kind_at (kinds t) c.args._index c.requires.row.0 in
@@ -21,8 +21,8 @@ returns-clause-place g c =
 pub returns-clause-any_moment : goal.returns-clause-any_moment
 returns-clause-any_moment g c =
     let self = c.args.self.now in
-    let t : Task = task_of (g.H.Host.state self.start.now.host.value) self.start.now.database.value self.start.now.lists.value self.diversions.now.entries self.start.now.places.value self.start.now.works.value.items self.plan.now in
-    let h : Holding = holding self.database.now self.lists.now self.places.now self.works.now.items in
+    let t : Task = task_by (g.H.Host.state self.start.now.host.value) self.start.now.administration.value self.diversions.now.entries self.start.now.works.value.items self.rows.now in
+    let h : Holding = holding_by self.administration.now self.works.now.items in
     let s = g.H.Host.state c.args._host.now in
     let at = c.requires.place in
     stops_here t h s (Ready c.args._index) at

@@ -7,15 +7,15 @@ use Rattle.unpack_run.specs.Notable.{IsNotable}
 use Rattle.unpack_run.proofs.Clears.{clear_place, clear_stops, members_needed}
 use Rattle.unpack_run.proofs.HookRows.{Leads, before_can, noted_moments, noted_place, prepared}
 use Rattle.unpack_rows.specs.declared.kinds.RowKind.{RowKind}
-use Rattle.unpack_run.specs.At.{Holding, IsAt, Stops, holding}
-use Rattle.unpack_run.specs.Task.{Task, has_gone, kinds, task_of}
+use Rattle.unpack_run.specs.At.{Holding, IsAt, Stops, holding_by}
+use Rattle.unpack_run.specs.Task.{Task, has_gone, kinds, task_by}
 use Rattle.unpack_run.proofs.around.UnpackingAround.prepare.Goals as goal
 
 pub clear_left-requires-clause-named : goal.clear_left-requires-clause-named
 clear_left-requires-clause-named g c =
     let self = c.args.self.now in
-    let t : Task = task_of (g.H.Host.state self.start.now.host.value) self.start.now.database.value self.start.now.lists.value self.diversions.now.entries self.start.now.places.value self.start.now.works.value.items self.plan.now in
-    let h : Holding = holding self.database.now self.lists.now self.places.now self.works.now.items in
+    let t : Task = task_by (g.H.Host.state self.start.now.host.value) self.start.now.administration.value self.diversions.now.entries self.start.now.works.value.items self.rows.now in
+    let h : Holding = holding_by self.administration.now self.works.now.items in
     let s = g.H.Host.state c.args.host.now in
     let at = c.requires.place in
     let k = c.kind-kind.result.now in
@@ -25,8 +25,8 @@ clear_left-requires-clause-named g c =
 pub clear_left-requires-clause-members : goal.clear_left-requires-clause-members
 clear_left-requires-clause-members g c =
     let self = c.args.self.now in
-    let t : Task = task_of (g.H.Host.state self.start.now.host.value) self.start.now.database.value self.start.now.lists.value self.diversions.now.entries self.start.now.places.value self.start.now.works.value.items self.plan.now in
-    let h : Holding = holding self.database.now self.lists.now self.places.now self.works.now.items in
+    let t : Task = task_by (g.H.Host.state self.start.now.host.value) self.start.now.administration.value self.diversions.now.entries self.start.now.works.value.items self.rows.now in
+    let h : Holding = holding_by self.administration.now self.works.now.items in
     let s = g.H.Host.state c.args.host.now in
     let at = c.requires.place in
     let k = c.kind-kind.result.now in
@@ -36,8 +36,8 @@ clear_left-requires-clause-members g c =
 pub clear_left-requires-clause-list : goal.clear_left-requires-clause-list
 clear_left-requires-clause-list g c =
     let self = c.args.self.now in
-    let t : Task = task_of (g.H.Host.state self.start.now.host.value) self.start.now.database.value self.start.now.lists.value self.diversions.now.entries self.start.now.places.value self.start.now.works.value.items self.plan.now in
-    let h : Holding = holding self.database.now self.lists.now self.places.now self.works.now.items in
+    let t : Task = task_by (g.H.Host.state self.start.now.host.value) self.start.now.administration.value self.diversions.now.entries self.start.now.works.value.items self.rows.now in
+    let h : Holding = holding_by self.administration.now self.works.now.items in
     let s = g.H.Host.state c.args.host.now in
     let at = c.requires.place in
     let k = c.kind-kind.result.now in
@@ -47,8 +47,8 @@ clear_left-requires-clause-list g c =
 pub returns-in_err-clear_left-clause-any_moment : goal.returns-in_err-clear_left-clause-any_moment
 returns-in_err-clear_left-clause-any_moment g c =
     let self = c.args.self.now in
-    let t : Task = task_of (g.H.Host.state self.start.now.host.value) self.start.now.database.value self.start.now.lists.value self.diversions.now.entries self.start.now.places.value self.start.now.works.value.items self.plan.now in
-    let h : Holding = holding self.database.now self.lists.now self.places.now self.works.now.items in
+    let t : Task = task_by (g.H.Host.state self.start.now.host.value) self.start.now.administration.value self.diversions.now.entries self.start.now.works.value.items self.rows.now in
+    let h : Holding = holding_by self.administration.now self.works.now.items in
     let s = g.H.Host.state c.args.host.now in
     let at = c.requires.place in
     let k = c.kind-kind.result.now in
@@ -60,8 +60,8 @@ returns-in_err-clear_left-clause-any_moment g c =
 pub returns-in_err-entry-clause-any_moment : goal.returns-in_err-entry-clause-any_moment
 returns-in_err-entry-clause-any_moment g c =
     let self = c.args.self.now in
-    let t : Task = task_of (g.H.Host.state self.start.now.host.value) self.start.now.database.value self.start.now.lists.value self.diversions.now.entries self.start.now.places.value self.start.now.works.value.items self.plan.now in
-    let h : Holding = holding self.database.now self.lists.now self.places.now self.works.now.items in
+    let t : Task = task_by (g.H.Host.state self.start.now.host.value) self.start.now.administration.value self.diversions.now.entries self.start.now.works.value.items self.rows.now in
+    let h : Holding = holding_by self.administration.now self.works.now.items in
     let s = g.H.Host.state c.args.host.now in
     let at = c.requires.place in
     let k = c.kind-kind.result.now in
@@ -73,8 +73,8 @@ returns-in_err-entry-clause-any_moment g c =
 pub write_note-requires-clause-notable : goal.write_note-requires-clause-notable
 write_note-requires-clause-notable g c =
     let self = c.args.self.now in
-    let t : Task = task_of (g.H.Host.state self.start.now.host.value) self.start.now.database.value self.start.now.lists.value self.diversions.now.entries self.start.now.places.value self.start.now.works.value.items self.plan.now in
-    let h : Holding = holding self.database.now self.lists.now self.places.now self.works.now.items in
+    let t : Task = task_by (g.H.Host.state self.start.now.host.value) self.start.now.administration.value self.diversions.now.entries self.start.now.works.value.items self.rows.now in
+    let h : Holding = holding_by self.administration.now self.works.now.items in
     let s = g.H.Host.state c.args.host.now in
     let at = c.requires.place in
     let k = c.kind-kind.result.now in
@@ -85,8 +85,8 @@ write_note-requires-clause-notable g c =
 pub write_note-requires-clause-kept : goal.write_note-requires-clause-kept
 write_note-requires-clause-kept g c =
     let self = c.args.self.now in
-    let t : Task = task_of (g.H.Host.state self.start.now.host.value) self.start.now.database.value self.start.now.lists.value self.diversions.now.entries self.start.now.places.value self.start.now.works.value.items self.plan.now in
-    let h : Holding = holding self.database.now self.lists.now self.places.now self.works.now.items in
+    let t : Task = task_by (g.H.Host.state self.start.now.host.value) self.start.now.administration.value self.diversions.now.entries self.start.now.works.value.items self.rows.now in
+    let h : Holding = holding_by self.administration.now self.works.now.items in
     let s = g.H.Host.state c.args.host.now in
     let at = c.requires.place in
     let k = c.kind-kind.result.now in
@@ -98,8 +98,8 @@ write_note-requires-clause-kept g c =
 pub returns-clause-place : goal.returns-clause-place
 returns-clause-place g c =
     let self = c.args.self.now in
-    let t : Task = task_of (g.H.Host.state self.start.now.host.value) self.start.now.database.value self.start.now.lists.value self.diversions.now.entries self.start.now.places.value self.start.now.works.value.items self.plan.now in
-    let h : Holding = holding self.database.now self.lists.now self.places.now self.works.now.items in
+    let t : Task = task_by (g.H.Host.state self.start.now.host.value) self.start.now.administration.value self.diversions.now.entries self.start.now.works.value.items self.rows.now in
+    let h : Holding = holding_by self.administration.now self.works.now.items in
     let s = g.H.Host.state c.args.host.now in
     let at = c.requires.place in
     let k = c.kind-kind.result.now in
@@ -114,8 +114,8 @@ returns-clause-place g c =
 pub returns-clause-any_moment : goal.returns-clause-any_moment
 returns-clause-any_moment g c =
     let self = c.args.self.now in
-    let t : Task = task_of (g.H.Host.state self.start.now.host.value) self.start.now.database.value self.start.now.lists.value self.diversions.now.entries self.start.now.places.value self.start.now.works.value.items self.plan.now in
-    let h : Holding = holding self.database.now self.lists.now self.places.now self.works.now.items in
+    let t : Task = task_by (g.H.Host.state self.start.now.host.value) self.start.now.administration.value self.diversions.now.entries self.start.now.works.value.items self.rows.now in
+    let h : Holding = holding_by self.administration.now self.works.now.items in
     let s = g.H.Host.state c.args.host.now in
     let at = c.requires.place in
     let k = c.kind-kind.result.now in

@@ -7,15 +7,15 @@ use Rattle.unpack_run.proofs.Hooks.{stops_here}
 use Rattle.unpack_run.proofs.HookRows.{Leads, noted_moments, noted_place, spared, undone, undone_can}
 use Rattle.unpack_run.proofs.RowKinds.{kind_at, not_files}
 use Rattle.unpack_rows.specs.declared.kinds.RowKind.{RowKind}
-use Rattle.unpack_run.specs.At.{Holding, holding}
-use Rattle.unpack_run.specs.Task.{Task, has_gone, kinds, name, task_of}
+use Rattle.unpack_run.specs.At.{Holding, holding_by}
+use Rattle.unpack_run.specs.Task.{Task, has_gone, kinds, name, task_by}
 use Rattle.unpack_run.proofs.around.UnpackingAround.undone.Goals as goal
 
 pub returns-then-is_spared-clause-place : goal.returns-then-is_spared-clause-place
 returns-then-is_spared-clause-place g c =
     let self = c.args.self.now in
-    let t : Task = task_of (g.H.Host.state self.start.now.host.value) self.start.now.database.value self.start.now.lists.value self.diversions.now.entries self.start.now.places.value self.start.now.works.value.items self.plan.now in
-    let h : Holding = holding self.database.now self.lists.now self.places.now self.works.now.items in
+    let t : Task = task_by (g.H.Host.state self.start.now.host.value) self.start.now.administration.value self.diversions.now.entries self.start.now.works.value.items self.rows.now in
+    let h : Holding = holding_by self.administration.now self.works.now.items in
     let s = g.H.Host.state c.args.host.now in
     let at = c.requires.place in
     let found = kind_at (kinds t) c.args.index c.requires.row.0 in
@@ -29,8 +29,8 @@ returns-then-is_spared-clause-place g c =
 pub returns-then-is_spared-clause-any_moment : goal.returns-then-is_spared-clause-any_moment
 returns-then-is_spared-clause-any_moment g c =
     let self = c.args.self.now in
-    let t : Task = task_of (g.H.Host.state self.start.now.host.value) self.start.now.database.value self.start.now.lists.value self.diversions.now.entries self.start.now.places.value self.start.now.works.value.items self.plan.now in
-    let h : Holding = holding self.database.now self.lists.now self.places.now self.works.now.items in
+    let t : Task = task_by (g.H.Host.state self.start.now.host.value) self.start.now.administration.value self.diversions.now.entries self.start.now.works.value.items self.rows.now in
+    let h : Holding = holding_by self.administration.now self.works.now.items in
     let s = g.H.Host.state c.args.host.now in
     let at = c.requires.place in
     stops_here t h s (Back (c.args.index + 1) c.args._fall.now c.args.failed.now) at
@@ -38,8 +38,8 @@ returns-then-is_spared-clause-any_moment g c =
 pub returns-in_err-entry-clause-any_moment : goal.returns-in_err-entry-clause-any_moment
 returns-in_err-entry-clause-any_moment g c =
     let self = c.args.self.now in
-    let t : Task = task_of (g.H.Host.state self.start.now.host.value) self.start.now.database.value self.start.now.lists.value self.diversions.now.entries self.start.now.places.value self.start.now.works.value.items self.plan.now in
-    let h : Holding = holding self.database.now self.lists.now self.places.now self.works.now.items in
+    let t : Task = task_by (g.H.Host.state self.start.now.host.value) self.start.now.administration.value self.diversions.now.entries self.start.now.works.value.items self.rows.now in
+    let h : Holding = holding_by self.administration.now self.works.now.items in
     let s = g.H.Host.state c.args.host.now in
     let at = c.requires.place in
     stops_here t h s (Back (c.args.index + 1) c.args._fall.now c.args.failed.now) at
@@ -47,8 +47,8 @@ returns-in_err-entry-clause-any_moment g c =
 pub write_note-requires-clause-notable : goal.write_note-requires-clause-notable
 write_note-requires-clause-notable g c =
     let self = c.args.self.now in
-    let t : Task = task_of (g.H.Host.state self.start.now.host.value) self.start.now.database.value self.start.now.lists.value self.diversions.now.entries self.start.now.places.value self.start.now.works.value.items self.plan.now in
-    let h : Holding = holding self.database.now self.lists.now self.places.now self.works.now.items in
+    let t : Task = task_by (g.H.Host.state self.start.now.host.value) self.start.now.administration.value self.diversions.now.entries self.start.now.works.value.items self.rows.now in
+    let h : Holding = holding_by self.administration.now self.works.now.items in
     let s = g.H.Host.state c.args.host.now in
     let at = c.requires.place in
     let k = c.kind-kind.result.now in
@@ -59,8 +59,8 @@ write_note-requires-clause-notable g c =
 pub write_note-requires-clause-kept : goal.write_note-requires-clause-kept
 write_note-requires-clause-kept g c =
     let self = c.args.self.now in
-    let t : Task = task_of (g.H.Host.state self.start.now.host.value) self.start.now.database.value self.start.now.lists.value self.diversions.now.entries self.start.now.places.value self.start.now.works.value.items self.plan.now in
-    let h : Holding = holding self.database.now self.lists.now self.places.now self.works.now.items in
+    let t : Task = task_by (g.H.Host.state self.start.now.host.value) self.start.now.administration.value self.diversions.now.entries self.start.now.works.value.items self.rows.now in
+    let h : Holding = holding_by self.administration.now self.works.now.items in
     let s = g.H.Host.state c.args.host.now in
     let at = c.requires.place in
     λ honest. (at.world honest).kept
@@ -68,8 +68,8 @@ write_note-requires-clause-kept g c =
 pub returns-clause-place : goal.returns-clause-place
 returns-clause-place g c =
     let self = c.args.self.now in
-    let t : Task = task_of (g.H.Host.state self.start.now.host.value) self.start.now.database.value self.start.now.lists.value self.diversions.now.entries self.start.now.places.value self.start.now.works.value.items self.plan.now in
-    let h : Holding = holding self.database.now self.lists.now self.places.now self.works.now.items in
+    let t : Task = task_by (g.H.Host.state self.start.now.host.value) self.start.now.administration.value self.diversions.now.entries self.start.now.works.value.items self.rows.now in
+    let h : Holding = holding_by self.administration.now self.works.now.items in
     let s = g.H.Host.state c.args.host.now in
     let at = c.requires.place in
     let k = c.kind-kind.result.now in
@@ -87,8 +87,8 @@ returns-clause-place g c =
 pub returns-clause-any_moment : goal.returns-clause-any_moment
 returns-clause-any_moment g c =
     let self = c.args.self.now in
-    let t : Task = task_of (g.H.Host.state self.start.now.host.value) self.start.now.database.value self.start.now.lists.value self.diversions.now.entries self.start.now.places.value self.start.now.works.value.items self.plan.now in
-    let h : Holding = holding self.database.now self.lists.now self.places.now self.works.now.items in
+    let t : Task = task_by (g.H.Host.state self.start.now.host.value) self.start.now.administration.value self.diversions.now.entries self.start.now.works.value.items self.rows.now in
+    let h : Holding = holding_by self.administration.now self.works.now.items in
     let s = g.H.Host.state c.args.host.now in
     let at = c.requires.place in
     let k = c.kind-kind.result.now in
