@@ -3,8 +3,8 @@ ghost use Rattle.std.specs.Prelude.{◌≡◌, ℕ, List, false, IfOk, OnOk, Con
 ghost use Rattle.host_core.specs.Host.{Counts, Needs, Since};
 ghost use Rattle.file_lists.specs.Owners.{places_in};
 ghost use Rattle.recorded_packages.specs.Packages.{ArePackagesOf};
-ghost use Rattle.status_db.specs.Records.{record_in};
-ghost use Rattle.unit_parts.specs.Order.{IsInOrder};
+ghost use Rattle.status_records.specs.Records.{record_in};
+ghost use Rattle.unit_stages.specs.Order.{IsInOrder};
 ghost use Rattle.unit_stages.specs.Holding.{holding};
 ghost use Rattle.disappearance.specs.Runs.{AreLeft, HaveCalled, HaveDisappeared, IsAmidDisappearances, first_failed};
 
@@ -17,7 +17,7 @@ use relation_index::Packages;
 use status_db::NotedDatabase;
 use std::alloc::Global;
 use texts::{Text, Texts};
-use unwind_stack::Called;
+use undo_rows::Called;
 use version_order::Version;
 
 // The first call that failed.

@@ -2,19 +2,19 @@
 use Rattle.std.proofs.Common.{◌≡◌, IsTrue, ℕ, List, Option, Some, None, length, refl, subst, ◌∙◌}
 use Rattle.host_core.specs.Paths.{Path}
 use Rattle.host_core.specs.Host.{State, Silent, AtEachMoment}
-use Rattle.cleanup_stack.specs.Transcripts.{Ended, Committed, Unwound}
-use Rattle.stack_run.specs.Ended.{end_place, ended_as}
-use Rattle.stack_run.specs.declared.unwinding.Unwinding.{Unwinding}
+use Rattle.undo_rows.specs.Transcripts.{Ended, Committed, Unwound}
+use Rattle.undo_rows.specs.Ended.{end_place, ended_as}
+use Rattle.undo_rows.specs.declared.unwinding.Unwinding.{Unwinding}
 use Rattle.status_db.specs.Recorded.{Recorded}
 use Rattle.file_lists.specs.Filed.{Filed}
-use Rattle.file_works.specs.declared.work.Work.{Work}
-use Rattle.unwind_stack.specs.declared.rows.Called.{Called}
-use Rattle.unwind_stack.specs.declared.rows.Row.{Row}
+use Rattle.package_files.specs.declared.work.Work.{Work}
+use Rattle.undo_rows.specs.declared.rows.Called.{Called}
+use Rattle.undo_rows.specs.declared.rows.Row.{Row}
 use Rattle.diversions.specs.declared.entry.Diversion.{Diversion}
 use Rattle.unpack_rows.specs.EndStates.{end_of, own_name}
-use Rattle.unpack_run.specs.Task.{task_of}
-use Rattle.unpack_run.specs.At.{Holding}
-use Rattle.unpack_run.specs.declared.plan.Rows.{Rows}
+use Rattle.unpack_steps.specs.Task.{task_of}
+use Rattle.unpack_steps.specs.At.{Holding}
+use Rattle.unpack_steps.specs.declared.plan.Rows.{Rows}
 use Rattle.unpack_engine.specs.declared.course.Rest.{Rest}
 use Rattle.unpack_engine.specs.Courses.{changes_from, ended_lists, ended_table, planned_from, records_from}
 use Rattle.unpack_engine.specs.Units.{HasBegun, HasCarriedOut, HasLeft, HasRunRows, MayLeave, end_lists, end_table, ground}

@@ -7,15 +7,15 @@ use Rattle.host_core.specs.Host.{State, AllFailed, AtEachMomentOf, Needs, Reads,
 use Rattle.host_core.proofs.Moments.{scripts_of-append, since_reads, since_then, since_weaker_if, silent_then}
 use Rattle.host_core.proofs.Scripts.{changes_of-append, no_change, silent_added}
 use Rattle.host_core.specs.Tree.{IsTree}
-use Rattle.cleanup_stack.specs.Transcripts.{Ended}
+use Rattle.undo_rows.specs.Transcripts.{Ended}
 use Rattle.control_members.proofs.LaidOut.{incoming_absent}
 use Rattle.control_members.proofs.Starting.{since_here}
 use Rattle.file_lists.specs.declared.paths.PackageList.{PackageList}
 use Rattle.status_db.specs.Held.{HasRecords}
 use Rattle.status_db.specs.Recorded.{Recorded}
-use Rattle.unwind_stack.specs.declared.rows.Called.{Called}
+use Rattle.undo_rows.specs.declared.rows.Called.{Called}
 use Rattle.unpack_plan.specs.Planned.{IsPlanned, Job, Planned}
-use Rattle.unpack_run.specs.Trail.{HasCome}
+use Rattle.unpack_steps.specs.Trail.{HasCome}
 use Rattle.unpack_rows.specs.Kinds.{kinds_of}
 use Rattle.unpack_rows.specs.Stages.{stage_of}
 use Rattle.unpack_engine.specs.Order.{IsInOrder}

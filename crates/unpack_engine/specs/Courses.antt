@@ -2,14 +2,14 @@
 use Rattle.std.specs.Prelude.{◌++◌, ◌∷◌, [], ℕ, List}
 use Rattle.diversions.specs.declared.entry.Diversion.{Diversion}
 use Rattle.file_lists.specs.declared.paths.PackageList.{PackageList}
-use Rattle.status_db.specs.declared.record.Record.{Record}
-use Rattle.file_works.specs.declared.work.Work.{Work}
-use Rattle.unwind_stack.specs.declared.rows.Row.{Row}
+use Rattle.status_records.specs.declared.record.Record.{Record}
+use Rattle.package_files.specs.declared.work.Work.{Work}
+use Rattle.undo_rows.specs.declared.rows.Row.{Row}
 use Rattle.unpack_commit.specs.Commit.{Changes, committed_lists}
 use Rattle.unpack_commit.specs.Takeover.{losers, losing_records, put_records, taken_places}
-use Rattle.cleanup_stack.specs.Transcripts.{Ended, Committed, Unwound}
+use Rattle.undo_rows.specs.Transcripts.{Ended, Committed, Unwound}
 use Rattle.unpack_plan.specs.Planned.{Planned}
-use Rattle.unpack_run.specs.declared.plan.Rows.{Rows}
+use Rattle.unpack_steps.specs.declared.plan.Rows.{Rows}
 use Rattle.unpack_engine.specs.Others.{yields_beside}
 use Rattle.unpack_engine.specs.declared.course.Rest.{Rest}
 

@@ -7,15 +7,16 @@ ghost use Rattle.unpack_engine.specs.Courses.{planned_from};
 use control_members::Members;
 use file_lists::Paths;
 use file_removal::Leaving;
-use file_works::Work;
 use host_core::RootPath;
-use status_db::{NotedDatabase, Record};
+use package_files::Work;
+use status_db::NotedDatabase;
+use status_records::Record;
 use std::alloc::{AllocError, Global};
 use texts::{Text, Texts};
+use undo_rows::Row;
 use unpack_commit::yields_of;
 use unpack_plan::Plan;
-use unpack_run::Rows;
-use unwind_stack::Row;
+use unpack_steps::Rows;
 
 /// What is done once all rows have succeeded, and the control files that lie in `tmp.ci` until the end.
 #[derive(Drop)]

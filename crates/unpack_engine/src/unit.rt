@@ -1,7 +1,7 @@
 // The unit of an unpack.
 ghost use Rattle.std.specs.Prelude.{◌≡◌, ◌++◌, ℕ, List, false, IfOk, OnOk};
 ghost use Rattle.host_core.specs.Host.{AtEachMomentOf, Counts, Leaves, Needs, Reads, Silent};
-ghost use Rattle.stack_run.specs.Ended.{IsCauseOf, ended_as};
+ghost use Rattle.undo_rows.specs.Ended.{IsCauseOf, ended_as};
 ghost use Rattle.status_db.specs.Held.{IsKept};
 ghost use Rattle.unpack_commit.specs.Takeover.{yields_of};
 ghost use Rattle.unpack_plan.specs.Planned.{planned};
@@ -19,16 +19,16 @@ use crate::path_texts::are_texts;
 use crate::running::begin_and_run;
 use diversions::Diversions;
 use file_lists::FileLists;
-use file_works::Work;
 use host_core::{Host, HostFault, Places};
+use package_files::Work;
 use package_tree::Package;
 use status_db::NotedDatabase;
 use std::alloc::{AllocError, Global};
 use texts::Texts;
+use undo_rows::{Called, Row};
 use unpack_plan::{Plan, plan_of};
 use unpack_rows::OtherPackage;
-use unpack_run::Rows;
-use unwind_stack::{Called, Row};
+use unpack_steps::Rows;
 
 // Begins a unit, runs its rows, and does what follows them.
 fn run_parts<H: Host>(

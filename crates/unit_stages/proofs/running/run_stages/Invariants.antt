@@ -1,7 +1,7 @@
 use Rattle.std.proofs.Common.{◌≡◌, ◌++◌, None, false}
 use Rattle.host_core.specs.Host.{AtEachMomentOf, Needs, faults}
 use Rattle.file_lists.specs.Owners.{places_in}
-use Rattle.unit_parts.specs.Order.{IsInOrder}
+use Rattle.unit_stages.specs.Order.{IsInOrder}
 use Rattle.unit_stages.specs.Holding.{holding}
 use Rattle.unit_stages.specs.Running.{AreRunning}
 use Rattle.unit_stages.specs.Runs.{HaveRun}

@@ -1,7 +1,7 @@
 use Rattle.std.proofs.Common.{refl, subst}
 use Rattle.std.specs.List.{AllByRecursion}
 use Rattle.std.specs.Str.{IsUtf8}
-use Rattle.stack_run.specs.Ended.{IsCauseOf, ended_as}
+use Rattle.undo_rows.specs.Ended.{IsCauseOf, ended_as}
 use Rattle.unpack_plan.specs.Planned.{planned}
 use Rattle.unpack_rows.specs.EndStates.{own_name}
 use Rattle.unpack_engine.specs.Units.{HasCarriedOut, HasFailedFor, HasUnpacked, IsTouched, given_beside, ground_of, job_of}
