@@ -9,7 +9,7 @@ use Rattle.diversions.specs.declared.entry.Diversion.{Diversion}
 use Rattle.diversions.specs.declared.entry.Owner.{Owner}
 use Rattle.diversions.specs.declared.entry.Owner.TheVariants.{Local, Package}
 use Rattle.file_lists.specs.declared.paths.PackageList.{PackageList}
-use Rattle.status_db.specs.declared.record.Record.{Record}
+use Rattle.status_records.specs.declared.record.Record.{Record}
 use Rattle.dpkg_session.specs.Diversions.{HasBroken, IsDiverted, IsOneUnit, IsUndiverted, asked_entry, seen_of}
 use Rattle.unit_reports.specs.Units.{CountsLast, TellsCalls}
 use Rattle.unit_reports.specs.declared.report.Report.{Report}

@@ -6,7 +6,7 @@ use Rattle.host_core.specs.World.{World}
 use Rattle.command_line.specs.declared.fault.NotOpened.{NotOpened}
 use Rattle.diversions.specs.declared.entry.Diversion.{Diversion}
 use Rattle.file_lists.specs.declared.paths.PackageList.{PackageList}
-use Rattle.status_db.specs.declared.record.Record.{Record}
+use Rattle.status_records.specs.declared.record.Record.{Record}
 use Rattle.conffiles.specs.declared.decisions.Changed.{Changed}
 use Rattle.conffiles.specs.declared.decisions.Changed.TheVariants.{Keep, Install}
 use Rattle.conffiles.specs.declared.decisions.ConfPolicy.{ConfPolicy}

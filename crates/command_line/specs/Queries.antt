@@ -5,7 +5,7 @@ use Rattle.host_core.specs.Paths.{Path, is_path_text, path_of}
 use Rattle.command_line.specs.declared.fault.NotOpened.{NotOpened}
 use Rattle.diversions.specs.declared.entry.Diversion.{Diversion}
 use Rattle.file_lists.specs.declared.paths.PackageList.{PackageList}
-use Rattle.status_db.specs.declared.record.Record.{Record}
+use Rattle.status_records.specs.declared.record.Record.{Record}
 use Rattle.shown_lines.specs.Lines.{line}
 use Rattle.queries.specs.Files.{files_text, search_text}
 use Rattle.queries.specs.Places.{diversions_text, truename_text}

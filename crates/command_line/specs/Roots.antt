@@ -9,7 +9,7 @@ use Rattle.diversions.specs.declared.entry.Diversion.{Diversion}
 use Rattle.file_lists.specs.declared.paths.PackageList.{PackageList}
 use Rattle.opening.specs.Opened.{IsOpened}
 use Rattle.opening.specs.Leaving.{IsOpeningOrMerging}
-use Rattle.status_db.specs.declared.record.Record.{Record}
+use Rattle.status_records.specs.declared.record.Record.{Record}
 use Rattle.unit_reports.specs.Held.{Held}
 use Rattle.dpkg_session.specs.Standing.{CountsRefusal, OpensAll}
 use Rattle.shown_lines.specs.Lines.{line}

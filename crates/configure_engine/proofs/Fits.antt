@@ -10,14 +10,14 @@ use Rattle.conffiles.specs.declared.entries.Settled.{Settled}
 use Rattle.file_lists.specs.Owners.{AreLists, AreListPaths, paths_of}
 use Rattle.file_lists.specs.declared.paths.PackageList.{PackageList}
 use Rattle.file_lists.proofs.LeftPaths.{left_list_paths}
-use Rattle.status_db.specs.ConffilePaths.{is_before, AreInOrder}
-use Rattle.status_db.specs.Records.{put_record, record_in}
-use Rattle.status_db.specs.declared.record.Record.{Record}
-use Rattle.status_db.proofs.PathOrder.{not_itself}
-use Rattle.unit_parts.specs.Fitting.{AreFit, AreSettleable, HaveNoSettle, IsFit, IsNotable}
-use Rattle.unit_parts.specs.Parts.{parts_records}
-use Rattle.unit_parts.specs.declared.part.Part.{Part}
-use Rattle.unit_parts.specs.declared.part.Part.TheVariants.{Note, Forget, Settle, Remove, RemoveDirectories, Clear, List as Listing, DropList, DropMembers}
+use Rattle.status_records.specs.ConffilePaths.{is_before, AreInOrder}
+use Rattle.status_records.specs.Records.{put_record, record_in}
+use Rattle.status_records.specs.declared.record.Record.{Record}
+use Rattle.status_records.proofs.PathOrder.{not_itself}
+use Rattle.unit_stages.specs.PartFitting.{AreFit, AreSettleable, HaveNoSettle, IsFit, IsNotable}
+use Rattle.unit_stages.specs.Parts.{parts_records}
+use Rattle.unit_stages.specs.declared.part.Part.{Part}
+use Rattle.unit_stages.specs.declared.part.Part.TheVariants.{Note, Forget, Settle, Remove, RemoveDirectories, Clear, List as Listing, DropList, DropMembers}
 use Rattle.configure_engine.specs.Decided.{decided_paths}
 use Rattle.configure_engine.specs.Settled.{settled}
 use Rattle.configure_engine.specs.Stages.{AreFirstParts, SettlesThese, half, list_parts, listed_without}

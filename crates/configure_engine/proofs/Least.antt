@@ -14,8 +14,8 @@ use Rattle.host_core.specs.Suffixes.{suffix_text}
 use Rattle.host_core.specs.World.{World}
 use Rattle.host_core.specs.declared.suffix.Suffix.TheVariants as suffix
 use Rattle.conffiles.specs.Settling.{is_other, obstacle_of, ordered_names}
-use Rattle.status_db.specs.ConffilePaths.{is_before, AreInOrder}
-use Rattle.status_db.proofs.PathOrder.{before_then, not_itself, behind}
+use Rattle.status_records.specs.ConffilePaths.{is_before, AreInOrder}
+use Rattle.status_records.proofs.PathOrder.{before_then, not_itself, behind}
 use Rattle.configure_engine.specs.Obstacles.{lesser_of, names_of_all, IsObstacle, IsSmallestOther}
 
 -- the order of bytes

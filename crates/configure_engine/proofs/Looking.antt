@@ -8,11 +8,11 @@ use Rattle.host_core.specs.Host.{State, AllFailed, AtEachMomentOf, Reads, Silent
 use Rattle.host_core.specs.Loss.{IsLater}
 use Rattle.host_core.proofs.Moments.{since_reads, since_then, since_weaker_if, silent_then}
 use Rattle.host_core.specs.declared.call.Call.{Call}
-use Rattle.cleanup_stack.specs.Telling.{Begun}
+use Rattle.undo_rows.specs.Telling.{Begun}
 use Rattle.diversions.specs.declared.entry.Diversion.{Diversion}
-use Rattle.unwind_stack.specs.declared.rows.Called.{Called}
-use Rattle.unit_parts.specs.Parts.{HaveDone}
-use Rattle.unit_parts.specs.declared.part.Part.{Part}
+use Rattle.undo_rows.specs.declared.rows.Called.{Called}
+use Rattle.unit_stages.specs.Parts.{HaveDone}
+use Rattle.unit_stages.specs.declared.part.Part.{Part}
 use Rattle.unit_stages.specs.Calls.{MayRunStages}
 use Rattle.unit_stages.specs.Holding.{Holding}
 use Rattle.unit_stages.specs.Running.{AreRunning}

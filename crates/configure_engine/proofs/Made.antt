@@ -3,9 +3,9 @@ use Rattle.std.proofs.Common.{◌≡◌, ◌==◌, ℕ, Bool, false, List, [], �
 use Rattle.std.proofs.lemmas.Bool.{true≢false}
 use Rattle.host_core.specs.Paths.{Path}
 use Rattle.conffiles.specs.declared.entries.Settled.{Settled}
-use Rattle.status_db.specs.declared.record.Record.{Record}
-use Rattle.unit_parts.specs.declared.part.Part.{Part}
-use Rattle.unit_parts.specs.declared.part.Part.TheVariants.{Note}
+use Rattle.status_records.specs.declared.record.Record.{Record}
+use Rattle.unit_stages.specs.declared.part.Part.{Part}
+use Rattle.unit_stages.specs.declared.part.Part.TheVariants.{Note}
 use Rattle.configure_engine.specs.Settled.{settled}
 use Rattle.configure_engine.specs.Stages.{AreFirstParts, SettlesThese, half, list_parts}
 use Rattle.configure_engine.specs.Waiting.{going_paths}

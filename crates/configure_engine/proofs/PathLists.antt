@@ -6,12 +6,12 @@ use Rattle.std.proofs.lemmas.Bool.{true≢false, false_from_ne_true}
 use Rattle.std.proofs.lemmas.List.{map-id}
 use Rattle.std.proofs.lemmas.Slice.Eq.{bytes_eq-Decides}
 use Rattle.host_core.specs.Paths.{Path}
-use Rattle.status_db.specs.declared.entries.ConffileEntry.{ConffileEntry}
-use Rattle.status_db.specs.declared.entries.PendingDigest.{PendingDigest}
-use Rattle.status_db.specs.declared.record.Record.{Record}
-use Rattle.status_db.specs.ConffilePaths.{is_before, AreInOrder, placed_by, all_placed_by}
-use Rattle.status_db.specs.Conffiles.{has_pending}
-use Rattle.status_db.proofs.PathOrder.{before_apart, has_path, has_placed, order_placed}
+use Rattle.status_records.specs.declared.entries.ConffileEntry.{ConffileEntry}
+use Rattle.status_records.specs.declared.entries.PendingDigest.{PendingDigest}
+use Rattle.status_records.specs.declared.record.Record.{Record}
+use Rattle.status_records.specs.ConffilePaths.{is_before, AreInOrder, placed_by, all_placed_by}
+use Rattle.status_records.specs.Conffiles.{has_pending}
+use Rattle.status_records.proofs.PathOrder.{before_apart, has_path, has_placed, order_placed}
 use Rattle.configure_engine.specs.Waiting.{goes, going_paths, pending_paths, settling_paths}
 
 abbrev itself : Path → Path

@@ -10,16 +10,16 @@ use Rattle.conffiles.specs.declared.entries.Settled.{Settled}
 use Rattle.diversions.specs.declared.entry.Diversion.{Diversion}
 use Rattle.file_lists.specs.Owners.{AreLists, paths_of}
 use Rattle.file_lists.specs.declared.paths.PackageList.{PackageList}
-use Rattle.status_db.specs.ConffilePaths.{AreInOrder}
-use Rattle.status_db.specs.Records.{put_record, record_in}
-use Rattle.status_db.specs.Standings.{configured}
-use Rattle.status_db.specs.declared.record.Record.{Record}
-use Rattle.unwind_stack.specs.declared.rows.Called.{Called}
-use Rattle.unwind_stack.specs.declared.rows.Owner.{Owner}
-use Rattle.unwind_stack.specs.declared.rows.Row.{Row}
-use Rattle.unit_parts.specs.Fitting.{AreFit, HaveNoSettle}
-use Rattle.unit_parts.specs.Parts.{parts_lists, parts_records}
-use Rattle.unit_parts.specs.declared.part.Part.{Part}
+use Rattle.status_records.specs.ConffilePaths.{AreInOrder}
+use Rattle.status_records.specs.Records.{put_record, record_in}
+use Rattle.status_records.specs.Standings.{configured}
+use Rattle.status_records.specs.declared.record.Record.{Record}
+use Rattle.undo_rows.specs.declared.rows.Called.{Called}
+use Rattle.undo_rows.specs.declared.rows.Owner.{Owner}
+use Rattle.undo_rows.specs.declared.rows.Row.{Row}
+use Rattle.unit_stages.specs.PartFitting.{AreFit, HaveNoSettle}
+use Rattle.unit_stages.specs.Parts.{parts_lists, parts_records}
+use Rattle.unit_stages.specs.declared.part.Part.{Part}
 use Rattle.unit_stages.specs.Fitting.{AreStagesFit, AreStagesSettleable}
 use Rattle.unit_stages.specs.Holding.{Holding, after_parts}
 use Rattle.unit_stages.specs.Runs.{HasRestored, HaveRun}

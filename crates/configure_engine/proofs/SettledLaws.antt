@@ -5,12 +5,12 @@ use Rattle.std.specs.Str.{bytes_eq}
 use Rattle.std.proofs.lemmas.Bool.{true≢false, false_from_ne_true, or_from, or_parts}
 use Rattle.std.proofs.lemmas.Slice.Eq.{bytes_eq-Decides}
 use Rattle.host_core.specs.Paths.{Path}
-use Rattle.status_db.specs.declared.entries.ConffileEntry.{ConffileEntry}
-use Rattle.status_db.specs.declared.entries.PendingDigest.{PendingDigest}
-use Rattle.status_db.specs.declared.record.Record.{Record}
-use Rattle.status_db.specs.ConffilePaths.{is_before, AreInOrder, placed_by, all_placed_by}
-use Rattle.status_db.specs.Conffiles.{has_pending, recorded_digest}
-use Rattle.status_db.proofs.PathOrder.{before_apart, has_placed}
+use Rattle.status_records.specs.declared.entries.ConffileEntry.{ConffileEntry}
+use Rattle.status_records.specs.declared.entries.PendingDigest.{PendingDigest}
+use Rattle.status_records.specs.declared.record.Record.{Record}
+use Rattle.status_records.specs.ConffilePaths.{is_before, AreInOrder, placed_by, all_placed_by}
+use Rattle.status_records.specs.Conffiles.{has_pending, recorded_digest}
+use Rattle.status_records.proofs.PathOrder.{before_apart, has_placed}
 use Rattle.configure_engine.specs.Settled.{settled, settled_entries, settled_entry, stays}
 use Rattle.configure_engine.specs.Waiting.{goes, is_going, pending_digest, settling_paths}
 

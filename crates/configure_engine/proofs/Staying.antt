@@ -7,12 +7,12 @@ use Rattle.std.proofs.lemmas.List.{append-nil, map-append, take_more}
 use Rattle.std.proofs.lemmas.List.Elements.{filter_more}
 use Rattle.std.proofs.lemmas.Slice.Eq.{bytes_eq-Decides}
 use Rattle.host_core.specs.Paths.{Path}
-use Rattle.status_db.specs.declared.entries.ConffileEntry.{ConffileEntry}
-use Rattle.status_db.specs.declared.entries.PendingDigest.{PendingDigest}
-use Rattle.status_db.specs.ConffilePaths.{is_before, AreInOrder, placed_by, all_placed_by}
-use Rattle.status_db.specs.Conffiles.{has_entry, has_pending}
-use Rattle.status_db.proofs.PathOrder.{has_path, order_apart}
-use Rattle.status_db.proofs.Placing.{all_placed_more, behind_all, has_all_placed, new_at}
+use Rattle.status_records.specs.declared.entries.ConffileEntry.{ConffileEntry}
+use Rattle.status_records.specs.declared.entries.PendingDigest.{PendingDigest}
+use Rattle.status_records.specs.ConffilePaths.{is_before, AreInOrder, placed_by, all_placed_by}
+use Rattle.status_records.specs.Conffiles.{has_entry, has_pending}
+use Rattle.status_records.proofs.PathOrder.{has_path, order_apart}
+use Rattle.status_records.proofs.Placing.{all_placed_more, behind_all, has_all_placed, new_at}
 use Rattle.configure_engine.specs.Settled.{settled_entry, stays}
 
 -- one of a list more, where it passes the test, and where it doesn't

@@ -6,8 +6,8 @@ use Rattle.host_core.specs.World.{World}
 use Rattle.conffiles.specs.Settling.{files_at, IsDecided}
 use Rattle.conffiles.specs.declared.decisions.ConfPolicy.{ConfPolicy}
 use Rattle.conffiles.specs.declared.entries.Settled.{Settled}
-use Rattle.status_db.specs.Conffiles.{recorded_digest}
-use Rattle.status_db.specs.declared.record.Record.{Record}
+use Rattle.status_records.specs.Conffiles.{recorded_digest}
+use Rattle.status_records.specs.declared.record.Record.{Record}
 use Rattle.configure_engine.specs.Waiting.{pending_digest, settling_paths}
 
 -- this is decided of one of them, by the digest that is recorded, that of the file in this world, and the shipped one

@@ -4,7 +4,7 @@ use Rattle.std.specs.List.{flat_map}
 use Rattle.host_core.specs.Paths.{Path}
 use Rattle.host_core.specs.World.{World}
 use Rattle.conffiles.specs.Settling.{is_other, ordered_names}
-use Rattle.status_db.specs.ConffilePaths.{is_before}
+use Rattle.status_records.specs.ConffilePaths.{is_before}
 
 -- the names at which the files of these conffiles stand
 abbrev pub names_of_all : List Path → List Path

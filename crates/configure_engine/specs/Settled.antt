@@ -1,11 +1,11 @@
 -- The record of a package once its conffiles are settled (Policy 10.7.3).
 use Rattle.std.specs.Prelude.{◌||◌, Bool, false, not, List, [], Some, map, filter}
-use Rattle.status_db.specs.ConffilePaths.{all_placed_by}
-use Rattle.status_db.specs.Conffiles.{has_pending}
-use Rattle.status_db.specs.Standings.{with_conffiles}
-use Rattle.status_db.specs.declared.entries.ConffileEntry.{ConffileEntry}
-use Rattle.status_db.specs.declared.entries.PendingDigest.{PendingDigest}
-use Rattle.status_db.specs.declared.record.Record.{Record}
+use Rattle.status_records.specs.ConffilePaths.{all_placed_by}
+use Rattle.status_records.specs.Conffiles.{has_pending}
+use Rattle.status_records.specs.Standings.{with_conffiles}
+use Rattle.status_records.specs.declared.entries.ConffileEntry.{ConffileEntry}
+use Rattle.status_records.specs.declared.entries.PendingDigest.{PendingDigest}
+use Rattle.status_records.specs.declared.record.Record.{Record}
 
 -- the entry of a shipped conffile that is settled: its digest is the recorded one
 abbrev pub settled_entry : PendingDigest → ConffileEntry

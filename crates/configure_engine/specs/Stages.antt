@@ -9,14 +9,14 @@ use Rattle.host_core.specs.declared.call.Side.TheVariants.{Old}
 use Rattle.host_core.specs.declared.call.Script.TheVariants.{Postinst}
 use Rattle.administration.specs.Places.{script_path}
 use Rattle.conffiles.specs.declared.entries.Settled.{Settled}
-use Rattle.unwind_stack.specs.declared.rows.Row.{Row}
-use Rattle.unwind_stack.specs.declared.rows.Owner.TheVariants.{Package as OfPackage}
-use Rattle.status_db.specs.Configured.{last_configured}
-use Rattle.status_db.specs.Standings.{configured, standing_as}
-use Rattle.status_db.specs.declared.record.Record.{Record}
-use Rattle.status_db.specs.declared.words.State.TheVariants.{HalfConfigured}
-use Rattle.unit_parts.specs.declared.part.Part.{Part}
-use Rattle.unit_parts.specs.declared.part.Part.TheVariants.{Note, Forget, Settle, Remove, RemoveDirectories, Clear, List as Listing, DropList, DropMembers}
+use Rattle.undo_rows.specs.declared.rows.Row.{Row}
+use Rattle.undo_rows.specs.declared.rows.Owner.TheVariants.{Package as OfPackage}
+use Rattle.status_records.specs.Configured.{last_configured}
+use Rattle.status_records.specs.Standings.{configured, standing_as}
+use Rattle.status_records.specs.declared.record.Record.{Record}
+use Rattle.status_records.specs.declared.words.State.TheVariants.{HalfConfigured}
+use Rattle.unit_stages.specs.declared.part.Part.{Part}
+use Rattle.unit_stages.specs.declared.part.Part.TheVariants.{Note, Forget, Settle, Remove, RemoveDirectories, Clear, List as Listing, DropList, DropMembers}
 use Rattle.unit_stages.specs.declared.stage.Stage.{Stage}
 use Rattle.configure_engine.specs.Settled.{settled}
 use Rattle.configure_engine.specs.Waiting.{going_paths}

@@ -8,23 +8,23 @@ use Rattle.host_core.specs.Host.{State, Silent}
 use Rattle.host_core.specs.declared.call.Call.{Call}
 use Rattle.host_core.specs.declared.call.Script.TheVariants.{Postinst}
 use Rattle.administration.specs.Places.{script_path}
-use Rattle.cleanup_stack.specs.Telling.{Begun}
+use Rattle.undo_rows.specs.Telling.{Begun}
 use Rattle.conffiles.specs.Settling.{CanSettle}
 use Rattle.conffiles.specs.declared.decisions.ConfPolicy.{ConfPolicy}
 use Rattle.conffiles.specs.declared.entries.Settled.{Settled}
 use Rattle.diversions.specs.declared.entry.Diversion.{Diversion}
 use Rattle.file_lists.specs.Owners.{paths_of}
-use Rattle.status_db.specs.Records.{record_in}
-use Rattle.status_db.specs.Standings.{configured}
-use Rattle.status_db.specs.declared.record.Record.{Record}
-use Rattle.status_db.specs.declared.words.Flag.TheVariants.{Ok}
-use Rattle.status_db.specs.declared.words.State.TheVariants.{HalfConfigured, Unpacked}
+use Rattle.status_records.specs.Records.{record_in}
+use Rattle.status_records.specs.Standings.{configured}
+use Rattle.status_records.specs.declared.record.Record.{Record}
+use Rattle.status_records.specs.declared.words.Flag.TheVariants.{Ok}
+use Rattle.status_records.specs.declared.words.State.TheVariants.{HalfConfigured, Unpacked}
 use Rattle.unit_stages.specs.Calls.{MayRunStages}
 use Rattle.unit_stages.specs.Holding.{Holding}
 use Rattle.unit_stages.specs.Running.{AreRunning}
 use Rattle.unit_stages.specs.Runs.{HaveRun}
 use Rattle.unit_stages.specs.declared.stage.Stage.{Stage}
-use Rattle.unwind_stack.specs.declared.rows.Called.{Called}
+use Rattle.undo_rows.specs.declared.rows.Called.{Called}
 use Rattle.configure_engine.specs.Decided.{AreDecided, decided_paths}
 use Rattle.configure_engine.specs.Settled.{settled}
 use Rattle.configure_engine.specs.Stages.{AreConfigureStages, half}

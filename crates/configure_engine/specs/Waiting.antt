@@ -3,11 +3,11 @@ use Rattle.std.specs.Prelude.{◌&&◌, ℕ, Bool, not, cond, List, [], ◌∷�
 use Rattle.std.specs.List.{list_any}
 use Rattle.std.specs.Str.{bytes_eq}
 use Rattle.host_core.specs.Paths.{Path}
-use Rattle.status_db.specs.ConffilePaths.{all_placed_by}
-use Rattle.status_db.specs.Conffiles.{has_pending}
-use Rattle.status_db.specs.declared.entries.ConffileEntry.{ConffileEntry}
-use Rattle.status_db.specs.declared.entries.PendingDigest.{PendingDigest}
-use Rattle.status_db.specs.declared.record.Record.{Record}
+use Rattle.status_records.specs.ConffilePaths.{all_placed_by}
+use Rattle.status_records.specs.Conffiles.{has_pending}
+use Rattle.status_records.specs.declared.entries.ConffileEntry.{ConffileEntry}
+use Rattle.status_records.specs.declared.entries.PendingDigest.{PendingDigest}
+use Rattle.status_records.specs.declared.record.Record.{Record}
 
 -- the shipped digest of this path that isn't settled yet, if there is one
 abbrev pub pending_digest : List PendingDigest → Path → Option (List ℕ)

@@ -3,14 +3,14 @@ ghost use Rattle.std.specs.Prelude.{◌≡◌, [], IfOk, OnOk, map};
 ghost use Rattle.std.specs.List.{All};
 ghost use Rattle.host_core.specs.Host.{Counts, Reads, Silent, Tells};
 ghost use Rattle.conffiles.specs.Settling.{digest_at};
-ghost use Rattle.status_db.specs.Conffiles.{recorded_digest};
+ghost use Rattle.status_records.specs.Conffiles.{recorded_digest};
 ghost use Rattle.configure_engine.specs.Decided.{decided_paths, AreDecided, IsDecidedOf};
 ghost use Rattle.configure_engine.specs.Waiting.{pending_digest, settling_paths};
 
 use crate::waiting::settling_paths;
 use conffiles::{ConfPolicy, Digest, Settled, decide};
 use host_core::{Host, HostFault, Node, ShipPath};
-use status_db::{ConffileEntry, PendingDigest, Record};
+use status_records::{ConffileEntry, PendingDigest, Record};
 use std::alloc::Global;
 
 fn recorded_digest(entries: &[ConffileEntry], path: &ShipPath) -> Option<Digest>

@@ -1,9 +1,9 @@
 // What the record of a package tells once its conffiles are settled.
 ghost use Rattle.std.specs.Prelude.{◌≡◌, [], Some, map, true, false, None, ℕ, List};
 ghost use Rattle.host_core.specs.Paths.{Path};
-ghost use Rattle.status_db.specs.ConffilePaths.{AreInOrder};
-ghost use Rattle.status_db.specs.Conffiles.{has_pending, recorded_digest};
-ghost use Rattle.status_db.specs.declared.record.Record.{Record as ARecord};
+ghost use Rattle.status_records.specs.ConffilePaths.{AreInOrder};
+ghost use Rattle.status_records.specs.Conffiles.{has_pending, recorded_digest};
+ghost use Rattle.status_records.specs.declared.record.Record.{Record as ARecord};
 ghost use Rattle.configure_engine.specs.Settled.{settled};
 ghost use Rattle.configure_engine.specs.Waiting.{is_going, pending_digest, settling_paths};
 

@@ -3,14 +3,14 @@ ghost use Rattle.std.specs.Prelude.{◌≡◌, None};
 ghost use Rattle.std.specs.List.{All};
 ghost use Rattle.host_core.specs.Host.{Counts, Reads, Silent, Tells};
 ghost use Rattle.conffiles.specs.Settling.{CanSettle};
-ghost use Rattle.status_db.specs.ConffilePaths.{is_before};
+ghost use Rattle.status_records.specs.ConffilePaths.{is_before};
 ghost use Rattle.configure_engine.specs.Obstacles.{lesser_of, names_of_all, IsObstacle};
 ghost use Rattle.configure_engine.specs.Waiting.{settling_paths};
 
 use crate::waiting::settling_paths;
 use conffiles::find_obstacle;
 use host_core::{Host, HostFault, RootPath, ShipPath};
-use status_db::Record;
+use status_records::Record;
 use std::alloc::Global;
 use std::cmp::Ordering;
 

@@ -2,7 +2,7 @@
 ghost use Rattle.std.specs.Prelude.{◌≡◌, filter, IfOk};
 ghost use Rattle.configure_engine.specs.Settled.{settled, settled_entries, settled_entry, stays};
 
-use status_db::{ConffileEntries, ConffileEntry, PendingDigest, PendingDigests, Record};
+use status_records::{ConffileEntries, ConffileEntry, PendingDigest, PendingDigests, Record};
 use std::alloc::{AllocError, Global};
 
 fn stays(entry: &ConffileEntry, pending: &PendingDigests) -> bool

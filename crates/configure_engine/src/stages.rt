@@ -3,9 +3,9 @@ ghost use Rattle.std.specs.Prelude.{◌≡◌, ◌++◌, ◌∷◌, [], not, tru
 ghost use Rattle.std.specs.List.{list_any};
 ghost use Rattle.std.specs.Str.{bytes_eq};
 ghost use Rattle.texts.specs.PackageNames.{is_package_name};
-ghost use Rattle.status_db.specs.Configured.{last_configured};
-ghost use Rattle.status_db.specs.Standings.{configured};
-ghost use Rattle.unit_parts.specs.declared.part.Part.TheVariants.{Note};
+ghost use Rattle.status_records.specs.Configured.{last_configured};
+ghost use Rattle.status_records.specs.Standings.{configured};
+ghost use Rattle.unit_stages.specs.declared.part.Part.TheVariants.{Note};
 ghost use Rattle.configure_engine.specs.Settled.{settled as settled_record};
 ghost use Rattle.configure_engine.specs.Stages.{half, last_text, list_parts, listed_without, postinst_call, postinst_row, quiet_row, AreConfigureStages, AreFirstParts};
 
@@ -15,12 +15,11 @@ use administration::script_path;
 use conffiles::Settled;
 use file_lists::Paths;
 use host_core::{Call, RootPath, Script, ShipPath, Side};
-use status_db::{Record, State};
+use status_records::{Record, State};
 use std::alloc::{AllocError, Global};
 use texts::{Text, Texts};
-use unit_parts::Part;
-use unit_stages::Stage;
-use unwind_stack::{Owner, Row};
+use undo_rows::{Owner, Row};
+use unit_stages::{Part, Stage};
 
 fn half(entry: &Record) -> Result<Record, AllocError>
     ensures { IfOk result (λ r. r ≡ half entry.now) }

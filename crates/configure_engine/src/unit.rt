@@ -4,9 +4,9 @@ ghost use Rattle.texts.specs.PackageNames.{is_package_name};
 ghost use Rattle.host_core.specs.Host.{AtEachMomentOf, Counts, Needs, Reads, Silent, Tells};
 ghost use Rattle.host_core.specs.declared.call.Script.TheVariants.{Postinst};
 ghost use Rattle.administration.specs.Places.{script_path as stored_path};
-ghost use Rattle.status_db.specs.ConffilePaths.{AreInOrder};
+ghost use Rattle.status_records.specs.ConffilePaths.{AreInOrder};
 ghost use Rattle.held_administration.specs.Open.{IsOpen};
-ghost use Rattle.unit_parts.specs.Order.{IsInOrder};
+ghost use Rattle.unit_stages.specs.Order.{IsInOrder};
 ghost use Rattle.unit_stages.specs.Holding.{holding_of};
 ghost use Rattle.configure_engine.specs.Units.{CanConfigure, HasCalled, HasConfigured, HasEnded, IsAmidUnit, IsPlanFor, IsWaiting, given};
 ghost use Rattle.configure_engine.specs.Waiting.{settling_paths};
@@ -18,11 +18,11 @@ use conffiles::ConfPolicy;
 use diversions::Diversions;
 use held_administration::Administration;
 use host_core::{Call, Host, HostFault, RootPath, Script};
-use status_db::Record;
+use status_records::Record;
 use std::alloc::Global;
 use texts::Text;
+use undo_rows::Called;
 use unit_stages::{Stage, run_stages};
-use unwind_stack::Called;
 
 #[tactic(auto, using(host_core::proofs::Moments::reads_then))]
 fn has_postinst<H: Host>(alloc: Global, host: &mut H, name: &Text) -> Result<bool, HostFault>

@@ -1,11 +1,11 @@
 // Which conffiles of a record are to be settled.
 ghost use Rattle.std.specs.Prelude.{◌≡◌, ◌≤◌, length, IfOk};
 ghost use Rattle.std.specs.List.{insert};
-ghost use Rattle.status_db.specs.ConffilePaths.{is_before, placed_by};
+ghost use Rattle.status_records.specs.ConffilePaths.{is_before, placed_by};
 ghost use Rattle.configure_engine.specs.Waiting.{goes, going_paths, pending_paths, settling_paths};
 
 use host_core::ShipPath;
-use status_db::{ConffileEntry, PendingDigests, Record};
+use status_records::{ConffileEntry, PendingDigests, Record};
 use std::alloc::{AllocError, Global};
 use std::cmp::Ordering;
 

@@ -10,14 +10,14 @@ use Rattle.recorded_packages.specs.Packages.{ArePackagesOf}
 use Rattle.relation_index.specs.declared.package.Package.{Package}
 use Rattle.host_core.specs.World.{World}
 use Rattle.status_db.specs.Order.{AreInOrder, IsBefore, IsBeforeAll, names_of}
-use Rattle.status_db.specs.Words.{is_installed}
-use Rattle.status_db.specs.declared.record.Record.{Record}
-use Rattle.status_db.specs.declared.words.Flag.{Flag}
-use Rattle.status_db.specs.declared.words.Flag.TheVariants as flag
-use Rattle.status_db.specs.declared.words.State.{State}
-use Rattle.status_db.specs.declared.words.State.TheVariants as state
+use Rattle.status_records.specs.Words.{is_installed}
+use Rattle.status_records.specs.declared.record.Record.{Record}
+use Rattle.status_records.specs.declared.words.Flag.{Flag}
+use Rattle.status_records.specs.declared.words.Flag.TheVariants as flag
+use Rattle.status_records.specs.declared.words.State.{State}
+use Rattle.status_records.specs.declared.words.State.TheVariants as state
 use Rattle.status_db.proofs.Ordered.{before_differs, order_apart}
-use Rattle.status_db.proofs.Tables.{record_at}
+use Rattle.status_records.proofs.Tables.{record_at}
 use Rattle.configure_run.specs.Asked.{can_wait, is_sound, is_unconfigured}
 use Rattle.configure_run.specs.Starting.{AreNamedApart, AreSilent, AreSilentOf, AreWaiting, IsAt, IsBegun, IsEven, is_named, is_silent, name_at, waits}
 

@@ -10,7 +10,7 @@ use Rattle.dependency_sets.specs.Sets.{has}
 use Rattle.host_core.specs.Host.{State}
 use Rattle.recorded_packages.specs.Renewal.{AreSameBut}
 use Rattle.relation_index.specs.declared.package.Package.{Package}
-use Rattle.status_db.specs.declared.record.Record.{Record}
+use Rattle.status_records.specs.declared.record.Record.{Record}
 use Rattle.unit_reports.specs.Held.{Held}
 use Rattle.unit_reports.specs.declared.report.Unit.{Unit as AUnit}
 use Rattle.configure_run.specs.Asked.{can_wait}

@@ -5,7 +5,7 @@ use Rattle.std.proofs.lemmas.Bool.{cases_lt}
 use Rattle.std.proofs.lemmas.List.{get_or_append_left, get_or_default, length_push}
 use Rattle.dependency_sets.specs.Sets.{has}
 use Rattle.host_core.specs.World.{World}
-use Rattle.status_db.specs.declared.record.Record.{Record}
+use Rattle.status_records.specs.declared.record.Record.{Record}
 use Rattle.configure_run.specs.Starting.{AreSilentOf, IsAt, is_silent, waits}
 
 -- the first of them, as many as were looked at

@@ -3,7 +3,7 @@ use Rattle.std.proofs.Common.{◌≡◌, ℕ, List, [], ◌∷◌, ◌++◌, app
 use Rattle.std.proofs.lemmas.List.{append-nil}
 use Rattle.conffiles.specs.declared.decisions.ConfPolicy.{ConfPolicy}
 use Rattle.configure_engine.specs.Units.{Given, HasCalled}
-use Rattle.cleanup_stack.proofs.Tellings.{begun_calls}
+use Rattle.undo_rows.proofs.Tellings.{begun_calls}
 use Rattle.dependency_check.specs.Waiting.{Waiting}
 use Rattle.host_core.specs.Events.{calls_of as calls_in}
 use Rattle.host_core.specs.Host.{State, Silent, calls}
@@ -12,9 +12,9 @@ use Rattle.unit_reports.specs.Held.{Held}
 use Rattle.unit_reports.specs.Units.{HasNoCalls, calls_of}
 use Rattle.unit_reports.specs.declared.report.Unit.{Unit as AUnit}
 use Rattle.unit_stages.specs.Calls.{MayRunStages}
-use Rattle.unwind_stack.proofs.Makes.{tells_none, tells_then}
-use Rattle.unwind_stack.specs.Transcript.{TellsAll}
-use Rattle.unwind_stack.specs.declared.rows.Called.{Called}
+use Rattle.undo_rows.proofs.Makes.{tells_none, tells_then}
+use Rattle.undo_rows.specs.Transcript.{TellsAll}
+use Rattle.undo_rows.specs.declared.rows.Called.{Called}
 use Rattle.configure_run.specs.Early.{AreRefused, AreSomeRefused}
 use Rattle.configure_run.specs.LeftOver.{AreLeftOver, HaveRefusedLeft, HaveRefusedSomeLeft}
 use Rattle.configure_run.specs.Turns.{HasCalledFor}

@@ -15,13 +15,13 @@ use Rattle.host_core.specs.World.{World}
 use Rattle.host_core.specs.declared.call.Call.{Call}
 use Rattle.relation_index.specs.Packages.{those}
 use Rattle.relation_index.specs.declared.package.Package.{Package}
-use Rattle.status_db.specs.Records.{record_in}
-use Rattle.status_db.specs.declared.record.Record.{Record}
+use Rattle.status_records.specs.Records.{record_in}
+use Rattle.status_records.specs.declared.record.Record.{Record}
 use Rattle.unit_reports.specs.Held.{Held}
 use Rattle.unit_reports.specs.Units.{HasNoCalls}
 use Rattle.unit_reports.specs.declared.report.Unit.{Unit as AUnit}
 use Rattle.unit_stages.specs.Holding.{Holding}
-use Rattle.unwind_stack.specs.declared.rows.Called.{Called}
+use Rattle.undo_rows.specs.declared.rows.Called.{Called}
 use Rattle.configure_run.specs.LeftOver.{IsNumbered}
 use Rattle.configure_run.specs.Starting.{AreNamedApart, AreWaiting, IsEven, name_at}
 use Rattle.configure_run.specs.Turns.{ConfiguresToDisk, HasCalledFor, HasCalledToDisk, HasObstacle, IsUnit, IsUnitFor, after_turn}

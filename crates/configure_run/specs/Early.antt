@@ -1,10 +1,10 @@
 -- What is refused before anything is configured, in the order in which the names are given.
 use Rattle.std.specs.Prelude.{◌≡◌, ℕ, Bool, true, false, List, [], ◌∷◌, ◌++◌, Option, Some, None}
 use Rattle.std.specs.List.{filter_map}
-use Rattle.status_db.specs.Records.{record_in}
-use Rattle.status_db.specs.declared.record.Record.{Record}
-use Rattle.status_db.specs.declared.words.Flag.{Flag}
-use Rattle.status_db.specs.declared.words.Flag.TheVariants as flag
+use Rattle.status_records.specs.Records.{record_in}
+use Rattle.status_records.specs.declared.record.Record.{Record}
+use Rattle.status_records.specs.declared.words.Flag.{Flag}
+use Rattle.status_records.specs.declared.words.Flag.TheVariants as flag
 use Rattle.unit_reports.specs.Units.{IsRefusedUnit}
 use Rattle.unit_reports.specs.declared.refusal.Refusal.{Refusal}
 use Rattle.unit_reports.specs.declared.refusal.Rule.{Rule}

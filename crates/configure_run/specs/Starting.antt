@@ -10,9 +10,9 @@ use Rattle.host_core.specs.World.{World}
 use Rattle.host_core.specs.declared.call.Script.TheVariants.{Postinst}
 use Rattle.recorded_packages.specs.Packages.{ArePackagesOf}
 use Rattle.relation_index.specs.declared.package.Package.{Package}
-use Rattle.status_db.specs.Records.{record_in}
-use Rattle.status_db.specs.Words.{is_installed}
-use Rattle.status_db.specs.declared.record.Record.{Record}
+use Rattle.status_records.specs.Records.{record_in}
+use Rattle.status_records.specs.Words.{is_installed}
+use Rattle.status_records.specs.declared.record.Record.{Record}
 use Rattle.configure_run.specs.Asked.{can_wait}
 
 abbrev pub is_named : List (List ℕ) → Record → Bool

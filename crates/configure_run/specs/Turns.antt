@@ -11,10 +11,10 @@ use Rattle.host_core.specs.Loss.{IsAnswered}
 use Rattle.host_core.specs.World.{World, Barrier}
 use Rattle.host_core.specs.declared.call.Call.{Call}
 use Rattle.relation_index.specs.declared.package.Package.{Package}
-use Rattle.stack_run.specs.declared.failure.Failure.TheVariants.{OfCall}
-use Rattle.status_db.specs.Records.{record_in}
-use Rattle.status_db.specs.declared.record.Record.{Record}
-use Rattle.unit_parts.specs.Order.{IsInOrder}
+use Rattle.undo_rows.specs.declared.failure.Failure.TheVariants.{OfCall}
+use Rattle.status_records.specs.Records.{record_in}
+use Rattle.status_records.specs.declared.record.Record.{Record}
+use Rattle.unit_stages.specs.Order.{IsInOrder}
 use Rattle.unit_stages.specs.Holding.{Holding}
 use Rattle.unit_reports.specs.Held.{Held}
 use Rattle.unit_reports.specs.Units.{HasNoCalls, IsBroken, IsRefused, TellsNoPackage, touched_at}
@@ -22,7 +22,7 @@ use Rattle.unit_reports.specs.declared.refusal.Rule.TheVariants.{BrokenBy, Conff
 use Rattle.unit_reports.specs.declared.report.Reply.{Reply}
 use Rattle.unit_reports.specs.declared.report.Reply.TheVariants.{Done, Refused, Failed, Broken}
 use Rattle.unit_reports.specs.declared.report.Unit.{Unit as AUnit}
-use Rattle.unwind_stack.specs.declared.rows.Called.{Called}
+use Rattle.undo_rows.specs.declared.rows.Called.{Called}
 use Rattle.configure_engine.specs.Obstacles.{IsObstacle, names_of_all}
 use Rattle.configure_engine.specs.Units.{Given, HasCalled, HasConfigured, HasEnded, given}
 use Rattle.configure_engine.specs.Units.{IsAmidUnit as IsAmidConfiguring}

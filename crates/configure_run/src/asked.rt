@@ -4,7 +4,8 @@ ghost use Rattle.std.specs.List.{list_any};
 ghost use Rattle.std.specs.Str.{bytes_eq};
 ghost use Rattle.configure_run.specs.Asked.{can_wait, each_once, is_sound, is_unconfigured, waiting_names, with_name};
 
-use status_db::{Flag, NotedDatabase, Record, State};
+use status_db::NotedDatabase;
+use status_records::{Flag, Record, State};
 use std::alloc::{AllocError, Global};
 use texts::Text;
 

@@ -1,12 +1,13 @@
 // What is refused before anything is configured.
 ghost use Rattle.std.specs.Prelude.{◌≡◌, [], OnErr, OnOk, option_copied};
-ghost use Rattle.status_db.specs.Records.{record_in};
+ghost use Rattle.status_records.specs.Records.{record_in};
 ghost use Rattle.unit_reports.specs.Watching.{AddsTold};
 ghost use Rattle.configure_run.specs.Early.{AreRefused, AreSomeRefused, HasRefused, early_refusals, early_rule, refusal_by, rule_by_flag};
 
 use crate::asked::is_unconfigured;
 use crate::telling::add_finished;
-use status_db::{Flag, NotedDatabase, Record};
+use status_db::NotedDatabase;
+use status_records::{Flag, Record};
 use std::alloc::{AllocError, Global};
 use texts::Text;
 use unit_reports::{Rule, Unit, Watcher, refused, what_is_told_in_turn};

@@ -2,14 +2,15 @@
 ghost use Rattle.std.specs.Prelude.{◌≡◌, IfOk, map, true};
 ghost use Rattle.administration.specs.Places.{script_path as stored_path};
 ghost use Rattle.host_core.specs.Host.{Counts, Reads, Silent, Tells};
-ghost use Rattle.status_db.specs.Words.{is_installed};
+ghost use Rattle.status_records.specs.Words.{is_installed};
 ghost use Rattle.texts.specs.PackageNames.{is_package_name};
 ghost use Rattle.configure_run.specs.Starting.{AreSilentOf, is_silent, waits};
 
 use crate::asked::{can_wait, has_name};
 use administration::script_path;
 use host_core::{Host, HostFault, Script};
-use status_db::{NotedDatabase, Record};
+use status_db::NotedDatabase;
+use status_records::Record;
 use std::alloc::{AllocError, Global};
 use texts::Text;
 

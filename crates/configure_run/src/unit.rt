@@ -4,7 +4,7 @@ ghost use Rattle.configure_engine.specs.Units.{CanConfigure, HasEnded, IsAmidUni
 ghost use Rattle.held_administration.specs.Open.{IsOpen};
 ghost use Rattle.host_core.specs.Host.{AtEachMomentOf, Counts, Needs, Reads, Silent, Tells};
 ghost use Rattle.host_core.specs.Loss.{IsAnswered, IsOnDisk};
-ghost use Rattle.unit_parts.specs.Order.{IsInOrder};
+ghost use Rattle.unit_stages.specs.Order.{IsInOrder};
 ghost use Rattle.unit_reports.specs.Held.{held_by};
 ghost use Rattle.unit_reports.specs.Units as reports;
 ghost use Rattle.unit_reports.specs.Units.{CountsReply, IsBroken, IsBrokenBy, IsRefusedUnit, TellsNoPackage};
@@ -20,14 +20,13 @@ use diversions::Diversions;
 use held_administration::Administration;
 use host_core::{Call, Host, HostFault, RootPath};
 use relation_index::{Package, Packages};
-use stack_run::Failure as Cause;
 use status_db::NotedDatabase;
 use std::alloc::{AllocError, Global};
 use texts::{Text, Texts};
+use undo_rows::{Called, Failure as Cause};
 use unit_reports::{
     Breakage, Failure, Reply, Rule, Touched, Unit, breakage_of, broken, refused, touched_at,
 };
-use unwind_stack::Called;
 
 /// Whether a unit did all that was asked.
 pub(crate) fn is_done(unit: &Unit) -> bool

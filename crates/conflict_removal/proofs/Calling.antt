@@ -1,6 +1,6 @@
 -- The calls of removals are those of the host's own list.
 use Rattle.std.proofs.Common.{◌≡◌, ◌++◌, ℕ, List, [], ◌∷◌, Option, sym, ap, ◌∙◌}
-use Rattle.cleanup_stack.specs.Telling.{Begun}
+use Rattle.undo_rows.specs.Telling.{Begun}
 use Rattle.host_core.specs.Events.{Ran, calls_of}
 use Rattle.host_core.specs.Host.{Silent, State, calls}
 use Rattle.host_core.proofs.Scripts.{calls_of-scripts}
@@ -12,9 +12,9 @@ use Rattle.unit_stages.specs.Calls.{AreCallsOf, MayRunStages}
 use Rattle.unit_stages.specs.Holding.{Holding}
 use Rattle.unit_stages.specs.Runs.{HaveRun}
 use Rattle.unit_stages.specs.declared.stage.Stage.{Stage}
-use Rattle.unwind_stack.proofs.Makes.{tells_none, tells_then}
-use Rattle.unwind_stack.specs.Transcript.{Tells, TellsAll}
-use Rattle.unwind_stack.specs.declared.rows.Called.{Called}
+use Rattle.undo_rows.proofs.Makes.{tells_none, tells_then}
+use Rattle.undo_rows.specs.Transcript.{Tells, TellsAll}
+use Rattle.undo_rows.specs.declared.rows.Called.{Called}
 use Rattle.conflict_removal.specs.Removals.{HasCalledNext, HaveBeenRemoved, HaveCalled, IsRemovedOrGone}
 
 -- the laws of stages

@@ -14,13 +14,13 @@ use Rattle.removal_engine.proofs.Tables.{is_named}
 use Rattle.removal_engine.specs.Stages.{Planned}
 use Rattle.removal_engine.specs.Units.{Given, IsPlanOf, given}
 use Rattle.removal_engine.specs.declared.extent.Extent.TheVariants.{InFavour}
-use Rattle.unit_parts.specs.Aside.{IsAside}
+use Rattle.unit_stages.specs.Aside.{IsAside}
 use Rattle.unit_stages.specs.Fitting.{AreStagesFit}
 use Rattle.unit_stages.specs.Holding.{Holding}
 use Rattle.unit_stages.specs.Running.{AreRunning}
 use Rattle.unit_stages.specs.Runs.{HaveRun}
 use Rattle.unit_stages.specs.declared.stage.Stage.{Stage}
-use Rattle.unwind_stack.specs.declared.rows.Called.{Called}
+use Rattle.undo_rows.specs.declared.rows.Called.{Called}
 use Rattle.conflict_removal.specs.Removals.{HaveBeenRemoved, IsAmidNext, IsAmidRemovals, IsAsideOfAll, IsInOrderWith, IsRemovedOrGone}
 
 -- the laws of stages

@@ -11,9 +11,9 @@ use Rattle.file_lists.specs.Filed.{Filed}
 use Rattle.removal_engine.specs.Units.{HasCalled, IsAmidUnit, given}
 use Rattle.removal_engine.specs.declared.extent.Extent.TheVariants.{InFavour}
 use Rattle.status_db.specs.Recorded.{Recorded}
-use Rattle.unit_parts.specs.Order.{IsInOrder}
+use Rattle.unit_stages.specs.Order.{IsInOrder}
 use Rattle.unit_stages.specs.Holding.{Holding, holding}
-use Rattle.unwind_stack.specs.declared.rows.Called.{Called}
+use Rattle.undo_rows.specs.declared.rows.Called.{Called}
 use Rattle.conflict_removal.specs.Removals.{CanBeOpened, HaveBeenRemoved, HaveCalled, IsAmidNext, IsAmidRemovals}
 
 -- the next opening finds the records of an administration that is in order

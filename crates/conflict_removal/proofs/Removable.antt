@@ -4,10 +4,10 @@ use Rattle.std.proofs.lemmas.Bool.{false≢true, true≢false}
 use Rattle.removal_engine.specs.Extents.{BeginsFrom}
 use Rattle.removal_engine.specs.Units.{IsRemovable}
 use Rattle.removal_engine.specs.declared.extent.Extent.TheVariants.{InFavour}
-use Rattle.status_db.specs.Records.{record_in}
-use Rattle.status_db.specs.declared.record.Record.{Record}
-use Rattle.status_db.specs.declared.words.State.{State}
-use Rattle.status_db.specs.declared.words.State.TheVariants.{NotInstalled, ConfigFiles, HalfInstalled, Unpacked, HalfConfigured, Installed}
+use Rattle.status_records.specs.Records.{record_in}
+use Rattle.status_records.specs.declared.record.Record.{Record}
+use Rattle.status_records.specs.declared.words.State.{State}
+use Rattle.status_records.specs.declared.words.State.TheVariants.{NotInstalled, ConfigFiles, HalfInstalled, Unpacked, HalfConfigured, Installed}
 use Rattle.conflict_removal.specs.Removals.{begins_in_favour, can_be_removed}
 
 begins : (s : State) → begins_in_favour s ≡ true → BeginsFrom InFavour s

@@ -11,14 +11,14 @@ use Rattle.diversions.specs.declared.entry.Diversion.{Diversion}
 use Rattle.removal_engine.specs.Units.{HasCalled, HasEnded, HasRemoved, IsAmidUnit, IsRemovable, given}
 use Rattle.removal_engine.specs.declared.extent.Extent.TheVariants.{InFavour}
 use Rattle.status_db.specs.Recorded.{Recorded}
-use Rattle.status_db.specs.declared.record.Record.{Record}
-use Rattle.status_db.specs.declared.words.State.{State as PackageState}
-use Rattle.status_db.specs.declared.words.State.TheVariants.{NotInstalled, ConfigFiles, HalfInstalled, Unpacked, HalfConfigured, Installed}
-use Rattle.unit_parts.specs.Aside.{IsAside}
-use Rattle.unit_parts.specs.Order.{IsInOrder}
+use Rattle.status_records.specs.declared.record.Record.{Record}
+use Rattle.status_records.specs.declared.words.State.{State as PackageState}
+use Rattle.status_records.specs.declared.words.State.TheVariants.{NotInstalled, ConfigFiles, HalfInstalled, Unpacked, HalfConfigured, Installed}
+use Rattle.unit_stages.specs.Aside.{IsAside}
+use Rattle.unit_stages.specs.Order.{IsInOrder}
 use Rattle.unit_stages.specs.Holding.{Holding}
 use Rattle.unit_stages.specs.Running.{IsOpenable}
-use Rattle.unwind_stack.specs.declared.rows.Called.{Called}
+use Rattle.undo_rows.specs.declared.rows.Called.{Called}
 
 -- Something of a package in this state can be removed in favour of another: if it was installed, its prerm was called.
 abbrev pub begins_in_favour : PackageState → Bool

@@ -8,8 +8,8 @@ ghost use Rattle.host_core.specs.Loss.{IsLater};
 ghost use Rattle.host_core.specs.declared.call.Call.{Call as ACall};
 ghost use Rattle.diversions.specs.declared.entry.Diversion.{Diversion as ADiversion};
 ghost use Rattle.unit_stages.specs.Holding.{Holding};
-ghost use Rattle.unwind_stack.specs.Transcript.{TellsAll};
-ghost use Rattle.unwind_stack.specs.declared.rows.Called.{Called as ACalled};
+ghost use Rattle.undo_rows.specs.Transcript.{TellsAll};
+ghost use Rattle.undo_rows.specs.declared.rows.Called.{Called as ACalled};
 ghost use Rattle.conflict_removal.specs.Removals.{CanBeOpened, HaveBeenRemoved, HaveCalled, IsAmidRemovals, IsAsideOfAll, IsInOrderWith};
 
 use unit_stages::{

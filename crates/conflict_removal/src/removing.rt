@@ -4,8 +4,8 @@ ghost use Rattle.host_core.specs.Host.{AtEachMomentOf, Counts, Needs, Since};
 ghost use Rattle.held_administration.specs.Open.{IsOpen};
 ghost use Rattle.removal_engine.specs.Units.{HasCalled, IsAmidUnit, given};
 ghost use Rattle.removal_engine.specs.declared.extent.Extent.TheVariants.{InFavour};
-ghost use Rattle.status_db.specs.Records.{record_in};
-ghost use Rattle.unit_parts.specs.Order.{IsInOrder};
+ghost use Rattle.status_records.specs.Records.{record_in};
+ghost use Rattle.unit_stages.specs.Order.{IsInOrder};
 ghost use Rattle.unit_stages.specs.Holding.{holding_of};
 ghost use Rattle.conflict_removal.specs.Removals.{HaveBeenRemoved, HaveCalled, IsAmidRemovals, IsRemovedOrGone, begins_in_favour, can_be_removed, first_failed};
 
@@ -13,9 +13,10 @@ use diversions::Diversions;
 use held_administration::Administration;
 use host_core::{Call, Host, HostFault};
 use removal_engine::{Extent, remove};
-use status_db::{NotedDatabase, State};
+use status_db::NotedDatabase;
+use status_records::State;
 use texts::Text;
-use unwind_stack::Called;
+use undo_rows::Called;
 
 fn begins_in_favour(state: State) -> bool
     ensures { result ≡ begins_in_favour state }

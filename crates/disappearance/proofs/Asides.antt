@@ -8,14 +8,14 @@ use Rattle.host_core.specs.Paths.{Path, is_own}
 use Rattle.host_core.specs.World.{World}
 use Rattle.host_core.specs.declared.call.Call.{Call}
 use Rattle.diversions.specs.declared.entry.Diversion.{Diversion}
-use Rattle.unit_parts.specs.Aside.{IsAside}
+use Rattle.unit_stages.specs.Aside.{IsAside}
 use Rattle.unit_stages.proofs.RunLaws.{run_later}
 use Rattle.unit_stages.specs.Fitting.{AreStagesFit}
 use Rattle.unit_stages.specs.Holding.{Holding}
 use Rattle.unit_stages.specs.Running.{AreRunning}
 use Rattle.unit_stages.specs.Runs.{HaveRun}
 use Rattle.unit_stages.specs.declared.stage.Stage.{Stage}
-use Rattle.unwind_stack.specs.declared.rows.Called.{Called}
+use Rattle.undo_rows.specs.declared.rows.Called.{Called}
 use Rattle.disappearance.specs.Runs.{HaveDisappeared, IsAmidDisappearances, IsAmidNext, IsAsideOfAll}
 use Rattle.disappearance.specs.Units.{HaveRunBoth, IsAmidOne, IsDecided, IsInOrderWith, IsRunningBoth}
 use Rattle.disappearance.specs.declared.losing.Losing.{Losing}

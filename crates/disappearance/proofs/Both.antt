@@ -5,8 +5,8 @@ use Rattle.host_core.specs.Host.{State, AtEachMomentOf, Silent, Since}
 use Rattle.host_core.proofs.Moments.{since_then, since_weaker_if, since_weaker}
 use Rattle.host_core.specs.World.{World}
 use Rattle.host_core.specs.declared.call.Call.{Call}
-use Rattle.cleanup_stack.proofs.Tellings.{begun_weaker, begun_whole, made_behind}
-use Rattle.cleanup_stack.specs.Telling.{Begun}
+use Rattle.undo_rows.proofs.Tellings.{begun_weaker, begun_whole, made_behind}
+use Rattle.undo_rows.specs.Telling.{Begun}
 use Rattle.diversions.specs.declared.entry.Diversion.{Diversion}
 use Rattle.removal_engine.specs.Stages.{planned, stage_of}
 use Rattle.unit_stages.proofs.RunLaws.{run_made}
@@ -16,8 +16,8 @@ use Rattle.unit_stages.specs.Holding.{Holding}
 use Rattle.unit_stages.specs.Running.{AreRunning}
 use Rattle.unit_stages.specs.Runs.{HaveRun}
 use Rattle.unit_stages.specs.declared.stage.Stage.{Stage}
-use Rattle.unwind_stack.specs.declared.rows.Called.{Called}
-use Rattle.unwind_stack.specs.declared.rows.Row.{Row}
+use Rattle.undo_rows.specs.declared.rows.Called.{Called}
+use Rattle.undo_rows.specs.declared.rows.Row.{Row}
 use Rattle.disappearance.specs.Units.{HaveRunBoth, IsAmidBoth, IsRunningBoth}
 use Rattle.disappearance.proofs.Plans.{call_same}
 

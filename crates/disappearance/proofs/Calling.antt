@@ -1,6 +1,6 @@
 -- The calls are those of the host's own list.
 use Rattle.std.proofs.Common.{◌≡◌, ℕ, List, [], ◌∷◌, Option, None, sym, ap, ◌∙◌}
-use Rattle.cleanup_stack.proofs.Tellings.{begun_calls, made_calls}
+use Rattle.undo_rows.proofs.Tellings.{begun_calls, made_calls}
 use Rattle.host_core.specs.Events.{calls_of}
 use Rattle.host_core.specs.Host.{State, Silent, calls}
 use Rattle.host_core.proofs.Scripts.{calls_of-scripts}
@@ -11,9 +11,9 @@ use Rattle.unit_stages.specs.Calls.{AreCallsOf, MayRunStages}
 use Rattle.unit_stages.specs.Holding.{Holding}
 use Rattle.unit_stages.specs.Runs.{HaveRun}
 use Rattle.unit_stages.specs.declared.stage.Stage.{Stage}
-use Rattle.unwind_stack.proofs.Makes.{tells_none, tells_then}
-use Rattle.unwind_stack.specs.Transcript.{TellsAll}
-use Rattle.unwind_stack.specs.declared.rows.Called.{Called}
+use Rattle.undo_rows.proofs.Makes.{tells_none, tells_then}
+use Rattle.undo_rows.specs.Transcript.{TellsAll}
+use Rattle.undo_rows.specs.declared.rows.Called.{Called}
 use Rattle.disappearance.specs.Runs.{HasCalledNext, HaveCalled, HaveDisappeared}
 use Rattle.disappearance.specs.Units.{HasCalledOne, IsDecided}
 use Rattle.disappearance.specs.declared.losing.Losing.{Losing}

@@ -13,9 +13,9 @@ use Rattle.diversions.specs.declared.entry.Diversion.{Diversion}
 use Rattle.file_lists.specs.declared.paths.PackageList.{PackageList}
 use Rattle.removal_engine.specs.Stages.{Planned, planned}
 use Rattle.status_db.specs.Recorded.{Recorded}
-use Rattle.unit_parts.specs.Order.{IsInOrder}
-use Rattle.unit_parts.specs.Parts.{HaveDone}
-use Rattle.unit_parts.specs.declared.part.Part.{Part}
+use Rattle.unit_stages.specs.Order.{IsInOrder}
+use Rattle.unit_stages.specs.Parts.{HaveDone}
+use Rattle.unit_stages.specs.declared.part.Part.{Part}
 use Rattle.unit_stages.proofs.Keeping.{order_opens}
 use Rattle.unit_stages.proofs.Tellings.{begun_behind}
 use Rattle.unit_stages.specs.Calls.{MayRunStages}
@@ -23,8 +23,8 @@ use Rattle.unit_stages.specs.Holding.{Holding}
 use Rattle.unit_stages.specs.Running.{AreRunning, IsOpenable}
 use Rattle.unit_stages.specs.Runs.{DoesParts, HaveRun}
 use Rattle.unit_stages.specs.declared.stage.Stage.{Stage}
-use Rattle.unwind_stack.specs.declared.rows.Called.{Called}
-use Rattle.cleanup_stack.specs.Telling.{Begun}
+use Rattle.undo_rows.specs.declared.rows.Called.{Called}
+use Rattle.undo_rows.specs.Telling.{Begun}
 use Rattle.disappearance.specs.Needed.{IsNeedOf}
 use Rattle.disappearance.specs.Stages.{IsPlan}
 use Rattle.disappearance.specs.Units.{HasCalledOne, HaveRunBoth, IsAmidBoth, IsAmidOne, IsAmidUnit, IsDecided, IsInOrderWith, IsRunningBoth}

@@ -10,8 +10,8 @@ use Rattle.dependency_sets.specs.Choices.{IsFirst}
 use Rattle.dependency_sets.specs.Sets.{has}
 use Rattle.recorded_packages.specs.Packages.{ArePackagesOf}
 use Rattle.relation_index.specs.declared.package.Package.{Package}
-use Rattle.status_db.specs.Records.{record_in}
-use Rattle.status_db.specs.declared.record.Record.{Record}
+use Rattle.status_records.specs.Records.{record_in}
+use Rattle.status_records.specs.declared.record.Record.{Record}
 use Rattle.disappearance.specs.Needed.{HasNumber, IsNeedOf, is_called, is_supplied}
 
 -- a recorded package has a number

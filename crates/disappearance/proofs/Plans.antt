@@ -9,19 +9,19 @@ use Rattle.host_core.specs.Events.{Event, Ran, scripts_of}
 use Rattle.host_core.specs.Host.{Silent, State, finished}
 use Rattle.host_core.specs.World.{World}
 use Rattle.host_core.specs.declared.call.Call.{Call}
-use Rattle.unwind_stack.specs.Transcript.{Tries, told_of}
-use Rattle.unwind_stack.specs.declared.rows.Called.{Called}
-use Rattle.unwind_stack.specs.declared.rows.Owner.{Owner}
-use Rattle.unwind_stack.specs.declared.rows.Row.{Row}
-use Rattle.cleanup_stack.specs.Telling.{Begun, IsCutShort}
+use Rattle.undo_rows.specs.Transcript.{Tries, told_of}
+use Rattle.undo_rows.specs.declared.rows.Called.{Called}
+use Rattle.undo_rows.specs.declared.rows.Owner.{Owner}
+use Rattle.undo_rows.specs.declared.rows.Row.{Row}
+use Rattle.undo_rows.specs.Telling.{Begun, IsCutShort}
 use Rattle.diversions.specs.declared.entry.Diversion.{Diversion}
 use Rattle.file_lists.specs.Owners.{AreListPaths}
 use Rattle.removal_engine.proofs.Deeds.{ArePlannedFit, IsStillStage, all_same_records, deeds_records, stages_fit, stages_settleable}
 use Rattle.removal_engine.proofs.Tables.{is_named, named, none_listed}
 use Rattle.removal_engine.specs.Stages.{Planned, deed, gone_stage, planned, stage_of}
-use Rattle.status_db.specs.Records.{drop_record, record_in}
-use Rattle.status_db.specs.declared.record.Record.{Record}
-use Rattle.unit_parts.specs.declared.part.Part.{Part}
+use Rattle.status_records.specs.Records.{drop_record, record_in}
+use Rattle.status_records.specs.declared.record.Record.{Record}
+use Rattle.unit_stages.specs.declared.part.Part.{Part}
 use Rattle.unit_stages.proofs.RunLaws.{run_left, run_made}
 use Rattle.unit_stages.specs.Calls.{AreCallsOf, MayRunStages}
 use Rattle.unit_stages.specs.Fitting.{AreStagesFit, AreStagesSettleable}

@@ -3,8 +3,8 @@ use Rattle.std.proofs.Common.{◌≡◌, ℕ, List, [], ◌∷◌, Contains, sym
 use Rattle.std.proofs.lemmas.List.Elements.{Contains-push}
 use Rattle.recorded_packages.specs.Renewal.{AreSameBut}
 use Rattle.removal_engine.proofs.Tables.{drop_other}
-use Rattle.status_db.specs.Records.{drop_record, record_in}
-use Rattle.status_db.specs.declared.record.Record.{Record}
+use Rattle.status_records.specs.Records.{drop_record, record_in}
+use Rattle.status_records.specs.declared.record.Record.{Record}
 
 pub same_but : (name : List ℕ) (before after : List Record) → after ≡ drop_record name before → AreSameBut (name ∷ []) before after
 same_but name before after dropped = λ q others.

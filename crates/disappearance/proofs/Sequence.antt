@@ -11,15 +11,15 @@ use Rattle.host_core.specs.declared.call.Call.{Call}
 use Rattle.diversions.specs.declared.entry.Diversion.{Diversion}
 use Rattle.file_lists.specs.declared.paths.PackageList.{PackageList}
 use Rattle.removal_engine.proofs.Tables.{drop_other, drop_own}
-use Rattle.status_db.specs.Records.{drop_record, record_in}
+use Rattle.status_records.specs.Records.{drop_record, record_in}
 use Rattle.status_db.specs.Recorded.{Recorded}
-use Rattle.status_db.specs.declared.record.Record.{Record}
-use Rattle.status_db.proofs.Tables.{record_in-drop_record}
-use Rattle.unit_parts.specs.Order.{IsInOrder}
+use Rattle.status_records.specs.declared.record.Record.{Record}
+use Rattle.status_records.proofs.Tables.{record_in-drop_record}
+use Rattle.unit_stages.specs.Order.{IsInOrder}
 use Rattle.unit_stages.proofs.Keeping.{order_opens}
 use Rattle.unit_stages.proofs.Tellings.{nothing_done}
 use Rattle.unit_stages.specs.Holding.{Holding}
-use Rattle.unwind_stack.specs.declared.rows.Called.{Called}
+use Rattle.undo_rows.specs.declared.rows.Called.{Called}
 use Rattle.disappearance.specs.Runs.{AreLeft, HasCalledNext, HaveCalled, HaveDisappeared, IsAmidDisappearances, IsAmidNext, first_failed}
 use Rattle.disappearance.specs.Units.{HasCalledOne, IsAmidOne, IsAmidUnit, IsDecided}
 use Rattle.disappearance.specs.declared.losing.Losing.{Losing}

@@ -5,7 +5,7 @@ use Rattle.dependency_check.specs.Left.{DependsOnLeft}
 use Rattle.recorded_packages.specs.Packages.{ArePackagesOf}
 use Rattle.relation_index.specs.Packages.{is_installed, those}
 use Rattle.relation_index.specs.declared.package.Package.{Package}
-use Rattle.status_db.specs.declared.record.Record.{Record}
+use Rattle.status_records.specs.declared.record.Record.{Record}
 
 abbrev pub is_called : List ℕ → Package → Bool
 is_called name p = bytes_eq p.name name

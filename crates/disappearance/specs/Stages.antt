@@ -8,12 +8,12 @@ use Rattle.host_core.specs.declared.call.Side.TheVariants.{Old}
 use Rattle.administration.specs.Places.{script_path}
 use Rattle.removal_engine.specs.Scripts.{row_of}
 use Rattle.removal_engine.specs.Stages.{gone_stage, planned, stage_of}
-use Rattle.status_db.specs.Records.{record_in}
-use Rattle.status_db.specs.declared.record.Record.{Record}
+use Rattle.status_records.specs.Records.{record_in}
+use Rattle.status_records.specs.declared.record.Record.{Record}
 use Rattle.unit_stages.specs.Fitting.{AreStagesFit}
 use Rattle.unit_stages.specs.Holding.{Holding}
 use Rattle.unit_stages.specs.declared.stage.Stage.{Stage}
-use Rattle.unwind_stack.specs.declared.rows.Row.{Row}
+use Rattle.undo_rows.specs.declared.rows.Row.{Row}
 
 -- postrm `disappear PKG VER` with the name and version of the unpacked package; where it isn't stored it isn't called
 abbrev pub disappear_call : (name incoming version : List ℕ) → (stored : Bool) → Option Call

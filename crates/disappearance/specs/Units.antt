@@ -4,17 +4,17 @@ use Rattle.host_core.specs.Events.{Event, scripts_of}
 use Rattle.host_core.specs.Host.{Reads, Silent, State}
 use Rattle.host_core.specs.World.{World}
 use Rattle.host_core.specs.declared.call.Call.{Call}
-use Rattle.cleanup_stack.specs.Telling.{Begun}
+use Rattle.undo_rows.specs.Telling.{Begun}
 use Rattle.diversions.specs.declared.entry.Diversion.{Diversion}
 use Rattle.status_db.specs.Recorded.{Recorded}
-use Rattle.status_db.specs.declared.record.Record.{Record}
-use Rattle.unit_parts.specs.Order.{IsInOrder}
+use Rattle.status_records.specs.declared.record.Record.{Record}
+use Rattle.unit_stages.specs.Order.{IsInOrder}
 use Rattle.unit_stages.specs.Calls.{MayRunStages}
 use Rattle.unit_stages.specs.Holding.{Holding}
 use Rattle.unit_stages.specs.Running.{AreRunning, IsOpenable}
 use Rattle.unit_stages.specs.Runs.{HaveRun}
 use Rattle.unit_stages.specs.declared.stage.Stage.{Stage}
-use Rattle.unwind_stack.specs.declared.rows.Called.{Called}
+use Rattle.undo_rows.specs.declared.rows.Called.{Called}
 use Rattle.disappearance.specs.Stages.{IsPlan}
 use Rattle.disappearance.specs.Verdicts.{Goes, Stays}
 use Rattle.disappearance.specs.declared.losing.Losing.{Losing}

@@ -9,8 +9,8 @@ use Rattle.file_lists.specs.Owners.{paths_of}
 use Rattle.file_lists.specs.declared.paths.PackageList.{PackageList}
 use Rattle.recorded_packages.specs.Packages.{package_state}
 use Rattle.relation_index.specs.Packages.{present_state}
-use Rattle.status_db.specs.Records.{record_in}
-use Rattle.status_db.specs.declared.record.Record.{Record}
+use Rattle.status_records.specs.Records.{record_in}
+use Rattle.status_records.specs.declared.record.Record.{Record}
 use Rattle.unit_stages.specs.Holding.{Holding}
 use Rattle.disappearance.specs.Needed.{IsNeeded, IsUnneeded}
 use Rattle.disappearance.specs.declared.losing.Losing.{Losing}

@@ -14,7 +14,8 @@ use diversions::Diversions;
 use file_lists::FileLists;
 use host_core::{Host, HostFault, Kind, RootPath};
 use relation_index::Packages;
-use status_db::{NotedDatabase, Record, State};
+use status_db::NotedDatabase;
+use status_records::{Record, State};
 use std::alloc::Global;
 use texts::Text;
 

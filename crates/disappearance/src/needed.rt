@@ -1,7 +1,7 @@
 // Whether a package is needed by another one.
 ghost use Rattle.std.specs.Prelude.{◌≡◌, ℕ, List, IfOk, MatchOption, map};
 ghost use Rattle.recorded_packages.specs.Packages.{ArePackagesOf};
-ghost use Rattle.status_db.specs.declared.record.Record.{Record as ARecord};
+ghost use Rattle.status_records.specs.declared.record.Record.{Record as ARecord};
 ghost use Rattle.disappearance.specs.Needed.{HasNumber, IsNeedOf, is_called, is_supplied};
 
 use dependency_check::depended_on_by;

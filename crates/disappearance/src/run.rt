@@ -3,8 +3,8 @@ ghost use Rattle.std.specs.Prelude.{◌≡◌, ℕ, List, IfOk, OnOk, Contains, 
 ghost use Rattle.host_core.specs.Host.{Counts, Needs, Since};
 ghost use Rattle.held_administration.specs.Open.{IsOpen};
 ghost use Rattle.recorded_packages.specs.Packages.{ArePackagesOf};
-ghost use Rattle.status_db.specs.Records.{record_in};
-ghost use Rattle.unit_parts.specs.Order.{IsInOrder};
+ghost use Rattle.status_records.specs.Records.{record_in};
+ghost use Rattle.unit_stages.specs.Order.{IsInOrder};
 ghost use Rattle.unit_stages.specs.Holding.{holding_of};
 ghost use Rattle.disappearance.specs.Runs.{AreLeft, HaveCalled, HaveDisappeared, IsAmidDisappearances, first_failed};
 
@@ -15,7 +15,7 @@ use held_administration::Administration;
 use host_core::{Call, Host, HostFault};
 use relation_index::Packages;
 use texts::{Text, Texts};
-use unwind_stack::Called;
+use undo_rows::Called;
 use version_order::Version;
 
 // The first call that failed.

@@ -6,19 +6,19 @@ ghost use Rattle.host_core.specs.declared.call.Script.TheVariants.{Postrm};
 ghost use Rattle.administration.specs.Places.{script_path as stored_path};
 ghost use Rattle.removal_engine.specs.Scripts.{row_of};
 ghost use Rattle.removal_engine.specs.Stages.{deed, gone_stage, planned, stage_of};
-ghost use Rattle.status_db.specs.Records.{record_in};
+ghost use Rattle.status_records.specs.Records.{record_in};
 ghost use Rattle.file_lists.specs.declared.paths.PackageList.{PackageList as APackageList};
 ghost use Rattle.disappearance.specs.Stages.{IsPlan, disappear_call, disappear_row};
 
 use administration::script_path;
 use file_lists::Paths;
 use host_core::{Call, Host, HostFault, Script, Side};
-use status_db::{NotedDatabase, Record};
+use status_db::NotedDatabase;
+use status_records::Record;
 use std::alloc::{AllocError, Global};
 use texts::{Text, Texts};
-use unit_parts::Part;
-use unit_stages::Stage;
-use unwind_stack::{Owner, Row};
+use undo_rows::{Owner, Row};
+use unit_stages::{Part, Stage};
 use version_order::Version;
 
 // Whether the postrm is stored with a package.

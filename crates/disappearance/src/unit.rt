@@ -2,18 +2,18 @@
 ghost use Rattle.std.specs.Prelude.{◌≡◌, ◌++◌, ◌∷◌, [], ℕ, List, true, IfOk, MatchOption, None, OnOk, map};
 ghost use Rattle.host_core.specs.Host.{AtEachMomentOf, Counts, Needs, Reads, Silent, Since};
 ghost use Rattle.texts.specs.PackageNames.{is_package_name};
-ghost use Rattle.cleanup_stack.specs.Telling.{Begun};
+ghost use Rattle.undo_rows.specs.Telling.{Begun};
 ghost use Rattle.held_administration.specs.Open.{IsOpen};
 ghost use Rattle.recorded_packages.specs.Packages.{ArePackagesOf};
 ghost use Rattle.removal_engine.specs.Stages.{gone_stage, planned};
-ghost use Rattle.status_db.specs.declared.record.Record.{Record as ARecord};
-ghost use Rattle.unit_parts.specs.Order.{IsInOrder};
+ghost use Rattle.status_records.specs.declared.record.Record.{Record as ARecord};
+ghost use Rattle.unit_stages.specs.Order.{IsInOrder};
 ghost use Rattle.unit_stages.specs.Calls.{MayRunStages};
 ghost use Rattle.unit_stages.specs.Fitting.{AreStagesFit};
 ghost use Rattle.unit_stages.specs.Holding.{holding, holding_of};
 ghost use Rattle.unit_stages.specs.Running.{AreRunning};
 ghost use Rattle.unit_stages.specs.Runs.{HaveRun};
-ghost use Rattle.unwind_stack.specs.declared.rows.Row.{Row as ARow};
+ghost use Rattle.undo_rows.specs.declared.rows.Row.{Row as ARow};
 ghost use Rattle.disappearance.specs.Stages.{ArePlanned, IsPlan};
 ghost use Rattle.disappearance.specs.Units.{HasCalledOne, HaveRunBoth, IsAmidBoth, IsAmidUnit, IsDecided};
 ghost use Rattle.disappearance.specs.Verdicts.{Goes, Stays};
@@ -30,8 +30,8 @@ use relation_index::Packages;
 use status_db::NotedDatabase;
 use std::alloc::{AllocError, Global};
 use texts::{Text, Texts};
+use undo_rows::Called;
 use unit_stages::{Stage, run_stages};
-use unwind_stack::Called;
 use version_order::Version;
 
 // All goes that the administration has of a package, and it counts no more as one that needs others; nothing is called.

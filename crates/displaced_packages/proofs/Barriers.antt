@@ -15,9 +15,9 @@ use Rattle.host_core.specs.declared.call.Call.{Call}
 use Rattle.host_core.specs.declared.fault.HostFault.{HostFault}
 use Rattle.host_core.specs.declared.fault.HostFault.TheVariants.{Device, NoMemory}
 use Rattle.status_db.specs.Recorded.{Recorded}
-use Rattle.unit_parts.specs.Order.{IsInOrder}
+use Rattle.unit_stages.specs.Order.{IsInOrder}
 use Rattle.unit_stages.specs.Holding.{Holding}
-use Rattle.unwind_stack.specs.declared.rows.Called.{Called}
+use Rattle.undo_rows.specs.declared.rows.Called.{Called}
 use Rattle.displaced_packages.specs.Displacing.{HaveBeenDisplaced, IsBroughtToDisk, is_nothing}
 
 -- what holds at each moment, and asks no more of what was done than which scripts were called, goes on to hold

@@ -1,6 +1,6 @@
 -- The calls for what is displaced are those of the host's own list.
 use Rattle.std.proofs.Common.{◌≡◌, inl, inr, ℕ, List, [], ◌∷◌, Option, None, refl, sym, ap, ◌∙◌}
-use Rattle.cleanup_stack.proofs.Tellings.{begun_calls, made_calls}
+use Rattle.undo_rows.proofs.Tellings.{begun_calls, made_calls}
 use Rattle.conflict_removal.specs.Removals.{HasCalledNext as HasCalledNextRemoval, HaveBeenRemoved, HaveCalled as HaveCalledRemoving, IsRemovedOrGone}
 use Rattle.disappearance.specs.Runs.{HasCalledNext, HaveCalled as HaveCalledDisappearing, HaveDisappeared}
 use Rattle.disappearance.specs.Units.{HasCalledOne, IsDecided}
@@ -17,9 +17,9 @@ use Rattle.unit_stages.specs.Calls.{AreCallsOf, MayRunStages}
 use Rattle.unit_stages.specs.Holding.{Holding}
 use Rattle.unit_stages.specs.Runs.{HaveRun}
 use Rattle.unit_stages.specs.declared.stage.Stage.{Stage}
-use Rattle.unwind_stack.proofs.Makes.{tells_none, tells_then}
-use Rattle.unwind_stack.specs.Transcript.{TellsAll}
-use Rattle.unwind_stack.specs.declared.rows.Called.{Called}
+use Rattle.undo_rows.proofs.Makes.{tells_none, tells_then}
+use Rattle.undo_rows.specs.Transcript.{TellsAll}
+use Rattle.undo_rows.specs.declared.rows.Called.{Called}
 use Rattle.displaced_packages.specs.Displacing.{HasCalled, HasCalledFirst}
 
 silent_tells : (s t : State) (told now : List Called) → Silent s t → now ≡ told → TellsAll s t told now

@@ -13,10 +13,10 @@ use Rattle.host_core.proofs.Moments.{scripts_of-append, since_then, since_weaker
 use Rattle.host_core.specs.World.{World, Barrier}
 use Rattle.host_core.specs.declared.call.Call.{Call}
 use Rattle.host_core.specs.declared.fault.HostFault.{HostFault}
-use Rattle.status_db.specs.Records.{record_in}
-use Rattle.status_db.specs.declared.record.Record.{Record}
+use Rattle.status_records.specs.Records.{record_in}
+use Rattle.status_records.specs.declared.record.Record.{Record}
 use Rattle.unit_stages.specs.Holding.{Holding}
-use Rattle.unwind_stack.specs.declared.rows.Called.{Called}
+use Rattle.undo_rows.specs.declared.rows.Called.{Called}
 use Rattle.displaced_packages.specs.Displacing.{AreGoing, HasCalled, HasCalledFirst, HaveBeenRemovedBehind, HaveGone, IsAmidDisplacing}
 use Rattle.displaced_packages.proofs.Barriers.{since_to_disk}
 

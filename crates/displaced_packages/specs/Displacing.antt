@@ -10,7 +10,7 @@ use Rattle.host_core.specs.Host.{Happens, Silent, State}
 use Rattle.host_core.specs.World.{World, Barrier}
 use Rattle.host_core.specs.declared.call.Call.{Call}
 use Rattle.unit_stages.specs.Holding.{Holding}
-use Rattle.unwind_stack.specs.declared.rows.Called.{Called}
+use Rattle.undo_rows.specs.declared.rows.Called.{Called}
 
 -- there is no package to displace
 abbrev pub is_nothing : List Losing → List (List ℕ) → Bool

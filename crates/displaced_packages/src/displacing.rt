@@ -6,8 +6,8 @@ ghost use Rattle.host_core.specs.Loss.{IsAnswered};
 ghost use Rattle.host_core.specs.World.{Barrier};
 ghost use Rattle.held_administration.specs.Open.{IsOpen};
 ghost use Rattle.recorded_packages.specs.Packages.{ArePackagesOf};
-ghost use Rattle.status_db.specs.Records.{record_in};
-ghost use Rattle.unit_parts.specs.Order.{IsInOrder};
+ghost use Rattle.status_records.specs.Records.{record_in};
+ghost use Rattle.unit_stages.specs.Order.{IsInOrder};
 ghost use Rattle.unit_stages.specs.Holding.{holding_of};
 ghost use Rattle.displaced_packages.specs.Displacing.{AreGoing, HasCalled, HasCalledFirst, HaveBeenDisplaced, HaveBeenRemovedBehind, HaveGone, IsAmidDisplacing, IsBroughtToDisk, is_nothing};
 
@@ -20,7 +20,7 @@ use recorded_packages::renew;
 use relation_index::Packages;
 use std::alloc::AllocError;
 use texts::{Text, Texts};
-use unwind_stack::Called;
+use undo_rows::Called;
 use version_order::Version;
 
 /// What an unpack displaced: who disappeared or was removed, and the first call that failed.

@@ -10,11 +10,11 @@ use Rattle.std.proofs.lemmas.Bool.{true≢false}
 use Rattle.std.proofs.lemmas.List.{get_or-map, length-map, take_more}
 use Rattle.std.proofs.lemmas.Slice.Eq.{bytes_eq-Decides}
 use Rattle.opening.proofs.OneTable.{one_text}
-use Rattle.status_db.specs.Paragraphs.{record_text}
-use Rattle.status_db.specs.Records.{record_in, standing}
-use Rattle.status_db.specs.Status.{IsStatus}
-use Rattle.status_db.specs.Words.{is_not_installed}
-use Rattle.status_db.specs.declared.record.Record.{Record}
+use Rattle.status_records.specs.Paragraphs.{record_text}
+use Rattle.status_records.specs.Records.{record_in, standing}
+use Rattle.status_records.specs.Status.{IsStatus}
+use Rattle.status_records.specs.Words.{is_not_installed}
+use Rattle.status_records.specs.declared.record.Record.{Record}
 use Rattle.unit_reports.specs.Units.{touched_at}
 use Rattle.unit_reports.specs.declared.report.Touched.{Touched}
 use Rattle.dpkg_session.specs.Touched.{AreUnchanged}

@@ -3,7 +3,7 @@ use Rattle.std.proofs.Common.{◌≡◌, inl, inr, IsTrue, List, [], ◌∷◌, 
 use Rattle.std.proofs.lemmas.List.{append-nil}
 use Rattle.administration.specs.Fault.{fault_of}
 use Rattle.administration.specs.declared.fault.AdministrationFault.{AdministrationFault}
-use Rattle.cleanup_stack.specs.Telling.{Begun}
+use Rattle.undo_rows.specs.Telling.{Begun}
 use Rattle.host_core.specs.Paths.{Path}
 use Rattle.host_core.specs.World.{World, Step, Barrier}
 use Rattle.host_core.specs.Events.{Event, Ran, Did, Failed, scripts_of, follow, follow_all}
@@ -12,18 +12,18 @@ use Rattle.host_core.specs.Loss.{IsAnswered, IsLater, IsOnDisk}
 use Rattle.host_core.proofs.Moments.{ThroughEvent, since_failed, since_fails, since_goes, since_now, since_then, silent_then}
 use Rattle.host_core.specs.declared.fault.HostFault.{HostFault}
 use Rattle.host_core.specs.declared.fault.HostFault.TheVariants.{Device, NoMemory}
-use Rattle.cleanup_stack.specs.Transcripts.{Ended, MayRun}
+use Rattle.undo_rows.specs.Transcripts.{Ended, MayRun}
 use Rattle.file_lists.specs.declared.paths.PackageList.{PackageList}
 use Rattle.opening.specs.Leaving.{IsOpeningOrMerging}
 use Rattle.opening.specs.Parts.{HasMerged, IsDamaged, Merges, Opens, OpensAndMerges, parts}
-use Rattle.stack_run.specs.declared.unwinding.Unwinding.{Unwinding}
+use Rattle.undo_rows.specs.declared.unwinding.Unwinding.{Unwinding}
 use Rattle.status_db.specs.Noting.{IsMerging}
 use Rattle.status_db.specs.Recorded.{Recorded}
 use Rattle.unpack_engine.specs.Order.{IsInOrder}
 use Rattle.unpack_engine.specs.Units.{Given, Ground, HasCalled, HasCalledRows, HasCarriedOut, HasFailedFor, HasLeft, HasUnpacked, IsPlanFor, changes, commit_records, ground_of}
 use Rattle.unpack_plan.specs.Planned.{Planned}
-use Rattle.unwind_stack.specs.declared.rows.Called.{Called}
-use Rattle.unwind_stack.specs.declared.rows.Row.{Row}
+use Rattle.undo_rows.specs.declared.rows.Called.{Called}
+use Rattle.undo_rows.specs.declared.rows.Row.{Row}
 
 -- all is on the disk
 pub on_disk : (s t : State) → Happens (Did Barrier ∷ []) s t → IsOnDisk t.events

@@ -1,7 +1,7 @@
 -- What units leave as it is: the diversions, and the file that holds them.
 use Rattle.std.proofs.Common.{◌≡◌, ◌≢◌, ℕ, Bool, true, false, cond, List, [], ◌∷◌, ◌++◌, Option, Some, None, Result, Ok, Err, IsTrue, codes, get_or, length, nat_le, arith, refl, ap, ◌∙◌}
 use Rattle.administration.specs.Places.{diversions_path, info_path, list_name, list_path, tmp_path, temporary, is_within}
-use Rattle.cleanup_stack.specs.Transcripts.{Ended, Committed, Unwound}
+use Rattle.undo_rows.specs.Transcripts.{Ended, Committed, Unwound}
 use Rattle.control_members.specs.Stored.{stored_member_path}
 use Rattle.control_members.specs.declared.member.Member.{Member}
 use Rattle.displaced_packages.specs.Losing.{losing_beside}
@@ -12,19 +12,19 @@ use Rattle.host_core.specs.World.{World}
 use Rattle.host_core.specs.Host.{State}
 use Rattle.status_db.specs.Held.{is_record_place}
 use Rattle.status_db.specs.Recorded.{Recorded}
-use Rattle.status_db.specs.Records.{record_in}
-use Rattle.status_db.specs.declared.record.Record.{Record}
+use Rattle.status_records.specs.Records.{record_in}
+use Rattle.status_records.specs.declared.record.Record.{Record}
 use Rattle.unpack_commit.specs.Commit.{Changes, HasCommitted}
 use Rattle.unpack_engine.proofs.Frames.{IsBeside, come_same}
 use Rattle.unpack_engine.proofs.Begun.{dropped_same}
 use Rattle.unpack_engine.proofs.Cleared.{begun_at, begun_beside, works_on}
 use Rattle.unpack_engine.specs.Units.{Given, HasFollowed, HasUnpacked, changes, commit_records, ground_of, last_place, package_name, task_from}
-use Rattle.unpack_moves.specs.Closing.{SparesAdministration}
-use Rattle.unpack_moves.specs.Concluding.{AreElsewhere}
-use Rattle.unpack_moves.proofs.Closings.{below_within, removed_stays}
-use Rattle.unpack_run.specs.Clearing.{IsBesideOwn}
-use Rattle.unpack_run.specs.Task.{name, state_on}
-use Rattle.unwind_stack.specs.declared.rows.Called.{Called}
+use Rattle.listed_files.specs.Closing.{SparesAdministration}
+use Rattle.listed_files.specs.Concluding.{AreElsewhere}
+use Rattle.listed_files.proofs.Closings.{below_within, removed_stays}
+use Rattle.unpack_steps.specs.Clearing.{IsBesideOwn}
+use Rattle.unpack_steps.specs.Task.{name, state_on}
+use Rattle.undo_rows.specs.declared.rows.Called.{Called}
 use Rattle.diversions.specs.declared.entry.Diversion.{Diversion}
 use Rattle.package_tree.specs.declared.package.Package.{Package}
 use Rattle.package_tree.specs.declared.fault.TreeFault.{TreeFault}

@@ -13,7 +13,7 @@ use Rattle.diversions.specs.Lines.{HasEntries}
 use Rattle.opening.specs.Parts.{names_of}
 use Rattle.removal_run.specs.Units.{holding_of}
 use Rattle.status_db.proofs.Ordered.{same_standing, standing_same}
-use Rattle.unit_parts.specs.Order.{IsInOrder}
+use Rattle.unit_stages.specs.Order.{IsInOrder}
 use Rattle.unpack_engine.specs.Order.{IsInOrder as IsInOrderHere}
 use Rattle.unit_reports.specs.Held.{Held}
 use Rattle.unit_reports.specs.Units.{IsRefused}
@@ -21,9 +21,9 @@ use Rattle.unit_reports.specs.declared.refusal.Rule.{Rule}
 use Rattle.unit_reports.specs.declared.report.Unit.{Unit as AUnit}
 use Rattle.unit_stages.specs.Runs.{HaveRun}
 use Rattle.unit_stages.specs.declared.stage.Stage.{Stage}
-use Rattle.status_db.specs.Records.{record_in}
+use Rattle.status_records.specs.Records.{record_in}
 use Rattle.unpack_engine.proofs.Order.{directory_there}
-use Rattle.unwind_stack.specs.declared.rows.Called.{Called}
+use Rattle.undo_rows.specs.declared.rows.Called.{Called}
 use Rattle.dpkg_session.specs.History.{Stands}
 use Rattle.dpkg_session.specs.Standing.{IsStanding}
 use Rattle.dpkg_session.proofs.Certain.{lists_had}

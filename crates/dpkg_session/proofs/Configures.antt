@@ -14,10 +14,10 @@ use Rattle.host_core.specs.Paths.{Path}
 use Rattle.host_core.specs.Host.{State, Reads, Since}
 use Rattle.host_core.proofs.Moments.{since_start}
 use Rattle.relation_index.specs.declared.package.Package.{Package}
-use Rattle.status_db.specs.Records.{record_in}
-use Rattle.status_db.specs.declared.record.Record.{Record}
-use Rattle.unit_parts.specs.declared.part.Part.{Part}
-use Rattle.unit_parts.specs.declared.part.Part.TheVariants.{Note, Forget, Settle, Remove, RemoveDirectories, Clear, List as Listing, DropList, DropMembers}
+use Rattle.status_records.specs.Records.{record_in}
+use Rattle.status_records.specs.declared.record.Record.{Record}
+use Rattle.unit_stages.specs.declared.part.Part.{Part}
+use Rattle.unit_stages.specs.declared.part.Part.TheVariants.{Note, Forget, Settle, Remove, RemoveDirectories, Clear, List as Listing, DropList, DropMembers}
 use Rattle.unit_reports.specs.Held.{Held}
 use Rattle.unit_reports.specs.declared.report.Report.{Report}
 use Rattle.unit_reports.specs.declared.report.Unit.{Unit as AUnit}

@@ -13,17 +13,17 @@ use Rattle.host_core.specs.Host.{Happens, State}
 use Rattle.host_core.specs.World.{Barrier}
 use Rattle.host_core.specs.declared.call.Call.{Call}
 use Rattle.removal_run.specs.Units.{holding_of}
-use Rattle.stack_run.specs.declared.unwinding.Unwinding.{Unwinding}
+use Rattle.undo_rows.specs.declared.unwinding.Unwinding.{Unwinding}
 use Rattle.status_db.proofs.NotedWorlds.{found_named}
-use Rattle.status_db.specs.Records.{record_in}
-use Rattle.status_db.specs.declared.record.Record.{Record}
+use Rattle.status_records.specs.Records.{record_in}
+use Rattle.status_records.specs.declared.record.Record.{Record}
 use Rattle.unit_reports.specs.Held.{Held}
 use Rattle.unit_stages.specs.Holding.{Holding}
 use Rattle.unit_stages.specs.Runs.{HaveRun}
 use Rattle.unit_stages.specs.declared.stage.Stage.{Stage}
 use Rattle.unpack_engine.proofs.EndRecords.{has_name}
 use Rattle.unpack_engine.specs.Order.{record_names}
-use Rattle.unwind_stack.specs.declared.rows.Called.{Called}
+use Rattle.undo_rows.specs.declared.rows.Called.{Called}
 use Rattle.dpkg_session.specs.Units.{HasDisplaced}
 use Rattle.dpkg_session.proofs.Keeping.{KeepsUnnamed, unnamed_here, unnamed_of, unnamed_then}
 use Rattle.dpkg_session.proofs.Known.{IsOneOf, name_among, stages_named}

@@ -7,25 +7,25 @@ use Rattle.host_core.specs.Host.{State}
 use Rattle.administration.specs.Directories.{HasBadName}
 use Rattle.administration.specs.Places.{diversions_path, info_path, temporary}
 use Rattle.administration.proofs.WholeFiles.{no_directory_at}
-use Rattle.cleanup_stack.specs.Place.{Place}
-use Rattle.cleanup_stack.specs.Transcripts.{Ended, Committed, Unwound}
+use Rattle.undo_rows.specs.Place.{Place}
+use Rattle.undo_rows.specs.Transcripts.{Ended, Committed, Unwound}
 use Rattle.displaced_packages.specs.Losing.{losing_beside}
 use Rattle.diversions.specs.declared.entry.Diversion.{Diversion}
 use Rattle.diversions.specs.Lines.{HasEntries}
 use Rattle.file_lists.specs.Info.{AreLoose, AreSound}
 use Rattle.file_lists.specs.Lists.{HasLists}
 use Rattle.file_lists.specs.declared.paths.PackageList.{PackageList}
-use Rattle.file_works.specs.declared.work.Work.{Work}
+use Rattle.package_files.specs.declared.work.Work.{Work}
 use Rattle.opening.specs.Parts.{names_of}
 use Rattle.package_tree.specs.declared.package.Package.{Package}
 use Rattle.package_tree.specs.declared.fault.TreeFault.{TreeFault}
-use Rattle.stack_run.specs.Ended.{ended_as}
-use Rattle.stack_run.specs.declared.unwinding.Unwinding.{Unwinding}
+use Rattle.undo_rows.specs.Ended.{ended_as}
+use Rattle.undo_rows.specs.declared.unwinding.Unwinding.{Unwinding}
 use Rattle.status_db.proofs.Ordered.{same_standing, standing_same}
 use Rattle.status_db.specs.Recorded.{Recorded}
-use Rattle.status_db.specs.Records.{AreStanding, record_in}
-use Rattle.status_db.specs.Words.{is_not_installed}
-use Rattle.status_db.specs.declared.record.Record.{Record}
+use Rattle.status_records.specs.Records.{AreStanding, record_in}
+use Rattle.status_records.specs.Words.{is_not_installed}
+use Rattle.status_records.specs.declared.record.Record.{Record}
 use Rattle.unpack_commit.specs.Takeover.{taken_places}
 use Rattle.unpack_engine.proofs.EndLists.{gone_after}
 use Rattle.unpack_engine.proofs.EndRecords.{IsKnown, all_known, committed_known, found_known, has_name, known_name, known_standing, recorded_known, rows_known}
@@ -39,7 +39,7 @@ use Rattle.unpack_rows.specs.ForwardRows.{records_of}
 use Rattle.unpack_relations.specs.declared.checking.Checked.{Checked}
 use Rattle.unpack_relations.specs.declared.checking.Checked.TheVariants.{Planned as Unpacks, Refused}
 use Rattle.unpack_relations.specs.declared.beside.Beside.{Beside}
-use Rattle.unwind_stack.specs.declared.rows.Called.{Called}
+use Rattle.undo_rows.specs.declared.rows.Called.{Called}
 use Rattle.dpkg_session.specs.declared.report.Candidate.{Candidate}
 use Rattle.unit_reports.specs.declared.report.Unit.{Unit as AUnit}
 use Rattle.unit_reports.specs.Held.{Held, places_of}

@@ -17,7 +17,7 @@ use Rattle.status_db.proofs.NotedWorlds.{records_same}
 use Rattle.status_db.specs.Held.{AreKept}
 use Rattle.status_db.specs.Notes.{note_path}
 use Rattle.status_db.specs.Recorded.{Recorded}
-use Rattle.status_db.specs.declared.record.Record.{Record}
+use Rattle.status_records.specs.declared.record.Record.{Record}
 use Rattle.unit_reports.specs.Held.{Held}
 use Rattle.dpkg_session.specs.History.{Configured, Diverted, HasDone, Installed, IsCommand, IsHistory, KeepsRest, Ran, Removed, Stands, Undiverted, Unpacked}
 use Rattle.dpkg_session.proofs.Carries.{carries_found}

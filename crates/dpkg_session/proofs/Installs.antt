@@ -11,7 +11,7 @@ use Rattle.unit_reports.specs.Held.{Held}
 use Rattle.unit_reports.specs.Units.{CountsLast, TellsCalls, calls_of, calls_told, last_calls}
 use Rattle.unit_reports.specs.declared.report.Report.{Report}
 use Rattle.unit_reports.specs.declared.report.Unit.{Unit as AUnit}
-use Rattle.unwind_stack.proofs.Makes.{tells_none, tells_then}
+use Rattle.undo_rows.proofs.Makes.{tells_none, tells_then}
 use Rattle.dpkg_session.specs.Installs.{HasGoneOn, HasInstalled, HasInstalledThrough, IsAmidInstall, IsEmptyReport, TellsBoth, label_of, last_of, names_done, packages_done}
 use Rattle.dpkg_session.specs.Run.{HasRun, HasRunThrough, IsAmidRun, IsRun}
 use Rattle.dpkg_session.specs.declared.report.Candidate.{Candidate}

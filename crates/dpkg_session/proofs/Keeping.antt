@@ -21,15 +21,15 @@ use Rattle.file_lists.specs.declared.paths.PackageList.{PackageList}
 use Rattle.file_removal.proofs.Leavings.{spared_stays}
 use Rattle.file_removal.specs.Clearing.{cleared}
 use Rattle.status_db.specs.Held.{is_record_place}
-use Rattle.status_db.specs.Words.{is_not_installed}
-use Rattle.status_db.specs.declared.record.Record.{Record}
-use Rattle.unpack_moves.proofs.Closings.{below_within, removed_stays}
-use Rattle.unpack_moves.specs.Closing.{SparesAdministration}
-use Rattle.unpack_moves.specs.Concluding.{AreElsewhere}
-use Rattle.unit_parts.specs.Fitting.{AreFit, IsFit}
-use Rattle.unit_parts.specs.Parts.{HasDone, HaveDone, part_lists, part_records}
-use Rattle.unit_parts.specs.declared.part.Part.{Part}
-use Rattle.unit_parts.specs.declared.part.Part.TheVariants.{Note, Forget, Settle, Remove, RemoveDirectories, Clear, List as Listing, DropList, DropMembers}
+use Rattle.status_records.specs.Words.{is_not_installed}
+use Rattle.status_records.specs.declared.record.Record.{Record}
+use Rattle.listed_files.proofs.Closings.{below_within, removed_stays}
+use Rattle.listed_files.specs.Closing.{SparesAdministration}
+use Rattle.listed_files.specs.Concluding.{AreElsewhere}
+use Rattle.unit_stages.specs.PartFitting.{AreFit, IsFit}
+use Rattle.unit_stages.specs.Parts.{HasDone, HaveDone, part_lists, part_records}
+use Rattle.unit_stages.specs.declared.part.Part.{Part}
+use Rattle.unit_stages.specs.declared.part.Part.TheVariants.{Note, Forget, Settle, Remove, RemoveDirectories, Clear, List as Listing, DropList, DropMembers}
 
 -- a path of the administration at which no record is written
 pub record IsInside (q : Path) : Type 0 where

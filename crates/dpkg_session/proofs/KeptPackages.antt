@@ -4,7 +4,7 @@ use Rattle.std.proofs.Math.Logic.{∥∥₁_elim}
 use Rattle.std.specs.Option.{ForSome}
 use Rattle.std.specs.Prelude.{IfSome}
 use Rattle.relation_index.specs.declared.package.Package.{Package}
-use Rattle.status_db.specs.declared.record.Record.{Record}
+use Rattle.status_records.specs.declared.record.Record.{Record}
 use Rattle.recorded_packages.specs.Packages.{ArePackagesOf}
 use Rattle.recorded_packages.proofs.OneTable.{packages_once}
 

@@ -7,19 +7,19 @@ use Rattle.std.specs.Ordering.{is_lt, nat_cmp}
 use Rattle.host_core.specs.Host.{State}
 use Rattle.host_core.specs.declared.call.Call.{Call}
 use Rattle.diversions.specs.declared.entry.Diversion.{Diversion}
-use Rattle.status_db.specs.Records.{AreStanding, drop_record, place_record, put_record}
-use Rattle.status_db.specs.Words.{is_not_installed}
-use Rattle.status_db.specs.declared.record.Record.{Record}
-use Rattle.unit_parts.specs.Parts.{part_records, parts_records}
-use Rattle.unit_parts.specs.declared.part.Part.{Part}
-use Rattle.unit_parts.specs.declared.part.Part.TheVariants.{Note, Forget, Settle, Remove, RemoveDirectories, Clear, List as Listing, DropList, DropMembers}
+use Rattle.status_records.specs.Records.{AreStanding, drop_record, place_record, put_record}
+use Rattle.status_records.specs.Words.{is_not_installed}
+use Rattle.status_records.specs.declared.record.Record.{Record}
+use Rattle.unit_stages.specs.Parts.{part_records, parts_records}
+use Rattle.unit_stages.specs.declared.part.Part.{Part}
+use Rattle.unit_stages.specs.declared.part.Part.TheVariants.{Note, Forget, Settle, Remove, RemoveDirectories, Clear, List as Listing, DropList, DropMembers}
 use Rattle.unit_stages.specs.Holding.{Holding, after_parts}
 use Rattle.unit_stages.specs.Runs.{HasRestored, HaveRun}
 use Rattle.unit_stages.specs.declared.stage.Stage.{Stage}
 use Rattle.unpack_engine.proofs.EndRecords.{head_of, tail_of}
 use Rattle.unpack_engine.specs.Order.{record_names}
-use Rattle.unwind_stack.specs.declared.rows.Called.{Called}
-use Rattle.unwind_stack.specs.declared.rows.Owner.{Owner}
+use Rattle.undo_rows.specs.declared.rows.Called.{Called}
+use Rattle.undo_rows.specs.declared.rows.Owner.{Owner}
 use Rattle.dpkg_session.proofs.Keeping.{AreOwn, IsOwn}
 use Rattle.dpkg_session.proofs.Staying.{AreOwnStages}
 

@@ -1,7 +1,7 @@
 -- What was only looked at before an unpack, to see which rows other packages have, is no part of what it does.
 use Rattle.std.specs.Prelude.{Result, Ok, Err, IfOk}
 use Rattle.std.proofs.Common.{◌≡◌, inl, inr, Bool, IsTrue, true, ℕ, List, [], ◌∷◌, ◌++◌, Option, refl, ap, subst, ◌∙◌}
-use Rattle.cleanup_stack.specs.Transcripts.{Ended}
+use Rattle.undo_rows.specs.Transcripts.{Ended}
 use Rattle.file_lists.specs.declared.paths.PackageList.{PackageList}
 use Rattle.host_core.specs.Paths.{Path}
 use Rattle.host_core.specs.World.{World}
@@ -10,8 +10,8 @@ use Rattle.host_core.specs.Host.{State, AllFailed, Reads, Silent, Since}
 use Rattle.host_core.proofs.Moments.{scripts_of-append, since_reads, since_then, since_weaker_if, silent_then}
 use Rattle.host_core.proofs.Scripts.{silent_added}
 use Rattle.package_tree.specs.declared.package.Package.{Package}
-use Rattle.stack_run.specs.Ended.{ended_as}
-use Rattle.stack_run.specs.declared.unwinding.Unwinding.{Unwinding}
+use Rattle.undo_rows.specs.Ended.{ended_as}
+use Rattle.undo_rows.specs.declared.unwinding.Unwinding.{Unwinding}
 use Rattle.status_db.specs.Recorded.{Recorded}
 use Rattle.unpack_engine.specs.Units.{Begins, Given, HasCalled, HasCarriedOut, HasFailedFor, HasUnpacked, IsAmidUnit, IsPlanFor, IsUnderWay, ground_of}
 use Rattle.unpack_engine.proofs.Planning.{under_way_behind}
@@ -19,7 +19,7 @@ use Rattle.unpack_engine.proofs.Sequel.{called_behind}
 use Rattle.unpack_plan.specs.Planned.{Planned}
 use Rattle.unpack_relations.specs.declared.beside.Beside.{Beside}
 use Rattle.unpack_rows.specs.declared.rows.OtherPackage.{OtherPackage}
-use Rattle.unwind_stack.specs.declared.rows.Called.{Called}
+use Rattle.undo_rows.specs.declared.rows.Called.{Called}
 use Rattle.unit_reports.specs.Held.{Held}
 use Rattle.dpkg_session.specs.Run.{IsAmidBeside}
 use Rattle.dpkg_session.specs.Units.{HasCalledBeside, HasUnpackedBeside, HaveRows, given_by, yielding}

@@ -5,7 +5,7 @@ use Rattle.std.specs.Prelude.{is_some}
 use Rattle.host_core.specs.Host.{State, Since}
 use Rattle.unit_reports.specs.Held.{Held}
 use Rattle.unit_reports.specs.declared.report.Unit.{Unit as AUnit}
-use Rattle.status_db.specs.declared.record.Record.{Record}
+use Rattle.status_records.specs.declared.record.Record.{Record}
 use Rattle.removal_run.specs.Names.{without}
 use Rattle.removal_run.specs.Run.{IsAmidRun, IsRemovalRun, waiting_for}
 use Rattle.removal_run.specs.Turns.{RemovesTo}

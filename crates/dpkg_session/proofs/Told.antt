@@ -1,7 +1,7 @@
 -- The calls that units tell are those of the host's own list.
 use Rattle.std.proofs.Common.{◌≡◌, inl, inr, Bool, List, [], ◌∷◌, ◌++◌, Option, None, Result, Ok, Err, append_assoc, ap, refl, subst, sym, ◌∙◌}
 use Rattle.std.proofs.lemmas.List.{append-nil}
-use Rattle.cleanup_stack.proofs.Tellings.{begun_calls, made_calls}
+use Rattle.undo_rows.proofs.Tellings.{begun_calls, made_calls}
 use Rattle.displaced_packages.proofs.Calling.{displacing_tells}
 use Rattle.file_lists.specs.declared.paths.PackageList.{PackageList}
 use Rattle.host_core.specs.Events.{calls_of as calls_in}
@@ -10,14 +10,14 @@ use Rattle.host_core.specs.Paths.{Path}
 use Rattle.host_core.proofs.Scripts.{calls_of-scripts}
 use Rattle.package_tree.specs.declared.package.Package.{Package}
 use Rattle.package_tree.specs.declared.fault.TreeFault.{TreeFault}
-use Rattle.stack_run.specs.declared.unwinding.Unwinding.{Unwinding}
+use Rattle.undo_rows.specs.declared.unwinding.Unwinding.{Unwinding}
 use Rattle.status_db.specs.Recorded.{Recorded}
 use Rattle.unpack_engine.specs.Units.{Given, HasCalled, HasCalledRows}
-use Rattle.cleanup_stack.specs.Transcripts.{MayRun}
-use Rattle.unwind_stack.specs.declared.rows.Row.{Row}
-use Rattle.unwind_stack.specs.Transcript.{TellsAll}
-use Rattle.unwind_stack.proofs.Makes.{tells_none, tells_then}
-use Rattle.unwind_stack.specs.declared.rows.Called.{Called}
+use Rattle.undo_rows.specs.Transcripts.{MayRun}
+use Rattle.undo_rows.specs.declared.rows.Row.{Row}
+use Rattle.undo_rows.specs.Transcript.{TellsAll}
+use Rattle.undo_rows.proofs.Makes.{tells_none, tells_then}
+use Rattle.undo_rows.specs.declared.rows.Called.{Called}
 use Rattle.unit_reports.specs.Held.{Held, places_of}
 use Rattle.unpack_relations.specs.declared.beside.Beside.{Beside}
 use Rattle.unpack_relations.specs.declared.checking.Checked.{Checked}

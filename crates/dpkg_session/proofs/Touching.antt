@@ -11,8 +11,8 @@ use Rattle.control_members.proofs.Drawn.{any_contains, contains_any}
 use Rattle.removal_run.specs.Names.{is_among}
 use Rattle.file_lists.specs.Increasing.{AreIncreasing, IsBefore}
 use Rattle.status_db.specs.Order.{AreInOrder}
-use Rattle.status_db.specs.Records.{record_in}
-use Rattle.status_db.specs.declared.record.Record.{Record}
+use Rattle.status_records.specs.Records.{record_in}
+use Rattle.status_records.specs.declared.record.Record.{Record}
 use Rattle.status_db.proofs.Ordered.{no_record}
 use Rattle.unit_reports.specs.declared.report.Touched.{Touched}
 use Rattle.unpack_engine.proofs.Names.{entered}

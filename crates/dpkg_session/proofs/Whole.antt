@@ -13,12 +13,12 @@ use Rattle.host_core.specs.declared.fault.HostFault.{HostFault}
 use Rattle.host_core.specs.declared.fault.HostFault.TheVariants.{Device, NoMemory}
 use Rattle.package_tree.specs.declared.package.Package.{Package}
 use Rattle.removal_run.specs.Units.{holding_of}
-use Rattle.stack_run.specs.declared.unwinding.Unwinding.{Unwinding}
+use Rattle.undo_rows.specs.declared.unwinding.Unwinding.{Unwinding}
 use Rattle.status_db.specs.Recorded.{Recorded}
 use Rattle.unit_reports.specs.Held.{Held, places_of}
 use Rattle.unpack_engine.specs.Order.{IsInOrder}
 use Rattle.unpack_relations.specs.declared.beside.Beside.{Beside}
-use Rattle.unwind_stack.specs.declared.rows.Called.{Called}
+use Rattle.undo_rows.specs.declared.rows.Called.{Called}
 use Rattle.dpkg_session.specs.Run.{IsAmidBeside, IsAmidUnpack}
 use Rattle.dpkg_session.specs.Units.{HasCalledWhole, HasUnpackedBeside, HasUnpackedWhole, IsBehind, held_with}
 use Rattle.dpkg_session.specs.declared.displacing.Behind.{Behind}

@@ -12,7 +12,7 @@ use Rattle.host_core.specs.Host.{State}
 use Rattle.host_core.specs.declared.call.Call.{Call}
 use Rattle.unit_stages.specs.Holding.{Holding}
 use Rattle.unpack_relations.specs.declared.beside.Beside.{Beside}
-use Rattle.unwind_stack.specs.declared.rows.Called.{Called}
+use Rattle.undo_rows.specs.declared.rows.Called.{Called}
 use Rattle.dpkg_session.specs.Units.{yielding}
 
 pub none_among : (names : List (List ℕ)) (q : List ℕ) → names ≡ [] → Contains names q → ⊥

@@ -20,8 +20,8 @@ use Rattle.diversions.specs.declared.refusal.Answer.TheVariants as answered
 use Rattle.diversions.specs.declared.refusal.Seen.{Seen}
 use Rattle.file_lists.specs.Owners.{paths_of}
 use Rattle.file_lists.specs.declared.paths.PackageList.{PackageList}
-use Rattle.status_db.specs.Conffiles.{has_conffile}
-use Rattle.status_db.specs.declared.record.Record.{Record}
+use Rattle.status_records.specs.Conffiles.{has_conffile}
+use Rattle.status_records.specs.declared.record.Record.{Record}
 use Rattle.dpkg_session.specs.declared.asked.Diverting.{Diverting}
 use Rattle.dpkg_session.specs.declared.asked.Undiverting.{Undiverting}
 use Rattle.unit_reports.specs.declared.refusal.Rule.TheVariants.{Divert}

@@ -9,9 +9,9 @@ use Rattle.host_core.specs.Host.{State, Since}
 use Rattle.host_core.specs.World.{World}
 use Rattle.package_tree.specs.declared.fault.TreeFault.{TreeFault}
 use Rattle.package_tree.specs.declared.package.Package.{Package}
-use Rattle.status_db.specs.declared.record.Record.{Record}
-use Rattle.status_db.specs.declared.words.State.{State as PackageState}
-use Rattle.status_db.specs.declared.words.State.TheVariants.{NotInstalled, ConfigFiles, HalfInstalled, Unpacked, HalfConfigured, Installed}
+use Rattle.status_records.specs.declared.record.Record.{Record}
+use Rattle.status_records.specs.declared.words.State.{State as PackageState}
+use Rattle.status_records.specs.declared.words.State.TheVariants.{NotInstalled, ConfigFiles, HalfInstalled, Unpacked, HalfConfigured, Installed}
 use Rattle.unit_reports.specs.Held.{Held}
 use Rattle.unit_reports.specs.Units.{calls_told}
 use Rattle.unit_reports.specs.declared.report.Reply.{Reply}
@@ -19,7 +19,7 @@ use Rattle.unit_reports.specs.declared.report.Reply.TheVariants.{Done, Refused, 
 use Rattle.unit_reports.specs.declared.report.Report.{Report}
 use Rattle.unit_reports.specs.declared.report.Touched.{Touched}
 use Rattle.unit_reports.specs.declared.report.Unit.{Unit as AUnit}
-use Rattle.unwind_stack.specs.Transcript.{TellsAll}
+use Rattle.undo_rows.specs.Transcript.{TellsAll}
 use Rattle.dpkg_session.specs.PowerLoss.{LosesLikeAStop}
 use Rattle.dpkg_session.specs.Run.{AreReadInTurn, HasRun, IsAmidRun, IsRun}
 use Rattle.dpkg_session.specs.declared.report.Candidate.{Candidate}

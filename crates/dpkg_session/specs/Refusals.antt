@@ -8,7 +8,7 @@ use Rattle.host_core.specs.Paths.{Path}
 use Rattle.diversions.specs.Places.{place}
 use Rattle.diversions.specs.declared.entry.Diversion.{Diversion}
 use Rattle.package_tree.specs.declared.package.Package.{Package}
-use Rattle.status_db.specs.declared.record.Record.{Record}
+use Rattle.status_records.specs.declared.record.Record.{Record}
 use Rattle.unit_reports.specs.Held.{Held}
 use Rattle.unit_reports.specs.declared.refusal.Rule.TheVariants.{ConffileDiverted}
 use Rattle.unpack_relations.specs.Checks.{IsChecked}

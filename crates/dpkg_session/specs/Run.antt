@@ -20,7 +20,7 @@ use Rattle.unpack_relations.specs.declared.checking.Checked.TheVariants.{Refused
 use Rattle.unpack_rows.specs.declared.rows.OtherPackage.{OtherPackage}
 use Rattle.dpkg_session.specs.PowerLoss.{LosesLikeAStop}
 use Rattle.dpkg_session.specs.Refusals.{IsDecisionFor}
-use Rattle.unwind_stack.specs.declared.rows.Called.{Called}
+use Rattle.undo_rows.specs.declared.rows.Called.{Called}
 use Rattle.dpkg_session.specs.Units.{HasUnpackedBeside, HaveRows, IsBrokenOff, IsUnit, given_by, held_with, yielding}
 use Rattle.dpkg_session.specs.declared.report.Candidate.{Candidate}
 use Rattle.unit_reports.specs.declared.report.Report.{Report}

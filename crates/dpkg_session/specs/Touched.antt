@@ -4,8 +4,8 @@ use Rattle.std.specs.List.{list_any}
 use Rattle.std.specs.Str.{bytes_eq}
 use Rattle.file_lists.specs.Increasing.{AreIncreasing}
 use Rattle.removal_run.specs.Names.{is_among}
-use Rattle.status_db.specs.Records.{record_in}
-use Rattle.status_db.specs.declared.record.Record.{Record}
+use Rattle.status_records.specs.Records.{record_in}
+use Rattle.status_records.specs.declared.record.Record.{Record}
 use Rattle.unpack_engine.specs.Touched.{is_half_configured}
 use Rattle.unit_reports.specs.Units.{touched_at}
 use Rattle.unit_reports.specs.declared.report.Touched.{Touched}

@@ -8,17 +8,17 @@ use Rattle.host_core.specs.Paths.{Path}
 use Rattle.host_core.specs.World.{World}
 use Rattle.host_core.specs.declared.call.Call.{Call}
 use Rattle.file_lists.specs.declared.paths.PackageList.{PackageList}
-use Rattle.other_rows.specs.Entries.{entries_of}
-use Rattle.other_rows.specs.Rows.{AreRowsBeside, AreRowsOf}
+use Rattle.in_favour_rows.specs.Entries.{entries_of}
+use Rattle.in_favour_rows.specs.Rows.{AreRowsBeside, AreRowsOf}
 use Rattle.removal_run.specs.Units.{holding_of}
 use Rattle.package_tree.specs.declared.package.Package.{Package}
 use Rattle.package_tree.specs.declared.fault.TreeFault.{TreeFault}
-use Rattle.stack_run.specs.Ended.{ended_as}
-use Rattle.stack_run.specs.declared.failure.Failure.TheVariants.{OfCall}
-use Rattle.stack_run.specs.declared.unwinding.Unwinding.{Unwinding}
+use Rattle.undo_rows.specs.Ended.{ended_as}
+use Rattle.undo_rows.specs.declared.failure.Failure.TheVariants.{OfCall}
+use Rattle.undo_rows.specs.declared.unwinding.Unwinding.{Unwinding}
 use Rattle.status_db.specs.Recorded.{Recorded}
 use Rattle.status_db.specs.Order.{AreInOrder}
-use Rattle.status_db.specs.declared.record.Record.{Record}
+use Rattle.status_records.specs.declared.record.Record.{Record}
 use Rattle.unpack_engine.specs.Order.{IsInOrder}
 use Rattle.unpack_engine.specs.Others.{AreOthers}
 use Rattle.unpack_engine.specs.Units.{Given, HasCalled, HasFailedFor, HasUnpacked, given_beside}
@@ -26,7 +26,7 @@ use Rattle.unpack_relations.specs.declared.beside.Beside.{Beside}
 use Rattle.unpack_relations.specs.declared.checking.Checked.{Checked}
 use Rattle.unpack_relations.specs.declared.checking.Checked.TheVariants as checked
 use Rattle.unpack_rows.specs.declared.rows.OtherPackage.{OtherPackage}
-use Rattle.unwind_stack.specs.declared.rows.Called.{Called}
+use Rattle.undo_rows.specs.declared.rows.Called.{Called}
 use Rattle.unit_reports.specs.Held.{Held, places_of}
 use Rattle.unit_reports.specs.Units.{HasNoCalls, IsBroken, IsRefused, TellsNoPackage, touched_at}
 use Rattle.unit_reports.specs.declared.refusal.Rule.TheVariants.{Tree}

@@ -7,7 +7,7 @@ ghost use Rattle.held_administration.specs.Open.{CanWrite, IsOpen};
 ghost use Rattle.recorded_packages.specs.Packages.{ArePackagesOf};
 ghost use Rattle.recorded_packages.specs.Renewal.{AreSameBut};
 ghost use Rattle.status_db.specs.Order.{AreInOrder};
-ghost use Rattle.status_db.specs.declared.record.Record.{Record};
+ghost use Rattle.status_records.specs.declared.record.Record.{Record};
 ghost use Rattle.unpack_engine.specs.Order.{IsInOrder};
 ghost use Rattle.unpack_engine.specs.Units.{IsTouched};
 ghost use Rattle.unpack_relations.specs.Checks.{AreApart};
@@ -25,17 +25,17 @@ use diversions::Diversions;
 use file_lists::FileLists;
 use held_administration::Administration;
 use host_core::{Host, HostFault, Places};
-use other_rows::yields_beside;
+use in_favour_rows::yields_beside;
 use package_tree::Package;
 use recorded_packages::renew;
 use relation_index::Packages;
 use status_db::NotedDatabase;
 use std::alloc::{AllocError, Global};
 use texts::{Text, Texts};
+use undo_rows::Called;
 use unit_reports::{Touched, refresh, touched_of};
 use unpack_engine::Unpacked;
 use unpack_relations::Beside;
-use unwind_stack::Called;
 use version_order::Version;
 
 /// What is known before an unpack: which packages may disappear, copies of the records of those that yield, and the names of

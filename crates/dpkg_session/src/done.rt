@@ -4,7 +4,7 @@ ghost use Rattle.std.specs.List.{list_any};
 ghost use Rattle.dpkg_session.specs.Installs.{done_with, has_lost_files, is_told_lost, is_without_files, label_of, names_done, stays, takes_away};
 
 use crate::report::Candidate;
-use status_db::{Record, State};
+use status_records::{Record, State};
 use std::alloc::{AllocError, Global};
 use texts::Text;
 use unit_reports::{Reply, Touched, Unit};

@@ -20,7 +20,7 @@
 //! the watcher, in order (`watched`); the run is from the records, lists and diversions of before
 //! to those of after; a tree that can't be read, a conffile that is diverted, and relations to the
 //! recorded packages are refused by the first of these that holds, without a call and without a
-//! change; the other trees are unpacked as unpack_engine says, with the rows that other_rows gives
+//! change; the other trees are unpacked as unpack_engine says, with the rows that in_favour_rows gives
 //! for the packages that are deconfigured or conflict; behind one whose rows all succeeded packages
 //! disappear and are removed as displaced_packages says; the reply, the touched packages and those
 //! that were deconfigured are as defined; after a unit that was broken off, which is that of the

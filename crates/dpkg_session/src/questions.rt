@@ -1,6 +1,6 @@
 // Questions about the administration, answered by what the session holds of it.
 ghost use Rattle.std.specs.Prelude.{◌≡◌, ℕ, false, is_some, IfOk, List, Option, option_copied};
-ghost use Rattle.status_db.specs.Records.{record_in};
+ghost use Rattle.status_records.specs.Records.{record_in};
 ghost use Rattle.queries.specs.Files.{files_text, search_text};
 ghost use Rattle.queries.specs.Places.{diversions_text, truename_text};
 ghost use Rattle.queries.specs.Records.{audit_text, list_text, status_text};

@@ -1,7 +1,7 @@
 // What refuses the unpack of a package, or what it does to other packages.
 ghost use Rattle.std.specs.Prelude.{◌≡◌, List, IfOk, option_copied};
 ghost use Rattle.recorded_packages.specs.Packages.{ArePackagesOf};
-ghost use Rattle.status_db.specs.declared.record.Record.{Record};
+ghost use Rattle.status_records.specs.declared.record.Record.{Record};
 ghost use Rattle.unpack_relations.specs.Checks.{AreBesideApart};
 ghost use Rattle.dpkg_session.specs.Refusals.{IsDecisionOf, conffile_away, first_away, first_of, is_away};
 

@@ -7,7 +7,8 @@ ghost use Rattle.unpack_engine.specs.Touched.{is_half_configured};
 ghost use Rattle.dpkg_session.specs.Touched.{AreOfBoth, AreTold, deconfigured_among, half_configured, is_deconfigured, is_half, is_told, told_among};
 
 use crate::unchanged::unchanged_of;
-use status_db::{NotedDatabase, Record, State};
+use status_db::NotedDatabase;
+use status_records::{Record, State};
 use std::alloc::{AllocError, Global};
 use std::collections::BTreeSet;
 use texts::{Text, Texts};

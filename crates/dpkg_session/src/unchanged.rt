@@ -1,13 +1,14 @@
 // Which packages have the records of before.
 ghost use Rattle.std.specs.Prelude.{◌≡◌, ◌++◌, ◌∷◌, [], false, cond, map, List, ℕ, IfOk, OnOk, IfSome, MatchBool};
 ghost use Rattle.std.specs.Option.{option_copied};
-ghost use Rattle.status_db.specs.Records.{record_in};
-ghost use Rattle.status_db.specs.Words.{is_not_installed};
-ghost use Rattle.status_db.specs.declared.record.Record.{Record as ARecord};
+ghost use Rattle.status_records.specs.Records.{record_in};
+ghost use Rattle.status_records.specs.Words.{is_not_installed};
+ghost use Rattle.status_records.specs.declared.record.Record.{Record as ARecord};
 ghost use Rattle.unit_reports.specs.Units.{touched_at};
 ghost use Rattle.dpkg_session.specs.Touched.{AreUnchanged};
 
-use status_db::{NotedDatabase, Record, record_text};
+use status_db::NotedDatabase;
+use status_records::{Record, record_text};
 use std::alloc::{AllocError, Global};
 use texts::{Text, Texts};
 use unit_reports::Touched;

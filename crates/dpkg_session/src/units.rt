@@ -4,7 +4,7 @@ ghost use Rattle.host_core.specs.Host.{AtEachMomentOf, Needs, faults};
 ghost use Rattle.host_core.specs.Loss.{IsAnswered, IsOnDisk};
 ghost use Rattle.held_administration.specs.Open.{IsOpen};
 ghost use Rattle.recorded_packages.specs.Packages.{ArePackagesOf};
-ghost use Rattle.unwind_stack.specs.Transcript.{TellsAll};
+ghost use Rattle.undo_rows.specs.Transcript.{TellsAll};
 ghost use Rattle.unpack_engine.specs.Order.{IsInOrder};
 ghost use Rattle.unpack_relations.specs.Checks.{AreApart};
 ghost use Rattle.unit_reports.specs.declared.refusal.Rule.TheVariants.{Tree};
@@ -31,17 +31,16 @@ use held_administration::Administration;
 use host_core::{Call, Host};
 use package_tree::Package;
 use relation_index::Packages;
-use stack_run::{Failure as Cause, Unwinding};
 use status_db::NotedDatabase;
 use std::alloc::{AllocError, Global};
 use texts::{Text, Texts};
+use undo_rows::{Called, Failure as Cause, Unwinding};
 use unit_reports::{
     Breakage, Failure, Reply, Report, Rule, Unit, Watcher, breakage_of, broken, is_broken, refused,
     what_is_told_in_turn,
 };
 use unpack_engine::Unpacked;
 use unpack_relations::{Beside, Checked};
-use unwind_stack::Called;
 
 // The reply to a unit of a package, by how its rows were unwound, and by the call that failed behind its commit.
 fn reply_to(package: Text, unwinding: Option<Unwinding>, failed: Option<Call>) -> Reply

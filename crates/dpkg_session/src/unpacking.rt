@@ -3,7 +3,7 @@ ghost use Rattle.std.specs.Prelude.{◌≡◌, IfOk, OnOk};
 ghost use Rattle.host_core.specs.Host.{AtEachMomentOf, Counts, Needs, Reads, Silent};
 ghost use Rattle.host_core.specs.Loss.{IsOnDisk};
 ghost use Rattle.held_administration.specs.Open.{CanWrite};
-ghost use Rattle.stack_run.specs.Ended.{ended_as};
+ghost use Rattle.undo_rows.specs.Ended.{ended_as};
 ghost use Rattle.unpack_engine.specs.Order.{IsInOrder};
 ghost use Rattle.unpack_engine.specs.Others.{AreOthers};
 ghost use Rattle.unpack_engine.specs.Units.{HasCalled, HasFailedFor, HasUnpacked, IsAmidUnit, IsTouched};
@@ -15,13 +15,13 @@ ghost use Rattle.dpkg_session.specs.Units.{HasCalledBeside, HasUnpackedBeside, H
 use diversions::Diversions;
 use held_administration::Administration;
 use host_core::{Host, HostFault};
-use other_rows::{rows_beside, yields_beside};
+use in_favour_rows::{rows_beside, yields_beside};
 use package_tree::Package;
 use status_db::NotedDatabase;
 use std::alloc::Global;
+use undo_rows::Called;
 use unpack_engine::{Others, Unpacked, unpack};
 use unpack_relations::Beside;
-use unwind_stack::Called;
 
 // The other packages that have rows, and those that let the package take paths of theirs.
 fn others_beside<H: Host>(

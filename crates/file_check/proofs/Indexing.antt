@@ -5,7 +5,7 @@ use Rattle.std.specs.Str.{bytes_eq}
 use Rattle.std.proofs.lemmas.List.{take_more}
 use Rattle.std.proofs.lemmas.List.Folds.{list_any_more, list_any-append}
 use Rattle.host_core.specs.Paths.{Path}
-use Rattle.file_works.specs.declared.work.Work.{Work}
+use Rattle.package_files.specs.declared.work.Work.{Work}
 use Rattle.file_check.specs.Index.{makes_directory, is_made_by, is_place, is_twice}
 
 pub joined : (hit o : Bool) → cond hit true o ≡ (o || hit)

@@ -7,3 +7,4 @@ pub mod Readiness
 pub mod Shipping
 pub mod Unseen
 pub mod Ordering
+pub mod Permuting

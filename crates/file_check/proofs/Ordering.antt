@@ -12,9 +12,9 @@ use Rattle.std.proofs.lemmas.Cmp.{nat_list_eq_equiv}
 use Rattle.std.proofs.lemmas.List.Sorted.{ranks_by}
 use Rattle.std.proofs.lemmas.Map.Text.{is_eq-slice_cmp}
 use Rattle.std.proofs.Math.Numerals.{add-one}
-use Rattle.file_works.specs.declared.work.Work.{Work}
-use Rattle.file_works.specs.Files.{Each}
-use Rattle.file_works.specs.Names.{IsBefore, AllInOrder}
+use Rattle.package_files.specs.declared.work.Work.{Work}
+use Rattle.package_files.specs.Files.{Each}
+use Rattle.package_files.specs.Names.{IsBefore, AllInOrder}
 use Rattle.file_check.proofs.WorkLists.{each_of}
 use Rattle.file_check.specs.Ready.{is_one_place}
 

@@ -18,14 +18,14 @@ use Rattle.host_core.proofs.ShipNames.{ships}
 use Rattle.diversions.specs.Sights.{is_directory_kind}
 use Rattle.diversions.specs.declared.entry.Diversion.{Diversion}
 use Rattle.host_core.specs.declared.node.Kind.{Kind}
-use Rattle.unwind_stack.specs.declared.fall.StepFault.{StepFault}
-use Rattle.unwind_stack.specs.declared.fall.StepFault.TheVariants.{LinkParent, NoParent, DirInWay, Clash}
+use Rattle.undo_rows.specs.declared.fall.StepFault.{StepFault}
+use Rattle.undo_rows.specs.declared.fall.StepFault.TheVariants.{LinkParent, NoParent, DirInWay, Clash}
 use Rattle.file_check.specs.declared.above.Above.{Above}
 use Rattle.file_check.specs.declared.above.Above.TheVariants as kind_above
-use Rattle.file_works.specs.declared.work.Work.{Work}
-use Rattle.file_works.specs.Files.{cleared, Each, is_written}
-use Rattle.file_works.specs.Free.{IsFree, IsFreeIn, IsSeen}
-use Rattle.file_works.specs.Names.{IsNamed, IsHomed, HasMaker}
+use Rattle.package_files.specs.declared.work.Work.{Work}
+use Rattle.package_files.specs.Files.{cleared, Each, is_written}
+use Rattle.package_files.specs.Free.{IsFree, IsFreeIn, IsSeen}
+use Rattle.package_files.specs.Names.{IsNamed, IsHomed, HasMaker}
 use Rattle.file_check.specs.Ways.{in_way, at_names, is_diverted}
 use Rattle.file_check.specs.Clashes.{Owning, first_clash, some_if, claims, rival, clash_by}
 use Rattle.file_check.specs.Index.{makes_directory, is_made, is_made_by, is_place, is_twice, AllOutside}

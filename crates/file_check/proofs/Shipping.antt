@@ -9,8 +9,8 @@ use Rattle.diversions.specs.Places.{place}
 use Rattle.file_lists.specs.Increasing.{IsBefore}
 use Rattle.file_lists.proofs.Entries.{any_contains}
 use Rattle.file_lists.proofs.Finding.{nowhere}
-use Rattle.file_works.specs.Files.{Each}
-use Rattle.file_works.specs.Works.{target_of}
+use Rattle.package_files.specs.Files.{Each}
+use Rattle.package_files.specs.Works.{target_of}
 use Rattle.file_check.specs.Ready.{IsFitting}
 use Rattle.file_check.specs.Ships.{is_conffile, shipped_works, FitsConffiles}
 

@@ -3,8 +3,8 @@ use Rattle.std.proofs.Common.{◌≡◌, inl, inr, ℕ, ◌+◌, ◌<◌, Bool, 
 use Rattle.std.specs.Prelude.{MatchOption}
 use Rattle.host_core.specs.Paths.{Path}
 use Rattle.host_core.specs.World.{World}
-use Rattle.unwind_stack.specs.declared.fall.StepFault.{StepFault}
-use Rattle.file_works.specs.declared.work.Work.{Work}
+use Rattle.undo_rows.specs.declared.fall.StepFault.{StepFault}
+use Rattle.package_files.specs.declared.work.Work.{Work}
 use Rattle.file_check.specs.declared.above.Above.{Above}
 use Rattle.file_check.specs.declared.above.Above.TheVariants as above
 use Rattle.file_check.specs.Above.{IsAbove}

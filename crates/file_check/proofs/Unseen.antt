@@ -5,9 +5,9 @@ use Rattle.std.specs.Str.{bytes_eq}
 use Rattle.host_core.specs.Paths.{Path}
 use Rattle.host_core.specs.World.{World, kind_of}
 use Rattle.host_core.specs.declared.fault.HostFault.{HostFault}
-use Rattle.unwind_stack.specs.declared.fall.StepFault.{StepFault}
-use Rattle.unwind_stack.specs.declared.fall.StepFault.TheVariants.{LinkParent, NoParent, DirInWay, Clash, DiversionTarget}
-use Rattle.file_works.specs.declared.work.Work.{Work}
+use Rattle.undo_rows.specs.declared.fall.StepFault.{StepFault}
+use Rattle.undo_rows.specs.declared.fall.StepFault.TheVariants.{LinkParent, NoParent, DirInWay, Clash, DiversionTarget}
+use Rattle.package_files.specs.declared.work.Work.{Work}
 use Rattle.file_check.specs.Clashes.{Owning}
 use Rattle.file_check.specs.Index.{makes_directory, is_made, is_place, is_twice}
 use Rattle.file_check.specs.Ready.{unseen, IsSameBut}

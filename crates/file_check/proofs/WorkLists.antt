@@ -3,9 +3,9 @@ use Rattle.std.proofs.Common.{◌≡◌, ◌+◌, ◌<◌, ℕ, List, [], ◌∷
 use Rattle.std.proofs.lemmas.List.{take_more, take-append-drop}
 use Rattle.std.proofs.Math.Seq.{drop-cons}
 use Rattle.std.proofs.Math.Numerals.{add-one}
-use Rattle.file_works.specs.declared.work.Work.{Work}
-use Rattle.file_works.specs.Files.{Each}
-use Rattle.file_works.specs.Names.{IsNamed}
+use Rattle.package_files.specs.declared.work.Work.{Work}
+use Rattle.package_files.specs.Files.{Each}
+use Rattle.package_files.specs.Names.{IsNamed}
 use Rattle.file_check.specs.Ready.{unseen, IsFitting, IsSameBut}
 
 pub each_of : (P Q : Work → Type 0) → ((x : Work) → P x → Q x) → (xs : List Work) → Each P xs → Each Q xs

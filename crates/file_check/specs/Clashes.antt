@@ -15,7 +15,7 @@ use Rattle.diversions.specs.declared.entry.Diversion.{Diversion}
 use Rattle.file_lists.specs.declared.paths.PackageList.{PackageList}
 use Rattle.file_lists.specs.declared.paths.Listed.{Listed}
 use Rattle.file_lists.specs.Owners.{owners_of}
-use Rattle.file_works.specs.declared.work.Work.{Work}
+use Rattle.package_files.specs.declared.work.Work.{Work}
 
 -- who has which places: the diversions and the lists, the packages with which no path clashes, and the incoming one
 pub record Owning : Type 0 where

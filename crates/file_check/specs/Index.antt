@@ -9,7 +9,7 @@ use Rattle.host_core.specs.declared.node.Kind.{Kind}
 use Rattle.host_core.specs.declared.node.Kind.TheVariants as kind
 use Rattle.host_core.specs.declared.node.Node.{Node}
 use Rattle.host_core.specs.declared.node.Node.TheVariants.{File, Dir, Link}
-use Rattle.file_works.specs.declared.work.Work.{Work}
+use Rattle.package_files.specs.declared.work.Work.{Work}
 use Rattle.file_check.specs.declared.index.Index.{Index}
 
 -- a directory that is shipped is made where nothing stands, and in a file's place

@@ -6,3 +6,4 @@ pub mod Targets
 pub mod Index
 pub mod Sound
 pub mod Ready
+pub mod Rearranged

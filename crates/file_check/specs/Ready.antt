@@ -2,7 +2,7 @@
 use Rattle.std.specs.Prelude.{◌≡◌, Bool, false, None, List, map}
 use Rattle.std.specs.Str.{bytes_eq}
 use Rattle.host_core.specs.World.{is_file}
-use Rattle.file_works.specs.declared.work.Work.{Work}
+use Rattle.package_files.specs.declared.work.Work.{Work}
 
 -- what isn't a file is no conffile
 abbrev pub IsFitting : Work → Type 0

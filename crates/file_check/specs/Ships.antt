@@ -7,8 +7,8 @@ use Rattle.host_core.specs.World.{is_file}
 use Rattle.host_core.specs.declared.node.Node.{Node}
 use Rattle.diversions.specs.declared.entry.Diversion.{Diversion}
 use Rattle.diversions.specs.Places.{place}
-use Rattle.file_works.specs.declared.work.Work.{Work}
-use Rattle.file_works.specs.Works.{work_of}
+use Rattle.package_files.specs.declared.work.Work.{Work}
+use Rattle.package_files.specs.Works.{work_of}
 
 abbrev pub is_conffile : List Path → Path → Bool
 is_conffile conffiles path = list_any (bytes_eq path) conffiles

@@ -4,9 +4,9 @@ use Rattle.host_core.specs.Paths.{Path}
 use Rattle.host_core.specs.World.{World}
 use Rattle.diversions.specs.Targets.{owner_name}
 use Rattle.diversions.specs.declared.entry.Diversion.{Diversion}
-use Rattle.unwind_stack.specs.declared.fall.StepFault.{StepFault}
-use Rattle.unwind_stack.specs.declared.fall.StepFault.TheVariants.{LinkParent, NoParent, DirInWay, Clash, DiversionTarget}
-use Rattle.file_works.specs.declared.work.Work.{Work}
+use Rattle.undo_rows.specs.declared.fall.StepFault.{StepFault}
+use Rattle.undo_rows.specs.declared.fall.StepFault.TheVariants.{LinkParent, NoParent, DirInWay, Clash, DiversionTarget}
+use Rattle.package_files.specs.declared.work.Work.{Work}
 use Rattle.file_check.specs.declared.above.Above.{Above}
 use Rattle.file_check.specs.declared.above.Above.TheVariants as above
 use Rattle.file_check.specs.Above.{HasLink, Lacks, IsClear}

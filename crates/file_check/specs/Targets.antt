@@ -2,7 +2,7 @@
 use Rattle.std.specs.Prelude.{◌≡◌, ℕ, List, Option, Some}
 use Rattle.diversions.specs.Targets.{entry_to, owner_name}
 use Rattle.diversions.specs.declared.entry.Diversion.{Diversion}
-use Rattle.file_works.specs.declared.work.Work.{Work}
+use Rattle.package_files.specs.declared.work.Work.{Work}
 use Rattle.file_check.specs.Clashes.{Owning}
 
 -- the diversion of another path to a shipped one, whoever's it is

@@ -7,7 +7,7 @@ use Rattle.host_core.specs.declared.node.Kind.TheVariants as kind
 use Rattle.host_core.specs.declared.node.Node.{Node}
 use Rattle.host_core.specs.declared.node.Node.TheVariants.{File, Dir, Link}
 use Rattle.diversions.specs.Sights.{is_directory_kind}
-use Rattle.file_works.specs.declared.work.Work.{Work}
+use Rattle.package_files.specs.declared.work.Work.{Work}
 use Rattle.file_check.specs.declared.sight.Sight.{Sight}
 
 -- a directory stands at the target, or at a name that a file or link is written under

@@ -2,8 +2,8 @@
 ghost use Rattle.std.specs.Prelude.{◌≡◌, false, MatchOption, IfOk, IfNone};
 ghost use Rattle.std.specs.BTreeSet.{contains_text};
 ghost use Rattle.host_core.specs.Host.{Counts, Needs, Reads, Silent, Tells};
-ghost use Rattle.file_works.specs.Files.{Each};
-ghost use Rattle.file_works.specs.Free.{IsSeen};
+ghost use Rattle.package_files.specs.Files.{Each};
+ghost use Rattle.package_files.specs.Free.{IsSeen};
 ghost use Rattle.file_check.specs.Index.{AllOutside};
 ghost use Rattle.file_check.specs.Sound.{AreSound, IsFaultOf, IsFirstOf, IsSound};
 
@@ -12,10 +12,10 @@ use crate::index::Index;
 use crate::judging::judge;
 use crate::owning::Owning;
 use crate::sight::look_around;
-use file_works::Work;
 use host_core::{Host, HostFault};
+use package_files::Work;
 use std::alloc::Global;
-use unwind_stack::StepFault;
+use undo_rows::StepFault;
 
 // Looks at one path.
 fn check_one<H: Host>(

@@ -4,8 +4,8 @@ ghost use Rattle.std.specs.BTreeSet.{contains_text};
 ghost use Rattle.file_check.specs.Clashes.{claims, clash_by, first_clash, rival, some_if};
 
 use crate::owning::Owning;
-use file_works::Work;
 use host_core::{Kind, Node, RootPath};
+use package_files::Work;
 use std::alloc::{AllocError, Global};
 use std::collections::BTreeSet;
 use texts::Text;

@@ -4,8 +4,8 @@ ghost use Rattle.std.specs.Str.{bytes_eq};
 ghost use Rattle.std.specs.BTreeSet.{contains_text};
 ghost use Rattle.file_check.specs.Index.{is_made_by, is_twice, makes_directory, IsIndex};
 
-use file_works::Work;
 use host_core::{Kind, Node, RootPath};
+use package_files::Work;
 use std::alloc::{AllocError, Global};
 use std::collections::BTreeSet;
 

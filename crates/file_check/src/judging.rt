@@ -11,12 +11,12 @@ use crate::clash::clash_of;
 use crate::owning::Owning;
 use crate::sight::{Sight, is_in_way};
 use diversions::Diversion;
-use file_works::Work;
 use host_core::RootPath;
+use package_files::Work;
 use std::alloc::{AllocError, Global};
 use std::collections::BTreeSet;
 use texts::Text;
-use unwind_stack::StepFault;
+use undo_rows::StepFault;
 
 // The order in which faults are looked for.
 fn first_fault(

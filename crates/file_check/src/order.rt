@@ -2,10 +2,10 @@
 ghost use Rattle.std.specs.Prelude.{◌≡◌};
 ghost use Rattle.std.specs.List.{IsDistinct};
 ghost use Rattle.std.specs.List.Sorted.{IsPermutation};
-ghost use Rattle.file_works.specs.Names.{AllInOrder};
+ghost use Rattle.package_files.specs.Names.{AllInOrder};
 ghost use Rattle.file_check.specs.Ready.{is_one_place};
 
-use file_works::Work;
+use package_files::Work;
 
 /// Puts works in the order of their places, in which they are written.
 pub fn order_works(works: &mut Vec<Work>)

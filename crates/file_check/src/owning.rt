@@ -7,8 +7,8 @@ ghost use Rattle.file_check.specs.Targets.{diversion_to};
 
 use diversions::{Diversion, Diversions};
 use file_lists::{FileLists, Listed};
-use file_works::Work;
 use host_core::RootPath;
+use package_files::Work;
 use std::alloc::{AllocError, Global};
 use std::marker::Model;
 use texts::Text;

@@ -2,12 +2,12 @@
 ghost use Rattle.std.specs.Prelude.{◌≡◌};
 ghost use Rattle.host_core.specs.World.{kind_of};
 ghost use Rattle.host_core.specs.Host.{Counts, Needs, Reads, Silent, Tells};
-ghost use Rattle.file_works.specs.Free.{IsSeen};
+ghost use Rattle.package_files.specs.Free.{IsSeen};
 ghost use Rattle.file_check.specs.Ways.{at_names, in_way, in_way_by, is_diverted, sight_of};
 
 use crate::above::is_directory;
-use file_works::Work;
 use host_core::{Host, HostFault, Kind, Node};
+use package_files::Work;
 
 /// The kinds of what stands at a place and at the names beside it.
 #[derive(Clone, Copy)]

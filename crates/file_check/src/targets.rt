@@ -1,12 +1,12 @@
 // What stands at the targets of works.
 ghost use Rattle.std.specs.Prelude.{◌≡◌};
 ghost use Rattle.host_core.specs.Host.{Counts, Leaves, Reads, Silent};
-ghost use Rattle.file_works.specs.Files.{Each};
-ghost use Rattle.file_works.specs.Free.{IsSeen};
+ghost use Rattle.package_files.specs.Files.{Each};
+ghost use Rattle.package_files.specs.Free.{IsSeen};
 ghost use Rattle.file_check.specs.Ready.{unseen, IsSameBut};
 
-use file_works::Work;
 use host_core::{Host, HostFault};
+use package_files::Work;
 
 fn look_at_target<H: Host>(host: &mut H, work: &mut Work) -> Result<(), HostFault>
     ensures same { unseen work.new ≡ unseen work.old }

@@ -2,9 +2,9 @@
 ghost use Rattle.std.specs.Prelude.{◌≡◌, IfOk, IfNone, IfSome, MatchOption};
 ghost use Rattle.std.specs.List.{IsDistinct};
 ghost use Rattle.host_core.specs.Host.{Counts, Needs, Reads, Silent, Tells};
-ghost use Rattle.file_works.specs.Files.{Each};
-ghost use Rattle.file_works.specs.Free.{IsFreeIn, IsSeen};
-ghost use Rattle.file_works.specs.Names.{IsHomed, IsNamed};
+ghost use Rattle.package_files.specs.Files.{Each};
+ghost use Rattle.package_files.specs.Free.{IsFreeIn, IsSeen};
+ghost use Rattle.package_files.specs.Names.{IsHomed, IsNamed};
 ghost use Rattle.file_check.specs.Clashes.{owning};
 ghost use Rattle.file_check.specs.Ready.{is_one_place, IsFitting, IsSameBut};
 ghost use Rattle.file_check.specs.Sound.{AllSound, IsFirstFault};
@@ -15,11 +15,11 @@ use crate::owning::Owning;
 use crate::targets::look_at_targets;
 use diversions::Diversions;
 use file_lists::FileLists;
-use file_works::Work;
 use host_core::{Host, HostFault};
+use package_files::Work;
 use std::alloc::Global;
 use texts::Text;
-use unwind_stack::StepFault;
+use undo_rows::StepFault;
 
 // Checks works at whose targets it was looked.
 fn check_seen<H: Host>(

@@ -13,7 +13,7 @@ use Rattle.file_lists.specs.Info.{IsSound}
 use Rattle.file_lists.specs.declared.paths.PackageList.{PackageList}
 use Rattle.status_db.specs.Held.{HasRecords}
 use Rattle.status_db.specs.Noting.{AreNoted, IsMerging}
-use Rattle.status_db.specs.declared.record.Record.{Record}
+use Rattle.status_records.specs.declared.record.Record.{Record}
 use Rattle.opening.specs.Leaving.{IsOpening, IsOpeningOrMerging}
 use Rattle.opening.specs.Opened.{IsFound, IsListed}
 use Rattle.opening.specs.Parts.{IsDamaged, Opens, OpensAndMerges, names_of, parts}

@@ -17,18 +17,18 @@ use Rattle.control_fields.specs.declared.field.Field.{Field}
 use Rattle.control_fields.specs.declared.located.Located.{Located}
 use Rattle.control_fields.specs.declared.fault.ControlFault.{ControlFault}
 use Rattle.control_fields.proofs.Once.{reads_once, not_stuck}
-use Rattle.status_db.specs.declared.record.Record.{Record}
-use Rattle.status_db.specs.Records.{record_in, standing}
-use Rattle.status_db.specs.Paragraphs.{field_in, Says, IsGone, IsRecordOf, SaysEntry, IsEntry, Enters}
-use Rattle.status_db.specs.Damage.{IsMissing, IsFaultyEntry, IsFaultOf, IsFirstFault}
+use Rattle.status_records.specs.declared.record.Record.{Record}
+use Rattle.status_records.specs.Records.{record_in, standing}
+use Rattle.status_records.specs.Paragraphs.{field_in, Says, IsGone, IsRecordOf, SaysEntry, IsEntry, Enters}
+use Rattle.status_records.specs.Damage.{IsMissing, IsFaultyEntry, IsFaultOf, IsFirstFault}
 use Rattle.status_db.specs.Held.{HasRecords, Holds}
 use Rattle.status_db.specs.NoteDamage.{AreNotesFine, AreNotesDamaged, AreRecordsDamaged, IsFaultyNote, IsFaultyNumber, IsFaultyRest, IsFineNumber, IsNoteDamage}
 use Rattle.status_db.specs.Notes.{IsNote, IsNoteAt, Lookup, Note, entered, limit, note_path, with_notes}
-use Rattle.status_db.specs.Status.{IsStatus, IsStatusAt, IsDamageAt}
+use Rattle.status_records.specs.Status.{IsStatus, IsStatusAt, IsDamageAt}
 use Rattle.status_db.proofs.Ordered.{one_table}
-use Rattle.status_db.proofs.Parsing.{gone_state}
-use Rattle.status_db.proofs.SameRecords.{record_once}
-use Rattle.status_db.proofs.Sayings.{says_same}
+use Rattle.status_records.proofs.Parsing.{gone_state}
+use Rattle.status_records.proofs.SameRecords.{record_once}
+use Rattle.status_records.proofs.Sayings.{says_same}
 
 -- what holds of all holds of one
 

@@ -32,7 +32,7 @@ use Rattle.file_lists.specs.Lists.{HasLists}
 use Rattle.file_lists.specs.declared.paths.PackageList.{PackageList}
 use Rattle.opening.proofs.KeptLists.{has_lists_kept}
 use Rattle.opening.specs.declared.open.Opened.{Opened as AnOpened}
-use Rattle.status_db.specs.declared.record.Record.{Record}
+use Rattle.status_records.specs.declared.record.Record.{Record}
 use Rattle.status_db.specs.Held.{IsFree}
 use Rattle.status_db.specs.NoteDamage.{AreNotesFine, IsRecordsDamage}
 use Rattle.status_db.specs.Notes.{IsNoteAt, note_path}

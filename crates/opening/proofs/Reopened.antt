@@ -22,9 +22,9 @@ use Rattle.status_db.specs.Held.{CanOpenRecords, HasRecords, Holds}
 use Rattle.status_db.specs.NoteDamage.{AreNotesDamaged, AreNotesFine, AreRecordsDamaged, IsFaultyNumber, IsFineNumber, IsNoteDamage}
 use Rattle.status_db.specs.Notes.{IsNoteAt, note_path}
 use Rattle.status_db.specs.Noting.{IsMerging}
-use Rattle.status_db.specs.Status.{IsStatusAt}
-use Rattle.status_db.specs.Status as status
-use Rattle.status_db.specs.declared.record.Record.{Record}
+use Rattle.status_records.specs.Status.{IsStatusAt}
+use Rattle.status_records.specs.Status as status
+use Rattle.status_records.specs.declared.record.Record.{Record}
 use Rattle.status_db.proofs.NotedWorlds.{records_same}
 use Rattle.opening.specs.Leaving.{IsOpening, IsOpeningOrMerging, is_way, lib_path, root_path, var_path}
 use Rattle.opening.specs.Parts.{Part, Root, Way, Records, Spare, Info, Diversions, Leftovers, IsFirstFault, names_of, parts}

@@ -6,7 +6,7 @@ use Rattle.host_core.specs.Paths.{Path}
 use Rattle.host_core.specs.World.{World, IsDirectory}
 use Rattle.status_db.specs.Noting.{IsMerging}
 use Rattle.status_db.specs.Held.{HasRecords}
-use Rattle.status_db.specs.declared.record.Record.{Record}
+use Rattle.status_records.specs.declared.record.Record.{Record}
 use Rattle.administration.specs.Directories.{new_directory}
 use Rattle.administration.specs.Places.{home_path, info_path, updates_path, tmp_path, is_within}
 

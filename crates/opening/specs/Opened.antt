@@ -9,8 +9,8 @@ use Rattle.diversions.specs.Lines.{HasDiversions}
 use Rattle.file_lists.specs.Info.{AreSound}
 use Rattle.file_lists.specs.Lists.{HasLists}
 use Rattle.file_lists.specs.declared.paths.PackageList.{PackageList}
-use Rattle.status_db.specs.declared.record.Record.{Record}
-use Rattle.status_db.specs.Records.{standing}
+use Rattle.status_records.specs.declared.record.Record.{Record}
+use Rattle.status_records.specs.Records.{standing}
 use Rattle.status_db.specs.Held.{AreKept}
 use Rattle.opening.specs.Parts.{names_of}
 

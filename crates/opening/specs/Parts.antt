@@ -12,8 +12,8 @@ use Rattle.administration.specs.declared.fault.AdministrationFault.TheVariants.{
 use Rattle.diversions.specs.declared.entry.Diversion.{Diversion}
 use Rattle.diversions.specs.Lines.{HasDiversions, IsDiversionsDamage}
 use Rattle.file_lists.specs.Info.{IsInfoDamage, AreSound}
-use Rattle.status_db.specs.declared.record.Record.{Record}
-use Rattle.status_db.specs.Records.{standing}
+use Rattle.status_records.specs.declared.record.Record.{Record}
+use Rattle.status_records.specs.Records.{standing}
 use Rattle.status_db.specs.NoteDamage.{AreNotesFine, AreRecordsDamaged}
 use Rattle.status_db.specs.Noting.{IsMerging}
 use Rattle.status_db.specs.Held.{HasRecords}

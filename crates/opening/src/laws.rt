@@ -12,7 +12,7 @@ ghost use Rattle.opening.specs.Leaving.{IsOpeningOrMerging};
 ghost use Rattle.opening.specs.Parts.{parts, IsFine, IsFirstFault};
 ghost use Rattle.opening.specs.Undamaged.{IsUndamaged};
 ghost use Rattle.status_db.specs.Held.{HasRecords};
-ghost use Rattle.status_db.specs.declared.record.Record.{Record};
+ghost use Rattle.status_records.specs.declared.record.Record.{Record};
 
 /// Where all parts can be read, none of them is told as damage.
 pub fn what_is_fine_has_no_fault()

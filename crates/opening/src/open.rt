@@ -21,7 +21,8 @@ use administration::{
 use diversions::Diversions;
 use file_lists::FileLists;
 use host_core::{Host, HostFault, RootPath};
-use status_db::{NotedDatabase, Record, RecordFault};
+use status_db::{NotedDatabase, RecordFault};
+use status_records::Record;
 use std::alloc::{AllocError, Global};
 use texts::{Text, Texts};
 

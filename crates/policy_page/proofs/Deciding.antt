@@ -2,8 +2,8 @@
 use Rattle.std.proofs.Common.{◌≡◌, Bool, List, [], ◌∷◌, Option, Some, map, refl, sym, ap, subst, ◌∙◌}
 use Rattle.host_core.specs.Events.{Ran}
 use Rattle.host_core.specs.Outcome.{is_success}
-use Rattle.unwind_stack.specs.declared.fall.StepFault.{StepFault}
-use Rattle.cleanup_stack.specs.Transcripts.{Ended}
+use Rattle.undo_rows.specs.declared.fall.StepFault.{StepFault}
+use Rattle.undo_rows.specs.Transcripts.{Ended}
 use Rattle.policy_page.specs.Answers.{answer_of}
 use Rattle.policy_page.specs.Lines.{IsLine, Line, fault_of}
 

@@ -1,11 +1,11 @@
 -- A page, from what is shown of it for the rows as they are.
 use Rattle.std.proofs.Common.{◌≡◌, Bool, List, [], Option, Some, map, sym, subst}
 use Rattle.host_core.specs.Events.{Ran}
-use Rattle.unwind_stack.specs.declared.fall.StepFault.{StepFault}
-use Rattle.unwind_stack.specs.declared.rows.Row.{Row}
-use Rattle.cleanup_stack.specs.Transcripts.{Anyhow, Ended, Legal}
-use Rattle.status_db.specs.declared.record.Record.{Record}
-use Rattle.status_db.specs.Records.{record_in}
+use Rattle.undo_rows.specs.declared.fall.StepFault.{StepFault}
+use Rattle.undo_rows.specs.declared.rows.Row.{Row}
+use Rattle.undo_rows.specs.Transcripts.{Anyhow, Ended, Legal}
+use Rattle.status_records.specs.declared.record.Record.{Record}
+use Rattle.status_records.specs.Records.{record_in}
 use Rattle.unpack_rows.specs.EndStates.{own_name}
 use Rattle.unpack_rows.specs.ForwardRows.{rows_of}
 use Rattle.unpack_rows.specs.Kinds.{kinds_of}

@@ -2,13 +2,13 @@
 use Rattle.std.proofs.Common.{◌≡◌, ℕ, List, [], ◌∷◌, ◌++◌, Option, Some, length, map, refl, sym, ap, subst, ◌∙◌, append_assoc}
 use Rattle.std.proofs.lemmas.List.{append-nil}
 use Rattle.host_core.specs.Events.{Ran}
-use Rattle.unwind_stack.specs.declared.rows.Row.{Row}
-use Rattle.unwind_stack.specs.declared.fall.StepFault.{StepFault}
-use Rattle.unwind_stack.specs.declared.fall.Fall.{Fall}
-use Rattle.unwind_stack.specs.Transcript.{Goes, Succeed}
-use Rattle.cleanup_stack.specs.declared.failed.Failed.{Failed}
-use Rattle.cleanup_stack.specs.Transcripts.{Anyhow, Ended, Committed, Legal, Unwound}
-use Rattle.cleanup_stack.specs.Undoing.{UndoesAll}
+use Rattle.undo_rows.specs.declared.rows.Row.{Row}
+use Rattle.undo_rows.specs.declared.fall.StepFault.{StepFault}
+use Rattle.undo_rows.specs.declared.fall.Fall.{Fall}
+use Rattle.undo_rows.specs.Transcript.{Goes, Succeed}
+use Rattle.undo_rows.specs.declared.failed.Failed.{Failed}
+use Rattle.undo_rows.specs.Transcripts.{Anyhow, Ended, Committed, Legal, Unwound}
+use Rattle.undo_rows.specs.Undoing.{UndoesAll}
 use Rattle.policy_page.specs.Answers.{Answer, answer_of}
 use Rattle.policy_page.specs.Lines.{IsLine, Line}
 use Rattle.policy_page.proofs.Rows.{Are, joined, parted}

@@ -2,12 +2,12 @@
 use Rattle.std.proofs.Common.{List, [], ◌++◌, Option, Some}
 use Rattle.host_core.specs.Events.{Ran}
 use Rattle.host_core.specs.Host.{State, calls}
-use Rattle.unwind_stack.specs.declared.rows.Called.{Called}
-use Rattle.unwind_stack.specs.declared.rows.Row.{Row}
-use Rattle.unwind_stack.specs.declared.fall.StepFault.{StepFault}
-use Rattle.cleanup_stack.specs.Telling.{HasRun}
-use Rattle.cleanup_stack.specs.Transcripts.{Anyhow, Committed, Ended, IfHonest, Legal, Unwound}
-use Rattle.cleanup_stack.proofs.Growth.{goes_anyhow, succeed_anyhow}
+use Rattle.undo_rows.specs.declared.rows.Called.{Called}
+use Rattle.undo_rows.specs.declared.rows.Row.{Row}
+use Rattle.undo_rows.specs.declared.fall.StepFault.{StepFault}
+use Rattle.undo_rows.specs.Telling.{HasRun}
+use Rattle.undo_rows.specs.Transcripts.{Anyhow, Committed, Ended, IfHonest, Legal, Unwound}
+use Rattle.undo_rows.proofs.Growth.{goes_anyhow, succeed_anyhow}
 use Rattle.policy_page.specs.Lines.{HasTold, IsLine, Line}
 
 -- what is legal is so whatever is said of the file row

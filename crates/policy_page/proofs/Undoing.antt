@@ -5,12 +5,12 @@ use Rattle.std.proofs.lemmas.List.{append-nil}
 use Rattle.host_core.specs.Events.{Ran}
 use Rattle.host_core.specs.Outcome.{is_success}
 use Rattle.host_core.specs.declared.call.Call.{Call}
-use Rattle.unwind_stack.specs.declared.rows.Row.{Row}
-use Rattle.unwind_stack.specs.declared.rows.Owner.{Owner}
-use Rattle.unwind_stack.specs.declared.rows.Owner.TheVariants.{Package as OfPackage, Files}
-use Rattle.cleanup_stack.specs.declared.failed.Failed.{Failed}
-use Rattle.cleanup_stack.specs.Place.{blamed}
-use Rattle.cleanup_stack.specs.Undoing.{Undoes, UndoesAt, UndoesAll, owners_of}
+use Rattle.undo_rows.specs.declared.rows.Row.{Row}
+use Rattle.undo_rows.specs.declared.rows.Owner.{Owner}
+use Rattle.undo_rows.specs.declared.rows.Owner.TheVariants.{Package as OfPackage, Files}
+use Rattle.undo_rows.specs.declared.failed.Failed.{Failed}
+use Rattle.undo_rows.specs.Place.{blamed}
+use Rattle.undo_rows.specs.Undoing.{Undoes, UndoesAt, UndoesAll, owners_of}
 use Rattle.policy_page.specs.Answers.{Answer, answer_of, fails, works}
 use Rattle.policy_page.proofs.Rows.{Are, joined, of_none, of_one, one, parted}
 

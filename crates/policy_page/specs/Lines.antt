@@ -2,14 +2,14 @@
 use Rattle.std.specs.Prelude.{◌≡◌, true, List, [], Option, None, map, length}
 use Rattle.host_core.specs.Events.{Ran}
 use Rattle.host_core.specs.Outcome.{is_success}
-use Rattle.unwind_stack.specs.declared.fall.StepFault.{StepFault}
-use Rattle.unwind_stack.specs.declared.rows.Called.{Called}
-use Rattle.unwind_stack.specs.declared.rows.Row.{Row}
-use Rattle.unwind_stack.specs.Transcript.{Tells}
-use Rattle.cleanup_stack.specs.Place.{Place}
-use Rattle.cleanup_stack.specs.Transcripts.{Anyhow, Ended, Committed, Legal, Unwound}
-use Rattle.status_db.specs.declared.record.Record.{Record}
-use Rattle.status_db.specs.Records.{record_in}
+use Rattle.undo_rows.specs.declared.fall.StepFault.{StepFault}
+use Rattle.undo_rows.specs.declared.rows.Called.{Called}
+use Rattle.undo_rows.specs.declared.rows.Row.{Row}
+use Rattle.undo_rows.specs.Transcript.{Tells}
+use Rattle.undo_rows.specs.Place.{Place}
+use Rattle.undo_rows.specs.Transcripts.{Anyhow, Ended, Committed, Legal, Unwound}
+use Rattle.status_records.specs.declared.record.Record.{Record}
+use Rattle.status_records.specs.Records.{record_in}
 use Rattle.unpack_rows.specs.EndStates.{end_of, own_name}
 use Rattle.unpack_rows.specs.ForwardRows.{rows_of}
 use Rattle.unpack_rows.specs.Kinds.{kinds_of}

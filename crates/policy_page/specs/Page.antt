@@ -6,13 +6,13 @@ use Rattle.host_core.specs.declared.call.Side.TheVariants.{Old, New}
 use Rattle.host_core.specs.declared.call.Script.{Script}
 use Rattle.host_core.specs.declared.call.Script.TheVariants as script
 use Rattle.administration.specs.Places.{script_path, tmp_script_path}
-use Rattle.unwind_stack.specs.declared.fall.Fall.{Fall}
-use Rattle.unwind_stack.specs.declared.fall.StepFault.{StepFault}
-use Rattle.unwind_stack.specs.declared.rows.Owner.TheVariants.{Package as OfPackage}
-use Rattle.cleanup_stack.specs.Transcripts.{Committed, Unwound}
-use Rattle.status_db.specs.declared.record.Record.{Record}
-use Rattle.status_db.specs.declared.words.State.{State}
-use Rattle.status_db.specs.declared.words.State.TheVariants as state
+use Rattle.undo_rows.specs.declared.fall.Fall.{Fall}
+use Rattle.undo_rows.specs.declared.fall.StepFault.{StepFault}
+use Rattle.undo_rows.specs.declared.rows.Owner.TheVariants.{Package as OfPackage}
+use Rattle.undo_rows.specs.Transcripts.{Committed, Unwound}
+use Rattle.status_records.specs.declared.record.Record.{Record}
+use Rattle.status_records.specs.declared.words.State.{State}
+use Rattle.status_records.specs.declared.words.State.TheVariants as state
 use Rattle.unpack_rows.specs.Kinds.{own_of, state_of}
 use Rattle.unpack_rows.specs.Notes.{half_configured, half_installed, unpacked}
 use Rattle.unpack_rows.specs.Stages.{Stage, Unwritten, Wrote, Restored}

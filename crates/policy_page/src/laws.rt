@@ -1,16 +1,16 @@
 // The page of an unpack has all that may be called, and nothing else.
 ghost use Rattle.std.specs.Prelude.{◌≡◌, List, Option, true, false};
 ghost use Rattle.host_core.specs.Host.{State};
-ghost use Rattle.unwind_stack.specs.declared.rows.Called.{Called};
-ghost use Rattle.cleanup_stack.specs.Telling.{HasRun};
-ghost use Rattle.cleanup_stack.specs.Transcripts.{Ended};
-ghost use Rattle.status_db.specs.declared.record.Record.{Record as ARecord};
+ghost use Rattle.undo_rows.specs.declared.rows.Called.{Called};
+ghost use Rattle.undo_rows.specs.Telling.{HasRun};
+ghost use Rattle.undo_rows.specs.Transcripts.{Ended};
+ghost use Rattle.status_records.specs.declared.record.Record.{Record as ARecord};
 ghost use Rattle.unpack_rows.specs.Kinds.{has_prerm, is_upgrade, state_of};
 ghost use Rattle.policy_page.specs.Lines.{HasTold, IsPage, rows_alone};
 ghost use Rattle.policy_page.specs.Page.{Install, Unconfigured, Upgrade, install, upgrade, upgrade_unconfigured};
 
-use cleanup_stack::Around;
 use host_core::Host;
+use undo_rows::Around;
 
 /// The upgrade of a package that is installed or half-configured.
 pub fn an_upgrade_is_on_the_page()

@@ -2,14 +2,14 @@
 use Rattle.std.specs.Prelude.{ℕ, Bool, true, false, List, [], ◌∷◌, ◌++◌, Option, codes, option_map, if◌then◌else◌}
 use Rattle.std.specs.List.{flat_map}
 use Rattle.shown_lines.specs.Lines.{line}
-use Rattle.status_db.specs.Paragraphs.{record_text}
-use Rattle.status_db.specs.Records.{place_record, record_in}
-use Rattle.status_db.specs.Words.{flag_word, state_word}
-use Rattle.status_db.specs.declared.record.Record.{Record}
-use Rattle.status_db.specs.declared.words.Flag.{Flag}
-use Rattle.status_db.specs.declared.words.Flag.TheVariants.{Ok, Reinstreq}
-use Rattle.status_db.specs.declared.words.State.{State}
-use Rattle.status_db.specs.declared.words.State.TheVariants.{NotInstalled, ConfigFiles, HalfInstalled, Unpacked, HalfConfigured, Installed}
+use Rattle.status_records.specs.Paragraphs.{record_text}
+use Rattle.status_records.specs.Records.{place_record, record_in}
+use Rattle.status_records.specs.Words.{flag_word, state_word}
+use Rattle.status_records.specs.declared.record.Record.{Record}
+use Rattle.status_records.specs.declared.words.Flag.{Flag}
+use Rattle.status_records.specs.declared.words.Flag.TheVariants.{Ok, Reinstreq}
+use Rattle.status_records.specs.declared.words.State.{State}
+use Rattle.status_records.specs.declared.words.State.TheVariants.{NotInstalled, ConfigFiles, HalfInstalled, Unpacked, HalfConfigured, Installed}
 
 -- records in the order of their names' bytes
 abbrev pub by_name : List Record → List Record

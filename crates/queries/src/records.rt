@@ -3,12 +3,13 @@ ghost use Rattle.std.specs.Prelude.{◌≡◌, ◌≤◌, ◌++◌, IfOk, OnOk, 
 ghost use Rattle.std.specs.Cmp.Lexicographic.{slice_cmp};
 ghost use Rattle.std.specs.List.{flat_map, insert};
 ghost use Rattle.std.specs.Ordering.{is_lt, nat_cmp};
-ghost use Rattle.status_db.specs.Records.{place_record};
-ghost use Rattle.status_db.specs.declared.record.Record.{Record as ARecord};
+ghost use Rattle.status_records.specs.Records.{place_record};
+ghost use Rattle.status_records.specs.declared.record.Record.{Record as ARecord};
 ghost use Rattle.queries.specs.Records.{audit_line, audit_lines, audit_text, by_name, is_final, is_settled, list_line, list_text, reinstreq_mark, status_text};
 
 use shown_lines::line;
-use status_db::{Flag, NotedDatabase, Record, State, record_text};
+use status_db::NotedDatabase;
+use status_records::{Flag, Record, State, record_text};
 use std::alloc::{AllocError, Global};
 use std::cmp::Ordering;
 use texts::{Bytes, Text};

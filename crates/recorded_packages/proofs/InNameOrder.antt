@@ -7,7 +7,7 @@ use Rattle.std.specs.declared.cmp.Ordering.TheVariants.{Less}
 use Rattle.relation_index.specs.Packages.{AreInNameOrder}
 use Rattle.relation_index.specs.declared.package.Package.{Package}
 use Rattle.status_db.specs.Order.{AreInOrder}
-use Rattle.status_db.specs.declared.record.Record.{Record}
+use Rattle.status_records.specs.declared.record.Record.{Record}
 use Rattle.recorded_packages.specs.Packages.{IsPackageOf, ArePackagesOf}
 
 before : (r s : Record) (p q : Package) → IsPackageOf r p → IsPackageOf s q → slice_cmp nat_cmp r.name s.name ≡ Less → slice_cmp nat_cmp p.name q.name ≡ Less

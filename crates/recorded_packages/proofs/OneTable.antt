@@ -2,7 +2,7 @@
 use Rattle.std.proofs.Common.{List, [], ◌∷◌}
 use Rattle.std.proofs.Props.{props}
 use Rattle.relation_index.specs.declared.package.Package.{Package}
-use Rattle.status_db.specs.declared.record.Record.{Record}
+use Rattle.status_records.specs.declared.record.Record.{Record}
 use Rattle.recorded_packages.specs.Packages.{IsPackageOf, ArePackagesOf}
 
 package_once : (r : Record) (p : Package) → IsProp (IsPackageOf r p)

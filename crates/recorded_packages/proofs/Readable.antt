@@ -7,8 +7,8 @@ use Rattle.control_fields.specs.declared.field.Field.{Field}
 use Rattle.relation_fields.specs.RelationFields.{relation_key, IsRelation}
 use Rattle.relation_fields.specs.declared.relation_field.RelationField.{RelationField}
 use Rattle.relation_fields.specs.declared.relation_field.RelationField.TheVariants.{Depends, PreDepends, Breaks, Conflicts, Provides, Replaces}
-use Rattle.status_db.specs.Values.{kind_of, IsReadable, IsReadableAs}
-use Rattle.status_db.specs.declared.record.Record.{Record}
+use Rattle.status_records.specs.Values.{kind_of, IsReadable, IsReadableAs}
+use Rattle.status_records.specs.declared.record.Record.{Record}
 
 among : (P : Field → Type 0) (front rest : List Field) (f : Field) → AllByRecursion P (front ++ f ∷ rest) → P f
 among P [] rest f all = all.0

@@ -10,10 +10,10 @@ use Rattle.std.proofs.lemmas.Slice.Eq.{bytes_eq-Decides}
 use Rattle.relation_index.specs.Packages.{drop_package, place_package, put_package}
 use Rattle.relation_index.specs.declared.package.Package.{Package}
 use Rattle.status_db.specs.Order.{AreInOrder}
-use Rattle.status_db.specs.Records.{record_in, drop_record, place_record, put_record}
-use Rattle.status_db.specs.declared.record.Record.{Record}
+use Rattle.status_records.specs.Records.{record_in, drop_record, place_record, put_record}
+use Rattle.status_records.specs.declared.record.Record.{Record}
 use Rattle.status_db.proofs.Ordered.{dropped_order, put_order, one_table}
-use Rattle.status_db.proofs.Tables.{record_in-drop_record, record_in-put_record}
+use Rattle.status_records.proofs.Tables.{record_in-drop_record, record_in-put_record}
 use Rattle.recorded_packages.specs.Packages.{IsPackageOf, ArePackagesOf}
 use Rattle.recorded_packages.specs.Renewal.{AreSameBut, AreUpToDate, IsRenewedBy, IsRenewed}
 

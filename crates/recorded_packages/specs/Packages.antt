@@ -5,12 +5,12 @@ use Rattle.relation_index.specs.declared.package.Package.{Package}
 use Rattle.relation_index.specs.declared.package.PackageState.{PackageState}
 use Rattle.relation_index.specs.declared.package.PackageState.TheVariants as of
 use Rattle.stated_relations.specs.Relations.{StatesClauses, StatesProvides, is_essential}
-use Rattle.status_db.specs.Configured.{last_configured}
-use Rattle.status_db.specs.declared.record.Record.{Record}
-use Rattle.status_db.specs.declared.words.Flag.{Flag}
-use Rattle.status_db.specs.declared.words.Flag.TheVariants as flag
-use Rattle.status_db.specs.declared.words.State.{State}
-use Rattle.status_db.specs.declared.words.State.TheVariants.{NotInstalled, ConfigFiles, HalfInstalled, Unpacked, HalfConfigured, Installed}
+use Rattle.status_records.specs.Configured.{last_configured}
+use Rattle.status_records.specs.declared.record.Record.{Record}
+use Rattle.status_records.specs.declared.words.Flag.{Flag}
+use Rattle.status_records.specs.declared.words.Flag.TheVariants as flag
+use Rattle.status_records.specs.declared.words.State.{State}
+use Rattle.status_records.specs.declared.words.State.TheVariants.{NotInstalled, ConfigFiles, HalfInstalled, Unpacked, HalfConfigured, Installed}
 
 abbrev pub package_state : State → PackageState
 package_state NotInstalled = of.NotInstalled

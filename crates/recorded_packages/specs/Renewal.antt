@@ -5,8 +5,8 @@ use Rattle.std.specs.Str.{bytes_eq}
 use Rattle.relation_index.specs.Packages.{drop_package, put_package}
 use Rattle.relation_index.specs.declared.package.Package.{Package}
 use Rattle.status_db.specs.Order.{AreInOrder}
-use Rattle.status_db.specs.Records.{record_in}
-use Rattle.status_db.specs.declared.record.Record.{Record}
+use Rattle.status_records.specs.Records.{record_in}
+use Rattle.status_records.specs.declared.record.Record.{Record}
 use Rattle.recorded_packages.specs.Packages.{IsPackageOf, ArePackagesOf}
 
 -- the records of all other names are the same

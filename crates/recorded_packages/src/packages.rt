@@ -1,13 +1,13 @@
 // The packages of the records, as relations see them.
 ghost use Rattle.std.specs.Prelude.{◌≡◌, IfOk};
 ghost use Rattle.recorded_packages.specs.Packages.{package_state, is_reinstreq, IsPackageOf, ArePackagesOf};
-ghost use Rattle.status_db.specs.Configured.{last_configured};
+ghost use Rattle.status_records.specs.Configured.{last_configured};
 ghost use Rattle.status_db.specs.Order.{AreInOrder};
 
 use relation_fields::{Form, RelationField};
 use relation_index::{Package, PackageState, Packages};
 use stated_relations::{is_essential, provides_of, relations_of};
-use status_db::{Flag, Record, State};
+use status_records::{Flag, Record, State};
 use std::alloc::{AllocError, Global};
 use version_order::Version;
 

@@ -1,7 +1,7 @@
 // Packages brought up to date where records changed.
 ghost use Rattle.std.specs.Prelude.{◌≡◌, List, [], ◌∷◌, OnOk, OnErr};
 ghost use Rattle.status_db.specs.Order.{AreInOrder};
-ghost use Rattle.status_db.specs.declared.record.Record.{Record as ARecord};
+ghost use Rattle.status_records.specs.declared.record.Record.{Record as ARecord};
 ghost use Rattle.recorded_packages.specs.Packages.{ArePackagesOf};
 ghost use Rattle.recorded_packages.specs.Renewal.{AreSameBut, AreUpToDate, IsRenewed};
 

@@ -6,14 +6,14 @@ use Rattle.host_core.specs.World.{World}
 use Rattle.file_lists.specs.Owners.{paths_of}
 use Rattle.file_lists.specs.Writing.{with_list}
 use Rattle.file_lists.specs.declared.paths.PackageList.{PackageList}
-use Rattle.status_db.specs.Records.{drop_record, put_record}
-use Rattle.status_db.specs.declared.record.Record.{Record}
-use Rattle.unpack_moves.specs.Closing.{SparesAdministration}
-use Rattle.unpack_moves.specs.Concluding.{AreElsewhere}
-use Rattle.unit_parts.specs.Fitting.{AreFit, AreSettleable, HaveNoSettle, IsFit, IsListing, IsNotable, is_settling}
-use Rattle.unit_parts.specs.Parts.{part_lists, part_records, parts_lists, parts_records}
-use Rattle.unit_parts.specs.declared.part.Part.{Part}
-use Rattle.unit_parts.specs.declared.part.Part.TheVariants.{Note, Forget, Settle, Remove, RemoveDirectories, Clear, List as Listing, DropList, DropMembers}
+use Rattle.status_records.specs.Records.{drop_record, put_record}
+use Rattle.status_records.specs.declared.record.Record.{Record}
+use Rattle.listed_files.specs.Closing.{SparesAdministration}
+use Rattle.listed_files.specs.Concluding.{AreElsewhere}
+use Rattle.unit_stages.specs.PartFitting.{AreFit, AreSettleable, HaveNoSettle, IsFit, IsListing, IsNotable, is_settling}
+use Rattle.unit_stages.specs.Parts.{part_lists, part_records, parts_lists, parts_records}
+use Rattle.unit_stages.specs.declared.part.Part.{Part}
+use Rattle.unit_stages.specs.declared.part.Part.TheVariants.{Note, Forget, Settle, Remove, RemoveDirectories, Clear, List as Listing, DropList, DropMembers}
 use Rattle.unit_stages.specs.Fitting.{AreStagesFit, AreStagesSettleable, SettlesNothing}
 use Rattle.unit_stages.specs.declared.stage.Stage.{Stage}
 use Rattle.removal_engine.specs.Stages.{Deed, Planned, deed, planned}

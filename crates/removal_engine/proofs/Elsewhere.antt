@@ -14,10 +14,10 @@ use Rattle.file_lists.specs.declared.paths.PackageList.{PackageList}
 use Rattle.file_removal.specs.Clearing.{is_among}
 use Rattle.list_changes.specs.Clearable.{clearable}
 use Rattle.list_changes.proofs.Outside.{clearable_elsewhere}
-use Rattle.status_db.specs.declared.entries.ConffileEntry.{ConffileEntry}
-use Rattle.status_db.specs.declared.entries.PendingDigest.{PendingDigest}
-use Rattle.status_db.specs.declared.record.Record.{Record}
-use Rattle.unpack_moves.specs.Concluding.{AreElsewhere}
+use Rattle.status_records.specs.declared.entries.ConffileEntry.{ConffileEntry}
+use Rattle.status_records.specs.declared.entries.PendingDigest.{PendingDigest}
+use Rattle.status_records.specs.declared.record.Record.{Record}
+use Rattle.listed_files.specs.Concluding.{AreElsewhere}
 use Rattle.file_lists.specs.Owners.{paths_of, has_other_owner}
 use Rattle.removal_engine.specs.Records.{entry_paths}
 use Rattle.removal_engine.specs.Names.{cleared_names, ownerless, purged_names, side_names, side_names_at, stopped_names, unpack_names, waiting_names}

@@ -3,9 +3,9 @@ use Rattle.std.proofs.Common.{◌≡◌, ℕ, ◌<◌, Bool, true, false, cond, 
 use Rattle.std.specs.Prelude.{filter, is_some}
 use Rattle.std.specs.List.{AllByRecursion}
 use Rattle.host_core.specs.Paths.{Path}
-use Rattle.status_db.specs.ConffilePaths.{is_before, AreInOrder}
-use Rattle.status_db.specs.declared.entries.ConffileEntry.{ConffileEntry}
-use Rattle.status_db.proofs.Placing.{behind_all}
+use Rattle.status_records.specs.ConffilePaths.{is_before, AreInOrder}
+use Rattle.status_records.specs.declared.entries.ConffileEntry.{ConffileEntry}
+use Rattle.status_records.proofs.Placing.{behind_all}
 use Rattle.removal_engine.specs.Records.{kept_entries, kept_entry}
 
 all_kept : (P : Path → Type 0) (es : List ConffileEntry) → AllByRecursion (λ (e : ConffileEntry). P e.path) es → AllByRecursion (λ (e : ConffileEntry). P e.path) (kept_entries es)

@@ -12,7 +12,7 @@ use Rattle.file_lists.specs.Owners.{has_other_owner}
 use Rattle.file_lists.specs.declared.paths.PackageList.{PackageList}
 use Rattle.file_removal.specs.declared.leaving.Leaving.{Leaving}
 use Rattle.list_changes.specs.Leaving.{is_place_of, leaving_at, leaving_of}
-use Rattle.unpack_moves.specs.Closing.{SparesAdministration}
+use Rattle.listed_files.specs.Closing.{SparesAdministration}
 
 none_in : {X : Type 0} (x : X) → Contains [] x → ⊥
 none_in x has = omega (arith, has.1)

@@ -10,9 +10,9 @@ use Rattle.file_lists.specs.Owners.{paths_of}
 use Rattle.file_lists.specs.Writing.{with_list}
 use Rattle.file_lists.specs.declared.paths.PackageList.{PackageList}
 use Rattle.file_lists.proofs.TakingAll.{paths_with}
-use Rattle.status_db.specs.Records.{drop_record, put_record, record_in}
-use Rattle.status_db.specs.declared.record.Record.{Record}
-use Rattle.status_db.proofs.Tables.{record_in-drop_record, record_in-put_record}
+use Rattle.status_records.specs.Records.{drop_record, put_record, record_in}
+use Rattle.status_records.specs.declared.record.Record.{Record}
+use Rattle.status_records.proofs.Tables.{record_in-drop_record, record_in-put_record}
 
 pub named : (r : Record) → is_package_name r.name ≡ true
 named r = ∥∥₁_elim r.writable (hlevel props) (λ known. known.named)

@@ -1,7 +1,7 @@
 -- The record of a package behind a removal or a purge (Policy 6.8).
 use Rattle.std.specs.Prelude.{◌≡◌, ◌⊎◌, List, [], ◌∷◌, Option, Some, None}
 use Rattle.host_core.specs.declared.call.Call.{Call}
-use Rattle.status_db.specs.declared.record.Record.{Record}
+use Rattle.status_records.specs.declared.record.Record.{Record}
 use Rattle.removal_engine.specs.Stages.{Deed, Planned}
 
 -- the package's record after a deed

@@ -1,7 +1,7 @@
 -- How much of a package a removal takes away, and in which states it finds it (Policy 6.6, 6.8).
 use Rattle.std.specs.Prelude.{◌≡◌, ◌≢◌, ◌⊎◌, ⊤, Bool, true, false}
-use Rattle.status_db.specs.declared.words.State.{State}
-use Rattle.status_db.specs.declared.words.State.TheVariants.{ConfigFiles, HalfInstalled, Unpacked, HalfConfigured}
+use Rattle.status_records.specs.declared.words.State.{State}
+use Rattle.status_records.specs.declared.words.State.TheVariants.{ConfigFiles, HalfInstalled, Unpacked, HalfConfigured}
 use Rattle.removal_engine.specs.declared.extent.Extent.{Extent}
 use Rattle.removal_engine.specs.declared.extent.Extent.TheVariants.{Remove, Purge, InFavour}
 

@@ -7,7 +7,7 @@ use Rattle.file_lists.specs.declared.paths.PackageList.{PackageList}
 use Rattle.file_removal.specs.declared.leaving.Leaving.{Leaving}
 use Rattle.list_changes.specs.Leaving.{leaving_of}
 use Rattle.list_changes.specs.NewList.{IsWithParents}
-use Rattle.status_db.specs.declared.record.Record.{Record}
+use Rattle.status_records.specs.declared.record.Record.{Record}
 use Rattle.removal_engine.specs.Records.{entry_paths, goes_at_once, kept_entries}
 use Rattle.removal_engine.specs.declared.scripts.Stored.{Stored}
 

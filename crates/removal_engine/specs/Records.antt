@@ -2,12 +2,12 @@
 use Rattle.std.specs.Prelude.{◌||◌, ◌&&◌, Bool, false, not, List, [], is_some, map, filter}
 use Rattle.std.specs.List.{list_any}
 use Rattle.host_core.specs.Paths.{Path}
-use Rattle.status_db.specs.Standings.{standing_as, wanting, removed, with_conffiles}
-use Rattle.status_db.specs.declared.entries.ConffileEntry.{ConffileEntry}
-use Rattle.status_db.specs.declared.record.Record.{Record}
-use Rattle.status_db.specs.declared.words.Want.TheVariants as want
-use Rattle.status_db.specs.declared.words.Flag.TheVariants as flag
-use Rattle.status_db.specs.declared.words.State.TheVariants as state
+use Rattle.status_records.specs.Standings.{standing_as, wanting, removed, with_conffiles}
+use Rattle.status_records.specs.declared.entries.ConffileEntry.{ConffileEntry}
+use Rattle.status_records.specs.declared.record.Record.{Record}
+use Rattle.status_records.specs.declared.words.Want.TheVariants as want
+use Rattle.status_records.specs.declared.words.Flag.TheVariants as flag
+use Rattle.status_records.specs.declared.words.State.TheVariants as state
 use Rattle.removal_engine.specs.declared.scripts.Stored.{Stored}
 
 -- while its prerm runs

@@ -6,8 +6,8 @@ use Rattle.host_core.specs.declared.call.Side.TheVariants.{Old}
 use Rattle.host_core.specs.declared.call.Script.{Script}
 use Rattle.host_core.specs.declared.call.Script.TheVariants as script
 use Rattle.administration.specs.Places.{script_path}
-use Rattle.unwind_stack.specs.declared.rows.Row.{Row}
-use Rattle.unwind_stack.specs.declared.rows.Owner.TheVariants.{Package as OfPackage}
+use Rattle.undo_rows.specs.declared.rows.Row.{Row}
+use Rattle.undo_rows.specs.declared.rows.Owner.TheVariants.{Package as OfPackage}
 use Rattle.removal_engine.specs.declared.scripts.Stored.{Stored}
 
 -- which of them are stored with a package in this world

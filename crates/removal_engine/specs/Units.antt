@@ -9,19 +9,19 @@ use Rattle.host_core.specs.Host.{State, Silent}
 use Rattle.host_core.specs.declared.call.Call.{Call}
 use Rattle.host_core.specs.declared.call.Script.{Script}
 use Rattle.host_core.specs.declared.call.Script.TheVariants as script
-use Rattle.cleanup_stack.specs.Telling.{Begun}
+use Rattle.undo_rows.specs.Telling.{Begun}
 use Rattle.diversions.specs.declared.entry.Diversion.{Diversion}
 use Rattle.file_lists.specs.declared.paths.PackageList.{PackageList}
-use Rattle.status_db.specs.Records.{record_in}
-use Rattle.status_db.specs.declared.record.Record.{Record}
-use Rattle.status_db.specs.declared.words.State.TheVariants as state
+use Rattle.status_records.specs.Records.{record_in}
+use Rattle.status_records.specs.declared.record.Record.{Record}
+use Rattle.status_records.specs.declared.words.State.TheVariants as state
 use Rattle.unit_stages.specs.Calls.{MayRunStages}
 use Rattle.unit_stages.specs.Fitting.{AreStagesFit}
 use Rattle.unit_stages.specs.Holding.{Holding}
 use Rattle.unit_stages.specs.Running.{AreRunning}
 use Rattle.unit_stages.specs.Runs.{HaveRun}
 use Rattle.unit_stages.specs.declared.stage.Stage.{Stage}
-use Rattle.unwind_stack.specs.declared.rows.Called.{Called}
+use Rattle.undo_rows.specs.declared.rows.Called.{Called}
 use Rattle.removal_engine.specs.Extents.{BeginsFrom}
 use Rattle.removal_engine.specs.Lists.{IsToCome}
 use Rattle.removal_engine.specs.Records.{config_files, half_configured, purged, without_files}

@@ -2,7 +2,7 @@
 ghost use Rattle.std.specs.Prelude.{◌≡◌, IfOk};
 ghost use Rattle.std.specs.List.{AllByRecursion};
 ghost use Rattle.file_lists.specs.Owners.{IsListable};
-ghost use Rattle.unpack_moves.specs.Closing.{SparesAdministration};
+ghost use Rattle.listed_files.specs.Closing.{SparesAdministration};
 ghost use Rattle.removal_engine.specs.Lists.{IsToCome, housed, leaving_directories, leaving_files};
 
 use crate::paths::{conffile_paths, listed_paths};
@@ -13,7 +13,7 @@ use file_lists::{FileLists, Paths};
 use file_removal::Leaving;
 use host_core::RootPath;
 use list_changes::{leaving_of, list_with_parents};
-use status_db::Record;
+use status_records::Record;
 use std::alloc::{AllocError, Global};
 
 // The conffiles above which directories stay listed: postrm may take away what is left in them.

@@ -6,7 +6,7 @@ ghost use Rattle.std.specs.Str.{bytes_eq};
 ghost use Rattle.host_core.specs.Paths.{Path};
 ghost use Rattle.diversions.specs.Places.{place};
 ghost use Rattle.list_changes.specs.Clearable.{clearable};
-ghost use Rattle.unpack_moves.specs.Concluding.{AreElsewhere};
+ghost use Rattle.listed_files.specs.Concluding.{AreElsewhere};
 ghost use Rattle.removal_engine.specs.Names.{cleared_names, stopped_names, unpack_names, waiting_names};
 
 use crate::paths::conffile_paths;
@@ -14,7 +14,7 @@ use diversions::Diversions;
 use file_lists::FileLists;
 use host_core::{RootPath, ShipPath, Suffix};
 use list_changes::clearable_name;
-use status_db::{PendingDigest, Record};
+use status_records::{PendingDigest, Record};
 use std::alloc::{AllocError, Global};
 use std::collections::BTreeSet;
 use texts::Text;

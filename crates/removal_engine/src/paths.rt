@@ -5,7 +5,7 @@ ghost use Rattle.file_lists.specs.Owners.{IsListable};
 ghost use Rattle.removal_engine.specs.Records.{entry_paths};
 
 use host_core::{RootPath, ShipPath};
-use status_db::ConffileEntry;
+use status_records::ConffileEntry;
 use std::alloc::{AllocError, Global};
 
 /// The paths of entries, as a list has them.

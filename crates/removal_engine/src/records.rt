@@ -3,7 +3,7 @@ ghost use Rattle.std.specs.Prelude.{◌≡◌, IfOk};
 ghost use Rattle.removal_engine.specs.Records.{config_files, goes_at_once, half_configured, has_settled, kept_entries, kept_entry, losing_files, purged, without_files};
 
 use crate::scripts::Stored;
-use status_db::{ConffileEntries, ConffileEntry, Flag, PendingDigests, Record, State, Want};
+use status_records::{ConffileEntries, ConffileEntry, Flag, PendingDigests, Record, State, Want};
 use std::alloc::{AllocError, Global};
 
 /// While its prerm runs.

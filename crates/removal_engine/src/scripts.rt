@@ -9,7 +9,7 @@ use administration::script_path;
 use host_core::{Call, Host, HostFault, Script, Side};
 use std::alloc::{AllocError, Global};
 use texts::{Text, Texts};
-use unwind_stack::{Owner, Row};
+use undo_rows::{Owner, Row};
 
 /// Which of the scripts that a removal calls are stored with a package.
 #[derive(Clone, Copy)]

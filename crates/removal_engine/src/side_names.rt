@@ -3,14 +3,14 @@ ghost use Rattle.std.specs.Prelude.{◌≡◌, ◌≢◌, ◌<◌, ◌++◌, ◌
 ghost use Rattle.diversions.specs.Places.{place};
 ghost use Rattle.host_core.specs.Paths.{reserved_suffixes};
 ghost use Rattle.host_core.specs.Suffixes.{suffix_text};
-ghost use Rattle.unpack_moves.specs.Concluding.{AreElsewhere};
+ghost use Rattle.listed_files.specs.Concluding.{AreElsewhere};
 ghost use Rattle.removal_engine.specs.Names.{ownerless, purged_names, side_names_at, signed};
 
 use diversions::Diversions;
 use file_lists::FileLists;
 use host_core::{RootPath, ShipPath, Suffix};
 use list_changes::{clearable_name, joined};
-use status_db::Record;
+use status_records::Record;
 use std::alloc::{AllocError, Global};
 use texts::Text;
 

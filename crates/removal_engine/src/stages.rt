@@ -17,11 +17,10 @@ use crate::side_names::purged_names;
 use diversions::Diversions;
 use file_lists::{FileLists, Paths};
 use host_core::RootPath;
-use status_db::{Record, State};
+use status_records::{Record, State};
 use std::alloc::{AllocError, Global};
-use unit_parts::Part;
-use unit_stages::Stage;
-use unwind_stack::Row;
+use undo_rows::Row;
+use unit_stages::{Part, Stage};
 
 // A stage behind which nothing is restored.
 fn stage_of(alloc: Global, parts: Vec<Part>, row: Row) -> Stage

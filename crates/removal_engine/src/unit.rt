@@ -3,7 +3,7 @@ ghost use Rattle.std.specs.Prelude.{◌≡◌, true, IfOk, OnOk};
 ghost use Rattle.texts.specs.PackageNames.{is_package_name};
 ghost use Rattle.host_core.specs.Host.{AtEachMomentOf, Counts, Needs, Reads, Silent};
 ghost use Rattle.held_administration.specs.Open.{IsOpen};
-ghost use Rattle.unit_parts.specs.Order.{IsInOrder};
+ghost use Rattle.unit_stages.specs.Order.{IsInOrder};
 ghost use Rattle.unit_stages.specs.Holding.{holding_of};
 ghost use Rattle.removal_engine.specs.Units.{HasCalled, HasEnded, HasRemoved, IsAmidUnit, IsPlanFor, IsRemovable, given};
 
@@ -15,11 +15,11 @@ use diversions::Diversions;
 use file_lists::FileLists;
 use held_administration::Administration;
 use host_core::{Call, Host, HostFault};
-use status_db::Record;
+use status_records::Record;
 use std::alloc::Global;
 use texts::Text;
+use undo_rows::Called;
 use unit_stages::{Stage, run_stages};
-use unwind_stack::Called;
 
 // Plans: nothing but looking.
 fn plan<H: Host>(

@@ -3,8 +3,8 @@ use Rattle.std.proofs.Common.{◌≡◌, inl, inr, ℕ, List, [], ◌∷◌, ◌
 use Rattle.std.proofs.lemmas.List.{append-nil}
 use Rattle.host_core.specs.Events.{Ran}
 use Rattle.host_core.specs.declared.call.Call.{Call}
-use Rattle.unwind_stack.specs.Transcript.{Tries, UndoesRow}
-use Rattle.status_db.specs.declared.record.Record.{Record}
+use Rattle.undo_rows.specs.Transcript.{Tries, UndoesRow}
+use Rattle.status_records.specs.declared.record.Record.{Record}
 use Rattle.unit_stages.specs.Calls.{AreCallsOf, Fails}
 use Rattle.unit_stages.specs.declared.stage.Stage.{Stage}
 use Rattle.policy_page.specs.Answers.{answer_of, fails, works}

@@ -2,13 +2,13 @@
 use Rattle.std.proofs.Common.{◌≡◌, inl, inr, ℕ, true, List, [], ◌∷◌, ◌++◌, Some, None, refl, sym, ap, subst, ◌∙◌}
 use Rattle.host_core.specs.Paths.{Path}
 use Rattle.conffiles.specs.declared.entries.Settled.{Settled}
-use Rattle.status_db.specs.Records.{record_in}
-use Rattle.status_db.specs.Standings.{configured}
-use Rattle.status_db.specs.declared.record.Record.{Record}
+use Rattle.status_records.specs.Records.{record_in}
+use Rattle.status_records.specs.Standings.{configured}
+use Rattle.status_records.specs.declared.record.Record.{Record}
 use Rattle.diversions.specs.declared.entry.Diversion.{Diversion}
-use Rattle.unit_parts.specs.Parts.{part_records, parts_records}
-use Rattle.unit_parts.specs.declared.part.Part.{Part}
-use Rattle.unit_parts.specs.declared.part.Part.TheVariants.{Note}
+use Rattle.unit_stages.specs.Parts.{part_records, parts_records}
+use Rattle.unit_stages.specs.declared.part.Part.{Part}
+use Rattle.unit_stages.specs.declared.part.Part.TheVariants.{Note}
 use Rattle.unit_stages.specs.declared.stage.Stage.{Stage}
 use Rattle.configure_engine.specs.Decided.{decided_paths}
 use Rattle.configure_engine.specs.Settled.{settled}

@@ -1,11 +1,11 @@
 -- Where nothing is to be settled the record is as before.
 use Rattle.std.proofs.Common.{◌≡◌, Bool, true, false, not, cond, ◌&&◌, List, [], ◌∷◌, map, filter, refl, sym, ap, ◌∙◌}
 use Rattle.host_core.specs.Paths.{Path}
-use Rattle.status_db.specs.declared.entries.ConffileEntry.{ConffileEntry}
-use Rattle.status_db.specs.declared.entries.PendingDigest.{PendingDigest}
-use Rattle.status_db.specs.declared.record.Record.{Record}
-use Rattle.status_db.specs.ConffilePaths.{is_before, placed_by, all_placed_by}
-use Rattle.status_db.specs.Standings.{with_conffiles}
+use Rattle.status_records.specs.declared.entries.ConffileEntry.{ConffileEntry}
+use Rattle.status_records.specs.declared.entries.PendingDigest.{PendingDigest}
+use Rattle.status_records.specs.declared.record.Record.{Record}
+use Rattle.status_records.specs.ConffilePaths.{is_before, placed_by, all_placed_by}
+use Rattle.status_records.specs.Standings.{with_conffiles}
 use Rattle.configure_engine.specs.Settled.{settled, settled_entries, settled_entry, stays}
 use Rattle.configure_engine.specs.Waiting.{goes, going_paths, pending_paths, settling_paths}
 

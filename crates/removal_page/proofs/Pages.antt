@@ -3,9 +3,9 @@ use Rattle.std.proofs.Common.{◌≡◌, ◌⊎◌, inl, inr, ℕ, Bool, true, f
 use Rattle.host_core.specs.Events.{Ran}
 use Rattle.host_core.specs.Outcome.{is_success}
 use Rattle.host_core.specs.declared.call.Call.{Call}
-use Rattle.unwind_stack.specs.declared.rows.Called.{Called}
-use Rattle.status_db.specs.Records.{record_in}
-use Rattle.status_db.specs.declared.record.Record.{Record}
+use Rattle.undo_rows.specs.declared.rows.Called.{Called}
+use Rattle.status_records.specs.Records.{record_in}
+use Rattle.status_records.specs.declared.record.Record.{Record}
 use Rattle.diversions.specs.declared.entry.Diversion.{Diversion}
 use Rattle.unit_stages.specs.Calls.{AreCallsOf}
 use Rattle.unit_stages.specs.declared.stage.Stage.{Stage}

@@ -1,11 +1,11 @@
 -- Stages that are planned are steps.
 use Rattle.std.proofs.Common.{◌≡◌, ℕ, List, [], ◌∷◌, Option, Some, None, map, refl, sym, ap, subst, ◌∙◌}
 use Rattle.host_core.specs.declared.call.Call.{Call}
-use Rattle.status_db.specs.declared.record.Record.{Record}
-use Rattle.status_db.specs.Records.{record_in}
-use Rattle.unit_parts.specs.Parts.{part_records, parts_records}
-use Rattle.unit_parts.specs.declared.part.Part.{Part}
-use Rattle.unit_parts.specs.declared.part.Part.TheVariants.{Note, Forget, Settle, Remove, RemoveDirectories, Clear, List as Listing, DropList, DropMembers}
+use Rattle.status_records.specs.declared.record.Record.{Record}
+use Rattle.status_records.specs.Records.{record_in}
+use Rattle.unit_stages.specs.Parts.{part_records, parts_records}
+use Rattle.unit_stages.specs.declared.part.Part.{Part}
+use Rattle.unit_stages.specs.declared.part.Part.TheVariants.{Note, Forget, Settle, Remove, RemoveDirectories, Clear, List as Listing, DropList, DropMembers}
 use Rattle.unit_stages.specs.declared.stage.Stage.{Stage}
 use Rattle.removal_engine.specs.Ends.{left_by, left_by_all}
 use Rattle.removal_engine.specs.Stages.{Deed, Planned, deed, planned}

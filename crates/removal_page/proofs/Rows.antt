@@ -2,9 +2,9 @@
 use Rattle.std.proofs.Common.{◌≡◌, ◌≢◌, ◌⊎◌, inl, inr, true, false, List, [], ◌∷◌, Some, None, refl, sym, ap, subst, ◌∙◌, arith}
 use Rattle.host_core.specs.Events.{Ran}
 use Rattle.host_core.specs.declared.call.Call.{Call}
-use Rattle.unwind_stack.specs.declared.rows.Row.{Row}
-use Rattle.unwind_stack.specs.declared.rows.Owner.{Owner}
-use Rattle.unwind_stack.specs.Transcript.{Tries, UndoesRow}
+use Rattle.undo_rows.specs.declared.rows.Row.{Row}
+use Rattle.undo_rows.specs.declared.rows.Owner.{Owner}
+use Rattle.undo_rows.specs.Transcript.{Tries, UndoesRow}
 use Rattle.std.specs.Prelude.{Contains}
 use Rattle.policy_page.specs.Answers.{fails, works}
 use Rattle.policy_page.proofs.Rows.{Are, of_one, one}

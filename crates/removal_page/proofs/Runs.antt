@@ -4,14 +4,14 @@ use Rattle.std.proofs.lemmas.List.{append-nil, map-append}
 use Rattle.host_core.specs.Events.{Ran}
 use Rattle.host_core.specs.Host.{State}
 use Rattle.host_core.specs.declared.call.Call.{Call}
-use Rattle.unwind_stack.specs.declared.rows.Called.{Called}
-use Rattle.unwind_stack.specs.declared.rows.Owner.{Owner}
-use Rattle.unwind_stack.specs.Transcript.{Tells, told_of}
-use Rattle.status_db.specs.declared.record.Record.{Record}
-use Rattle.status_db.specs.Records.{record_in}
+use Rattle.undo_rows.specs.declared.rows.Called.{Called}
+use Rattle.undo_rows.specs.declared.rows.Owner.{Owner}
+use Rattle.undo_rows.specs.Transcript.{Tells, told_of}
+use Rattle.status_records.specs.declared.record.Record.{Record}
+use Rattle.status_records.specs.Records.{record_in}
 use Rattle.diversions.specs.declared.entry.Diversion.{Diversion}
-use Rattle.unit_parts.specs.Parts.{parts_records}
-use Rattle.unit_parts.specs.declared.part.Part.{Part}
+use Rattle.unit_stages.specs.Parts.{parts_records}
+use Rattle.unit_stages.specs.declared.part.Part.{Part}
 use Rattle.unit_stages.specs.Holding.{Holding, after_parts}
 use Rattle.unit_stages.specs.Runs.{HasFailed, HasRestored, HaveRun}
 use Rattle.unit_stages.specs.declared.stage.Stage.{Stage}

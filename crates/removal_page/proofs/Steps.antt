@@ -2,10 +2,10 @@
 use Rattle.std.proofs.Common.{◌≡◌, ◌⊎◌, inl, inr, ℕ, List, [], ◌∷◌, Option, Some, None}
 use Rattle.host_core.specs.Events.{Ran}
 use Rattle.host_core.specs.declared.call.Call.{Call}
-use Rattle.unwind_stack.specs.declared.rows.Called.{Called}
-use Rattle.status_db.specs.declared.record.Record.{Record}
-use Rattle.status_db.specs.Records.{record_in}
-use Rattle.unit_parts.specs.Parts.{parts_records}
+use Rattle.undo_rows.specs.declared.rows.Called.{Called}
+use Rattle.status_records.specs.declared.record.Record.{Record}
+use Rattle.status_records.specs.Records.{record_in}
+use Rattle.unit_stages.specs.Parts.{parts_records}
 use Rattle.unit_stages.specs.declared.stage.Stage.{Stage}
 use Rattle.policy_page.specs.Answers.{fails, works}
 use Rattle.removal_page.specs.Lines.{HasEnded, IsLine, Line, ◌⇒◌}

@@ -4,10 +4,10 @@ use Rattle.host_core.specs.Events.{Ran}
 use Rattle.host_core.specs.Host.{State}
 use Rattle.host_core.specs.Outcome.{is_success}
 use Rattle.host_core.specs.declared.call.Call.{Call}
-use Rattle.unwind_stack.specs.declared.rows.Called.{Called}
-use Rattle.unwind_stack.specs.Transcript.{Tells}
-use Rattle.status_db.specs.declared.record.Record.{Record}
-use Rattle.status_db.specs.Records.{record_in}
+use Rattle.undo_rows.specs.declared.rows.Called.{Called}
+use Rattle.undo_rows.specs.Transcript.{Tells}
+use Rattle.status_records.specs.declared.record.Record.{Record}
+use Rattle.status_records.specs.Records.{record_in}
 use Rattle.policy_page.specs.Answers.{Answer, answer_of}
 use Rattle.diversions.specs.declared.entry.Diversion.{Diversion}
 use Rattle.unit_stages.specs.Calls.{AreCallsOf}

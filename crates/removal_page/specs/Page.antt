@@ -6,9 +6,9 @@ use Rattle.host_core.specs.declared.call.Side.TheVariants.{Old}
 use Rattle.host_core.specs.declared.call.Script.{Script}
 use Rattle.host_core.specs.declared.call.Script.TheVariants as script
 use Rattle.administration.specs.Places.{script_path}
-use Rattle.status_db.specs.Configured.{last_configured}
-use Rattle.status_db.specs.Standings.{configured}
-use Rattle.status_db.specs.declared.record.Record.{Record}
+use Rattle.status_records.specs.Configured.{last_configured}
+use Rattle.status_records.specs.Standings.{configured}
+use Rattle.status_records.specs.declared.record.Record.{Record}
 use Rattle.policy_page.specs.Answers.{fails, works}
 use Rattle.configure_engine.specs.Settled.{settled}
 use Rattle.configure_engine.specs.Stages.{half, last_text}

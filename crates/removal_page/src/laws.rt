@@ -2,8 +2,8 @@
 ghost use Rattle.std.specs.Prelude.{◌≡◌, ◌≢◌, List, Option, false, map, true};
 ghost use Rattle.host_core.specs.Paths.{Path};
 ghost use Rattle.conffiles.specs.declared.entries.Settled.{Settled as ASettled};
-ghost use Rattle.status_db.specs.declared.record.Record.{Record as ARecord};
-ghost use Rattle.status_db.specs.declared.words.State.TheVariants.{ConfigFiles};
+ghost use Rattle.status_records.specs.declared.record.Record.{Record as ARecord};
+ghost use Rattle.status_records.specs.declared.words.State.TheVariants.{ConfigFiles};
 ghost use Rattle.unpack_rows.specs.Kinds.{has_prerm};
 ghost use Rattle.diversions.specs.declared.entry.Diversion.{Diversion as ADiversion};
 ghost use Rattle.file_lists.specs.declared.paths.PackageList.{PackageList as APackageList};

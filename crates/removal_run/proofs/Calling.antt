@@ -1,15 +1,15 @@
 -- The calls of a removal are those of the host's own list.
 use Rattle.std.proofs.Common.{ℕ, Bool, List, refl}
-use Rattle.cleanup_stack.proofs.Tellings.{begun_calls}
+use Rattle.undo_rows.proofs.Tellings.{begun_calls}
 use Rattle.host_core.specs.Host.{State}
 use Rattle.removal_engine.specs.Units.{Given, HasCalled}
 use Rattle.removal_run.proofs.Removals.{silent_calls}
 use Rattle.removal_run.specs.Units.{HasCalledRemoving, given_by}
 use Rattle.unit_reports.specs.Held.{Held}
 use Rattle.unit_stages.specs.Calls.{MayRunStages}
-use Rattle.unwind_stack.proofs.Makes.{tells_none, tells_then}
-use Rattle.unwind_stack.specs.Transcript.{TellsAll}
-use Rattle.unwind_stack.specs.declared.rows.Called.{Called}
+use Rattle.undo_rows.proofs.Makes.{tells_none, tells_then}
+use Rattle.undo_rows.specs.Transcript.{TellsAll}
+use Rattle.undo_rows.specs.declared.rows.Called.{Called}
 
 called_tells : (g : Given) (s t : State) (told now : List Called) → HasCalled g s t told now → TellsAll s t told now
 called_tells g s t told now (HasCalled.unplanned silent same) = tells_none s t told now (silent_calls s t silent) same

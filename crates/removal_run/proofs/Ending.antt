@@ -5,12 +5,12 @@ use Rattle.std.specs.Prelude.{IfSome, IsNone}
 use Rattle.std.proofs.lemmas.Bool.{true≢false}
 use Rattle.dependency_check.specs.Waiting.{Waiting}
 use Rattle.host_core.specs.Host.{State, faults}
-use Rattle.status_db.specs.declared.record.Record.{Record}
+use Rattle.status_records.specs.declared.record.Record.{Record}
 use Rattle.unit_reports.specs.Held.{Held}
 use Rattle.unit_reports.specs.Units.{CountsLast, IsBrokenBy, calls_of, last_calls}
 use Rattle.unit_reports.specs.declared.report.Breakage.TheVariants.{Closed}
 use Rattle.unit_reports.specs.declared.report.Unit.{Unit as AUnit}
-use Rattle.unwind_stack.specs.Transcript.{TellsAll}
+use Rattle.undo_rows.specs.Transcript.{TellsAll}
 use Rattle.removal_run.specs.LeftOver.{AreAllTold, AreLeftOver}
 use Rattle.removal_run.specs.Next.{IsNothing}
 use Rattle.removal_run.specs.Run.{EndsWith, IsIdle, RunsThrough, RunsUpTo}

@@ -7,7 +7,7 @@ use Rattle.dependency_check.specs.Waiting.{IsNextOfRemovable, IsRemovableNow, Wa
 use Rattle.dependency_sets.proofs.StrikingLaws.{in_range}
 use Rattle.dependency_sets.specs.Sets.{has}
 use Rattle.relation_index.specs.declared.package.Package.{Package}
-use Rattle.status_db.specs.declared.record.Record.{Record}
+use Rattle.status_records.specs.declared.record.Record.{Record}
 use Rattle.removal_run.specs.Names.{is_among}
 use Rattle.removal_run.specs.Next.{IsNext, IsNextIn}
 use Rattle.removal_run.specs.Waiting.{IsEven, IsQueueNow, IsRemovedNext, is_named, name_at}

@@ -6,9 +6,9 @@ use Rattle.recorded_packages.specs.Packages.{is_reinstreq}
 use Rattle.stated_relations.specs.Relations.{is_essential}
 use Rattle.removal_engine.specs.Extents.{BeginsFrom}
 use Rattle.removal_engine.specs.Units.{IsRemovable}
-use Rattle.status_db.specs.Records.{record_in}
-use Rattle.status_db.specs.declared.record.Record.{Record}
-use Rattle.status_db.specs.declared.words.State.{State}
+use Rattle.status_records.specs.Records.{record_in}
+use Rattle.status_records.specs.declared.record.Record.{Record}
+use Rattle.status_records.specs.declared.words.State.{State}
 use Rattle.unit_reports.specs.declared.refusal.Rule.{Rule}
 use Rattle.unit_reports.specs.declared.refusal.Rule.TheVariants.{NothingToRemove, Reinstreq, Essential}
 use Rattle.removal_run.specs.Refusals.{is_config_files, rule_for, rule_of}

@@ -10,14 +10,14 @@ use Rattle.host_core.specs.declared.call.Call.{Call}
 use Rattle.host_core.specs.declared.fault.HostFault.{HostFault}
 use Rattle.removal_engine.specs.Units.{HasCalled, IsAmidUnit, given}
 use Rattle.removal_engine.specs.declared.extent.Extent.{Extent}
-use Rattle.unit_parts.specs.Order.{IsInOrder}
+use Rattle.unit_stages.specs.Order.{IsInOrder}
 use Rattle.unit_reports.specs.Held.{Held}
 use Rattle.unit_reports.specs.Units.{IsBroken, IsBrokenBy, calls_of}
 use Rattle.unit_reports.specs.declared.report.Breakage.TheVariants.{NoMemory}
 use Rattle.unit_reports.specs.declared.report.Unit.{Unit as AUnit}
-use Rattle.unwind_stack.proofs.Makes.{tells_then}
-use Rattle.unwind_stack.specs.Transcript.{TellsAll}
-use Rattle.unwind_stack.specs.declared.rows.Called.{Called}
+use Rattle.undo_rows.proofs.Makes.{tells_then}
+use Rattle.undo_rows.specs.Transcript.{TellsAll}
+use Rattle.undo_rows.specs.declared.rows.Called.{Called}
 use Rattle.removal_run.specs.Units.{Answers, HasCalledRemoving, IsAmidRemoval, IsBroughtToDisk, IsRemoval, extent_of, given_by, holding_of}
 use Rattle.removal_run.proofs.Barriers.{since_to_disk}
 use Rattle.removal_run.proofs.Replies.{broken_or}

@@ -5,7 +5,7 @@ use Rattle.dependency_check.specs.Waiting.{IsRemovableNow, Waiting}
 use Rattle.dependency_sets.specs.Choices.{IsFirst, IsListing}
 use Rattle.dependency_sets.specs.Sets.{has}
 use Rattle.relation_index.specs.declared.package.Package.{Package}
-use Rattle.status_db.specs.declared.record.Record.{Record}
+use Rattle.status_records.specs.declared.record.Record.{Record}
 use Rattle.unit_reports.specs.Units.{IsRefusedUnit}
 use Rattle.unit_reports.specs.declared.refusal.Rule.TheVariants.{DependedOn}
 use Rattle.unit_reports.specs.declared.report.Unit.{Unit as AUnit}

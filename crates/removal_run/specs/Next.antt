@@ -1,7 +1,7 @@
 -- What is next: a removal, or none where nothing that waits can be removed.
 use Rattle.std.specs.Prelude.{◌≡◌, ℕ, List, Option, Some, None}
 use Rattle.dependency_check.specs.Waiting.{IsNextOfRemovable, IsRemovableNow, Waiting}
-use Rattle.status_db.specs.declared.record.Record.{Record}
+use Rattle.status_records.specs.declared.record.Record.{Record}
 use Rattle.removal_run.specs.Waiting.{IsQueueNow, name_at}
 use Rattle.removal_run.specs.declared.waiting.Next.{Next}
 

@@ -8,7 +8,7 @@ use Rattle.recorded_packages.specs.Packages.{ArePackagesOf}
 use Rattle.recorded_packages.specs.Renewal.{AreSameBut}
 use Rattle.relation_index.specs.declared.package.Package.{Package}
 use Rattle.status_db.specs.Order.{AreInOrder}
-use Rattle.status_db.specs.declared.record.Record.{Record}
+use Rattle.status_records.specs.declared.record.Record.{Record}
 use Rattle.unit_reports.specs.Held.{Held}
 use Rattle.unit_reports.specs.Units.{IsBrokenBy, TellsNoPackage}
 use Rattle.unit_reports.specs.declared.report.Breakage.TheVariants.{NoMemory}

@@ -3,7 +3,7 @@ use Rattle.std.specs.Prelude.{◌≡◌, ◌⊎◌, ℕ, Bool, List, [], ◌∷�
 use Rattle.host_core.specs.Events.{Event}
 use Rattle.host_core.specs.Host.{State, AtEachMomentOf}
 use Rattle.host_core.specs.World.{World}
-use Rattle.status_db.specs.declared.record.Record.{Record}
+use Rattle.status_records.specs.declared.record.Record.{Record}
 use Rattle.unit_reports.specs.Held.{Held}
 use Rattle.unit_reports.specs.Units.{HasNoCalls, IsBroken, TellsNoPackage}
 use Rattle.unit_reports.specs.declared.report.Unit.{Unit as AUnit}

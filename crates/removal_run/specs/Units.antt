@@ -8,17 +8,17 @@ use Rattle.host_core.specs.declared.call.Call.{Call}
 use Rattle.removal_engine.specs.Units.{Given, HasCalled, HasRemoved, IsAmidUnit, given}
 use Rattle.removal_engine.specs.declared.extent.Extent.{Extent}
 use Rattle.removal_engine.specs.declared.extent.Extent.TheVariants.{Purge, Remove}
-use Rattle.stack_run.specs.declared.failure.Failure.TheVariants.{OfCall}
-use Rattle.status_db.specs.Records.{record_in}
-use Rattle.status_db.specs.declared.record.Record.{Record}
-use Rattle.unit_parts.specs.Order.{IsInOrder}
+use Rattle.undo_rows.specs.declared.failure.Failure.TheVariants.{OfCall}
+use Rattle.status_records.specs.Records.{record_in}
+use Rattle.status_records.specs.declared.record.Record.{Record}
+use Rattle.unit_stages.specs.Order.{IsInOrder}
 use Rattle.unit_reports.specs.Held.{Held}
 use Rattle.unit_reports.specs.Units.{IsBroken, TellsNoPackage, touched_at}
 use Rattle.unit_reports.specs.declared.report.Reply.{Reply}
 use Rattle.unit_reports.specs.declared.report.Reply.TheVariants.{Done, Failed}
 use Rattle.unit_reports.specs.declared.report.Unit.{Unit as AUnit}
 use Rattle.unit_stages.specs.Holding.{Holding}
-use Rattle.unwind_stack.specs.declared.rows.Called.{Called}
+use Rattle.undo_rows.specs.declared.rows.Called.{Called}
 
 -- the records and lists of what is held
 abbrev pub holding_of : Held → Holding

@@ -3,9 +3,9 @@ use Rattle.std.specs.Prelude.{◌≡◌, ℕ, Bool, false, List, [], Option, Som
 use Rattle.dependency_check.specs.Waiting.{Waiting, IsNextOfRemovable}
 use Rattle.recorded_packages.specs.Packages.{ArePackagesOf}
 use Rattle.relation_index.specs.declared.package.Package.{Package}
-use Rattle.status_db.specs.Records.{record_in}
-use Rattle.status_db.specs.Words.{is_installed}
-use Rattle.status_db.specs.declared.record.Record.{Record}
+use Rattle.status_records.specs.Records.{record_in}
+use Rattle.status_records.specs.Words.{is_installed}
+use Rattle.status_records.specs.declared.record.Record.{Record}
 use Rattle.removal_run.specs.Names.{is_among}
 
 -- a package without a record isn't installed

@@ -5,7 +5,8 @@ ghost use Rattle.removal_run.specs.Refusals.{AreRefused, accepted, is_config_fil
 
 use crate::names::copied;
 use stated_relations::is_essential;
-use status_db::{Flag, NotedDatabase, Record, State};
+use status_db::NotedDatabase;
+use status_records::{Flag, Record, State};
 use std::alloc::{AllocError, Global};
 use texts::Text;
 use unit_reports::{Rule, Unit, refused};

@@ -3,27 +3,26 @@ ghost use Rattle.std.specs.Prelude.{◌≡◌, ◌⊎◌, ◌∷◌, [], IfOk, O
 ghost use Rattle.host_core.specs.Host.{AtEachMomentOf, Counts, Needs, faults};
 ghost use Rattle.host_core.specs.Loss.{IsAnswered, IsOnDisk};
 ghost use Rattle.held_administration.specs.Open.{IsOpen};
-ghost use Rattle.unit_parts.specs.Order.{IsInOrder};
+ghost use Rattle.unit_stages.specs.Order.{IsInOrder};
 ghost use Rattle.unit_reports.specs.Held.{held_by};
 ghost use Rattle.unit_reports.specs.Units.{CountsReply, IsBroken, IsBrokenBy, TellsNoPackage, calls_of, touched_at};
 ghost use Rattle.unit_reports.specs.declared.report.Breakage.TheVariants.{NoMemory, Closed};
 ghost use Rattle.unit_reports.specs.Watching.{AddsTold};
 ghost use Rattle.removal_run.specs.Refusals.{rule_for};
 ghost use Rattle.removal_run.specs.Units.{AddsRemoval, Answers, AreOthersKept, HasCalledRemoving, IsAmidRemoval, IsBroughtToDisk, IsBrokenOff, IsRemoval, extent_of, reply_to};
-ghost use Rattle.unwind_stack.specs.Transcript.{TellsAll};
+ghost use Rattle.undo_rows.specs.Transcript.{TellsAll};
 
 use diversions::Diversions;
 use held_administration::Administration;
 use host_core::{Call, Host, HostFault};
 use removal_engine::{Extent, remove};
-use stack_run::Failure as Cause;
 use status_db::NotedDatabase;
 use std::alloc::{AllocError, Global};
 use texts::{Text, Texts};
+use undo_rows::{Called, Failure as Cause};
 use unit_reports::{
     Breakage, Failure, Reply, Touched, Unit, Watcher, breakage_of, broken, is_broken, touched_at,
 };
-use unwind_stack::Called;
 
 // The reply to a unit of a package, by the call for which it failed.
 fn reply_to(package: Text, failed: Option<Call>) -> Reply

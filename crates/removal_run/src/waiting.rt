@@ -6,7 +6,7 @@ ghost use Rattle.removal_run.specs.Names.{without};
 ghost use Rattle.removal_run.specs.Next.{IsNext};
 ghost use Rattle.removal_run.specs.Units.{AreOthersKept};
 ghost use Rattle.removal_run.specs.Waiting.{IsEven, IsQueueNow, is_installed_in, is_installed_now, is_named, name_at};
-ghost use Rattle.status_db.specs.declared.record.Record.{Record as ARecord};
+ghost use Rattle.status_records.specs.declared.record.Record.{Record as ARecord};
 
 use crate::names::is_among;
 use dependency_check::RemoveQueue;

@@ -6,7 +6,7 @@ use Rattle.host_core.specs.Outcome.{script_name}
 use Rattle.host_core.specs.Paths.{Path}
 use Rattle.host_core.specs.World.{World}
 use Rattle.administration.specs.Places.{list_path, script_path}
-use Rattle.cleanup_stack.specs.Transcripts.{Ended, Committed, Unwound}
+use Rattle.undo_rows.specs.Transcripts.{Ended, Committed, Unwound}
 use Rattle.control_members.proofs.MemberNames.{script_is_member}
 use Rattle.control_members.specs.Stored.{stored_member_path}
 use Rattle.diversions.specs.declared.entry.Diversion.{Diversion}
@@ -16,17 +16,17 @@ use Rattle.file_lists.specs.Owners.{paths_of}
 use Rattle.file_lists.specs.Writing.{list_file}
 use Rattle.file_lists.specs.declared.paths.PackageList.{PackageList}
 use Rattle.file_removal.specs.Removal.{IsRemoving, Removed}
-use Rattle.status_db.specs.Records.{record_in}
-use Rattle.status_db.specs.declared.record.Record.{Record}
-use Rattle.unit_parts.proofs.Outside.{cleared_outside, clearing_outside, removed_outside, removing_outside}
+use Rattle.status_records.specs.Records.{record_in}
+use Rattle.status_records.specs.declared.record.Record.{Record}
+use Rattle.unit_stages.proofs.Outside.{cleared_outside, clearing_outside, removed_outside, removing_outside}
 use Rattle.unpack_commit.proofs.Left.{same_list}
 use Rattle.unpack_commit.specs.Commit.{Changes, HasCommitted, MayCommit, renewed_lists}
 use Rattle.unpack_commit.specs.Takeover.{put_records}
 use Rattle.unpack_engine.proofs.Cleared.{cleared_clearing}
-use Rattle.unpack_run.specs.Clearing.{IsCleared, IsClearing, MayClear}
+use Rattle.unpack_steps.specs.Clearing.{IsCleared, IsClearing, MayClear}
 use Rattle.unpack_engine.specs.Units.{HasDropped, HasFollowed, HasLeft, MayDrop, MayLeave, MayLeaveBy}
-use Rattle.unpack_moves.specs.Closing.{HasReleased, HasRenewed, MayRelease, MayRenew, SparesAdministration}
-use Rattle.unpack_moves.specs.Concluding.{AreElsewhere}
+use Rattle.listed_files.specs.Closing.{HasReleased, HasRenewed, MayRelease, MayRenew, SparesAdministration}
+use Rattle.listed_files.specs.Concluding.{AreElsewhere}
 use Rattle.reopening.proofs.Entries.{IsSafe, safe_fewer, safe_more, safe_quiet}
 use Rattle.reopening.proofs.Inside.{IsQuiet, quiet_laid, quiet_noted, quiet_outside, quiet_still, quiet_then}
 use Rattle.reopening.proofs.Steps.{AreGood, dropped_quiet, dropping_quiet, member_no_list, no_link_none, one_dropped, own_links, released_quiet, releasing_quiet, replaced_quiet, replacing_quiet, script_no_list, script_others, stored_quiet, storing_quiet}

@@ -15,11 +15,11 @@ use Rattle.removal_engine.proofs.Tables.{is_named}
 use Rattle.removal_engine.specs.Units.{given}
 use Rattle.removal_engine.specs.declared.extent.Extent.TheVariants.{InFavour}
 use Rattle.status_db.specs.Held.{HasRecords}
-use Rattle.status_db.specs.declared.record.Record.{Record}
+use Rattle.status_records.specs.declared.record.Record.{Record}
 use Rattle.unit_stages.specs.Holding.{Holding}
 use Rattle.unit_stages.specs.declared.stage.Stage.{Stage}
-use Rattle.unwind_stack.specs.declared.rows.Called.{Called}
-use Rattle.unwind_stack.specs.declared.rows.Row.{Row}
+use Rattle.undo_rows.specs.declared.rows.Called.{Called}
+use Rattle.undo_rows.specs.declared.rows.Row.{Row}
 use Rattle.reopening.proofs.Inside.{quiet_then}
 use Rattle.reopening.proofs.Parts.{calm_then}
 use Rattle.reopening.proofs.Removals.{AreSafePlanned, gone_safe, planned_safe, removal_plan_safe}

@@ -14,8 +14,8 @@ use Rattle.control_members.specs.Stored.{stored_member_path}
 use Rattle.file_lists.specs.Info.{IsLink}
 use Rattle.file_lists.specs.Lists.{IsReadable}
 use Rattle.status_db.specs.Held.{is_record_place}
-use Rattle.unit_parts.proofs.Outside.{IsOutside}
-use Rattle.unpack_moves.proofs.Closings.{below_within}
+use Rattle.unit_stages.proofs.Outside.{IsOutside}
+use Rattle.listed_files.proofs.Closings.{below_within}
 
 -- a path of the program's own below its directory, at which no record is written, outside `tmp.ci`
 pub record IsInside (q : Path) : Type 0 where

@@ -33,7 +33,7 @@ use Rattle.opening.specs.Parts.{IsReadableInfo, names_of}
 use Rattle.status_db.proofs.NotedWorlds.{records_same}
 use Rattle.status_db.specs.Held.{CanOpenRecords, HasRecords}
 use Rattle.status_db.specs.Notes.{note_path}
-use Rattle.status_db.specs.declared.record.Record.{Record}
+use Rattle.status_records.specs.declared.record.Record.{Record}
 use Rattle.unit_reports.specs.Held.{Held}
 use Rattle.reopening.proofs.Sounds.{Opened}
 use Rattle.reopening.specs.Opens.{CanBeOpened}

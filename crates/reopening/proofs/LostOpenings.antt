@@ -23,9 +23,9 @@ use Rattle.opening.specs.Undamaged.{HasNoFault, IsUndamaged}
 use Rattle.status_db.proofs.NotedWorlds.{records_same}
 use Rattle.status_db.specs.NoteDamage.{AreNotesDamaged, AreRecordsDamaged, IsFaultyNumber, IsFineNumber, IsNoteDamage}
 use Rattle.status_db.specs.Notes.{IsNoteAt, note_path}
-use Rattle.status_db.specs.Status.{IsStatusAt}
-use Rattle.status_db.specs.Status as status
-use Rattle.status_db.specs.declared.record.Record.{Record}
+use Rattle.status_records.specs.Status.{IsStatusAt}
+use Rattle.status_records.specs.Status as status
+use Rattle.status_records.specs.declared.record.Record.{Record}
 use Rattle.reopening.proofs.Losses.{blurred_directory, blurred_some, bool_cases, list_proper, script_proper}
 
 -- blurred, a node is there and a directory is one

@@ -19,7 +19,7 @@ use Rattle.status_db.proofs.NotedWorlds.{records_same}
 use Rattle.status_db.specs.Held.{CanOpenRecords, HasRecords}
 use Rattle.status_db.specs.Notes.{note_path}
 use Rattle.status_db.specs.Noting.{IsMerging}
-use Rattle.status_db.specs.declared.record.Record.{Record}
+use Rattle.status_records.specs.declared.record.Record.{Record}
 use Rattle.reopening.specs.Opens.{CanBeOpened, CanBeOpenedAmid}
 
 -- the law of opening: it changes no record

@@ -14,17 +14,17 @@ use Rattle.administration.proofs.Within.{within_is}
 use Rattle.administration.specs.Places.{home_path, is_within, list_path, temporary, tmp_path}
 use Rattle.control_members.specs.Stored.{goes, stored_member_path}
 use Rattle.status_db.specs.Held.{is_record_place}
-use Rattle.status_db.specs.Records.{drop_record, place_record, put_record}
-use Rattle.status_db.specs.Words.{is_not_installed}
-use Rattle.status_db.specs.declared.record.Record.{Record}
-use Rattle.unit_parts.proofs.ConffileNames.{below_none}
-use Rattle.unit_parts.proofs.Outside.{IsOutside, cleared_outside, clearing_outside, removed_outside, removing_outside}
-use Rattle.unit_parts.specs.Doing.{AreDoing, IsFirstDoing, MayDo, MayDrop}
-use Rattle.unit_parts.specs.Parts.{HasDone, HaveDone, part_records, parts_records}
-use Rattle.unit_parts.specs.declared.part.Part.{Part}
-use Rattle.unit_parts.specs.declared.part.Part.TheVariants.{Note, Forget, Settle, Remove, RemoveDirectories, Clear, List as Listing, DropList, DropMembers}
-use Rattle.unpack_moves.specs.Closing.{SparesAdministration}
-use Rattle.unpack_moves.specs.Concluding.{AreElsewhere}
+use Rattle.status_records.specs.Records.{drop_record, place_record, put_record}
+use Rattle.status_records.specs.Words.{is_not_installed}
+use Rattle.status_records.specs.declared.record.Record.{Record}
+use Rattle.unit_stages.proofs.ConffileNames.{below_none}
+use Rattle.unit_stages.proofs.Outside.{IsOutside, cleared_outside, clearing_outside, removed_outside, removing_outside}
+use Rattle.unit_stages.specs.Doing.{AreDoing, IsFirstDoing, MayDo, MayDrop}
+use Rattle.unit_stages.specs.Parts.{HasDone, HaveDone, part_records, parts_records}
+use Rattle.unit_stages.specs.declared.part.Part.{Part}
+use Rattle.unit_stages.specs.declared.part.Part.TheVariants.{Note, Forget, Settle, Remove, RemoveDirectories, Clear, List as Listing, DropList, DropMembers}
+use Rattle.listed_files.specs.Closing.{SparesAdministration}
+use Rattle.listed_files.specs.Concluding.{AreElsewhere}
 use Rattle.reopening.proofs.Inside.{IsQuiet, quiet_here, quiet_inside, quiet_noted, quiet_outside, quiet_scripts, quiet_then}
 use Rattle.reopening.proofs.Steps.{AreGood, dropped_quiet, dropping_quiet, replaced_quiet, replacing_quiet, taken_quiet, taking_quiet}
 

@@ -23,16 +23,16 @@ use Rattle.removal_engine.specs.Units.{IsPlanFor}
 use Rattle.removal_engine.specs.declared.extent.Extent.{Extent}
 use Rattle.removal_engine.specs.declared.extent.Extent.TheVariants.{Remove, Purge, InFavour}
 use Rattle.removal_engine.specs.declared.scripts.Stored.{Stored}
-use Rattle.status_db.specs.Words.{is_not_installed}
-use Rattle.status_db.specs.declared.entries.ConffileEntry.{ConffileEntry}
-use Rattle.status_db.specs.declared.record.Record.{Record}
-use Rattle.status_db.specs.declared.words.State.{State}
-use Rattle.status_db.specs.declared.words.State.TheVariants as state
-use Rattle.unit_parts.specs.declared.part.Part.{Part}
-use Rattle.unit_parts.specs.declared.part.Part.TheVariants as part
+use Rattle.status_records.specs.Words.{is_not_installed}
+use Rattle.status_records.specs.declared.entries.ConffileEntry.{ConffileEntry}
+use Rattle.status_records.specs.declared.record.Record.{Record}
+use Rattle.status_records.specs.declared.words.State.{State}
+use Rattle.status_records.specs.declared.words.State.TheVariants as state
+use Rattle.unit_stages.specs.declared.part.Part.{Part}
+use Rattle.unit_stages.specs.declared.part.Part.TheVariants as part
 use Rattle.unit_stages.specs.declared.stage.Stage.{Stage}
-use Rattle.unpack_moves.specs.Closing.{SparesAdministration}
-use Rattle.unpack_moves.specs.Concluding.{AreElsewhere}
+use Rattle.listed_files.specs.Closing.{SparesAdministration}
+use Rattle.listed_files.specs.Concluding.{AreElsewhere}
 use Rattle.reopening.proofs.Parts.{AreSafeParts, IsSafePart}
 use Rattle.reopening.proofs.Stages.{AreSafeStages}
 use Rattle.reopening.proofs.Steps.{AreGood, good_filter}

@@ -6,27 +6,27 @@ use Rattle.host_core.specs.Paths.{Path}
 use Rattle.host_core.proofs.Scripts.{changed_kept}
 use Rattle.host_core.specs.World.{Change, World, is_kept}
 use Rattle.administration.specs.Places.{list_path, script_path, temporary}
-use Rattle.cleanup_stack.specs.Place.{Place}
+use Rattle.undo_rows.specs.Place.{Place}
 use Rattle.control_members.proofs.Apart.{no_list_temporary}
 use Rattle.file_lists.specs.Info.{IsLink}
 use Rattle.file_lists.specs.Lists.{IsReadable}
 use Rattle.file_lists.specs.Writing.{list_file}
-use Rattle.file_steps.specs.Unpacked.{IsRearranged}
-use Rattle.file_works.specs.Files.{Each, Misses}
-use Rattle.file_works.specs.Names.{IsNamed}
-use Rattle.file_works.specs.declared.work.Work.{Work}
-use Rattle.file_writing.specs.Back.{CanGoBack}
-use Rattle.status_db.specs.declared.record.Record.{Record}
+use Rattle.file_check.specs.Rearranged.{IsRearranged}
+use Rattle.package_files.specs.Files.{Each, Misses}
+use Rattle.package_files.specs.Names.{IsNamed}
+use Rattle.package_files.specs.declared.work.Work.{Work}
+use Rattle.package_files.specs.Back.{CanGoBack}
+use Rattle.status_records.specs.declared.record.Record.{Record}
 use Rattle.unpack_commit.proofs.Left.{same_list}
 use Rattle.unpack_engine.proofs.Frames.{IsBeside, amid_same, come_same}
-use Rattle.unpack_moves.proofs.Listings.{all_miss}
-use Rattle.unpack_moves.specs.Listing.{MayList, MayUnlist}
+use Rattle.listed_files.proofs.Listings.{all_miss}
+use Rattle.listed_files.specs.Listing.{MayList, MayUnlist}
 use Rattle.unpack_rows.specs.Stages.{Stage, Unwritten, Wrote, Restored}
-use Rattle.unpack_run.proofs.FileWorlds.{still_written}
-use Rattle.unpack_run.proofs.Rearranged.{named_rearranged}
-use Rattle.unpack_run.specs.At.{AreWorksAt, IsAmid}
-use Rattle.unpack_run.specs.Task.{Task, all_places, name}
-use Rattle.unpack_run.specs.Trail.{Follows, HasCome, HasFiles, HasGoneBack}
+use Rattle.unpack_steps.proofs.FileWorlds.{still_written}
+use Rattle.unpack_steps.proofs.Rearranged.{named_rearranged}
+use Rattle.unpack_steps.specs.At.{AreWorksAt, IsAmid}
+use Rattle.unpack_steps.specs.Task.{Task, all_places, name}
+use Rattle.unpack_steps.specs.Trail.{Follows, HasCome, HasFiles, HasGoneBack}
 use Rattle.reopening.proofs.Inside.{IsInside, IsQuiet, kept_inside, list_inside, script_inside}
 use Rattle.reopening.proofs.Steps.{AreGood, good_readable, one_written, script_no_list, script_no_spare}
 

@@ -16,11 +16,11 @@ use Rattle.package_tree.specs.ShipMap.{paths_of as shipped_paths}
 use Rattle.package_tree.specs.declared.package.Package.{Package}
 use Rattle.package_tree.specs.declared.shipped.Shipped.{Shipped}
 use Rattle.removal_run.specs.Units.{holding_of}
-use Rattle.stack_run.specs.Ended.{ended_as}
-use Rattle.stack_run.specs.declared.unwinding.Unwinding.{Unwinding}
+use Rattle.undo_rows.specs.Ended.{ended_as}
+use Rattle.undo_rows.specs.declared.unwinding.Unwinding.{Unwinding}
 use Rattle.status_db.specs.Held.{HasRecords}
-use Rattle.status_db.specs.Records.{AreStanding}
-use Rattle.status_db.specs.declared.record.Record.{Record}
+use Rattle.status_records.specs.Records.{AreStanding}
+use Rattle.status_records.specs.declared.record.Record.{Record}
 use Rattle.status_db.specs.Recorded.{Recorded}
 use Rattle.unit_reports.specs.Held.{Held, places_of}
 use Rattle.unit_reports.specs.declared.report.Report.{Report}
@@ -31,7 +31,7 @@ use Rattle.unpack_relations.specs.declared.beside.Beside.{Beside}
 use Rattle.unpack_relations.specs.declared.checking.Checked.{Checked}
 use Rattle.unpack_plan.specs.Planned.{Job, Planned}
 use Rattle.unpack_relations.specs.declared.checking.Checked.TheVariants.{Planned as Unpacks, Refused}
-use Rattle.unwind_stack.specs.declared.rows.Called.{Called}
+use Rattle.undo_rows.specs.declared.rows.Called.{Called}
 use Rattle.dpkg_session.specs.Installs.{HasGoneOn}
 use Rattle.dpkg_session.specs.Run.{HasRun, IsAmidBehind, IsAmidBeside, IsAmidBy, IsAmidNext, IsAmidPackage, IsAmidUnitOf, IsAmidUnpack, IsRun, RunsUnit}
 use Rattle.dpkg_session.specs.Units.{HasDisplaced, HasUnpackedBeside, IsUnitBy, IsUnitOf, IsUnpacked, given_by, held_with, yielding}

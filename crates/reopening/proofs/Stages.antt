@@ -9,15 +9,15 @@ use Rattle.host_core.specs.World.{World}
 use Rattle.host_core.specs.declared.call.Call.{Call}
 use Rattle.diversions.specs.declared.entry.Diversion.{Diversion}
 use Rattle.file_lists.specs.Owners.{places_in}
-use Rattle.status_db.specs.declared.record.Record.{Record}
-use Rattle.unit_parts.specs.declared.part.Part.{Part}
+use Rattle.status_records.specs.declared.record.Record.{Record}
+use Rattle.unit_stages.specs.declared.part.Part.{Part}
 use Rattle.unit_stages.proofs.RunLaws.{follow_finished, run_later}
 use Rattle.unit_stages.specs.Holding.{Holding, after_parts, after_stages}
 use Rattle.unit_stages.specs.Running.{ArePast, AreRunning, IsCalling, IsInNext, IsInStage, IsNotedBy}
 use Rattle.unit_stages.specs.Runs.{HasFailed, HasPassed, HasRestored, HaveRun, kept_by}
 use Rattle.unit_stages.specs.declared.stage.Stage.{Stage}
-use Rattle.unwind_stack.specs.declared.rows.Called.{Called}
-use Rattle.unwind_stack.specs.declared.rows.Owner.{Owner}
+use Rattle.undo_rows.specs.declared.rows.Called.{Called}
+use Rattle.undo_rows.specs.declared.rows.Owner.{Owner}
 use Rattle.reopening.proofs.Parts.{AreOf, AreSafeParts, IsCalm, calm_scripts, calm_still, calm_then, front_safe, parts_doing, parts_done, parts_of}
 
 pub record IsSafeStage (name : Path) (stage : Stage) : Type 0 where

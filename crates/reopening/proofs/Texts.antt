@@ -15,8 +15,8 @@ use Rattle.file_lists.specs.Lists.{HasLists}
 use Rattle.file_lists.specs.Owners.{AreListPaths, IsListable, paths_of}
 use Rattle.file_lists.specs.declared.paths.PackageList.{PackageList}
 use Rattle.list_changes.specs.NewList.{IsNewList, IsWithParents}
-use Rattle.status_db.specs.ConffilePaths.{is_ship_path, is_trimmed}
-use Rattle.status_db.specs.declared.entries.ConffileEntry.{ConffileEntry}
+use Rattle.status_records.specs.ConffilePaths.{is_ship_path, is_trimmed}
+use Rattle.status_records.specs.declared.entries.ConffileEntry.{ConffileEntry}
 use Rattle.unpack_engine.proofs.ListEnds.{listed_can, listed_texts}
 use Rattle.reopening.proofs.Steps.{AreGood}
 

@@ -13,7 +13,7 @@ use Rattle.relation_index.specs.declared.package.Package.{Package}
 use Rattle.removal_engine.proofs.Tables.{is_named}
 use Rattle.removal_run.specs.Names.{without}
 use Rattle.removal_run.specs.Run.{HasRun as HasRemovalRun}
-use Rattle.status_db.specs.declared.record.Record.{Record}
+use Rattle.status_records.specs.declared.record.Record.{Record}
 use Rattle.removal_run.specs.Turns.{IsAmidNext as IsAmidRemovals, RemovesTo}
 use Rattle.removal_run.specs.Units.{IsAmidRemoval, IsRemoval, extent_of, given_by as removal_given}
 use Rattle.unit_reports.specs.Held.{Held}

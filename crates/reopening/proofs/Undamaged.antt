@@ -26,7 +26,7 @@ use Rattle.opening.specs.Undamaged.{HasNoFault, IsUndamaged}
 use Rattle.status_db.proofs.NotedWorlds.{records_same}
 use Rattle.status_db.specs.Held.{HasRecords, Holds}
 use Rattle.status_db.specs.NoteDamage.{AreNotesDamaged, AreNotesFine, AreRecordsDamaged}
-use Rattle.status_db.specs.declared.record.Record.{Record}
+use Rattle.status_records.specs.declared.record.Record.{Record}
 use Rattle.reopening.specs.Opens.{CanBeOpened}
 
 -- the law of opening: where all parts are fine there is no fault

@@ -21,13 +21,13 @@ use Rattle.removal_engine.proofs.Tables.{is_named}
 use Rattle.removal_engine.specs.Units.{Given as Removing, IsAmidUnit as IsAmidRemoving}
 use Rattle.status_db.proofs.NotedWorlds.{found_named}
 use Rattle.status_db.specs.Held.{CanOpenRecords, HasRecords}
-use Rattle.status_db.specs.Records.{AreStanding, record_in}
-use Rattle.status_db.specs.declared.record.Record.{Record}
+use Rattle.status_records.specs.Records.{AreStanding, record_in}
+use Rattle.status_records.specs.declared.record.Record.{Record}
 use Rattle.unit_stages.specs.Holding.{Holding}
 use Rattle.unit_stages.specs.Running.{AreRunning}
 use Rattle.unit_stages.specs.Runs.{HaveRun}
 use Rattle.unit_stages.specs.declared.stage.Stage.{Stage}
-use Rattle.unwind_stack.specs.declared.rows.Called.{Called}
+use Rattle.undo_rows.specs.declared.rows.Called.{Called}
 use Rattle.unpack_engine.proofs.EndRecords.{has_name}
 use Rattle.unpack_engine.specs.Order.{record_names}
 use Rattle.reopening.proofs.Entries.{IsSafe, safe_quiet}

@@ -10,8 +10,8 @@ use Rattle.host_core.specs.Events.{Event, changes_of}
 use Rattle.host_core.specs.Host.{State}
 use Rattle.host_core.specs.Paths.{Path}
 use Rattle.host_core.specs.World.{Change, World}
-use Rattle.cleanup_stack.specs.Place.{Place, Back, Forward}
-use Rattle.cleanup_stack.specs.Transcripts.{Ended, Committed, Unwound}
+use Rattle.undo_rows.specs.Place.{Place, Back, Forward}
+use Rattle.undo_rows.specs.Transcripts.{Ended, Committed, Unwound}
 use Rattle.control_members.specs.LaidOut.{IsIncoming}
 use Rattle.diversions.specs.declared.entry.Diversion.{Diversion}
 use Rattle.file_lists.proofs.TakingAll.{paths_with}
@@ -19,15 +19,15 @@ use Rattle.file_lists.specs.Info.{AreLoose}
 use Rattle.file_lists.specs.Owners.{paths_of}
 use Rattle.file_lists.specs.Writing.{with_list}
 use Rattle.file_lists.specs.declared.paths.PackageList.{PackageList}
-use Rattle.file_works.specs.declared.work.Work.{Work}
+use Rattle.package_files.specs.declared.work.Work.{Work}
 use Rattle.package_tree.specs.ShipMap.{paths_of as shipped_paths}
 use Rattle.package_tree.specs.declared.package.Package.{Package}
 use Rattle.status_db.proofs.Ordered.{put_standing, standing_same}
 use Rattle.status_db.specs.Held.{CanOpenRecords, HasRecords, IsKept}
 use Rattle.status_db.specs.Recorded.{Recorded}
-use Rattle.status_db.specs.Records.{AreStanding, IsWithout, put_record, record_in}
-use Rattle.status_db.specs.Words.{is_not_installed}
-use Rattle.status_db.specs.declared.record.Record.{Record}
+use Rattle.status_records.specs.Records.{AreStanding, IsWithout, put_record, record_in}
+use Rattle.status_records.specs.Words.{is_not_installed}
+use Rattle.status_records.specs.declared.record.Record.{Record}
 use Rattle.unpack_commit.proofs.Those.{losing_stand}
 use Rattle.unpack_commit.specs.Takeover.{losing_records, put_records, taken_places}
 use Rattle.unpack_engine.proofs.Begun.{cleared_if}
@@ -47,12 +47,12 @@ use Rattle.unpack_rows.specs.Kinds.{kinds_of}
 use Rattle.unpack_rows.specs.Notes.{noted, notes_at}
 use Rattle.unpack_rows.proofs.Matching.{as_many}
 use Rattle.unpack_plan.specs.Members.{scripts_in}
-use Rattle.unwind_stack.specs.declared.rows.Row.{Row}
+use Rattle.undo_rows.specs.declared.rows.Row.{Row}
 use Rattle.unpack_rows.specs.Stages.{Stage, Unwritten, Wrote, Restored, stage_of}
-use Rattle.unpack_run.specs.At.{AreWorksAt, At, Holding}
-use Rattle.unpack_run.specs.Clearing.{MayClear, is_gone, next_ready}
-use Rattle.unpack_run.specs.Task.{lists_at, state_on}
-use Rattle.unpack_run.specs.Trail.{HasCome}
+use Rattle.unpack_steps.specs.At.{AreWorksAt, At, Holding}
+use Rattle.unpack_steps.specs.Clearing.{MayClear, is_gone, next_ready}
+use Rattle.unpack_steps.specs.Task.{lists_at, state_on}
+use Rattle.unpack_steps.specs.Trail.{HasCome}
 use Rattle.reopening.proofs.Beginning.{cleared_safe, going_quiet, leaving_quiet, left_quiet, recorded_safe}
 use Rattle.reopening.proofs.Unreached.{rows_behind, unreached}
 use Rattle.reopening.proofs.Entries.{IsSafe, safe_fewer, safe_quiet}

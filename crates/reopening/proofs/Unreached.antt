@@ -3,19 +3,19 @@ use Rattle.std.proofs.Common.{◌≡◌, ℕ, ◌+◌, ◌≤◌, zero, suc, Boo
 use Rattle.std.specs.Str.{bytes_eq}
 use Rattle.std.proofs.lemmas.Bool.{cond-false}
 use Rattle.std.proofs.lemmas.List.{length-append, length-map}
-use Rattle.cleanup_stack.specs.Place.{Place, Forward, Ready, Back}
-use Rattle.cleanup_stack.specs.declared.failed.Failed.{Failed}
-use Rattle.status_db.specs.Records.{IsWithout, put_record, record_in}
-use Rattle.status_db.specs.declared.record.Record.{Record}
-use Rattle.status_db.proofs.Tables.{record_in-put_record}
+use Rattle.undo_rows.specs.Place.{Place, Forward, Ready, Back}
+use Rattle.undo_rows.specs.declared.failed.Failed.{Failed}
+use Rattle.status_records.specs.Records.{IsWithout, put_record, record_in}
+use Rattle.status_records.specs.declared.record.Record.{Record}
+use Rattle.status_records.proofs.Tables.{record_in-put_record}
 use Rattle.unpack_rows.specs.Kinds.{kinds_of, last_kinds}
 use Rattle.unpack_rows.specs.Notes.{half_configured, noted, notes_at, notes_back, notes_forward}
 use Rattle.unpack_rows.specs.declared.kinds.RowKind.{RowKind}
 use Rattle.unpack_rows.specs.declared.kinds.RowKind.TheVariants.{Other}
 use Rattle.unpack_rows.specs.declared.notes.Note.{Note}
 use Rattle.unpack_rows.specs.declared.notes.Note.TheVariants.{Put, Drop}
-use Rattle.unpack_run.specs.Clearing.{is_gone}
-use Rattle.unpack_run.proofs.Hooks.{noted-append}
+use Rattle.unpack_steps.specs.Clearing.{is_gone}
+use Rattle.unpack_steps.proofs.Hooks.{noted-append}
 
 abbrev others_kinds : List Record → List RowKind
 others_kinds others = map (λ r. Other r) others

@@ -10,7 +10,7 @@ use Rattle.host_core.specs.declared.call.Side.TheVariants.{Old, New}
 use Rattle.host_core.specs.declared.call.Outcome.{Outcome}
 use Rattle.host_core.specs.declared.call.Outcome.TheVariants.{Exit, Killed, NotStarted}
 use Rattle.shown_lines.specs.Lines.{line}
-use Rattle.unwind_stack.specs.declared.rows.Called.{Called}
+use Rattle.undo_rows.specs.declared.rows.Called.{Called}
 
 -- a script that is stored, or one of the incoming tree
 abbrev pub side_word : Side → List ℕ

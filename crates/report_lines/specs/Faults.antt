@@ -16,8 +16,8 @@ use Rattle.diversions.specs.declared.refusal.Refusal.{Refusal as ItsRefusal}
 use Rattle.diversions.specs.declared.refusal.Refusal.TheVariants as diverted
 use Rattle.unit_reports.specs.declared.refusal.Rule.{Rule}
 use Rattle.unit_reports.specs.declared.refusal.Rule.TheVariants.{Tree, ConffileDiverted, PreDepends, Conflicts, ConflictEssential, Dependents, Breaks, Divert, Unknown, WrongState, Reinstreq, NothingToRemove, Essential, Depends, BrokenBy, ConffileKind, DependedOn}
-use Rattle.unwind_stack.specs.declared.fall.StepFault.{StepFault}
-use Rattle.unwind_stack.specs.declared.fall.StepFault.TheVariants as step
+use Rattle.undo_rows.specs.declared.fall.StepFault.{StepFault}
+use Rattle.undo_rows.specs.declared.fall.StepFault.TheVariants as step
 
 -- a fault of control text, with its line
 abbrev pub control_text : ControlFault → List ℕ

@@ -7,8 +7,8 @@ use Rattle.unit_reports.specs.declared.report.Reply.TheVariants.{Done, Refused, 
 use Rattle.report_lines.specs.Calls.{call_text}
 use Rattle.report_lines.specs.Faults.{rule_text, step_text}
 use Rattle.shown_lines.specs.Lines.{line}
-use Rattle.stack_run.specs.declared.failure.Failure.{Failure as Cause}
-use Rattle.stack_run.specs.declared.failure.Failure.TheVariants.{OfCall, OfFiles}
+use Rattle.undo_rows.specs.declared.failure.Failure.{Failure as Cause}
+use Rattle.undo_rows.specs.declared.failure.Failure.TheVariants.{OfCall, OfFiles}
 
 -- why a unit was broken off
 abbrev pub breakage_word : Breakage → List ℕ

@@ -1,7 +1,7 @@
 -- The line of a touched package: its record at the unit's end (Policy 6.6 names the states).
 use Rattle.std.specs.Prelude.{ℕ, List, ◌++◌, Option, Some, None, codes}
-use Rattle.status_db.specs.Words.{want_word, flag_word, state_word}
-use Rattle.status_db.specs.declared.record.Record.{Record}
+use Rattle.status_records.specs.Words.{want_word, flag_word, state_word}
+use Rattle.status_records.specs.declared.record.Record.{Record}
 use Rattle.shown_lines.specs.Lines.{line}
 use Rattle.unit_reports.specs.declared.report.Touched.{Touched}
 

@@ -12,8 +12,8 @@ use relation_fields::Clause;
 use shown_lines::line;
 use std::alloc::{AllocError, Global};
 use texts::Text;
+use undo_rows::StepFault;
 use unit_reports::Rule;
-use unwind_stack::StepFault;
 
 fn control_text(alloc: Global, fault: ControlFault) -> Result<String, AllocError>
     ensures { IfOk result (λ text. string_bytes text ≡ control_text fault) }

@@ -9,12 +9,11 @@ ghost use Rattle.report_lines.specs.States.{state_line, state_text};
 use crate::faults::{rule_text, step_text};
 use host_core::{Call, Outcome, Side};
 use shown_lines::line;
-use stack_run::Failure as Cause;
-use status_db::Record;
+use status_records::Record;
 use std::alloc::{AllocError, Global};
 use texts::Text;
+use undo_rows::{Called, Failure as Cause, StepFault};
 use unit_reports::{Breakage, Failure, Refusal, Reply, Report, Touched, Unit};
-use unwind_stack::{Called, StepFault};
 
 fn side_word(side: Side) -> &'static str
     ensures { result.now ≡ side_word side }

@@ -8,8 +8,8 @@ use Rattle.control_fields.specs.declared.field.Field.{Field}
 use Rattle.relation_fields.specs.RelationFields.{relation_key, IsRelation}
 use Rattle.relation_fields.specs.declared.relation_field.RelationField.{RelationField}
 use Rattle.relation_fields.specs.declared.relation_field.RelationField.TheVariants.{Depends, PreDepends, Breaks, Conflicts, Provides, Replaces}
-use Rattle.status_db.specs.Values.{relation_kind, IsReadableAs, IsReadableControl}
-use Rattle.status_db.specs.declared.values.Kind.TheVariants as kind
+use Rattle.status_records.specs.Values.{relation_kind, IsReadableAs, IsReadableControl}
+use Rattle.status_records.specs.declared.values.Kind.TheVariants as kind
 
 -- a field is read as the one that its name calls, if there is one
 

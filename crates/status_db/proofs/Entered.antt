@@ -2,9 +2,9 @@
 use Rattle.std.proofs.Common.{◌≡◌, ◌∙◌, ℕ, List, Option, Some, None, Result, Ok, Err, OnOk, sym, ap}
 use Rattle.std.specs.Map.{update}
 use Rattle.std.specs.Str.{bytes_eq}
-use Rattle.status_db.specs.declared.record.Record.{Record}
-use Rattle.status_db.specs.Records.{drop_record, put_record, record_in}
-use Rattle.status_db.proofs.Tables.{record_in-drop_record, record_in-put_record}
+use Rattle.status_records.specs.declared.record.Record.{Record}
+use Rattle.status_records.specs.Records.{drop_record, put_record, record_in}
+use Rattle.status_records.proofs.Tables.{record_in-drop_record, record_in-put_record}
 
 pub put_by : {E : Type 0} (result : Result (Unit {0}) E) (r : Record) (before after : List Record) (name : List ℕ) (kept : Option Record) → kept ≡ Some r → r.name ≡ name → OnOk result (after ≡ put_record r before)
     → OnOk result ((q : List ℕ) → record_in after q ≡ update bytes_eq (record_in before) name kept q)

@@ -1,15 +1,15 @@
 -- A table that is filled from a list of records.
 use Rattle.std.proofs.Common.{◌≡◌, inl, inr, ℕ, suc, ◌+◌, ◌-◌, ◌<◌, Bool, true, false, cond, List, [], ◌∷◌, ◌++◌, length, get_or, Option, Some, None, refl, sym, ap, subst, ◌∙◌, arith}
 use Rattle.std.specs.Str.{bytes_eq}
-use Rattle.status_db.specs.declared.record.Record.{Record}
+use Rattle.status_records.specs.declared.record.Record.{Record}
 use Rattle.status_db.specs.Order.{AreInOrder, IsBefore, names_of}
-use Rattle.status_db.specs.Records.{AreStanding, record_in, put_record}
-use Rattle.status_db.specs.Words.{is_not_installed}
+use Rattle.status_records.specs.Records.{AreStanding, record_in, put_record}
+use Rattle.status_records.specs.Words.{is_not_installed}
 use Rattle.std.specs.Ordering.{nat_cmp, is_lt}
 use Rattle.std.specs.Cmp.Lexicographic.{slice_cmp}
 use Rattle.std.proofs.lemmas.Bool.{cases_eq}
 use Rattle.status_db.proofs.Ordered.{before_all_then, name_at, told_before}
-use Rattle.status_db.proofs.Tables.{record_in-put_record}
+use Rattle.status_records.proofs.Tables.{record_in-put_record}
 
 -- the first, or else the second
 abbrev pub over : Option Record → Option Record → Option Record

@@ -7,16 +7,16 @@ use Rattle.host_core.specs.declared.node.Node.{Node}
 use Rattle.host_core.specs.declared.node.Node.TheVariants.{File}
 use Rattle.control_fields.specs.Spelling.{IsParagraph, spell}
 use Rattle.control_fields.proofs.Again.{again}
-use Rattle.status_db.specs.declared.record.Record.{Record}
-use Rattle.status_db.specs.declared.words.Want.TheVariants.{Unknown}
-use Rattle.status_db.specs.declared.words.Flag.TheVariants.{Ok}
-use Rattle.status_db.specs.declared.words.State.TheVariants.{NotInstalled}
-use Rattle.status_db.specs.Words.{is_not_installed}
-use Rattle.status_db.specs.Paragraphs.{line_field, paragraph_of, HasParts, IsEntry}
+use Rattle.status_records.specs.declared.record.Record.{Record}
+use Rattle.status_records.specs.declared.words.Want.TheVariants.{Unknown}
+use Rattle.status_records.specs.declared.words.Flag.TheVariants.{Ok}
+use Rattle.status_records.specs.declared.words.State.TheVariants.{NotInstalled}
+use Rattle.status_records.specs.Words.{is_not_installed}
+use Rattle.status_records.specs.Paragraphs.{line_field, paragraph_of, HasParts, IsEntry}
 use Rattle.status_db.specs.Notes.{IsNote, gone_fields, said_gone, said_of}
 use Rattle.status_db.specs.Noting.{IsNoteFile}
-use Rattle.status_db.proofs.Lines.{name_visible, package_is_field, status_is_field}
-use Rattle.status_db.proofs.Rounds.{entry_again, paragraph_written, whole_of}
+use Rattle.status_records.proofs.Lines.{name_visible, package_is_field, status_is_field}
+use Rattle.status_records.proofs.Rounds.{entry_again, paragraph_written, whole_of}
 
 note_again : (text : List ℕ) (r : Record) → HasParts r → text ≡ spell (paragraph_of r) → is_not_installed r.state ≡ false → ∥ IsNote text (said_of r) ∥₁
 note_again text r parts is there = ∥∥₁_map (whole_of r) (λ whole. subst (λ (t : List ℕ). IsNote t (said_of r)) (sym is) record {

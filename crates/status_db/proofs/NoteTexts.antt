@@ -12,15 +12,16 @@ use Rattle.control_fields.specs.declared.fault.ControlFault.{ControlFault}
 use Rattle.host_core.specs.declared.node.Access.{Access}
 use Rattle.host_core.specs.declared.node.Node.{Node}
 use Rattle.host_core.specs.declared.node.Node.TheVariants.{File}
-use Rattle.status_db.specs.declared.record.Record.{Record}
-use Rattle.status_db.specs.declared.reading.StatusFault.{StatusFault}
-use Rattle.status_db.specs.declared.reading.StatusFault.TheVariants.{Line, NoMemory}
-use Rattle.status_db.specs.Faults.{IsEntryFault, IsNoteTextFault, IsRestFault, IsSound, IsStartFault}
+use Rattle.status_records.specs.declared.record.Record.{Record}
+use Rattle.status_records.specs.declared.reading.StatusFault.{StatusFault}
+use Rattle.status_records.specs.declared.reading.StatusFault.TheVariants.{Line, NoMemory}
+use Rattle.status_records.specs.Faults.{IsEntryFault, IsSound}
+use Rattle.status_db.specs.NoteFaults.{IsNoteTextFault, IsRestFault, IsStartFault}
 use Rattle.status_db.specs.Notes.{IsNote, IsNoteAt, IsNoteTaken, IsSaid, entered}
-use Rattle.status_db.specs.Paragraphs.{IsEntry}
-use Rattle.status_db.specs.Records.{record_in}
-use Rattle.status_db.specs.Words.{is_not_installed}
-use Rattle.status_db.proofs.Sayings.{says_same}
+use Rattle.status_records.specs.Paragraphs.{IsEntry}
+use Rattle.status_records.specs.Records.{record_in}
+use Rattle.status_records.specs.Words.{is_not_installed}
+use Rattle.status_records.proofs.Sayings.{says_same}
 
 pub head_of : (ps : List Located) (l : Located) (e : (length ps == 0) ≡ false) → l ≡ get_or ps 0 l → ps ≡ l ∷ drop 1 ps
 head_of [] l e is = absurd (true≢false e)

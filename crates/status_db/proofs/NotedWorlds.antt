@@ -21,17 +21,17 @@ use Rattle.host_core.specs.declared.node.Node.TheVariants.{File, Dir, Link}
 use Rattle.administration.specs.Places.{home_path, status_path, updates_path, temporary}
 use Rattle.administration.specs.Files.{NoDirectory, KeepsBesideFile, IsReplaced, IsReplacing}
 use Rattle.administration.proofs.WholeFiles.{no_directory_file, no_directory_none, no_directory_at, no_slash}
-use Rattle.status_db.specs.declared.record.Record.{Record}
+use Rattle.status_records.specs.declared.record.Record.{Record}
 use Rattle.status_db.specs.Notes.{AreNotes, IsNoteAt, Note, below_limit, digits, entered, limit, note_path, said_gone, said_of, with_notes}
 use Rattle.status_db.specs.Noting.{AreMerged, AreNoted, HasRoom, IsEntered, IsMerging, IsNoteFile, IsNoting, IsPlaced, IsStatusFile, note_number}
 use Rattle.status_db.specs.Order.{AreInOrder}
-use Rattle.status_db.specs.Records.{drop_record, put_record, record_in, standing}
-use Rattle.status_db.specs.Status.{IsFileOf, IsStatusAt}
+use Rattle.status_records.specs.Records.{drop_record, put_record, record_in, standing}
+use Rattle.status_records.specs.Status.{IsFileOf, IsStatusAt}
 use Rattle.status_db.specs.Held.{AreKept, HasRecords, Holds, IsFree, IsUnblocked, is_record_place}
 use Rattle.status_db.specs.Taking.{HasReplacedNotes, HasTaken, IsReplacingNotes, KeepsBesideRecords}
 use Rattle.status_db.proofs.NotePaths.{note_path_once, spare_path_once, status_is_no_note, status_is_no_spare, spare_status_is_no_note, spare_status_is_no_spare, spare_is_no_note, home_is_no_note, home_is_no_spare, updates_is_no_note, updates_is_no_spare, home_is_no_status, home_is_no_spare_status, updates_is_no_status, updates_is_no_spare_status, odd_is_no_note, odd_is_no_spare, digits_plain}
 use Rattle.status_db.proofs.Ordered.{dropped_order, put_order}
-use Rattle.status_db.proofs.Tables.{record_in-drop_record, record_in-put_record}
+use Rattle.status_records.proofs.Tables.{record_in-drop_record, record_in-put_record}
 use Rattle.status_db.proofs.Readings.{merged_table, greatest_last}
 
 -- places of records differ from others

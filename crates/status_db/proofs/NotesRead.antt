@@ -11,13 +11,13 @@ use Rattle.administration.specs.Files.{NoDirectory}
 use Rattle.administration.specs.declared.fault.AdministrationFault.{AdministrationFault}
 use Rattle.administration.specs.declared.fault.AdministrationFault.TheVariants.{Damaged, Device, NoMemory}
 use Rattle.administration.proofs.WholeFiles.{no_directory_none, no_directory_at}
-use Rattle.status_db.specs.declared.record.Record.{Record}
+use Rattle.status_records.specs.declared.record.Record.{Record}
 use Rattle.status_db.specs.NoteDamage.{AreNotesFine, IsFineNumber, IsNoteDamage, IsRecordsDamage}
 use Rattle.status_db.specs.NoteReading.{AreNumbersTaken, IsFileDamage, IsNameDamage, IsNotesDamage, IsNumberDamage, IsNumberTaken, IsNumbersDamage, IsSpareDamage}
 use Rattle.status_db.specs.Notes.{IsNoteAt, IsNoteTaken, Note, entered, limit, limit_is, note_path, with_notes, within_limit}
 use Rattle.status_db.specs.Order.{AreInOrder}
-use Rattle.status_db.specs.Records.{record_in, standing}
-use Rattle.status_db.specs.Status.{IsStatus, IsStatusAt, IsStatusDamage}
+use Rattle.status_records.specs.Records.{record_in, standing}
+use Rattle.status_records.specs.Status.{IsStatus, IsStatusAt, IsStatusDamage}
 use Rattle.status_db.specs.Held.{HasRecords, HasSame, Holds, IsFree, IsTableOf, IsTableOfText}
 use Rattle.status_db.proofs.Readings.{same_below}
 

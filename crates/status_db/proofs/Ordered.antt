@@ -12,11 +12,11 @@ use Rattle.std.proofs.lemmas.Bool.{true≢false, false≢true, false_from_ne_tru
 use Rattle.std.proofs.lemmas.Cmp.{tied_itself, nat_list_cmp_total}
 use Rattle.std.proofs.lemmas.Map.Lookups.{exact_bytes}
 use Rattle.std.proofs.lemmas.Slice.Eq.{bytes_eq-Decides}
-use Rattle.status_db.specs.declared.record.Record.{Record}
+use Rattle.status_records.specs.declared.record.Record.{Record}
 use Rattle.status_db.specs.Order.{IsBefore, IsBeforeAll, AreInOrder, IsPlaceOf, names_of}
-use Rattle.status_db.specs.Records.{record_in, drop_record, place_record, put_record, IsWithout, AreApart, AreStanding, standing}
-use Rattle.status_db.specs.Words.{is_not_installed}
-use Rattle.status_db.proofs.Tables.{found_here, passed_over}
+use Rattle.status_records.specs.Records.{record_in, drop_record, place_record, put_record, IsWithout, AreApart, AreStanding, standing}
+use Rattle.status_records.specs.Words.{is_not_installed}
+use Rattle.status_records.proofs.Tables.{found_here, passed_over}
 
 -- names
 

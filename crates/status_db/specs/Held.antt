@@ -12,9 +12,9 @@ use Rattle.administration.specs.Files.{NoDirectory}
 use Rattle.status_db.specs.Notes.{AreNotes, Note, limit, note_path, with_notes}
 use Rattle.status_db.specs.Order.{AreInOrder}
 use Rattle.status_db.specs.Recorded.{Recorded}
-use Rattle.status_db.specs.Records.{record_in, standing}
-use Rattle.status_db.specs.Status.{IsStatus, IsStatusAt}
-use Rattle.status_db.specs.declared.record.Record.{Record}
+use Rattle.status_records.specs.Records.{record_in, standing}
+use Rattle.status_records.specs.Status.{IsStatus, IsStatusAt}
+use Rattle.status_records.specs.declared.record.Record.{Record}
 
 -- a table with the records of the text, or of the status file that stands there
 abbrev pub HasSame : List Record → List Record → Type 0

@@ -1,18 +1,3 @@
-pub mod Words
-pub mod Fields
-pub mod ConffilePaths
-pub mod Digests
-pub mod ConffileFields
-pub mod Values
-pub mod Writable
-pub mod Records
-pub mod Paragraphs
-pub mod Conffiles
-pub mod Configured
-pub mod Standings
-pub mod Damage
-pub mod Faults
-pub mod Status
 pub mod Order
 pub mod Notes
 pub mod Recorded
@@ -22,3 +7,4 @@ pub mod NoteReading
 pub mod Noting
 pub mod Fault
 pub mod Held
+pub mod NoteFaults

@@ -15,12 +15,12 @@ use Rattle.control_fields.specs.Faults.{IsReadTo}
 use Rattle.control_fields.specs.declared.field.Field.{Field}
 use Rattle.control_fields.specs.declared.located.Located.{Located}
 use Rattle.control_fields.specs.declared.fault.ControlFault.{ControlFault}
-use Rattle.status_db.specs.Damage.{IsBadField, IsFaultyEntry, line_in}
+use Rattle.status_records.specs.Damage.{IsBadField, IsFaultyEntry, line_in}
 use Rattle.status_db.specs.Notes.{IsNoteAt, Note, limit, note_path}
-use Rattle.status_db.specs.Paragraphs.{IsEntry}
-use Rattle.status_db.specs.Status.{IsDamageAt, IsStatusAt}
-use Rattle.status_db.specs.Values.{IsReadable}
-use Rattle.status_db.specs.declared.record.Record.{Record}
+use Rattle.status_records.specs.Paragraphs.{IsEntry}
+use Rattle.status_records.specs.Status.{IsDamageAt, IsStatusAt}
+use Rattle.status_records.specs.Values.{IsReadable}
+use Rattle.status_records.specs.declared.record.Record.{Record}
 
 -- the line that a fault of the grammar tells, or the first where the text has no field
 abbrev pub end_line : Option ControlFault → ℕ

@@ -9,8 +9,8 @@ use Rattle.administration.specs.declared.fault.AdministrationFault.{Administrati
 use Rattle.administration.specs.declared.fault.AdministrationFault.TheVariants.{Damaged, Device, NoMemory}
 use Rattle.status_db.specs.NoteDamage.{AreNotesDamaged, IsFaultyNumber, IsFirstFaultyNumber, IsNoteDamage}
 use Rattle.status_db.specs.Notes.{IsNoteAt, Note, digits, entered, note_path, with_notes}
-use Rattle.status_db.specs.Records.{record_in}
-use Rattle.status_db.specs.declared.record.Record.{Record}
+use Rattle.status_records.specs.Records.{record_in}
+use Rattle.status_records.specs.declared.record.Record.{Record}
 
 -- a number that isn't marked is that of no name among these, whatever follows its digits
 pub record HasMarks (marks : List Bool) (names : List Path) : Type 0 where

@@ -10,10 +10,10 @@ use Rattle.host_core.specs.declared.node.Node.{Node}
 use Rattle.host_core.specs.declared.node.Node.TheVariants.{File, Dir, Link}
 use Rattle.control_fields.specs.Grammar.{Reads, lines_of}
 use Rattle.control_fields.specs.declared.field.Field.{Field}
-use Rattle.status_db.specs.Paragraphs.{IsEntry, line_field}
-use Rattle.status_db.specs.Records.{record_in}
-use Rattle.status_db.specs.Words.{is_not_installed}
-use Rattle.status_db.specs.declared.record.Record.{Record}
+use Rattle.status_records.specs.Paragraphs.{IsEntry, line_field}
+use Rattle.status_records.specs.Records.{record_in}
+use Rattle.status_records.specs.Words.{is_not_installed}
+use Rattle.status_records.specs.declared.record.Record.{Record}
 
 -- four digits
 abbrev pub digits : ℕ → List ℕ

@@ -10,11 +10,11 @@ use Rattle.administration.specs.Places.{status_path}
 use Rattle.status_db.specs.Notes.{IsNote, Note, entered, note_path}
 use Rattle.status_db.specs.Order.{AreInOrder}
 use Rattle.status_db.specs.Recorded.{Recorded}
-use Rattle.status_db.specs.Records.{drop_record, put_record, record_in}
-use Rattle.status_db.specs.Status.{IsFileOf, IsStatus}
+use Rattle.status_records.specs.Records.{drop_record, put_record, record_in}
+use Rattle.status_records.specs.Status.{IsFileOf, IsStatus}
 use Rattle.status_db.specs.Held.{AreKept, CanOpenRecords, HasRecords, is_record_place}
-use Rattle.status_db.specs.Words.{is_not_installed}
-use Rattle.status_db.specs.declared.record.Record.{Record}
+use Rattle.status_records.specs.Words.{is_not_installed}
+use Rattle.status_records.specs.declared.record.Record.{Record}
 
 -- the number of a note, where so many came before it: 250 stand at most, then all are merged first
 abbrev pub note_number : ℕ → ℕ

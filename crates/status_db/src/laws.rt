@@ -5,8 +5,8 @@ ghost use Rattle.std.specs.Str.{bytes_eq};
 ghost use Rattle.host_core.specs.World.{World, IsDirectory, SameOn};
 ghost use Rattle.administration.specs.Places.{home_path, updates_path};
 ghost use Rattle.status_db.specs.Held.{AreKept, HasRecords, is_record_place};
-ghost use Rattle.status_db.specs.declared.record.Record.{Record as ARecord};
-ghost use Rattle.status_db.specs.Records.{record_in, put_record, drop_record};
+ghost use Rattle.status_records.specs.declared.record.Record.{Record as ARecord};
+ghost use Rattle.status_records.specs.Records.{record_in, put_record, drop_record};
 
 /// Setting and dropping a record changes the look-up of its name alone.
 pub fn records_are_a_table()

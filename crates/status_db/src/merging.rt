@@ -11,9 +11,9 @@ ghost use Rattle.status_db.specs.Taking.{HasReplacedNotes, IsReplacingNotes, IsT
 
 use crate::note_paths::note_path;
 use crate::table::Table;
-use crate::writing::status_node;
 use administration::{STATUS, discard, replace};
 use host_core::{Host, HostFault, Node, RootPath};
+use status_records::status_node;
 use std::alloc::Global;
 
 fn discard_note<H: Host>(alloc: Global, host: &mut H, number: u16) -> Result<(), HostFault>

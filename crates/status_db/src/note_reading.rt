@@ -1,17 +1,16 @@
 // Reading a note: a text that is one paragraph.
 ghost use Rattle.std.specs.Prelude.{◌≡◌, [], ℕ, List, None, Some, IfOk, IfErr, OnOk};
-ghost use Rattle.status_db.specs.Damage.{HasLines};
-ghost use Rattle.status_db.specs.Faults.{IsNoteFileFault, IsNoteTextFault, IsRestFault, IsStartFault};
+ghost use Rattle.status_records.specs.Damage.{HasLines};
+ghost use Rattle.status_db.specs.NoteFaults.{IsNoteFileFault, IsNoteTextFault, IsRestFault, IsStartFault};
 ghost use Rattle.status_db.specs.NoteDamage.{end_line};
 ghost use Rattle.status_db.specs.Notes.{IsNote, IsNoteTaken, IsSaid, entered};
-ghost use Rattle.status_db.specs.Records.{record_in};
+ghost use Rattle.status_records.specs.Records.{record_in};
 
-use crate::names::Names;
-use crate::reading::{Entry, StatusFault, entry_of, first_bad, line_in};
 use crate::table::Table;
 use administration::AdministrationFault;
 use control_fields::{ControlFault, Located, read_located};
 use host_core::{Node, RootPath};
+use status_records::{Entry, Names, StatusFault, entry_of, first_bad, line_in};
 use std::alloc::{AllocError, Global};
 
 fn end_line(fault: Option<ControlFault>) -> u64

@@ -5,12 +5,11 @@ ghost use Rattle.host_core.specs.declared.node.Node.TheVariants.{File};
 ghost use Rattle.texts.specs.PackageNames.{is_package_name};
 ghost use Rattle.status_db.specs.Notes.{gone_fields, said_gone, said_of};
 ghost use Rattle.status_db.specs.Noting.{IsNoteFile};
-ghost use Rattle.status_db.specs.Words.{is_not_installed};
+ghost use Rattle.status_records.specs.Words.{is_not_installed};
 
-use crate::record::Record;
-use crate::writing::{add_line, paragraph_of};
 use control_fields::{Paragraph, write_paragraph};
 use host_core::{Access, Node};
+use status_records::{Record, add_line, paragraph_of};
 use std::alloc::{AllocError, Global};
 use texts::{Bytes, Text};
 

@@ -4,21 +4,21 @@ ghost use Rattle.host_core.specs.World.{IsFile, World};
 ghost use Rattle.host_core.specs.Host.{AtEachMoment, Counts, Leaves, Needs, Silent};
 ghost use Rattle.administration.specs.Files.{IsReplaced, IsReplacing, NoDirectory};
 ghost use Rattle.texts.specs.PackageNames.{is_package_name};
-ghost use Rattle.status_db.specs.declared.record.Record.{Record as ARecord};
+ghost use Rattle.status_records.specs.declared.record.Record.{Record as ARecord};
 ghost use Rattle.status_db.specs.Notes as place;
 ghost use Rattle.status_db.specs.Notes.{Note};
 ghost use Rattle.status_db.specs.Noting.{AreNoted, HasRoom, IsEntered, IsMerging, IsNoteFile, IsNoting, IsPlaced, entered_in, note_number, writes_note};
-ghost use Rattle.status_db.specs.Records.{record_in, put_record, drop_record};
+ghost use Rattle.status_records.specs.Records.{record_in, put_record, drop_record};
 ghost use Rattle.status_db.specs.Held.{AreKept, IsUnblocked};
-ghost use Rattle.status_db.specs.Words.{is_not_installed};
+ghost use Rattle.status_records.specs.Words.{is_not_installed};
 
 use crate::merging::merge;
 use crate::note_paths::note_path;
 use crate::note_text::{gone_node, note_node};
-use crate::record::Record;
 use crate::table::Table;
 use administration::replace;
 use host_core::{Host, HostFault, Node};
+use status_records::Record;
 use std::alloc::Global;
 use texts::Text;
 

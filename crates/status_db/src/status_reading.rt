@@ -4,13 +4,13 @@ ghost use Rattle.host_core.specs.Host.{Reads, Silent, Tells};
 ghost use Rattle.administration.specs.Fault.{CountsAdministration};
 ghost use Rattle.administration.specs.Places.{status_path};
 ghost use Rattle.administration.specs.declared.fault.AdministrationFault.TheVariants.{Device};
-ghost use Rattle.status_db.specs.Status.{IsFileDamage, IsNodeDamage, IsStatusDamage};
+ghost use Rattle.status_records.specs.Status.{IsFileDamage, IsNodeDamage, IsStatusDamage};
 ghost use Rattle.status_db.specs.Held.{IsTableOf, IsTableOfText};
 
-use crate::reading::{StatusFault, read_text};
 use crate::table::Table;
 use administration::{AdministrationFault, STATUS};
 use host_core::{Host, Node, RootPath};
+use status_records::{StatusFault, read_text};
 use std::alloc::Global;
 
 fn read_file(alloc: Global, path: RootPath, bytes: &[u8]) -> Result<Table, AdministrationFault>

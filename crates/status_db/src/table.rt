@@ -3,12 +3,12 @@ ghost use Rattle.std.specs.Prelude.{◌≡◌, ◌<◌, ◌≤◌, List, [], fal
 ghost use Rattle.std.specs.Cmp.Lexicographic.{slice_cmp};
 ghost use Rattle.std.specs.Option.{option_copied};
 ghost use Rattle.std.specs.Ordering.{nat_cmp, is_lt};
-ghost use Rattle.status_db.specs.declared.record.Record.{Record as ARecord};
+ghost use Rattle.status_records.specs.declared.record.Record.{Record as ARecord};
 ghost use Rattle.status_db.specs.Order.{AreInOrder, IsPlaceOf, IsThere};
-ghost use Rattle.status_db.specs.Records.{AreStanding, record_in, put_record, drop_record, standing};
-ghost use Rattle.status_db.specs.Words.{is_not_installed};
+ghost use Rattle.status_records.specs.Records.{AreStanding, record_in, put_record, drop_record, standing};
+ghost use Rattle.status_records.specs.Words.{is_not_installed};
 
-use crate::record::Record;
+use status_records::Record;
 use std::alloc::{AllocError, Global};
 use std::cmp::Ordering;
 use std::marker::Model;

@@ -11,10 +11,10 @@ use Rattle.diversions.specs.declared.entry.Diversion.{Diversion}
 use Rattle.file_lists.specs.Owners.{places_in}
 use Rattle.file_lists.specs.Writing.{with_list}
 use Rattle.file_lists.specs.declared.paths.PackageList.{PackageList}
-use Rattle.unit_parts.specs.Parts.{part_lists, parts_lists}
-use Rattle.unit_parts.specs.declared.part.Part.{Part}
-use Rattle.unit_parts.specs.declared.part.Part.TheVariants.{Note, Forget, Settle, Remove, RemoveDirectories, Clear, List as Listing, DropList, DropMembers}
-use Rattle.status_db.specs.declared.record.Record.{Record}
+use Rattle.unit_stages.specs.Parts.{part_lists, parts_lists}
+use Rattle.unit_stages.specs.declared.part.Part.{Part}
+use Rattle.unit_stages.specs.declared.part.Part.TheVariants.{Note, Forget, Settle, Remove, RemoveDirectories, Clear, List as Listing, DropList, DropMembers}
+use Rattle.status_records.specs.declared.record.Record.{Record}
 use Rattle.unit_stages.specs.Holding.{Holding, after_parts, after_stages}
 use Rattle.unit_stages.specs.Runs.{kept_by}
 use Rattle.unit_stages.specs.Running.{ArePast, AreRunning, IsCalling, IsInNext, IsInStage}

@@ -18,18 +18,18 @@ use Rattle.diversions.specs.declared.entry.Diversion.{Diversion}
 use Rattle.file_lists.specs.Owners.{paths_of}
 use Rattle.file_lists.specs.declared.paths.PackageList.{PackageList}
 use Rattle.list_changes.specs.Leaving.{leaving_of}
-use Rattle.status_db.specs.declared.record.Record.{Record}
-use Rattle.status_db.specs.declared.words.State.{State}
-use Rattle.status_db.specs.declared.words.State.TheVariants as state
-use Rattle.unit_parts.specs.Doing.{MayDrop}
+use Rattle.status_records.specs.declared.record.Record.{Record}
+use Rattle.status_records.specs.declared.words.State.{State}
+use Rattle.status_records.specs.declared.words.State.TheVariants as state
+use Rattle.unit_stages.specs.Doing.{MayDrop}
 use Rattle.unit_stages.specs.Holding.{Holding, after_stages}
 use Rattle.unit_stages.specs.Running.{AreRunning, IsInNext, IsInStage}
 use Rattle.unit_stages.specs.declared.stage.Stage.{Stage}
 use Rattle.unpack_commit.proofs.Left.{member_within}
 use Rattle.unpack_commit.proofs.Ready.{member_is_no_list}
 use Rattle.unpack_commit.proofs.Stays.{no_leaving_place}
-use Rattle.unpack_moves.specs.Areas.{is_leaving_place}
-use Rattle.unpack_moves.specs.Concluding.{AreElsewhere}
+use Rattle.listed_files.specs.Areas.{is_leaving_place}
+use Rattle.listed_files.specs.Concluding.{AreElsewhere}
 use Rattle.configure_engine.specs.Units.{Given as Configuring, IsAmid as IsAmidConfiguring}
 use Rattle.removal_engine.specs.Lists.{leaving_directories}
 use Rattle.removal_engine.specs.Names.{cleared_names, purged_names, waiting_names}

@@ -9,10 +9,10 @@ use Rattle.host_core.specs.declared.call.Script.TheVariants.{Postinst}
 use Rattle.host_core.specs.declared.call.Side.TheVariants.{Old}
 use Rattle.administration.specs.Places.{script_path}
 use Rattle.file_lists.specs.Owners.{paths_of}
-use Rattle.status_db.specs.declared.record.Record.{Record}
-use Rattle.unwind_stack.specs.Transcript.{Tries, UndoesRow}
-use Rattle.unwind_stack.specs.declared.rows.Owner.{Owner}
-use Rattle.unwind_stack.specs.declared.rows.Row.{Row}
+use Rattle.status_records.specs.declared.record.Record.{Record}
+use Rattle.undo_rows.specs.Transcript.{Tries, UndoesRow}
+use Rattle.undo_rows.specs.declared.rows.Owner.{Owner}
+use Rattle.undo_rows.specs.declared.rows.Row.{Row}
 use Rattle.unit_stages.specs.Calls.{AreCallsOf, Fails, MayRunStages}
 use Rattle.unit_stages.specs.declared.stage.Stage.{Stage}
 use Rattle.configure_engine.specs.Stages.{AreConfigureStages, postinst_call, postinst_row, quiet_row}

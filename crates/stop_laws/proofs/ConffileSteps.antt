@@ -14,14 +14,14 @@ use Rattle.conffiles.specs.declared.decisions.ConfPolicy.{ConfPolicy}
 use Rattle.conffiles.specs.declared.decisions.Decision.{Decision}
 use Rattle.conffiles.specs.declared.entries.Settled.{Settled}
 use Rattle.file_lists.specs.Owners.{paths_of}
-use Rattle.status_db.specs.Conffiles.{recorded_digest}
+use Rattle.status_records.specs.Conffiles.{recorded_digest}
 use Rattle.status_db.specs.Held.{HasRecords}
 use Rattle.status_db.specs.Recorded.{Recorded}
-use Rattle.status_db.specs.Records.{put_record, record_in}
-use Rattle.status_db.specs.declared.record.Record.{Record}
-use Rattle.unit_parts.specs.Order.{IsInOrder}
-use Rattle.unit_parts.proofs.ConffileNames.{beside_outside, home_outside}
-use Rattle.unwind_stack.specs.declared.rows.Row.{Row}
+use Rattle.status_records.specs.Records.{put_record, record_in}
+use Rattle.status_records.specs.declared.record.Record.{Record}
+use Rattle.unit_stages.specs.Order.{IsInOrder}
+use Rattle.unit_stages.proofs.ConffileNames.{beside_outside, home_outside}
+use Rattle.undo_rows.specs.declared.rows.Row.{Row}
 use Rattle.removal_engine.specs.Stages.{Deed}
 use Rattle.removal_engine.proofs.Deeds.{deeds_records}
 use Rattle.removal_engine.proofs.Tables.{one_record, put_own}

@@ -4,12 +4,12 @@ use Rattle.std.specs.List.{list_any}
 use Rattle.host_core.specs.Paths.{Path}
 use Rattle.conffiles.specs.Settling.{is_conffile_name, is_name_of_some}
 use Rattle.conffiles.specs.declared.entries.Settled.{Settled}
-use Rattle.status_db.specs.Standings.{configured}
-use Rattle.status_db.specs.declared.record.Record.{Record}
-use Rattle.unit_parts.specs.declared.part.Part.{Part}
-use Rattle.unit_parts.specs.declared.part.Part.TheVariants.{Note, Forget, Settle, Remove, RemoveDirectories, Clear, List as Listing, DropList, DropMembers}
+use Rattle.status_records.specs.Standings.{configured}
+use Rattle.status_records.specs.declared.record.Record.{Record}
+use Rattle.unit_stages.specs.declared.part.Part.{Part}
+use Rattle.unit_stages.specs.declared.part.Part.TheVariants.{Note, Forget, Settle, Remove, RemoveDirectories, Clear, List as Listing, DropList, DropMembers}
 use Rattle.unit_stages.specs.declared.stage.Stage.{Stage}
-use Rattle.unwind_stack.specs.declared.rows.Row.{Row}
+use Rattle.undo_rows.specs.declared.rows.Row.{Row}
 use Rattle.removal_engine.specs.Stages.{Deed, Planned, deed, planned}
 use Rattle.configure_engine.specs.Decided.{decided_paths}
 use Rattle.configure_engine.specs.Settled.{settled}

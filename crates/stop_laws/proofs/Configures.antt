@@ -17,15 +17,15 @@ use Rattle.file_lists.specs.Owners.{paths_of, has_other_owner}
 use Rattle.file_lists.specs.Writing.{list_file}
 use Rattle.status_db.specs.Held.{HasRecords, is_record_place}
 use Rattle.status_db.specs.Recorded.{Recorded}
-use Rattle.status_db.specs.Records.{record_in}
-use Rattle.status_db.specs.declared.record.Record.{Record}
-use Rattle.unit_parts.specs.Order.{IsInOrder}
-use Rattle.unit_parts.proofs.ConffileNames.{below_none}
-use Rattle.unit_parts.proofs.Places.{kept_opens}
+use Rattle.status_records.specs.Records.{record_in}
+use Rattle.status_records.specs.declared.record.Record.{Record}
+use Rattle.unit_stages.specs.Order.{IsInOrder}
+use Rattle.unit_stages.proofs.ConffileNames.{below_none}
+use Rattle.unit_stages.proofs.Places.{kept_opens}
 use Rattle.unpack_commit.proofs.Left.{same_list}
 use Rattle.unpack_commit.proofs.Ready.{member_is_no_list}
-use Rattle.unpack_moves.proofs.Apart.{list_below, spare_below}
-use Rattle.unpack_run.proofs.Standing.{record_below}
+use Rattle.listed_files.proofs.Apart.{list_below, spare_below}
+use Rattle.unpack_steps.proofs.Standing.{record_below}
 use Rattle.removal_engine.specs.Stages.{Deed, Planned, planned}
 use Rattle.removal_engine.proofs.Tables.{is_named, one_record}
 use Rattle.configure_engine.specs.Decided.{decided_paths}

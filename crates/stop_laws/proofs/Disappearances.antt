@@ -13,15 +13,15 @@ use Rattle.control_members.specs.Stored.{stored_member_path}
 use Rattle.control_members.proofs.Apart.{no_list_temporary, same_stored}
 use Rattle.diversions.specs.declared.entry.Diversion.{Diversion}
 use Rattle.status_db.specs.Held.{HasRecords}
-use Rattle.status_db.specs.Records.{record_in}
-use Rattle.status_db.specs.declared.record.Record.{Record}
+use Rattle.status_records.specs.Records.{record_in}
+use Rattle.status_records.specs.declared.record.Record.{Record}
 use Rattle.unit_stages.specs.Holding.{Holding}
 use Rattle.unit_stages.specs.Running.{AreRunning}
 use Rattle.unit_stages.specs.Runs.{HaveRun, kept_by}
 use Rattle.unit_stages.specs.declared.stage.Stage.{Stage}
 use Rattle.unpack_commit.proofs.Left.{same_list}
 use Rattle.unpack_commit.proofs.Ready.{list_is_no_member, member_is_no_list}
-use Rattle.unwind_stack.specs.declared.rows.Row.{Row}
+use Rattle.undo_rows.specs.declared.rows.Row.{Row}
 use Rattle.removal_engine.specs.Stages.{Planned, gone_stage, planned, stage_of}
 use Rattle.disappearance.specs.Stages.{ArePlanned, disappear_row}
 use Rattle.disappearance.specs.Units.{IsAmidOne, IsAmidUnit, IsBehindCall, IsInOrderWith, IsRunningBoth}

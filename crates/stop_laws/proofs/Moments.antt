@@ -13,12 +13,12 @@ use Rattle.file_removal.specs.Clearing.{Cleared, IsClearing}
 use Rattle.file_removal.specs.Removal.{IsRemoving, IsRemovingDirectories, Removed, RemovedDirectories}
 use Rattle.status_db.specs.Held.{HasRecords}
 use Rattle.status_db.specs.Noting.{IsNoting}
-use Rattle.status_db.specs.Records.{drop_record, put_record}
-use Rattle.status_db.specs.declared.record.Record.{Record}
-use Rattle.unit_parts.specs.Doing.{AreDoing, IsFirstDoing, MayDo, MayDrop}
-use Rattle.unit_parts.specs.Parts.{HasDone, HasDropped, HasNoted, HaveDone, part_records, parts_records}
-use Rattle.unit_parts.specs.declared.part.Part.{Part}
-use Rattle.unit_parts.specs.declared.part.Part.TheVariants.{Note, Forget, Settle, Remove, RemoveDirectories, Clear, List as Listing, DropList, DropMembers}
+use Rattle.status_records.specs.Records.{drop_record, put_record}
+use Rattle.status_records.specs.declared.record.Record.{Record}
+use Rattle.unit_stages.specs.Doing.{AreDoing, IsFirstDoing, MayDo, MayDrop}
+use Rattle.unit_stages.specs.Parts.{HasDone, HasDropped, HasNoted, HaveDone, part_records, parts_records}
+use Rattle.unit_stages.specs.declared.part.Part.{Part}
+use Rattle.unit_stages.specs.declared.part.Part.TheVariants.{Note, Forget, Settle, Remove, RemoveDirectories, Clear, List as Listing, DropList, DropMembers}
 use Rattle.unit_stages.specs.Holding.{Holding, after_parts, after_stages}
 use Rattle.unit_stages.specs.Running.{ArePast, AreRunning, IsCalling, IsInNext, IsInStage, IsOpenable}
 use Rattle.unit_stages.specs.declared.stage.Stage.{Stage}

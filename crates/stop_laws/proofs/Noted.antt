@@ -2,8 +2,8 @@
 use Rattle.std.proofs.Common.{◌≡◌, ◌≢◌, inl, inr, ℕ, List, [], ◌∷◌, Option, Some, None, sym, subst, ◌∙◌}
 use Rattle.host_core.specs.World.{World, Change, changed}
 use Rattle.status_db.specs.Held.{HasRecords}
-use Rattle.status_db.specs.Records.{record_in}
-use Rattle.status_db.specs.declared.record.Record.{Record}
+use Rattle.status_records.specs.Records.{record_in}
+use Rattle.status_records.specs.declared.record.Record.{Record}
 use Rattle.removal_engine.specs.Stages.{Deed, Planned}
 use Rattle.removal_engine.proofs.Deeds.{deed_records, deeds_records}
 use Rattle.removal_engine.proofs.EndRecords.{IsOwn}

@@ -20,10 +20,10 @@ use Rattle.file_lists.specs.declared.paths.PackageList.{PackageList}
 use Rattle.file_removal.specs.Clearing.{is_among}
 use Rattle.list_changes.specs.Clearable.{clearable, is_clearable}
 use Rattle.list_changes.specs.Leaving.{is_place_of, leaving_of}
-use Rattle.status_db.specs.declared.entries.ConffileEntry.{ConffileEntry}
-use Rattle.status_db.specs.declared.entries.PendingDigest.{PendingDigest}
-use Rattle.status_db.specs.declared.record.Record.{Record}
-use Rattle.unpack_moves.specs.Areas.{is_leaving_place}
+use Rattle.status_records.specs.declared.entries.ConffileEntry.{ConffileEntry}
+use Rattle.status_records.specs.declared.entries.PendingDigest.{PendingDigest}
+use Rattle.status_records.specs.declared.record.Record.{Record}
+use Rattle.listed_files.specs.Areas.{is_leaving_place}
 use Rattle.removal_engine.specs.Names.{cleared_names, ownerless, purged_names, side_names, side_names_at, unpack_names, waiting_names}
 use Rattle.removal_engine.specs.Records.{entry_paths}
 use Rattle.removal_engine.specs.Scripts.{stored_in}

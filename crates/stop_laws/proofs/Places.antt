@@ -9,8 +9,8 @@ use Rattle.administration.specs.Places.{diversions_path, home_path, is_within, l
 use Rattle.control_members.specs.Stored.{stored_member_path}
 use Rattle.status_db.specs.Held.{is_record_place}
 use Rattle.unpack_commit.proofs.Left.{list_within, member_within}
-use Rattle.unpack_moves.proofs.Closings.{below_within}
-use Rattle.unpack_run.proofs.Standing.{record_below}
+use Rattle.listed_files.proofs.Closings.{below_within}
+use Rattle.unpack_steps.proofs.Standing.{record_below}
 use Rattle.stop_laws.proofs.Taken.{IsSet}
 
 -- outside the administration's directory

@@ -8,10 +8,10 @@ use Rattle.host_core.specs.Host.{Calls, State, finished}
 use Rattle.host_core.proofs.Scripts.{Avoids-append, changed-append, changes_of-append, no_change, silent_added}
 use Rattle.host_core.specs.declared.call.Call.{Call}
 use Rattle.diversions.specs.declared.entry.Diversion.{Diversion}
-use Rattle.unwind_stack.specs.declared.rows.Called.{Called}
-use Rattle.unwind_stack.specs.declared.rows.Owner.{Owner}
-use Rattle.unwind_stack.specs.declared.rows.Row.{Row}
-use Rattle.unit_parts.specs.declared.part.Part.{Part}
+use Rattle.undo_rows.specs.declared.rows.Called.{Called}
+use Rattle.undo_rows.specs.declared.rows.Owner.{Owner}
+use Rattle.undo_rows.specs.declared.rows.Row.{Row}
+use Rattle.unit_stages.specs.declared.part.Part.{Part}
 use Rattle.unit_stages.specs.Holding.{Holding, after_parts}
 use Rattle.unit_stages.specs.Runs.{DoesParts, HasFallen, HasRestored, HasUndone, HaveRun, kept_by}
 use Rattle.unit_stages.specs.declared.stage.Stage.{Stage}

@@ -16,14 +16,14 @@ use Rattle.file_removal.specs.Clearing.{is_among}
 use Rattle.list_changes.specs.Leaving.{leaving_of}
 use Rattle.status_db.specs.Held.{HasRecords, is_record_place}
 use Rattle.status_db.specs.Recorded.{Recorded}
-use Rattle.status_db.specs.declared.record.Record.{Record}
-use Rattle.unit_parts.specs.Order.{IsInOrder}
-use Rattle.unit_parts.proofs.Places.{kept_opens}
+use Rattle.status_records.specs.declared.record.Record.{Record}
+use Rattle.unit_stages.specs.Order.{IsInOrder}
+use Rattle.unit_stages.proofs.Places.{kept_opens}
 use Rattle.unpack_commit.proofs.Left.{list_within, member_within, same_list}
 use Rattle.unpack_commit.proofs.Ready.{list_is_no_member, member_is_no_list}
 use Rattle.unpack_commit.proofs.Stays.{no_leaving_place}
-use Rattle.unpack_moves.specs.Areas.{is_leaving_place}
-use Rattle.unpack_moves.specs.Concluding.{AreElsewhere}
+use Rattle.listed_files.specs.Areas.{is_leaving_place}
+use Rattle.listed_files.specs.Concluding.{AreElsewhere}
 use Rattle.removal_engine.specs.Lists.{IsToCome}
 use Rattle.removal_engine.specs.Names.{cleared_names, purged_names, waiting_names}
 use Rattle.removal_engine.specs.Records.{config_files, entry_paths}

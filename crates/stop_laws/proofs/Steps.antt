@@ -10,11 +10,11 @@ use Rattle.administration.specs.Places.{home_path, is_within}
 use Rattle.file_lists.specs.Owners.{paths_of}
 use Rattle.status_db.specs.Held.{HasRecords}
 use Rattle.status_db.specs.Recorded.{Recorded}
-use Rattle.status_db.specs.Records.{put_record, record_in}
-use Rattle.status_db.specs.declared.record.Record.{Record}
-use Rattle.status_db.specs.declared.words.State.{State}
-use Rattle.status_db.specs.declared.words.State.TheVariants as state
-use Rattle.unit_parts.specs.Order.{IsInOrder}
+use Rattle.status_records.specs.Records.{put_record, record_in}
+use Rattle.status_records.specs.declared.record.Record.{Record}
+use Rattle.status_records.specs.declared.words.State.{State}
+use Rattle.status_records.specs.declared.words.State.TheVariants as state
+use Rattle.unit_stages.specs.Order.{IsInOrder}
 use Rattle.removal_engine.specs.Extents.{BeginsFrom}
 use Rattle.removal_engine.specs.Lists.{IsToCome, leaving_files}
 use Rattle.removal_engine.specs.Names.{cleared_names, purged_names, waiting_names}

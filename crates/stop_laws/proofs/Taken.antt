@@ -18,9 +18,9 @@ use Rattle.file_removal.specs.Clearing.{Cleared, IsClearing, cleared, is_among}
 use Rattle.file_removal.specs.Removal.{GoesBy, IsRemovingBy, RemovedBy}
 use Rattle.file_removal.specs.declared.leaving.Leaving.{Leaving}
 use Rattle.status_db.specs.Held.{is_record_place}
-use Rattle.status_db.specs.declared.record.Record.{Record}
-use Rattle.unit_parts.specs.Doing.{MayDrop}
-use Rattle.unpack_moves.specs.Areas.{is_leaving_place}
+use Rattle.status_records.specs.declared.record.Record.{Record}
+use Rattle.unit_stages.specs.Doing.{MayDrop}
+use Rattle.listed_files.specs.Areas.{is_leaving_place}
 use Rattle.removal_engine.specs.Stages.{Deed, Planned}
 use Rattle.removal_engine.proofs.Deeds.{deed_records, deeds_records}
 use Rattle.stop_laws.proofs.Moments.{All, AllDone, AllIn, Amid, AmidStages, Done, IsBefore, IsCalled, IsInside, May}

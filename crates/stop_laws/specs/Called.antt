@@ -4,7 +4,7 @@ use Rattle.host_core.specs.World.{World}
 use Rattle.host_core.specs.declared.call.Call.{Call}
 use Rattle.host_core.specs.declared.call.Side.TheVariants.{Old}
 use Rattle.administration.specs.Places.{script_path}
-use Rattle.unwind_stack.specs.declared.rows.Row.{Row}
+use Rattle.undo_rows.specs.declared.rows.Row.{Row}
 use Rattle.unit_stages.specs.declared.stage.Stage.{Stage}
 
 -- a call of a row: on the way forward, in the place of one that failed, or one that undoes it

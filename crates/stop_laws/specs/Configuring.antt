@@ -8,11 +8,11 @@ use Rattle.conffiles.specs.Settling.{files_at, is_conffile_name, IsBetween, IsDe
 use Rattle.conffiles.specs.declared.decisions.Decision.{Decision}
 use Rattle.file_lists.specs.Owners.{paths_of}
 use Rattle.file_lists.specs.Writing.{list_file}
-use Rattle.status_db.specs.Conffiles.{recorded_digest}
+use Rattle.status_records.specs.Conffiles.{recorded_digest}
 use Rattle.status_db.specs.Held.{CanOpenRecords, HasRecords}
-use Rattle.status_db.specs.Records.{record_in}
-use Rattle.status_db.specs.Standings.{configured}
-use Rattle.status_db.specs.declared.record.Record.{Record}
+use Rattle.status_records.specs.Records.{record_in}
+use Rattle.status_records.specs.Standings.{configured}
+use Rattle.status_records.specs.declared.record.Record.{Record}
 use Rattle.configure_engine.specs.Settled.{settled}
 use Rattle.configure_engine.specs.Stages.{half, listed_without}
 use Rattle.configure_engine.specs.Units.{Given}

@@ -2,8 +2,8 @@
 use Rattle.std.specs.Prelude.{◌≡◌, ◌≢◌, ◌⊎◌, ℕ, List, None}
 use Rattle.host_core.specs.World.{World}
 use Rattle.status_db.specs.Held.{CanOpenRecords, HasRecords}
-use Rattle.status_db.specs.Records.{record_in}
-use Rattle.status_db.specs.declared.record.Record.{Record}
+use Rattle.status_records.specs.Records.{record_in}
+use Rattle.status_records.specs.declared.record.Record.{Record}
 
 -- the package's record is that of before, or gone; those of other packages are as before
 pub record HasRecordsAmid (name : List ℕ) (before : List Record) (now : World) : Type 0 where

@@ -4,8 +4,8 @@ use Rattle.host_core.specs.Paths.{Path}
 use Rattle.host_core.specs.World.{World, Change, changed}
 use Rattle.administration.specs.Places.{home_path, is_within}
 use Rattle.status_db.specs.Held.{HasRecords}
-use Rattle.status_db.specs.Records.{record_in}
-use Rattle.status_db.specs.declared.record.Record.{Record}
+use Rattle.status_records.specs.Records.{record_in}
+use Rattle.status_records.specs.declared.record.Record.{Record}
 
 -- what script calls made of what stood there; or, where the unit may take it, what they made of nothing since it went
 pub data IsLeft (q : Path) (may_go : Type 0) (change : Change) (old now : World) : Type 0 where

@@ -7,8 +7,8 @@ use Rattle.administration.specs.Places.{home_path, is_within}
 use Rattle.file_lists.specs.Owners.{paths_of}
 use Rattle.file_removal.specs.Clearing.{Cleared}
 use Rattle.file_removal.specs.Removal.{Removed}
-use Rattle.status_db.specs.declared.record.Record.{Record}
-use Rattle.status_db.specs.declared.words.State.TheVariants.{ConfigFiles}
+use Rattle.status_records.specs.declared.record.Record.{Record}
+use Rattle.status_records.specs.declared.words.State.TheVariants.{ConfigFiles}
 use Rattle.removal_engine.specs.Lists.{IsToCome, leaving_files}
 use Rattle.removal_engine.specs.Names.{cleared_names, waiting_names}
 use Rattle.removal_engine.specs.Records.{config_files, half_configured, losing_files, purged, without_files}

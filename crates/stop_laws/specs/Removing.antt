@@ -8,10 +8,10 @@ use Rattle.file_lists.specs.Owners.{paths_of}
 use Rattle.file_lists.specs.Writing.{list_file}
 use Rattle.file_removal.specs.Clearing.{is_among}
 use Rattle.status_db.specs.Held.{CanOpenRecords, HasRecords}
-use Rattle.status_db.specs.Records.{record_in}
-use Rattle.status_db.specs.declared.record.Record.{Record}
-use Rattle.status_db.specs.declared.words.State.TheVariants.{ConfigFiles}
-use Rattle.unpack_moves.specs.Areas.{is_leaving_place}
+use Rattle.status_records.specs.Records.{record_in}
+use Rattle.status_records.specs.declared.record.Record.{Record}
+use Rattle.status_records.specs.declared.words.State.TheVariants.{ConfigFiles}
+use Rattle.listed_files.specs.Areas.{is_leaving_place}
 use Rattle.removal_engine.specs.Lists.{IsToCome, leaving_directories, leaving_files}
 use Rattle.removal_engine.specs.Names.{cleared_names, purged_names, waiting_names}
 use Rattle.removal_engine.specs.Records.{config_files, half_configured, losing_files, purged, without_files}

@@ -1,9 +1,8 @@
 // What a command reports.
 use crate::refusal::Refusal;
-use stack_run::Failure as Cause;
-use status_db::Record;
+use status_records::Record;
 use texts::{Text, Texts};
-use unwind_stack::Called;
+use undo_rows::{Called, Failure as Cause};
 
 /// A package of a unit, and its record at the unit's end.
 #[derive(Drop)]

@@ -1,7 +1,7 @@
 // Units, and what they tell of packages.
 ghost use Rattle.std.specs.Prelude.{◌≡◌, IfOk, OnOk, MatchBool, map};
 ghost use Rattle.file_lists.specs.Owners.{places_in};
-ghost use Rattle.status_db.specs.Records.{record_in};
+ghost use Rattle.status_records.specs.Records.{record_in};
 ghost use Rattle.unit_reports.specs.Units.{IsBroken, IsBrokenBy, IsRefusedUnit, TellsNoPackage, breakage_of, touched_at};
 
 use crate::refusal::{Refusal, Rule};
@@ -9,10 +9,11 @@ use crate::report::{Breakage, Reply, Touched, Unit};
 use diversions::Diversions;
 use file_lists::FileLists;
 use host_core::{HostFault, Places};
-use status_db::{NotedDatabase, Record};
+use status_db::NotedDatabase;
+use status_records::Record;
 use std::alloc::{AllocError, Global};
 use texts::{Text, Texts};
-use unwind_stack::Called;
+use undo_rows::Called;
 
 /// The record of a package, copied.
 pub fn record_of(database: &NotedDatabase, name: &Text) -> Result<Option<Record>, AllocError>

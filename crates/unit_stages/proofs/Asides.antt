@@ -6,17 +6,17 @@ use Rattle.host_core.specs.Events.{Event, Ran, changes_of}
 use Rattle.host_core.specs.Host.{State, Calls, OnlyScripts, finished}
 use Rattle.host_core.proofs.Scripts.{changed_kept, only_kept}
 use Rattle.host_core.specs.declared.call.Call.{Call}
-use Rattle.unwind_stack.specs.declared.rows.Called.{Called}
-use Rattle.unwind_stack.specs.declared.rows.Owner.{Owner}
-use Rattle.unwind_stack.specs.declared.rows.Row.{Row}
+use Rattle.undo_rows.specs.declared.rows.Called.{Called}
+use Rattle.undo_rows.specs.declared.rows.Owner.{Owner}
+use Rattle.undo_rows.specs.declared.rows.Row.{Row}
 use Rattle.diversions.specs.declared.entry.Diversion.{Diversion}
 use Rattle.file_lists.specs.Owners.{places_in}
 use Rattle.file_lists.specs.declared.paths.PackageList.{PackageList}
-use Rattle.status_db.specs.declared.record.Record.{Record}
-use Rattle.unit_parts.specs.Doing.{AreDoing}
-use Rattle.unit_parts.specs.Fitting.{AreFit}
-use Rattle.unit_parts.specs.Parts.{HaveDone}
-use Rattle.unit_parts.specs.declared.part.Part.{Part}
+use Rattle.status_records.specs.declared.record.Record.{Record}
+use Rattle.unit_stages.specs.Doing.{AreDoing}
+use Rattle.unit_stages.specs.PartFitting.{AreFit}
+use Rattle.unit_stages.specs.Parts.{HaveDone}
+use Rattle.unit_stages.specs.declared.part.Part.{Part}
 use Rattle.unit_stages.specs.Fitting.{AreStagesFit, IsStageFit}
 use Rattle.unit_stages.specs.Holding.{Holding, after_parts, after_stages}
 use Rattle.unit_stages.specs.Running.{ArePast, AreRunning, IsCalling, IsInNext, IsInStage}

@@ -3,9 +3,9 @@ use Rattle.std.proofs.Common.{◌≡◌, inl, inr, Bool, true, false, List, [], 
 use Rattle.std.proofs.lemmas.List.{append-nil}
 use Rattle.host_core.specs.Events.{Ran}
 use Rattle.host_core.specs.declared.call.Call.{Call}
-use Rattle.unwind_stack.specs.Transcript.{Tries, TriesRow, UndoesAny, UndoesRow}
-use Rattle.unwind_stack.specs.declared.rows.Row.{Row}
-use Rattle.cleanup_stack.proofs.Rowwise.{may_succeed, succeeded}
+use Rattle.undo_rows.specs.Transcript.{Tries, TriesRow, UndoesAny, UndoesRow}
+use Rattle.undo_rows.specs.declared.rows.Row.{Row}
+use Rattle.undo_rows.proofs.Rowwise.{may_succeed, succeeded}
 use Rattle.unit_stages.specs.Calls.{AreCallsOf, AreCallsOfRow, Fails, MayCallRow, MayRunStages}
 use Rattle.unit_stages.specs.declared.stage.Stage.{Stage}
 

@@ -1,3 +1,15 @@
+pub mod ConffileNames
+pub mod Outside
+pub mod Places
+pub mod ReadBack
+pub mod Lists
+pub mod Names
+pub mod Order
+pub mod PartMoments
+pub mod Settling
+pub mod Discarding
+pub mod Parts
+pub mod PartKeeping
 pub mod Keeping
 pub mod Callings
 pub mod Tellings

@@ -9,11 +9,11 @@ use Rattle.host_core.proofs.Scripts.{Avoids-append, changed-append, changes_of-a
 use Rattle.diversions.specs.declared.entry.Diversion.{Diversion}
 use Rattle.file_lists.specs.Filed.{Filed}
 use Rattle.status_db.specs.Recorded.{Recorded}
-use Rattle.status_db.specs.declared.record.Record.{Record}
-use Rattle.unit_parts.specs.Doing.{AreDoing, IsFirstDoing}
-use Rattle.unit_parts.specs.Order.{IsInOrder}
-use Rattle.unit_parts.specs.Parts.{part_records, parts_records}
-use Rattle.unit_parts.specs.declared.part.Part.{Part}
+use Rattle.status_records.specs.declared.record.Record.{Record}
+use Rattle.unit_stages.specs.Doing.{AreDoing, IsFirstDoing}
+use Rattle.unit_stages.specs.Order.{IsInOrder}
+use Rattle.unit_stages.specs.Parts.{part_records, parts_records}
+use Rattle.unit_stages.specs.declared.part.Part.{Part}
 use Rattle.unit_stages.specs.Holding.{Holding, after_parts, holding}
 use Rattle.unit_stages.specs.Running.{AreCalled, IsAmidStage, IsCalling, IsInStage, IsNotedBy, IsOpenable}
 use Rattle.unit_stages.specs.Runs.{DoesParts, kept_by}

@@ -10,14 +10,14 @@ use Rattle.host_core.specs.Loss.{IsLater}
 use Rattle.host_core.proofs.Moments.{since_start, since_then, since_weaker}
 use Rattle.host_core.proofs.Scripts.{calls_of-finished, changed-append, silent_added}
 use Rattle.host_core.specs.declared.call.Call.{Call}
-use Rattle.unwind_stack.specs.Transcript.{Makes, Tries, UndoesAny, UndoesRow}
-use Rattle.unwind_stack.specs.declared.rows.Called.{Called}
-use Rattle.unwind_stack.specs.declared.rows.Owner.{Owner}
-use Rattle.unwind_stack.specs.declared.rows.Row.{Row}
-use Rattle.cleanup_stack.specs.Telling.{Made}
-use Rattle.cleanup_stack.proofs.Tellings.{made_between, made_none, made_then, made_weaker}
+use Rattle.undo_rows.specs.Transcript.{Makes, Tries, UndoesAny, UndoesRow}
+use Rattle.undo_rows.specs.declared.rows.Called.{Called}
+use Rattle.undo_rows.specs.declared.rows.Owner.{Owner}
+use Rattle.undo_rows.specs.declared.rows.Row.{Row}
+use Rattle.undo_rows.specs.Telling.{Made}
+use Rattle.undo_rows.proofs.Tellings.{made_between, made_none, made_then, made_weaker}
 use Rattle.diversions.specs.declared.entry.Diversion.{Diversion}
-use Rattle.unit_parts.specs.declared.part.Part.{Part}
+use Rattle.unit_stages.specs.declared.part.Part.{Part}
 use Rattle.unit_stages.specs.Calls.{AreCallsOf, Fails}
 use Rattle.unit_stages.specs.Ends.{IsLeftBy}
 use Rattle.unit_stages.specs.Holding.{Holding, after_parts}

@@ -7,14 +7,14 @@ use Rattle.host_core.specs.World.{World}
 use Rattle.host_core.specs.Events.{Event}
 use Rattle.host_core.specs.Host.{State, Needs, Since, AtEachMomentOf}
 use Rattle.host_core.proofs.Moments.{since_then, since_weaker_if}
-use Rattle.unwind_stack.specs.declared.rows.Called.{Called}
+use Rattle.undo_rows.specs.declared.rows.Called.{Called}
 use Rattle.diversions.specs.declared.entry.Diversion.{Diversion}
 use Rattle.file_lists.specs.Filed.{Filed}
 use Rattle.status_db.specs.Recorded.{Recorded}
-use Rattle.unit_parts.specs.Fitting.{AreSettleable, HaveNoSettle}
-use Rattle.unit_parts.specs.Order.{IsInOrder}
-use Rattle.unit_parts.specs.declared.part.Part.{Part}
-use Rattle.unit_parts.specs.declared.part.Part.TheVariants.{Note, Forget, Settle, Remove, RemoveDirectories, Clear, List as Listing, DropList, DropMembers}
+use Rattle.unit_stages.specs.PartFitting.{AreSettleable, HaveNoSettle}
+use Rattle.unit_stages.specs.Order.{IsInOrder}
+use Rattle.unit_stages.specs.declared.part.Part.{Part}
+use Rattle.unit_stages.specs.declared.part.Part.TheVariants.{Note, Forget, Settle, Remove, RemoveDirectories, Clear, List as Listing, DropList, DropMembers}
 use Rattle.unit_stages.specs.Fitting.{AreStagesFit, AreStagesSettleable, IsStageFit, SettlesNothing}
 use Rattle.unit_stages.specs.Holding.{Holding, after_parts, after_stages, holding}
 use Rattle.unit_stages.specs.Running.{ArePast, AreRunning, IsAmidStage, IsInNext, IsInStage}

@@ -3,11 +3,11 @@ use Rattle.std.proofs.Common.{◌≡◌, Bool, false, List, [], ◌∷◌, ◌++
 use Rattle.host_core.specs.Paths.{Path}
 use Rattle.host_core.specs.Events.{Ran, Event}
 use Rattle.host_core.specs.Host.{State, Silent, finished}
-use Rattle.unwind_stack.specs.Transcript.{Begins, Makes, Tries, TriesRow, UndoesAny}
-use Rattle.unwind_stack.specs.declared.rows.Called.{Called}
-use Rattle.unwind_stack.specs.declared.rows.Row.{Row}
-use Rattle.cleanup_stack.specs.Telling.{Begun, Made}
-use Rattle.cleanup_stack.proofs.Tellings.{begun_between, begun_more, begun_none, begun_then, begun_weaker, begun_whole, made_between}
+use Rattle.undo_rows.specs.Transcript.{Begins, Makes, Tries, TriesRow, UndoesAny}
+use Rattle.undo_rows.specs.declared.rows.Called.{Called}
+use Rattle.undo_rows.specs.declared.rows.Row.{Row}
+use Rattle.undo_rows.specs.Telling.{Begun, Made}
+use Rattle.undo_rows.proofs.Tellings.{begun_between, begun_more, begun_none, begun_then, begun_weaker, begun_whole, made_between}
 use Rattle.unit_stages.specs.Calls.{AreCallsOf, MayCallRow, MayRunStages}
 use Rattle.unit_stages.specs.declared.stage.Stage.{Stage}
 use Rattle.unit_stages.proofs.Callings.{calls_on, may_pass, may_run_on, one_may, tries_on, undoes_on}

@@ -2,8 +2,8 @@
 use Rattle.std.specs.Prelude.{◌≡◌, ◌⊎◌, true, false, List, [], ◌∷◌, ◌++◌, Option, Some, None}
 use Rattle.host_core.specs.Events.{Ran}
 use Rattle.host_core.specs.declared.call.Call.{Call}
-use Rattle.unwind_stack.specs.Transcript.{Tries, UndoesAny}
-use Rattle.unwind_stack.specs.declared.rows.Row.{Row}
+use Rattle.undo_rows.specs.Transcript.{Tries, UndoesAny}
+use Rattle.undo_rows.specs.declared.rows.Row.{Row}
 use Rattle.unit_stages.specs.declared.stage.Stage.{Stage}
 
 -- The call of a row failed; the call that undoes it came, and none behind that.

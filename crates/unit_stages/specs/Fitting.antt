@@ -3,9 +3,9 @@ use Rattle.std.specs.Prelude.{ℕ, List, [], ◌∷◌}
 use Rattle.std.specs.List.{AllByRecursion}
 use Rattle.host_core.specs.World.{World}
 use Rattle.file_lists.specs.declared.paths.PackageList.{PackageList}
-use Rattle.status_db.specs.declared.record.Record.{Record}
-use Rattle.unit_parts.specs.Fitting.{AreFit, AreSettleable, HaveNoSettle}
-use Rattle.unit_parts.specs.Parts.{parts_lists, parts_records}
+use Rattle.status_records.specs.declared.record.Record.{Record}
+use Rattle.unit_stages.specs.PartFitting.{AreFit, AreSettleable, HaveNoSettle}
+use Rattle.unit_stages.specs.Parts.{parts_lists, parts_records}
 use Rattle.unit_stages.specs.declared.stage.Stage.{Stage}
 
 module _ (name : List ℕ) where

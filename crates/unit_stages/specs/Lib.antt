@@ -1,3 +1,8 @@
+pub mod Order
+pub mod Parts
+pub mod Doing
+pub mod PartFitting
+pub mod Aside
 pub mod Holding
 pub mod Fitting
 pub mod Calls

@@ -3,14 +3,14 @@ use Rattle.std.specs.Prelude.{◌≡◌, ℕ, true, List, [], ◌∷◌, ◌++�
 use Rattle.host_core.specs.World.{World}
 use Rattle.host_core.specs.Events.{Event, calls_of, scripts_of}
 use Rattle.host_core.specs.Host.{OnlyScripts}
-use Rattle.unwind_stack.specs.Transcript.{Tries}
+use Rattle.undo_rows.specs.Transcript.{Tries}
 use Rattle.diversions.specs.declared.entry.Diversion.{Diversion}
 use Rattle.file_lists.specs.Info.{AreLoose}
 use Rattle.status_db.specs.Held.{CanOpenRecords, HasRecords}
-use Rattle.status_db.specs.declared.record.Record.{Record}
-use Rattle.unit_parts.specs.Doing.{AreDoing}
-use Rattle.unit_parts.specs.Parts.{HaveDone, parts_records}
-use Rattle.unit_parts.specs.declared.part.Part.{Part}
+use Rattle.status_records.specs.declared.record.Record.{Record}
+use Rattle.unit_stages.specs.Doing.{AreDoing}
+use Rattle.unit_stages.specs.Parts.{HaveDone, parts_records}
+use Rattle.unit_stages.specs.declared.part.Part.{Part}
 use Rattle.unit_stages.specs.Holding.{Holding, after_parts, after_stages}
 use Rattle.unit_stages.specs.Runs.{kept_by}
 use Rattle.unit_stages.specs.declared.stage.Stage.{Stage}

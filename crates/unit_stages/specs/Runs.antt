@@ -5,14 +5,14 @@ use Rattle.host_core.specs.World.{is_kept}
 use Rattle.host_core.specs.Host.{State, Silent}
 use Rattle.host_core.specs.Loss.{IsLater}
 use Rattle.host_core.specs.declared.call.Call.{Call}
-use Rattle.unwind_stack.specs.Transcript.{Makes, Tries, UndoesRow}
-use Rattle.unwind_stack.specs.declared.rows.Called.{Called}
-use Rattle.unwind_stack.specs.declared.rows.Owner.{Owner}
-use Rattle.unwind_stack.specs.declared.rows.Row.{Row}
+use Rattle.undo_rows.specs.Transcript.{Makes, Tries, UndoesRow}
+use Rattle.undo_rows.specs.declared.rows.Called.{Called}
+use Rattle.undo_rows.specs.declared.rows.Owner.{Owner}
+use Rattle.undo_rows.specs.declared.rows.Row.{Row}
 use Rattle.diversions.specs.declared.entry.Diversion.{Diversion}
 use Rattle.file_lists.specs.Owners.{places_in}
-use Rattle.unit_parts.specs.Parts.{HaveDone}
-use Rattle.unit_parts.specs.declared.part.Part.{Part}
+use Rattle.unit_stages.specs.Parts.{HaveDone}
+use Rattle.unit_stages.specs.declared.part.Part.{Part}
 use Rattle.unit_stages.specs.Holding.{Holding, after_parts}
 use Rattle.unit_stages.specs.declared.stage.Stage.{Stage}
 

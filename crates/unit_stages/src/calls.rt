@@ -3,25 +3,25 @@ ghost use Rattle.std.specs.Prelude.{◌≡◌, ◌≢◌, [], false, true, List,
 ghost use Rattle.host_core.specs.World.{is_kept};
 ghost use Rattle.host_core.specs.Host.{AtEachMomentOf, Counts, Needs, OnlyScripts};
 ghost use Rattle.texts.specs.PackageNames.{is_package_name};
-ghost use Rattle.unwind_stack.specs.declared.rows.Owner.{Owner as AnOwner};
-ghost use Rattle.unwind_stack.specs.Transcript.{Begins, Makes, Tries, TriesRow, UndoesAny, UndoesRow};
-ghost use Rattle.cleanup_stack.specs.Telling.{Begun};
+ghost use Rattle.undo_rows.specs.declared.rows.Owner.{Owner as AnOwner};
+ghost use Rattle.undo_rows.specs.Transcript.{Begins, Makes, Tries, TriesRow, UndoesAny, UndoesRow};
+ghost use Rattle.undo_rows.specs.Telling.{Begun};
 ghost use Rattle.held_administration.specs.Open.{IsOpen};
-ghost use Rattle.unit_parts.specs.Fitting.{AreFit, HaveNoSettle};
-ghost use Rattle.unit_parts.specs.Order.{IsInOrder};
+ghost use Rattle.unit_stages.specs.PartFitting.{AreFit, HaveNoSettle};
+ghost use Rattle.unit_stages.specs.Order.{IsInOrder};
 ghost use Rattle.unit_stages.specs.Calls.{MayCallRow};
 ghost use Rattle.unit_stages.specs.Holding.{holding_of};
 ghost use Rattle.unit_stages.specs.Running.{AreCalled};
 ghost use Rattle.unit_stages.specs.Runs.{HasCalled, HasUndone};
 
+use crate::part::Part;
 use crate::parts::do_and_keep;
 use diversions::Diversions;
 use held_administration::Administration;
 use host_core::{Call, Host, HostFault, Keep, Places};
 use std::alloc::Global;
 use texts::Text;
-use unit_parts::Part;
-use unwind_stack::{Called, Row, try_row, undo_row};
+use undo_rows::{Called, Row, try_row, undo_row};
 
 // The call of a row. The answer is whether it succeeded, or the row has none.
 fn try_call<H: Host>(

@@ -6,11 +6,11 @@ ghost use Rattle.host_core.specs.Events.{Event, Ran};
 ghost use Rattle.host_core.specs.Host.{State, calls};
 ghost use Rattle.host_core.specs.Loss.{IsLater};
 ghost use Rattle.host_core.specs.declared.call.Call.{Call as ACall};
-ghost use Rattle.unwind_stack.specs.Transcript.{Tells};
-ghost use Rattle.unwind_stack.specs.declared.rows.Called.{Called as ACalled};
-ghost use Rattle.cleanup_stack.specs.Telling.{Begun, Made};
+ghost use Rattle.undo_rows.specs.Transcript.{Tells};
+ghost use Rattle.undo_rows.specs.declared.rows.Called.{Called as ACalled};
+ghost use Rattle.undo_rows.specs.Telling.{Begun, Made};
 ghost use Rattle.diversions.specs.declared.entry.Diversion.{Diversion as ADiversion};
-ghost use Rattle.unit_parts.specs.Aside.{IsAside};
+ghost use Rattle.unit_stages.specs.Aside.{IsAside};
 ghost use Rattle.unit_stages.specs.Calls.{AreCallsOf, MayRunStages};
 ghost use Rattle.unit_stages.specs.Ends.{IsLeftBy};
 ghost use Rattle.unit_stages.specs.Fitting.{AreStagesFit};
@@ -19,7 +19,7 @@ ghost use Rattle.unit_stages.specs.Running.{AreRunning};
 ghost use Rattle.unit_stages.specs.Runs.{HaveRun};
 ghost use Rattle.unit_stages.specs.declared.stage.Stage.{Stage as AStage};
 
-use unit_parts::what_parts_leave;
+use crate::part_laws::what_parts_leave;
 
 /// A run of stages leaves the records and the lists that the notes of its stages give: of all where none failed, else of those up to
 /// the one that failed, with what was done then. Its calls are those that are legal for the stages, each was told, and the host's own

@@ -6,19 +6,20 @@ ghost use Rattle.texts.specs.PackageNames.{is_package_name};
 ghost use Rattle.file_lists.specs.Beside.{HadPlaces};
 ghost use Rattle.file_lists.specs.Owners.{places_in};
 ghost use Rattle.held_administration.specs.Open.{IsOpen};
-ghost use Rattle.unit_parts.specs.Doing.{AreDoing};
-ghost use Rattle.unit_parts.specs.Fitting.{AreFit, AreSettleable};
-ghost use Rattle.unit_parts.specs.Order.{IsInOrder};
+ghost use Rattle.unit_stages.specs.Doing.{AreDoing};
+ghost use Rattle.unit_stages.specs.PartFitting.{AreFit, AreSettleable};
+ghost use Rattle.unit_stages.specs.Order.{IsInOrder};
 ghost use Rattle.unit_stages.specs.Holding.{after_parts, holding_of, is_listing};
 ghost use Rattle.unit_stages.specs.Runs.{DoesParts};
 
+use crate::doing::do_parts;
+use crate::part::Part;
 use diversions::Diversions;
 use file_lists::FileLists;
 use held_administration::Administration;
 use host_core::{Host, HostFault, Places};
 use std::alloc::{AllocError, Global};
 use texts::Text;
-use unit_parts::{Part, do_parts};
 
 fn is_listing(part: &Part) -> bool
     ensures { result ≡ is_listing part.now }

@@ -2,10 +2,10 @@
 ghost use Rattle.std.specs.Prelude.{◌≡◌, [], ◌∷◌, true, IfOk, OnOk};
 ghost use Rattle.host_core.specs.Host.{AtEachMomentOf, Counts, Needs};
 ghost use Rattle.texts.specs.PackageNames.{is_package_name};
-ghost use Rattle.cleanup_stack.specs.Telling.{Begun};
+ghost use Rattle.undo_rows.specs.Telling.{Begun};
 ghost use Rattle.held_administration.specs.Open.{IsOpen};
-ghost use Rattle.unit_parts.specs.Fitting.{AreSettleable, HaveNoSettle};
-ghost use Rattle.unit_parts.specs.Order.{IsInOrder};
+ghost use Rattle.unit_stages.specs.PartFitting.{AreSettleable, HaveNoSettle};
+ghost use Rattle.unit_stages.specs.Order.{IsInOrder};
 ghost use Rattle.unit_stages.specs.Calls.{MayRunStages};
 ghost use Rattle.unit_stages.specs.Fitting.{AreStagesFit, AreStagesSettleable, IsStageFit};
 ghost use Rattle.unit_stages.specs.Holding.{holding_of};
@@ -19,7 +19,7 @@ use diversions::Diversions;
 use held_administration::Administration;
 use host_core::{Call, Host, HostFault};
 use texts::Text;
-use unwind_stack::Called;
+use undo_rows::Called;
 
 // Runs one stage. The answer is the call that failed.
 fn run_stage<H: Host>(

@@ -1,6 +1,6 @@
 // A stage of a unit.
-use unit_parts::Part;
-use unwind_stack::Row;
+use crate::part::Part;
+use undo_rows::Row;
 
 /// What is done, the script call behind it with its undo, and what is done where the call failed and its undo didn't.
 #[derive(Drop)]

@@ -7,8 +7,8 @@ use Rattle.std.proofs.lemmas.List.{append-nil, map-append}
 use Rattle.std.proofs.lemmas.List.Elements.{filter_more}
 use Rattle.std.proofs.lemmas.Slice.Eq.{bytes_eq-Decides}
 use Rattle.host_core.specs.Paths.{Path}
-use Rattle.status_db.specs.ConffilePaths.{AreInOrder, is_before, placed_by}
-use Rattle.status_db.proofs.PathOrder.{before_apart, placed_last}
+use Rattle.status_records.specs.ConffilePaths.{AreInOrder, is_before, placed_by}
+use Rattle.status_records.proofs.PathOrder.{before_apart, placed_last}
 
 module _ {X : Type 0} (keep : X → Bool) (xs : List X) (i : ℕ) (x : X) (lt : i < length xs) (at : x ≡ get_or xs i x) where
   one_more : (b : Bool) → keep x ≡ b → filter keep (take (i + 1) xs) ≡ filter keep (take i xs) ++ cond b (x ∷ []) []

@@ -26,8 +26,8 @@ use Rattle.file_removal.specs.declared.leaving.Leaving.{Leaving}
 use Rattle.file_removal.specs.Clearing.{cleared, is_among as is_cleared}
 use Rattle.file_removal.specs.Removal.{IsRemoving, Removed}
 use Rattle.status_db.specs.Held.{is_record_place}
-use Rattle.status_db.specs.declared.record.Record.{Record}
-use Rattle.unpack_moves.specs.Closing.{AreSparesLoose, HasReleased, HasRenewed, MayRelease, MayRenew}
+use Rattle.status_records.specs.declared.record.Record.{Record}
+use Rattle.listed_files.specs.Closing.{AreSparesLoose, HasReleased, HasRenewed, MayRelease, MayRenew}
 use Rattle.unpack_commit.specs.Commit.{Changes, HasCommitted, MayCommit, renewed_lists}
 use Rattle.unpack_commit.proofs.Ready.{loose_replaced}
 

@@ -9,9 +9,9 @@ use Rattle.status_db.specs.Held.{HasRecords, is_record_place}
 use Rattle.status_db.specs.Noting.{IsNoting}
 use Rattle.status_db.specs.Recorded.{Recorded}
 use Rattle.status_db.specs.Held.{IsKept}
-use Rattle.status_db.specs.Records.{AreStanding, put_record}
-use Rattle.status_db.specs.Words.{is_not_installed}
-use Rattle.status_db.specs.declared.record.Record.{Record}
+use Rattle.status_records.specs.Records.{AreStanding, put_record}
+use Rattle.status_records.specs.Words.{is_not_installed}
+use Rattle.status_records.specs.declared.record.Record.{Record}
 use Rattle.unpack_commit.specs.Commit.{AreNoting, HasSomeNoted}
 use Rattle.unpack_commit.specs.Takeover.{put_records}
 use Rattle.unpack_commit.proofs.Stays.{kept_opens}

@@ -4,7 +4,7 @@ use Rattle.host_core.specs.World.{World}
 use Rattle.diversions.specs.declared.entry.Diversion.{Diversion}
 use Rattle.file_lists.specs.declared.paths.PackageList.{PackageList}
 use Rattle.status_db.specs.Held.{CanOpenRecords, HasRecords}
-use Rattle.status_db.specs.declared.record.Record.{Record}
+use Rattle.status_records.specs.declared.record.Record.{Record}
 use Rattle.unpack_commit.specs.Commit.{Changes, MayCommit}
 use Rattle.unpack_commit.specs.Takeover.{put_records}
 

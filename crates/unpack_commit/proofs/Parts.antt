@@ -12,9 +12,9 @@ use Rattle.file_lists.specs.Taking.{without_all}
 use Rattle.file_lists.specs.Writing.{list_file}
 use Rattle.status_db.specs.Held.{IsKept}
 use Rattle.status_db.specs.Recorded.{Recorded}
-use Rattle.status_db.specs.declared.record.Record.{Record}
-use Rattle.unpack_moves.specs.Closing.{HasReleased, HasRenewed, MayRelease, MayRenew, SparesAdministration}
-use Rattle.unpack_moves.specs.Concluding.{AreElsewhere}
+use Rattle.status_records.specs.declared.record.Record.{Record}
+use Rattle.listed_files.specs.Closing.{HasReleased, HasRenewed, MayRelease, MayRenew, SparesAdministration}
+use Rattle.listed_files.specs.Concluding.{AreElsewhere}
 use Rattle.unpack_commit.specs.Commit.{AreListsAmid, AreNoting, Changes, HasCommitted, HasSomeNoted, HasStored, HaveNoted, IsStoring, MayCommit, committed_lists, renewed_lists}
 use Rattle.unpack_commit.proofs.Stays.{kept_opens, kept_stays, released_stays, releasing_stays, renewed_stays, renewing_stays, written_stays}
 

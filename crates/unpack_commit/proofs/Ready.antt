@@ -17,9 +17,9 @@ use Rattle.control_members.proofs.Apart.{info_no_temporary, info_other, no_list,
 use Rattle.control_members.proofs.Replacing.{ready_beside}
 use Rattle.file_lists.specs.Writing.{IsListReady, list_file, list_text}
 use Rattle.file_removal.specs.declared.leaving.Leaving.{Leaving}
-use Rattle.unpack_moves.specs.Closing.{HasRenewed, SparesAdministration}
-use Rattle.unpack_moves.proofs.Areas.{renewed_keeps}
-use Rattle.unpack_moves.proofs.Closings.{ready_removed}
+use Rattle.listed_files.specs.Closing.{HasRenewed, SparesAdministration}
+use Rattle.listed_files.proofs.Areas.{renewed_keeps}
+use Rattle.listed_files.proofs.Closings.{ready_removed}
 use Rattle.unpack_commit.proofs.Stays.{no_renewed_place}
 
 -- names in `info` that are no list's

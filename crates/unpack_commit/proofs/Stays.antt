@@ -18,10 +18,10 @@ use Rattle.file_removal.specs.declared.leaving.Leaving.{Leaving}
 use Rattle.status_db.specs.Recorded.{Recorded}
 use Rattle.status_db.specs.Held.{CanOpenRecords, IsKept, is_record_place}
 use Rattle.status_db.proofs.NotedWorlds.{kept_on}
-use Rattle.unpack_moves.specs.Areas.{is_leaving_place, is_list_place, is_renewed_place}
-use Rattle.unpack_moves.specs.Closing.{HasReleased, HasRenewed, MayRelease, MayRenew, SparesAdministration}
-use Rattle.unpack_moves.specs.Concluding.{AreElsewhere}
-use Rattle.unpack_moves.proofs.Areas.{released_keeps, releasing_keeps, renewed_keeps, renewing_keeps}
+use Rattle.listed_files.specs.Areas.{is_leaving_place, is_list_place, is_renewed_place}
+use Rattle.listed_files.specs.Closing.{HasReleased, HasRenewed, MayRelease, MayRenew, SparesAdministration}
+use Rattle.listed_files.specs.Concluding.{AreElsewhere}
+use Rattle.listed_files.proofs.Areas.{released_keeps, releasing_keeps, renewed_keeps, renewing_keeps}
 
 -- the first byte of a name in the directory of the administration: `i` for what is in `info`
 pub byte : Path → ℕ

@@ -8,9 +8,9 @@ use Rattle.control_members.proofs.Apart.{info_no_temporary, info_other}
 use Rattle.diversions.specs.declared.entry.Diversion.{Diversion}
 use Rattle.file_lists.specs.declared.paths.PackageList.{PackageList}
 use Rattle.file_lists.specs.Writing.{IsListReady}
-use Rattle.status_db.specs.declared.record.Record.{Record}
-use Rattle.unpack_moves.specs.Closing.{SparesAdministration}
-use Rattle.unpack_moves.specs.Concluding.{AreElsewhere}
+use Rattle.status_records.specs.declared.record.Record.{Record}
+use Rattle.listed_files.specs.Closing.{SparesAdministration}
+use Rattle.listed_files.specs.Concluding.{AreElsewhere}
 use Rattle.unpack_commit.specs.Areas.{IsUntouched}
 use Rattle.unpack_commit.specs.Commit.{Changes, HasCommitted, MayCommit}
 use Rattle.unpack_commit.proofs.Left.{committed_keeps, committing_keeps}

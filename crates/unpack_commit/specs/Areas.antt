@@ -7,7 +7,7 @@ use Rattle.control_members.specs.Stored.{stored_member_path}
 use Rattle.file_lists.specs.Taking.{IsNoList}
 use Rattle.file_removal.specs.Clearing.{is_among}
 use Rattle.status_db.specs.Held.{is_record_place}
-use Rattle.unpack_moves.specs.Areas.{is_leaving_place}
+use Rattle.listed_files.specs.Areas.{is_leaving_place}
 use Rattle.unpack_commit.specs.Commit.{Changes}
 
 -- no control file of a package, nor the temporary name of one

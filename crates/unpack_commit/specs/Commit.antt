@@ -12,8 +12,8 @@ use Rattle.file_lists.specs.Writing.{list_file, with_list}
 use Rattle.file_lists.specs.declared.paths.PackageList.{PackageList}
 use Rattle.file_removal.specs.declared.leaving.Leaving.{Leaving}
 use Rattle.status_db.specs.Held.{CanOpenRecords, HasRecords, is_record_place}
-use Rattle.status_db.specs.declared.record.Record.{Record}
-use Rattle.unpack_moves.specs.Closing.{HasReleased, HasRenewed, MayRelease, MayRenew}
+use Rattle.status_records.specs.declared.record.Record.{Record}
+use Rattle.listed_files.specs.Closing.{HasReleased, HasRenewed, MayRelease, MayRenew}
 use Rattle.unpack_commit.specs.Takeover.{put_records}
 use Rattle.unpack_commit.specs.declared.change.Change.{Change}
 

@@ -12,12 +12,12 @@ use Rattle.diversions.specs.Places.{place}
 use Rattle.diversions.specs.declared.entry.Diversion.{Diversion}
 use Rattle.file_lists.specs.Owners.{paths_of}
 use Rattle.file_lists.specs.declared.paths.PackageList.{PackageList}
-use Rattle.file_works.specs.declared.work.Work.{Work}
-use Rattle.status_db.specs.Records.{put_record}
-use Rattle.status_db.specs.Standings.{with_conffiles}
-use Rattle.status_db.specs.declared.record.Record.{Record}
-use Rattle.status_db.specs.declared.words.State.{State}
-use Rattle.status_db.specs.declared.words.State.TheVariants as state
+use Rattle.package_files.specs.declared.work.Work.{Work}
+use Rattle.status_records.specs.Records.{put_record}
+use Rattle.status_records.specs.Standings.{with_conffiles}
+use Rattle.status_records.specs.declared.record.Record.{Record}
+use Rattle.status_records.specs.declared.words.State.{State}
+use Rattle.status_records.specs.declared.words.State.TheVariants as state
 
 -- only conffiles of the package are left
 abbrev pub is_config_files : State → Bool

@@ -6,9 +6,9 @@ ghost use Rattle.control_members.specs.Stored.{IsMembersReady};
 ghost use Rattle.file_lists.specs.Owners.{AreListPaths};
 ghost use Rattle.file_lists.specs.Writing.{IsListReady};
 ghost use Rattle.status_db.specs.Held.{IsKept};
-ghost use Rattle.status_db.specs.Records.{AreStanding};
-ghost use Rattle.unpack_moves.specs.Closing.{SparesAdministration};
-ghost use Rattle.unpack_moves.specs.Concluding.{AreElsewhere};
+ghost use Rattle.status_records.specs.Records.{AreStanding};
+ghost use Rattle.listed_files.specs.Closing.{SparesAdministration};
+ghost use Rattle.listed_files.specs.Concluding.{AreElsewhere};
 ghost use Rattle.unpack_commit.specs.Commit.{AreListsAmid, HasCommitted, HasSomeNoted, MayCommit, changes_of, committed_lists};
 ghost use Rattle.unpack_commit.specs.Takeover.{put_records};
 
@@ -19,7 +19,8 @@ use crate::storing::store_members;
 use diversions::Diversions;
 use file_lists::{FileLists, Paths};
 use host_core::{Host, HostFault};
-use status_db::{NotedDatabase, Record};
+use status_db::NotedDatabase;
+use status_records::Record;
 use std::alloc::Global;
 
 /// Makes a package's list, control files and record the new ones; the records of packages that lose conffiles are noted

@@ -6,7 +6,7 @@ ghost use Rattle.unpack_commit.specs.Takeover.{is_at, loses_conffile, losing_rec
 
 use crate::taken::Taken;
 use diversions::Diversions;
-use status_db::{ConffileEntries, PendingDigests, Record};
+use status_records::{ConffileEntries, PendingDigests, Record};
 use std::alloc::{AllocError, Global};
 use texts::Text;
 

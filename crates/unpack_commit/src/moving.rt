@@ -6,14 +6,14 @@ ghost use Rattle.administration.specs.Places.{list_path};
 ghost use Rattle.file_lists.specs.Owners.{AreListPaths};
 ghost use Rattle.file_lists.specs.Taking.{without_all};
 ghost use Rattle.file_lists.specs.Writing.{list_file, with_list, IsListReady};
-ghost use Rattle.unpack_moves.specs.Closing.{HasReleased, HasRenewed, MayRelease, MayRenew, SparesAdministration};
+ghost use Rattle.listed_files.specs.Closing.{HasReleased, HasRenewed, MayRelease, MayRenew, SparesAdministration};
 
 use crate::change::Change;
 use diversions::Diversions;
 use file_lists::{FileLists, Paths};
 use host_core::{Host, HostFault};
+use listed_files::{release, renew_list};
 use std::alloc::Global;
-use unpack_moves::{release, renew_list};
 
 /// Takes away what goes, and then writes the new list.
 pub(crate) fn renew<H: Host>(

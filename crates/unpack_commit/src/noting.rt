@@ -3,15 +3,15 @@ ghost use Rattle.std.specs.Prelude.{◌≡◌, OnOk, OnErr, true, false};
 ghost use Rattle.host_core.specs.Host.{AtEachMoment, Counts, Leaves, Needs, Silent};
 ghost use Rattle.status_db.specs.Held.{IsKept};
 ghost use Rattle.status_db.specs.Noting.{IsNoted, IsNoting};
-ghost use Rattle.status_db.specs.Records.{AreStanding, put_record};
-ghost use Rattle.status_db.specs.Words.{is_not_installed};
+ghost use Rattle.status_records.specs.Records.{AreStanding, put_record};
+ghost use Rattle.status_records.specs.Words.{is_not_installed};
 ghost use Rattle.unpack_commit.specs.Commit.{AreNoting, HasSomeNoted, HaveNoted};
 ghost use Rattle.unpack_commit.specs.Takeover.{put_records};
 
 use host_core::{Host, HostFault};
-use status_db::{NotedDatabase, Record};
+use status_db::{NotedDatabase, note_record};
+use status_records::Record;
 use std::alloc::Global;
-use unpack_moves::note_record;
 
 fn note_copy<H: Host>(
     alloc: Global,

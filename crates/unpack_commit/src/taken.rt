@@ -7,8 +7,8 @@ ghost use Rattle.host_core.specs.Paths.{Path};
 ghost use Rattle.unpack_commit.specs.Takeover.{is_at, is_taken, taken_places};
 
 use diversions::Diversions;
-use file_works::Work;
 use host_core::{Kind, Node, RootPath, ShipPath};
+use package_files::Work;
 use std::alloc::{AllocError, Global};
 use std::collections::BTreeSet;
 use std::marker::Model;

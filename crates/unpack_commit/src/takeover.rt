@@ -7,9 +7,10 @@ use crate::losing::losing_records;
 use crate::taken::Taken;
 use diversions::Diversions;
 use file_lists::FileLists;
-use file_works::Work;
 use host_core::RootPath;
-use status_db::{NotedDatabase, Record, State};
+use package_files::Work;
+use status_db::NotedDatabase;
+use status_records::{Record, State};
 use std::alloc::{AllocError, Global};
 use texts::{Text, Texts};
 

@@ -6,25 +6,25 @@ use Rattle.host_core.specs.World.{World}
 use Rattle.host_core.specs.Events.{Event, changes_of}
 use Rattle.host_core.specs.Host.{State}
 use Rattle.administration.specs.Places.{list_path}
-use Rattle.cleanup_stack.specs.Transcripts.{Ended, Committed, Unwound}
+use Rattle.undo_rows.specs.Transcripts.{Ended, Committed, Unwound}
 use Rattle.control_members.specs.LaidOut.{AreLaidOut, IsIncoming}
 use Rattle.control_members.specs.Stored.{IsMembersReady}
 use Rattle.file_lists.specs.Info.{AreLoose}
 use Rattle.file_lists.specs.Writing.{IsListReady}
 use Rattle.file_lists.specs.declared.paths.PackageList.{PackageList}
-use Rattle.file_works.specs.Files.{Each}
-use Rattle.file_works.specs.Names.{IsNamed}
+use Rattle.package_files.specs.Files.{Each}
+use Rattle.package_files.specs.Names.{IsNamed}
 use Rattle.status_db.specs.Held.{HasRecords}
-use Rattle.status_db.specs.declared.record.Record.{Record}
+use Rattle.status_records.specs.declared.record.Record.{Record}
 use Rattle.unpack_commit.specs.Takeover.{put_records}
-use Rattle.unpack_moves.specs.Closing.{SparesAdministration}
-use Rattle.unpack_moves.specs.Concluding.{AreElsewhere}
+use Rattle.listed_files.specs.Closing.{SparesAdministration}
+use Rattle.listed_files.specs.Concluding.{AreElsewhere}
 use Rattle.unpack_plan.specs.Planned.{Planned}
 use Rattle.unpack_rows.specs.Kinds.{kinds_of}
 use Rattle.unpack_rows.specs.Stages.{stage_of}
-use Rattle.unpack_run.specs.At.{At, Holding}
-use Rattle.unpack_run.specs.Task.{state_on}
-use Rattle.unpack_run.specs.Trail.{HasCome}
+use Rattle.unpack_steps.specs.At.{At, Holding}
+use Rattle.unpack_steps.specs.Task.{state_on}
+use Rattle.unpack_steps.specs.Trail.{HasCome}
 use Rattle.unpack_engine.specs.Units.{Begins, BeginsAt, Ground, IsStage, IsUnderWay, MayLeave, changes, commit_records, last_place, noted_so_far, package_name, table_after, task_from}
 use Rattle.unpack_engine.proofs.Cleared.{begun_at, works_on}
 use Rattle.unpack_engine.proofs.Frames.{IsBeside, come_same}

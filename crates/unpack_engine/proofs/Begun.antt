@@ -5,8 +5,8 @@ use Rattle.host_core.specs.Paths.{Path}
 use Rattle.host_core.specs.World.{World}
 use Rattle.administration.specs.Places.{list_path, tmp_path, is_within}
 use Rattle.administration.proofs.Within.{within_is}
-use Rattle.status_db.specs.declared.record.Record.{Record}
-use Rattle.unpack_run.specs.Clearing.{IsBesideOwn, IsCleared, MayClear}
+use Rattle.status_records.specs.declared.record.Record.{Record}
+use Rattle.unpack_steps.specs.Clearing.{IsBesideOwn, IsCleared, MayClear}
 use Rattle.unpack_engine.specs.Units.{HasDropped, MayDrop}
 
 -- the first byte of a name in the directory of the administration: `i` for what is in `info`

@@ -1,20 +1,20 @@
 -- A unit from its parts.
 use Rattle.std.proofs.Common.{◌≡◌, IsTrue, ℕ, List, Option, Some, None, length, refl, subst, ◌∙◌}
 use Rattle.host_core.specs.Host.{State, Silent, AtEachMoment}
-use Rattle.cleanup_stack.specs.Transcripts.{Ended, Committed, Unwound}
-use Rattle.stack_run.specs.Ended.{end_place, ended_as}
-use Rattle.stack_run.specs.declared.unwinding.Unwinding.{Unwinding}
+use Rattle.undo_rows.specs.Transcripts.{Ended, Committed, Unwound}
+use Rattle.undo_rows.specs.Ended.{end_place, ended_as}
+use Rattle.undo_rows.specs.declared.unwinding.Unwinding.{Unwinding}
 use Rattle.status_db.specs.Recorded.{Recorded}
 use Rattle.file_lists.specs.Filed.{Filed}
-use Rattle.file_works.specs.declared.work.Work.{Work}
+use Rattle.package_files.specs.declared.work.Work.{Work}
 use Rattle.held_administration.specs.declared.administration.Administration.{Administration}
-use Rattle.unwind_stack.specs.declared.rows.Called.{Called}
-use Rattle.unwind_stack.specs.declared.rows.Row.{Row}
+use Rattle.undo_rows.specs.declared.rows.Called.{Called}
+use Rattle.undo_rows.specs.declared.rows.Row.{Row}
 use Rattle.diversions.specs.declared.entry.Diversion.{Diversion}
 use Rattle.unpack_rows.specs.EndStates.{end_of, own_name}
-use Rattle.unpack_run.specs.Task.{task_by}
-use Rattle.unpack_run.specs.At.{Holding}
-use Rattle.unpack_run.specs.declared.plan.Rows.{Rows}
+use Rattle.unpack_steps.specs.Task.{task_by}
+use Rattle.unpack_steps.specs.At.{Holding}
+use Rattle.unpack_steps.specs.declared.plan.Rows.{Rows}
 use Rattle.unpack_plan.specs.Planned.{planned_from}
 use Rattle.unpack_plan.specs.declared.plan.PlannedCommit.{PlannedCommit}
 use Rattle.unpack_engine.specs.Endings.{changes_from, ended_lists, ended_table, records_from}

@@ -7,21 +7,21 @@ use Rattle.host_core.specs.Host.{State}
 use Rattle.administration.specs.Files.{NoDirectory}
 use Rattle.administration.specs.Places.{info_path, list_path, tmp_path, is_within}
 use Rattle.administration.proofs.WholeFiles.{no_directory_at, no_directory_none}
-use Rattle.cleanup_stack.specs.Place.{Place, Forward, Ready, Back}
+use Rattle.undo_rows.specs.Place.{Place, Forward, Ready, Back}
 use Rattle.control_members.specs.LaidOut.{AreLaidOut}
 use Rattle.control_members.specs.Names.{is_member_name}
 use Rattle.control_members.specs.Stored.{IsMembersReady, stored_member_path}
 use Rattle.control_members.proofs.LaidOut.{laid_elsewhere}
 use Rattle.file_lists.specs.Info.{AreLoose}
 use Rattle.file_lists.specs.Writing.{IsListReady}
-use Rattle.file_works.specs.declared.work.Work.{Work}
+use Rattle.package_files.specs.declared.work.Work.{Work}
 use Rattle.unpack_plan.specs.Planned.{Planned}
 use Rattle.unpack_rows.specs.Kinds.{kinds_of}
 use Rattle.unpack_rows.specs.Stages.{Stage, Unwritten, Wrote, Restored, stage_of}
-use Rattle.unpack_run.specs.At.{AreFound, AreWorksAt, At, Holding}
-use Rattle.unpack_run.specs.Clearing.{IsBesideOwn, IsCleared, IsClearing, MayClear, is_gone, next_ready}
-use Rattle.unpack_run.specs.Stays.{clear_here}
-use Rattle.unpack_run.specs.Task.{state_on}
+use Rattle.unpack_steps.specs.At.{AreFound, AreWorksAt, At, Holding}
+use Rattle.unpack_steps.specs.Clearing.{IsBesideOwn, IsCleared, IsClearing, MayClear, is_gone, next_ready}
+use Rattle.unpack_steps.specs.Stays.{clear_here}
+use Rattle.unpack_steps.specs.Task.{state_on}
 use Rattle.unpack_engine.specs.Units.{Begins, BeginsAt, Ground, package_name, task_from}
 use Rattle.unpack_engine.proofs.Begun.{may_same, own_beside, tmp_byte}
 use Rattle.unpack_engine.proofs.Ready.{list_ready, members_ready}

@@ -10,7 +10,7 @@ use Rattle.control_members.specs.declared.member.Member.{Member}
 use Rattle.control_members.proofs.LaidOut.{laid_elsewhere}
 use Rattle.status_db.specs.Held.{CanOpenRecords, HasRecords, IsKept, is_record_place}
 use Rattle.status_db.specs.Recorded.{Recorded}
-use Rattle.status_db.specs.declared.record.Record.{Record}
+use Rattle.status_records.specs.declared.record.Record.{Record}
 use Rattle.status_db.proofs.NotedWorlds.{place_differs, records_on}
 use Rattle.diversions.specs.declared.entry.Diversion.{Diversion}
 use Rattle.file_lists.specs.declared.paths.PackageList.{PackageList}
@@ -18,8 +18,8 @@ use Rattle.unpack_commit.specs.Areas.{IsUntouched}
 use Rattle.unpack_commit.specs.Commit.{Changes, HasCommitted}
 use Rattle.unpack_commit.proofs.Left.{committed_keeps}
 use Rattle.unpack_commit.proofs.Stays.{no_leaving_place}
-use Rattle.unpack_moves.specs.Closing.{SparesAdministration}
-use Rattle.unpack_moves.specs.Concluding.{AreElsewhere}
+use Rattle.listed_files.specs.Closing.{SparesAdministration}
+use Rattle.listed_files.specs.Concluding.{AreElsewhere}
 use Rattle.unpack_engine.specs.Units.{HasDropped}
 use Rattle.unpack_engine.proofs.Apart.{tmp_beside}
 use Rattle.unpack_engine.proofs.Begun.{byte, dropped_same, tmp_byte}

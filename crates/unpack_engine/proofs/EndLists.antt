@@ -15,11 +15,11 @@ use Rattle.host_core.specs.Host.{State, Needs}
 use Rattle.host_core.proofs.Scripts.{changed_kept}
 use Rattle.host_core.proofs.Paths.{decide}
 use Rattle.administration.specs.Places.{list_path}
-use Rattle.unwind_stack.specs.declared.fall.Fall.{Fall}
-use Rattle.unwind_stack.specs.declared.rows.Called.{Called}
-use Rattle.cleanup_stack.specs.declared.failed.Failed.{Failed}
-use Rattle.cleanup_stack.specs.Place.{Place, Forward, Back}
-use Rattle.cleanup_stack.specs.Transcripts.{Ended, Committed, Unwound}
+use Rattle.undo_rows.specs.declared.fall.Fall.{Fall}
+use Rattle.undo_rows.specs.declared.rows.Called.{Called}
+use Rattle.undo_rows.specs.declared.failed.Failed.{Failed}
+use Rattle.undo_rows.specs.Place.{Place, Forward, Back}
+use Rattle.undo_rows.specs.Transcripts.{Ended, Committed, Unwound}
 use Rattle.control_members.proofs.Apart.{no_list, no_list_temporary}
 use Rattle.file_lists.specs.Lists.{HasLists}
 use Rattle.file_lists.specs.Owners.{IsListable, paths_of}
@@ -28,8 +28,8 @@ use Rattle.file_lists.specs.declared.paths.PackageList.{PackageList}
 use Rattle.file_lists.proofs.Increasing.{all_from}
 use Rattle.file_lists.proofs.TakingAll.{paths_with}
 use Rattle.status_db.specs.Recorded.{Recorded}
-use Rattle.status_db.specs.Records.{record_in}
-use Rattle.status_db.specs.declared.record.Record.{Record}
+use Rattle.status_records.specs.Records.{record_in}
+use Rattle.status_records.specs.declared.record.Record.{Record}
 use Rattle.unpack_rows.specs.EndStates.{end_of, end_record, is_preinst_reached, own_end, own_end_by, OwnUndo, NoneFailed, OfPrerm, OfPreinstOrPostrm}
 use Rattle.unpack_rows.specs.Kinds.{kinds_of, last_kinds}
 use Rattle.unpack_rows.specs.declared.kinds.RowKind.TheVariants.{Other}
@@ -38,10 +38,10 @@ use Rattle.unpack_rows.specs.Stages.{Stage, Unwritten, Wrote, Restored, has_file
 use Rattle.unpack_rows.specs.declared.rows.Present.{Present}
 use Rattle.unpack_rows.proofs.Ends.{end_table}
 use Rattle.unpack_rows.proofs.Matching.{as_many}
-use Rattle.unpack_run.specs.At.{At, Holding}
-use Rattle.unpack_run.specs.Clearing.{IsBesideOwn, MayClear, is_gone}
-use Rattle.unpack_run.specs.Task.{Task, lists_at, state_on}
-use Rattle.unpack_run.specs.Trail.{HasCome}
+use Rattle.unpack_steps.specs.At.{At, Holding}
+use Rattle.unpack_steps.specs.Clearing.{IsBesideOwn, MayClear, is_gone}
+use Rattle.unpack_steps.specs.Task.{Task, lists_at, state_on}
+use Rattle.unpack_steps.specs.Trail.{HasCome}
 use Rattle.unpack_commit.specs.Takeover.{losing_records, put_records, taken_places, yields_of}
 use Rattle.unpack_commit.proofs.Left.{loser_list, other_list, own_list, same_list}
 use Rattle.unpack_plan.specs.Planned.{IsPlanned, Planned}

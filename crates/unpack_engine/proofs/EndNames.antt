@@ -9,9 +9,9 @@ use Rattle.std.proofs.lemmas.Slice.Eq.{bytes_eq-Decides}
 use Rattle.host_core.specs.Paths.{Path}
 use Rattle.host_core.proofs.Paths.{decide}
 use Rattle.diversions.specs.declared.entry.Diversion.{Diversion}
-use Rattle.status_db.specs.Records.{put_record, record_in}
-use Rattle.status_db.specs.declared.record.Record.{Record}
-use Rattle.status_db.proofs.Tables.{record_in-put_record}
+use Rattle.status_records.specs.Records.{put_record, record_in}
+use Rattle.status_records.specs.declared.record.Record.{Record}
+use Rattle.status_records.proofs.Tables.{record_in-put_record}
 use Rattle.unpack_commit.specs.Takeover.{losing_records, loses_conffile, put_records, without_conffiles}
 use Rattle.unpack_engine.specs.Order.{record_names}
 use Rattle.unpack_engine.proofs.ListEnds.{any_has, has_any, none_has}

@@ -7,30 +7,30 @@ use Rattle.host_core.specs.World.{World, IsDirectory}
 use Rattle.host_core.specs.Events.{changes_of}
 use Rattle.host_core.specs.Host.{State, Needs}
 use Rattle.administration.specs.Places.{home_path, info_path, list_path, tmp_path}
-use Rattle.unwind_stack.specs.declared.rows.Called.{Called}
-use Rattle.cleanup_stack.specs.Transcripts.{Ended, Committed, Unwound}
+use Rattle.undo_rows.specs.declared.rows.Called.{Called}
+use Rattle.undo_rows.specs.Transcripts.{Ended, Committed, Unwound}
 use Rattle.diversions.specs.declared.entry.Diversion.{Diversion}
 use Rattle.file_lists.specs.Info.{AreLoose}
 use Rattle.file_lists.specs.Lists.{HasLists}
 use Rattle.file_lists.specs.Writing.{IsListReady}
 use Rattle.file_lists.specs.declared.paths.PackageList.{PackageList}
-use Rattle.file_works.specs.Files.{Each}
-use Rattle.file_works.specs.Names.{IsNamed}
+use Rattle.package_files.specs.Files.{Each}
+use Rattle.package_files.specs.Names.{IsNamed}
 use Rattle.status_db.specs.Held.{IsKept}
 use Rattle.status_db.specs.Recorded.{Recorded}
-use Rattle.status_db.specs.Records.{record_in}
-use Rattle.status_db.specs.declared.record.Record.{Record}
+use Rattle.status_records.specs.Records.{record_in}
+use Rattle.status_records.specs.declared.record.Record.{Record}
 use Rattle.unpack_commit.specs.Commit.{Changes}
 use Rattle.unpack_commit.specs.Takeover.{put_records}
 use Rattle.unpack_commit.proofs.Ready.{info_is_no_list}
 use Rattle.unpack_commit.proofs.StillReady.{lists_still_ready}
-use Rattle.unpack_moves.specs.Closing.{SparesAdministration}
-use Rattle.unpack_moves.specs.Concluding.{AreElsewhere}
+use Rattle.listed_files.specs.Closing.{SparesAdministration}
+use Rattle.listed_files.specs.Concluding.{AreElsewhere}
 use Rattle.unpack_plan.specs.Planned.{IsPlanned, Job, Planned}
 use Rattle.unpack_rows.specs.Kinds.{kinds_of}
 use Rattle.unpack_rows.specs.Stages.{stage_of}
-use Rattle.unpack_run.specs.At.{At, Holding}
-use Rattle.unpack_run.specs.Task.{state_on}
+use Rattle.unpack_steps.specs.At.{At, Holding}
+use Rattle.unpack_steps.specs.Task.{state_on}
 use Rattle.unpack_engine.specs.Order.{IsInOrder, record_names}
 use Rattle.unpack_engine.specs.Units.{Begins, Ground, HasCarriedOut, HasFollowed, HasLeft, changes, commit_records, last_place, package_name, task_from}
 use Rattle.unpack_engine.proofs.Apart.{loose_still}

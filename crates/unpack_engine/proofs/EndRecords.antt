@@ -6,13 +6,13 @@ use Rattle.std.specs.Cmp.Lexicographic.{slice_cmp}
 use Rattle.std.specs.Ordering.{is_lt, nat_cmp}
 use Rattle.std.proofs.lemmas.Slice.Eq.{bytes_eq-Decides}
 use Rattle.std.proofs.lemmas.List.Elements.{Contains-append_right}
-use Rattle.cleanup_stack.specs.Place.{Place, Forward, Ready, Back}
-use Rattle.cleanup_stack.specs.declared.failed.Failed.{Failed}
+use Rattle.undo_rows.specs.Place.{Place, Forward, Ready, Back}
+use Rattle.undo_rows.specs.declared.failed.Failed.{Failed}
 use Rattle.diversions.specs.declared.entry.Diversion.{Diversion}
 use Rattle.host_core.specs.Paths.{Path}
-use Rattle.status_db.specs.Records.{AreStanding, drop_record, place_record, put_record, record_in}
-use Rattle.status_db.specs.Words.{is_not_installed}
-use Rattle.status_db.specs.declared.record.Record.{Record}
+use Rattle.status_records.specs.Records.{AreStanding, drop_record, place_record, put_record, record_in}
+use Rattle.status_records.specs.Words.{is_not_installed}
+use Rattle.status_records.specs.declared.record.Record.{Record}
 use Rattle.unpack_commit.specs.Takeover.{losing_records, put_records, without_conffiles}
 use Rattle.unpack_rows.specs.EndStates.{AreRecorded}
 use Rattle.unpack_rows.specs.Failures.{has_failed}

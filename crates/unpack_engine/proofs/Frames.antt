@@ -5,23 +5,23 @@ use Rattle.host_core.specs.Paths.{Path, is_below_administration, is_named_by, is
 use Rattle.host_core.specs.World.{World, Change, is_kept}
 use Rattle.host_core.proofs.Scripts.{changed_kept}
 use Rattle.administration.specs.Places.{list_path, temporary}
-use Rattle.cleanup_stack.specs.Place.{Place}
+use Rattle.undo_rows.specs.Place.{Place}
 use Rattle.file_lists.specs.Writing.{list_file}
-use Rattle.file_steps.specs.Unpacked.{IsRearranged}
-use Rattle.file_works.specs.declared.work.Work.{Work}
-use Rattle.file_works.specs.Files.{Each, Misses}
-use Rattle.file_works.specs.Names.{IsNamed}
-use Rattle.file_writing.specs.Back.{CanGoBack}
+use Rattle.file_check.specs.Rearranged.{IsRearranged}
+use Rattle.package_files.specs.declared.work.Work.{Work}
+use Rattle.package_files.specs.Files.{Each, Misses}
+use Rattle.package_files.specs.Names.{IsNamed}
+use Rattle.package_files.specs.Back.{CanGoBack}
 use Rattle.status_db.specs.Held.{is_record_place}
-use Rattle.status_db.specs.declared.record.Record.{Record}
-use Rattle.unpack_moves.specs.Listing.{MayList, MayUnlist}
-use Rattle.unpack_moves.proofs.Listings.{all_miss}
+use Rattle.status_records.specs.declared.record.Record.{Record}
+use Rattle.listed_files.specs.Listing.{MayList, MayUnlist}
+use Rattle.listed_files.proofs.Listings.{all_miss}
 use Rattle.unpack_rows.specs.Stages.{Stage, Unwritten, Wrote, Restored}
-use Rattle.unpack_run.specs.Task.{Task, all_places, name}
-use Rattle.unpack_run.specs.Trail.{Follows, HasCome, HasFiles, HasGoneBack}
-use Rattle.unpack_run.specs.At.{AreWorksAt, IsAmid}
-use Rattle.unpack_run.proofs.FileWorlds.{still_written}
-use Rattle.unpack_run.proofs.Rearranged.{named_rearranged}
+use Rattle.unpack_steps.specs.Task.{Task, all_places, name}
+use Rattle.unpack_steps.specs.Trail.{Follows, HasCome, HasFiles, HasGoneBack}
+use Rattle.unpack_steps.specs.At.{AreWorksAt, IsAmid}
+use Rattle.unpack_steps.proofs.FileWorlds.{still_written}
+use Rattle.unpack_steps.proofs.Rearranged.{named_rearranged}
 
 -- a path of the program's own in the administration, at which no record and no list of this package is written
 pub record IsBeside (list q : Path) : Type 0 where

@@ -21,7 +21,7 @@ use Rattle.host_core.specs.declared.node.Node.TheVariants.{File, Link}
 use Rattle.administration.specs.Directories.{HasBadName}
 use Rattle.administration.specs.Places.{info_path, list_name, list_path, stored_name, temporary}
 use Rattle.administration.proofs.NamePaths.{list_is_path, list_spare_is_path}
-use Rattle.cleanup_stack.specs.Transcripts.{Ended, Committed, Unwound}
+use Rattle.undo_rows.specs.Transcripts.{Ended, Committed, Unwound}
 use Rattle.control_members.specs.Names.{is_member_name, is_member_sign}
 use Rattle.control_members.specs.Stored.{stored_member_path}
 use Rattle.control_members.specs.Members.{member_node, member_of, node_of}
@@ -33,28 +33,28 @@ use Rattle.file_lists.specs.Info.{AreLoose, AreSound, IsLink, entry_path, is_for
 use Rattle.file_lists.specs.Lists.{HasLists, IsReadable}
 use Rattle.file_lists.specs.Taking.{IsNoList}
 use Rattle.file_lists.specs.declared.paths.PackageList.{PackageList}
-use Rattle.file_works.specs.Files.{Each}
-use Rattle.file_works.specs.Names.{IsNamed}
-use Rattle.status_db.specs.Records.{record_in}
-use Rattle.status_db.specs.declared.record.Record.{Record}
+use Rattle.package_files.specs.Files.{Each}
+use Rattle.package_files.specs.Names.{IsNamed}
+use Rattle.status_records.specs.Records.{record_in}
+use Rattle.status_records.specs.declared.record.Record.{Record}
 use Rattle.unpack_commit.specs.Areas.{IsNoMember}
 use Rattle.unpack_commit.specs.Commit.{Changes}
 use Rattle.unpack_commit.specs.Takeover.{put_records, taken_places}
 use Rattle.unpack_commit.proofs.Left.{committed_keeps, members_stored}
 use Rattle.unpack_commit.proofs.Stays.{no_leaving_place}
-use Rattle.unpack_moves.specs.Closing.{SparesAdministration}
-use Rattle.unpack_moves.specs.Concluding.{AreElsewhere}
+use Rattle.listed_files.specs.Closing.{SparesAdministration}
+use Rattle.listed_files.specs.Concluding.{AreElsewhere}
 use Rattle.unpack_plan.specs.Planned.{Planned}
 use Rattle.unpack_rows.specs.Kinds.{kinds_of}
 use Rattle.unpack_rows.specs.Stages.{stage_of}
-use Rattle.unpack_run.specs.At.{At, Holding}
-use Rattle.unpack_run.specs.Clearing.{MayClear, is_gone, next_ready}
-use Rattle.unpack_run.specs.Task.{state_on}
+use Rattle.unpack_steps.specs.At.{At, Holding}
+use Rattle.unpack_steps.specs.Clearing.{MayClear, is_gone, next_ready}
+use Rattle.unpack_steps.specs.Task.{state_on}
 use Rattle.unpack_engine.specs.Units.{Begins, BeginsAt, Ground, HasFollowed, HasLeft, changes, commit_records, last_place, package_name, task_from}
 use Rattle.unpack_engine.proofs.Apart.{entry_beside}
 use Rattle.unpack_engine.proofs.Begun.{cleared_if, dropped_same}
 use Rattle.unpack_engine.proofs.Cleared.{begun_at, begun_beside, works_on}
-use Rattle.cleanup_stack.specs.Place.{Place}
+use Rattle.undo_rows.specs.Place.{Place}
 use Rattle.unpack_engine.proofs.Frames.{come_same}
 use Rattle.unpack_engine.proofs.Losing.{loser_named}
 

@@ -3,9 +3,9 @@ use Rattle.std.proofs.Common.{◌≡◌, ℕ, Bool, nat_le, List, [], ◌++◌, 
 use Rattle.std.proofs.lemmas.List.{append-nil}
 use Rattle.host_core.specs.World.{World}
 use Rattle.administration.specs.Places.{home_path, list_path, updates_path}
-use Rattle.unwind_stack.specs.declared.fall.Fall.{Fall}
-use Rattle.cleanup_stack.specs.declared.failed.Failed.{Failed}
-use Rattle.cleanup_stack.specs.Transcripts.{Ended, Committed, Unwound}
+use Rattle.undo_rows.specs.declared.fall.Fall.{Fall}
+use Rattle.undo_rows.specs.declared.failed.Failed.{Failed}
+use Rattle.undo_rows.specs.Transcripts.{Ended, Committed, Unwound}
 use Rattle.control_members.specs.LaidOut.{AreLaidOut, IsIncoming}
 use Rattle.control_members.specs.declared.member.Member.{Member}
 use Rattle.control_members.proofs.LaidOut.{laid_elsewhere, laid_incoming}
@@ -13,14 +13,14 @@ use Rattle.diversions.specs.declared.entry.Diversion.{Diversion}
 use Rattle.file_lists.specs.declared.paths.PackageList.{PackageList}
 use Rattle.status_db.specs.Held.{CanOpenRecords, HasRecords, IsKept}
 use Rattle.status_db.specs.Recorded.{Recorded}
-use Rattle.status_db.specs.Records.{record_in}
-use Rattle.status_db.specs.declared.record.Record.{Record}
+use Rattle.status_records.specs.Records.{record_in}
+use Rattle.status_records.specs.declared.record.Record.{Record}
 use Rattle.status_db.proofs.NotedWorlds.{place_differs}
 use Rattle.unpack_commit.specs.Commit.{Changes, MayCommit}
 use Rattle.unpack_commit.specs.Takeover.{put_records}
 use Rattle.unpack_commit.proofs.Left.{committing_keeps}
-use Rattle.unpack_moves.specs.Closing.{SparesAdministration}
-use Rattle.unpack_moves.specs.Concluding.{AreElsewhere}
+use Rattle.listed_files.specs.Closing.{SparesAdministration}
+use Rattle.listed_files.specs.Concluding.{AreElsewhere}
 use Rattle.unpack_engine.specs.Units.{MayDrop, MayLeave, MayLeaveBy, noted_by_commit, noted_so_far}
 use Rattle.unpack_engine.proofs.Apart.{tmp_beside}
 use Rattle.unpack_engine.proofs.Begun.{byte, may_drop_same}

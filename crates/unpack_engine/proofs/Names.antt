@@ -7,7 +7,7 @@ use Rattle.std.proofs.lemmas.List.Folds.{list_any_more}
 use Rattle.host_core.specs.Paths.{Path}
 use Rattle.control_members.specs.Members.{AreInOrder}
 use Rattle.file_lists.specs.Increasing.{AreIncreasing}
-use Rattle.status_db.specs.declared.record.Record.{Record}
+use Rattle.status_records.specs.declared.record.Record.{Record}
 use Rattle.unpack_engine.specs.Touched.{is_named}
 
 joined : (b m : Bool) → cond b true m ≡ m || b

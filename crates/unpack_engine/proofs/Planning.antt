@@ -6,13 +6,13 @@ use Rattle.host_core.specs.Events.{Event, Did, Finished, Cut, Failed, changes_of
 use Rattle.host_core.specs.Host.{State, AllFailed, AtEachMomentOf, Reads, Silent}
 use Rattle.host_core.proofs.Moments.{scripts_of-append, since_reads, since_then, since_weaker_if, silent_then}
 use Rattle.host_core.proofs.Scripts.{changes_of-append, no_change, silent_added}
-use Rattle.cleanup_stack.specs.Transcripts.{Ended}
+use Rattle.undo_rows.specs.Transcripts.{Ended}
 use Rattle.file_lists.specs.declared.paths.PackageList.{PackageList}
 use Rattle.status_db.specs.Held.{HasRecords}
 use Rattle.status_db.specs.Recorded.{Recorded}
-use Rattle.unwind_stack.specs.declared.rows.Called.{Called}
+use Rattle.undo_rows.specs.declared.rows.Called.{Called}
 use Rattle.unpack_plan.specs.Planned.{Planned}
-use Rattle.unpack_run.specs.Trail.{HasCome}
+use Rattle.unpack_steps.specs.Trail.{HasCome}
 use Rattle.unpack_rows.specs.Kinds.{kinds_of}
 use Rattle.unpack_rows.specs.Stages.{stage_of}
 use Rattle.unpack_engine.specs.Units.{Begins, Given, Ground, HasCalled, HasCalledRows, HasCarriedOut, HasUnpacked, IsAmidUnit, IsPlanFor, IsRunning, IsStage, IsUnderWay, ground_of, last_place, stage_records, task_from}

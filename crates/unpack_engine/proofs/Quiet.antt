@@ -10,9 +10,9 @@ use Rattle.status_db.specs.Held.{HasRecords}
 use Rattle.unpack_plan.specs.Planned.{Planned}
 use Rattle.unpack_rows.specs.Kinds.{kinds_of}
 use Rattle.unpack_rows.specs.Stages.{stage_of}
-use Rattle.unpack_run.specs.At.{IsAmid as AreFilesAmid, Stops, table_at}
-use Rattle.unpack_run.specs.Task.{state_on}
-use Rattle.unpack_run.specs.Trail.{HasCome}
+use Rattle.unpack_steps.specs.At.{IsAmid as AreFilesAmid, Stops, table_at}
+use Rattle.unpack_steps.specs.Task.{state_on}
+use Rattle.unpack_steps.specs.Trail.{HasCome}
 use Rattle.unpack_engine.specs.Units.{Given, Ground, IsAmid, IsAmidUnit, IsRunning, IsStage, IsUnderWay, ground_of, last_place, stage_records, task_from}
 use Rattle.unpack_engine.proofs.UnderWay.{IsStaged}
 

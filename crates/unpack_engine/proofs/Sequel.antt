@@ -7,12 +7,12 @@ use Rattle.host_core.specs.Host.{State, Silent, Since, AtEachMoment, AtEachMomen
 use Rattle.host_core.specs.Loss.{IsLater}
 use Rattle.host_core.proofs.Moments.{since_then, since_weaker, since_weaker_if, silent_then}
 use Rattle.host_core.proofs.Scripts.{silent_added, since_silent}
-use Rattle.cleanup_stack.specs.Stops.{AtEachStop}
-use Rattle.cleanup_stack.specs.Telling.{Begun}
-use Rattle.unwind_stack.specs.declared.rows.Called.{Called}
-use Rattle.unwind_stack.specs.declared.rows.Row.{Row}
-use Rattle.unpack_run.specs.Task.{Task}
-use Rattle.unpack_run.specs.At.{Stops}
+use Rattle.undo_rows.specs.Stops.{AtEachStop}
+use Rattle.undo_rows.specs.Telling.{Begun}
+use Rattle.undo_rows.specs.declared.rows.Called.{Called}
+use Rattle.undo_rows.specs.declared.rows.Row.{Row}
+use Rattle.unpack_steps.specs.Task.{Task}
+use Rattle.unpack_steps.specs.At.{Stops}
 use Rattle.unpack_engine.specs.Units.{HasCalledRows, IsRunning}
 
 -- a later moment of the same host

@@ -7,8 +7,8 @@ use Rattle.diversions.specs.declared.entry.Diversion.{Diversion}
 use Rattle.file_lists.specs.declared.paths.PackageList.{PackageList}
 use Rattle.status_db.specs.Held.{IsKept}
 use Rattle.status_db.specs.Recorded.{Recorded}
-use Rattle.status_db.specs.declared.record.Record.{Record}
-use Rattle.cleanup_stack.specs.Transcripts.{Committed}
+use Rattle.status_records.specs.declared.record.Record.{Record}
+use Rattle.undo_rows.specs.Transcripts.{Committed}
 use Rattle.unpack_commit.specs.Commit.{Changes, MayCommit}
 use Rattle.unpack_engine.specs.Units.{MayLeave, MayLeaveBy}
 use Rattle.unpack_engine.proofs.Ready.{kept_opens}

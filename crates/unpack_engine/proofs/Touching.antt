@@ -9,10 +9,10 @@ use Rattle.std.proofs.lemmas.List.Folds.{list_any-append}
 use Rattle.std.proofs.lemmas.Slice.Eq.{bytes_eq-Decides}
 use Rattle.host_core.specs.Paths.{Path}
 use Rattle.diversions.specs.declared.entry.Diversion.{Diversion}
-use Rattle.status_db.specs.declared.record.Record.{Record}
-use Rattle.status_db.specs.Records.{AreApart, IsWithout, put_record, record_in}
-use Rattle.status_db.specs.Standings.{with_conffiles}
-use Rattle.status_db.proofs.Tables.{found_here, passed_over, record_in-put_record}
+use Rattle.status_records.specs.declared.record.Record.{Record}
+use Rattle.status_records.specs.Records.{AreApart, IsWithout, put_record, record_in}
+use Rattle.status_records.specs.Standings.{with_conffiles}
+use Rattle.status_records.proofs.Tables.{found_here, passed_over, record_in-put_record}
 use Rattle.unpack_commit.specs.Takeover.{losing_records, loses_conffile, put_records, without_conffiles}
 use Rattle.unpack_commit.proofs.Left.{losing_differs}
 use Rattle.unpack_rows.specs.EndStates.{AreRecorded}

@@ -6,19 +6,19 @@ use Rattle.host_core.specs.World.{World}
 use Rattle.host_core.specs.Events.{Event, scripts_of}
 use Rattle.host_core.specs.Host.{State}
 use Rattle.administration.specs.Places.{list_path}
-use Rattle.cleanup_stack.specs.Place.{Place}
+use Rattle.undo_rows.specs.Place.{Place}
 use Rattle.control_members.specs.LaidOut.{AreLaidOut, IsIncoming, IsLaying}
 use Rattle.control_members.specs.Stored.{IsMembersReady}
 use Rattle.control_members.proofs.LaidOut.{laid_elsewhere, laid_incoming}
 use Rattle.file_lists.specs.Info.{AreLoose}
 use Rattle.file_lists.specs.Writing.{IsListReady}
-use Rattle.file_works.specs.Files.{Each}
-use Rattle.file_works.specs.Names.{IsNamed}
+use Rattle.package_files.specs.Files.{Each}
+use Rattle.package_files.specs.Names.{IsNamed}
 use Rattle.status_db.specs.Held.{HasRecords, IsKept}
 use Rattle.status_db.specs.Recorded.{Recorded}
 use Rattle.unpack_plan.specs.Planned.{Planned}
-use Rattle.unpack_run.specs.At.{Stops}
-use Rattle.unpack_run.specs.Task.{state_on}
+use Rattle.unpack_steps.specs.At.{Stops}
+use Rattle.unpack_steps.specs.Task.{state_on}
 use Rattle.unpack_engine.specs.Units.{Begins, BeginsAt, Ground, IsRunning, IsStage, IsUnderWay, package_name, stage_records, task_from}
 use Rattle.unpack_engine.proofs.Apart.{loose_still, tmp_beside}
 use Rattle.unpack_engine.proofs.Cleared.{begun_laid, begun_loose, laid_loose}

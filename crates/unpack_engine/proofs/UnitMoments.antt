@@ -9,22 +9,22 @@ use Rattle.host_core.specs.Host.{State, Silent, AtEachMoment, AtEachMomentOf, Ne
 use Rattle.host_core.proofs.Moments.{since_then, since_weaker_if}
 use Rattle.host_core.proofs.Scripts.{changes_of-append, no_change, silent_added, since_silent}
 use Rattle.host_core.specs.Tree.{IsTree}
-use Rattle.unwind_stack.specs.declared.rows.Called.{Called}
-use Rattle.unwind_stack.specs.declared.rows.Row.{Row}
-use Rattle.cleanup_stack.specs.Transcripts.{Ended}
+use Rattle.undo_rows.specs.declared.rows.Called.{Called}
+use Rattle.undo_rows.specs.declared.rows.Row.{Row}
+use Rattle.undo_rows.specs.Transcripts.{Ended}
 use Rattle.control_members.specs.LaidOut.{IsLaying}
 use Rattle.control_members.proofs.LaidOut.{incoming_absent}
 use Rattle.diversions.specs.declared.entry.Diversion.{Diversion}
 use Rattle.file_lists.specs.declared.paths.PackageList.{PackageList}
-use Rattle.file_works.specs.declared.work.Work.{Work}
+use Rattle.package_files.specs.declared.work.Work.{Work}
 use Rattle.held_administration.specs.declared.administration.Administration.{Administration}
 use Rattle.status_db.specs.Recorded.{Recorded}
 use Rattle.unpack_plan.specs.Planned.{IsPlanned, Job, Planned, planned_from}
 use Rattle.unpack_plan.specs.declared.plan.PlannedCommit.{PlannedCommit}
 use Rattle.unpack_rows.specs.EndStates.{own_name}
-use Rattle.unpack_run.specs.At.{Holding}
-use Rattle.unpack_run.specs.Task.{task_by}
-use Rattle.unpack_run.specs.declared.plan.Rows.{Rows}
+use Rattle.unpack_steps.specs.At.{Holding}
+use Rattle.unpack_steps.specs.Task.{task_by}
+use Rattle.unpack_steps.specs.declared.plan.Rows.{Rows}
 use Rattle.unpack_engine.specs.Endings.{changes_from, records_from}
 use Rattle.unpack_engine.specs.Order.{IsInOrder}
 use Rattle.unpack_engine.specs.Units.{Begins, Ground, HasBegun, HasRunRows, IsRunning, IsUnderWay, MayLeave, changes, commit_records, ground_by, package_name, task_from}

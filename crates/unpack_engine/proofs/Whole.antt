@@ -6,24 +6,24 @@ use Rattle.host_core.specs.World.{IsDirectory}
 use Rattle.host_core.specs.Host.{State, Needs}
 use Rattle.host_core.specs.Tree.{IsTree}
 use Rattle.administration.specs.Places.{info_path}
-use Rattle.cleanup_stack.specs.Place.{Fit}
-use Rattle.cleanup_stack.specs.Transcripts.{Ended, Committed, Unwound}
+use Rattle.undo_rows.specs.Place.{Fit}
+use Rattle.undo_rows.specs.Transcripts.{Ended, Committed, Unwound}
 use Rattle.control_members.specs.LaidOut.{AreLaidOut}
 use Rattle.control_members.proofs.LaidOut.{incoming_absent}
 use Rattle.diversions.specs.declared.entry.Diversion.{Diversion}
 use Rattle.file_lists.specs.Filed.{Filed}
 use Rattle.file_lists.specs.Info.{AreLoose}
 use Rattle.file_lists.specs.declared.paths.PackageList.{PackageList}
-use Rattle.file_works.specs.declared.work.Work.{Work}
+use Rattle.package_files.specs.declared.work.Work.{Work}
 use Rattle.held_administration.specs.Open.{CanWrite}
 use Rattle.held_administration.specs.declared.administration.Administration.{Administration}
 use Rattle.status_db.specs.Held.{IsKept}
 use Rattle.status_db.specs.Recorded.{Recorded}
-use Rattle.status_db.specs.Records.{AreApart, AreStanding, IsWithout, record_in}
-use Rattle.status_db.specs.Words.{is_not_installed}
-use Rattle.status_db.specs.declared.record.Record.{Record}
-use Rattle.unwind_stack.specs.declared.rows.Called.{Called}
-use Rattle.unwind_stack.specs.declared.rows.Row.{Row}
+use Rattle.status_records.specs.Records.{AreApart, AreStanding, IsWithout, record_in}
+use Rattle.status_records.specs.Words.{is_not_installed}
+use Rattle.status_records.specs.declared.record.Record.{Record}
+use Rattle.undo_rows.specs.declared.rows.Called.{Called}
+use Rattle.undo_rows.specs.declared.rows.Row.{Row}
 use Rattle.unpack_commit.specs.Takeover.{put_records, taken_places}
 use Rattle.unpack_commit.proofs.Those.{losing_stand}
 use Rattle.unpack_plan.specs.Members.{scripts_in}
@@ -35,9 +35,9 @@ use Rattle.unpack_rows.specs.Kinds.{kinds_of}
 use Rattle.unpack_rows.specs.Notes.{noted, notes_at}
 use Rattle.unpack_rows.proofs.Ends.{end_table}
 use Rattle.unpack_rows.proofs.Matching.{as_many, rows_fit}
-use Rattle.unpack_run.specs.At.{At, Holding}
-use Rattle.unpack_run.specs.Task.{IsSound, task_by}
-use Rattle.unpack_run.specs.declared.plan.Rows.{Rows}
+use Rattle.unpack_steps.specs.At.{At, Holding}
+use Rattle.unpack_steps.specs.Task.{IsSound, task_by}
+use Rattle.unpack_steps.specs.declared.plan.Rows.{Rows}
 use Rattle.unpack_engine.specs.Endings.{ended_records, ended_table, records_from}
 use Rattle.unpack_engine.specs.Order.{IsInOrder}
 use Rattle.unpack_engine.specs.Others.{AreOthers}

@@ -2,11 +2,11 @@
 use Rattle.std.specs.Prelude.{◌++◌, ◌∷◌, [], ℕ, List}
 use Rattle.diversions.specs.declared.entry.Diversion.{Diversion}
 use Rattle.file_lists.specs.declared.paths.PackageList.{PackageList}
-use Rattle.status_db.specs.declared.record.Record.{Record}
-use Rattle.file_works.specs.declared.work.Work.{Work}
+use Rattle.status_records.specs.declared.record.Record.{Record}
+use Rattle.package_files.specs.declared.work.Work.{Work}
 use Rattle.unpack_commit.specs.Commit.{Changes, committed_lists}
 use Rattle.unpack_commit.specs.Takeover.{losers, losing_records, put_records, taken_places}
-use Rattle.cleanup_stack.specs.Transcripts.{Ended, Committed, Unwound}
+use Rattle.undo_rows.specs.Transcripts.{Ended, Committed, Unwound}
 use Rattle.unpack_plan.specs.declared.plan.PlannedCommit.{PlannedCommit}
 use Rattle.unpack_engine.specs.Others.{yields_beside}
 

@@ -2,8 +2,8 @@
 use Rattle.std.specs.Prelude.{ℕ, ◌&&◌, Bool, List, filter, not}
 use Rattle.std.specs.Str.{bytes_eq}
 use Rattle.texts.specs.PackageNames.{is_package_name}
-use Rattle.status_db.specs.Records.{AreApart, IsWithout}
-use Rattle.status_db.specs.declared.record.Record.{Record}
+use Rattle.status_records.specs.Records.{AreApart, IsWithout}
+use Rattle.status_records.specs.declared.record.Record.{Record}
 use Rattle.unpack_rows.specs.EndStates.{AreRecorded}
 use Rattle.unpack_rows.specs.ForwardRows.{AreOwn, records_of}
 use Rattle.unpack_rows.specs.declared.rows.OtherPackage.{OtherPackage}

@@ -10,26 +10,26 @@ use Rattle.host_core.specs.declared.call.Script.{Script}
 use Rattle.administration.specs.Directories.{IsRemoved}
 use Rattle.administration.specs.Files.{IsDropped, IsDropping}
 use Rattle.administration.specs.Places.{list_path, script_path, tmp_path, is_within}
-use Rattle.unwind_stack.specs.declared.rows.Called.{Called}
-use Rattle.unwind_stack.specs.declared.rows.Row.{Row}
-use Rattle.cleanup_stack.specs.Place.{Place}
-use Rattle.cleanup_stack.specs.Telling.{Begun, HasRun}
-use Rattle.cleanup_stack.specs.Transcripts.{Ended, Committed, Unwound, MayRun}
+use Rattle.undo_rows.specs.declared.rows.Called.{Called}
+use Rattle.undo_rows.specs.declared.rows.Row.{Row}
+use Rattle.undo_rows.specs.Place.{Place}
+use Rattle.undo_rows.specs.Telling.{Begun, HasRun}
+use Rattle.undo_rows.specs.Transcripts.{Ended, Committed, Unwound, MayRun}
 use Rattle.control_members.specs.LaidOut.{AreLaidOut, IsIncoming, IsLaying}
 use Rattle.control_members.specs.declared.member.Member.{Member}
 use Rattle.diversions.specs.declared.entry.Diversion.{Diversion}
 use Rattle.file_lists.specs.Increasing.{AreIncreasing}
 use Rattle.file_lists.specs.Info.{AreLoose}
 use Rattle.file_lists.specs.declared.paths.PackageList.{PackageList}
-use Rattle.file_works.specs.declared.work.Work.{Work}
+use Rattle.package_files.specs.declared.work.Work.{Work}
 use Rattle.held_administration.specs.declared.administration.Administration.{Administration}
 use Rattle.package_tree.specs.declared.package.Package.{Package}
 use Rattle.status_db.specs.Held.{CanOpenRecords, HasRecords}
 use Rattle.status_db.specs.Recorded.{Recorded}
-use Rattle.status_db.specs.Records.{record_in}
-use Rattle.status_db.specs.declared.record.Record.{Record}
-use Rattle.stack_run.specs.Ended.{IsCauseOf}
-use Rattle.stack_run.specs.declared.unwinding.Unwinding.{Unwinding}
+use Rattle.status_records.specs.Records.{record_in}
+use Rattle.status_records.specs.declared.record.Record.{Record}
+use Rattle.undo_rows.specs.Ended.{IsCauseOf}
+use Rattle.undo_rows.specs.declared.unwinding.Unwinding.{Unwinding}
 use Rattle.unpack_rows.specs.EndStates.{end_of, own_name}
 use Rattle.unpack_rows.specs.ForwardRows.{is_present}
 use Rattle.unpack_rows.specs.Kinds.{kinds_of}
@@ -37,10 +37,10 @@ use Rattle.unpack_rows.specs.Notes.{noted, notes_at}
 use Rattle.unpack_rows.specs.Stages.{stage_of}
 use Rattle.unpack_rows.specs.declared.rows.OtherPackage.{OtherPackage}
 use Rattle.unpack_rows.specs.declared.rows.Present.{Present}
-use Rattle.unpack_run.specs.Clearing.{MayClear, is_gone, next_ready}
-use Rattle.unpack_run.specs.Task.{Task, lists_at}
-use Rattle.unpack_run.specs.Trail.{HasCome}
-use Rattle.unpack_run.specs.At.{AreWorksAt, At, Holding, IsFileFault, Stops}
+use Rattle.unpack_steps.specs.Clearing.{MayClear, is_gone, next_ready}
+use Rattle.unpack_steps.specs.Task.{Task, lists_at}
+use Rattle.unpack_steps.specs.Trail.{HasCome}
+use Rattle.unpack_steps.specs.At.{AreWorksAt, At, Holding, IsFileFault, Stops}
 use Rattle.unpack_commit.specs.Commit.{Changes, HasCommitted, MayCommit, committed_lists}
 use Rattle.unpack_commit.specs.Takeover.{losers, losing_records, put_records, taken_places, yields_of}
 use Rattle.unpack_plan.specs.Planned.{Job, Planned, IsPlanned}

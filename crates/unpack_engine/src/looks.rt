@@ -10,7 +10,7 @@ ghost use Rattle.unpack_engine.specs.Units.{IsSeen};
 
 use administration::script_path;
 use host_core::{Host, HostFault, Script};
-use status_db::Record;
+use status_records::Record;
 use std::alloc::Global;
 use texts::Text;
 use unpack_rows::Present;

@@ -1,26 +1,25 @@
 // The beginning of a unit, and its rows.
 ghost use Rattle.std.specs.Prelude.{◌≡◌, IfOk, length};
 ghost use Rattle.host_core.specs.Host.{AtEachMomentOf, Counts, Needs};
-ghost use Rattle.cleanup_stack.specs.Place.{Fit};
+ghost use Rattle.undo_rows.specs.Place.{Fit};
 ghost use Rattle.control_members.specs.LaidOut.{IsLaying};
 ghost use Rattle.held_administration.specs.Open.{CanWrite};
-ghost use Rattle.stack_run.specs.Ended.{IsCauseOf, ended_as};
+ghost use Rattle.undo_rows.specs.Ended.{IsCauseOf, ended_as};
 ghost use Rattle.unpack_rows.specs.EndStates.{own_name};
 ghost use Rattle.unpack_rows.specs.ForwardRows.{Fits};
 ghost use Rattle.unpack_rows.specs.Kinds.{kinds_of};
-ghost use Rattle.unpack_run.specs.At.{holding_by};
-ghost use Rattle.unpack_run.specs.Task.{IsSound, task_by};
+ghost use Rattle.unpack_steps.specs.At.{holding_by};
+ghost use Rattle.unpack_steps.specs.Task.{IsSound, task_by};
 ghost use Rattle.unpack_engine.specs.Order.{IsInOrder};
 ghost use Rattle.unpack_engine.specs.Units.{HasBegun, HasCalledRows, HasRunRows, IsRunning};
 
 use control_members::{Members, lay_out};
 use diversions::Diversions;
-use file_works::Work;
 use held_administration::Administration;
 use host_core::{Host, HostFault};
-use stack_run::Unwinding;
-use unpack_run::{Rows, run_unpack_rows};
-use unwind_stack::{Called, Row};
+use package_files::Work;
+use undo_rows::{Called, Row, Unwinding};
+use unpack_steps::{Rows, run_unpack_rows};
 
 /// Begins a unit, for which the tree's control files are laid out, and runs its rows.
 pub(crate) fn begin_and_run<H: Host>(

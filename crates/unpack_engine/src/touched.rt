@@ -4,7 +4,8 @@ ghost use Rattle.std.specs.BTreeSet.{contains_text};
 ghost use Rattle.std.specs.Option.{option_copied};
 ghost use Rattle.unpack_engine.specs.Touched.{AreTold, deconfigured, is_deconfigured, is_half_configured, is_named, is_touched};
 
-use status_db::{NotedDatabase, Record, State};
+use status_db::NotedDatabase;
+use status_records::{Record, State};
 use std::alloc::{AllocError, Global};
 use std::collections::BTreeSet;
 use texts::{Text, Texts};

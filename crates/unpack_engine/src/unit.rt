@@ -2,7 +2,7 @@
 ghost use Rattle.std.specs.Prelude.{◌≡◌, ◌++◌, IfOk, OnOk};
 ghost use Rattle.host_core.specs.Host.{AtEachMomentOf, Counts, Leaves, Needs, Reads, Silent};
 ghost use Rattle.held_administration.specs.Open.{CanWrite};
-ghost use Rattle.stack_run.specs.Ended.{IsCauseOf, ended_as};
+ghost use Rattle.undo_rows.specs.Ended.{IsCauseOf, ended_as};
 ghost use Rattle.status_db.specs.Held.{IsKept};
 ghost use Rattle.unpack_commit.specs.Takeover.{yields_of};
 ghost use Rattle.unpack_plan.specs.Planned.{planned};
@@ -21,8 +21,8 @@ use held_administration::Administration;
 use host_core::{Host, HostFault};
 use package_tree::Package;
 use std::alloc::{AllocError, Global};
+use undo_rows::Called;
 use unpack_plan::{Others, Plan, plan_of};
-use unwind_stack::Called;
 
 // Carries out a plan: begins a unit, runs its rows, and does what follows them.
 fn carry_out<H: Host>(

@@ -7,7 +7,7 @@ ghost use Rattle.administration.specs.Places.{list_path as list_place};
 ghost use Rattle.control_members.specs.LaidOut.{AreLaidOut};
 ghost use Rattle.file_lists.specs.Writing.{IsListReady};
 ghost use Rattle.status_db.specs.Held.{IsKept};
-ghost use Rattle.status_db.specs.Records.{record_in};
+ghost use Rattle.status_records.specs.Records.{record_in};
 ghost use Rattle.unpack_engine.specs.Units.{HasDropped, HasLeftBy, MayDrop, MayLeaveBy};
 
 use administration::{discard, list_path};

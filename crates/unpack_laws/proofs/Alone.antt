@@ -8,29 +8,29 @@ use Rattle.host_core.specs.Events.{Event, changes_of, scripts_of}
 use Rattle.host_core.specs.Host.{State}
 use Rattle.host_core.proofs.Scripts.{changed_at, changes_of-append, no_change}
 use Rattle.administration.specs.Places.{list_path, temporary, tmp_path, is_within}
-use Rattle.cleanup_stack.specs.Place.{Place, Forward}
+use Rattle.undo_rows.specs.Place.{Place, Forward}
 use Rattle.control_members.specs.LaidOut.{IsLaying}
-use Rattle.cleanup_stack.specs.Transcripts.{Ended, Committed, Unwound}
+use Rattle.undo_rows.specs.Transcripts.{Ended, Committed, Unwound}
 use Rattle.file_lists.specs.Taking.{IsNoList}
 use Rattle.file_lists.specs.declared.paths.PackageList.{PackageList}
 use Rattle.file_removal.specs.Clearing.{is_among}
-use Rattle.file_steps.specs.Unpacked.{IsRearranged}
-use Rattle.file_works.specs.declared.work.Work.{Work}
-use Rattle.file_works.specs.Files.{Each, Misses}
-use Rattle.file_works.specs.Names.{IsNamed}
+use Rattle.file_check.specs.Rearranged.{IsRearranged}
+use Rattle.package_files.specs.declared.work.Work.{Work}
+use Rattle.package_files.specs.Files.{Each, Misses}
+use Rattle.package_files.specs.Names.{IsNamed}
 use Rattle.status_db.specs.Held.{is_record_place}
-use Rattle.status_db.specs.Records.{record_in}
-use Rattle.status_db.specs.declared.record.Record.{Record}
+use Rattle.status_records.specs.Records.{record_in}
+use Rattle.status_records.specs.declared.record.Record.{Record}
 use Rattle.unpack_commit.specs.Areas.{IsNoMember, IsUntouched}
 use Rattle.unpack_commit.specs.Takeover.{put_records}
 use Rattle.unpack_commit.proofs.Left.{committed_keeps, committing_keeps}
-use Rattle.unpack_moves.specs.Areas.{is_leaving_place}
+use Rattle.listed_files.specs.Areas.{is_leaving_place}
 use Rattle.unpack_plan.specs.Planned.{Planned}
 use Rattle.unpack_rows.specs.Kinds.{kinds_of}
 use Rattle.unpack_rows.specs.Stages.{Stage, Unwritten, Wrote, Restored, stage_of}
-use Rattle.unpack_run.specs.Task.{Task, lists_at, state_on}
-use Rattle.unpack_run.specs.At.{AreWorksAt, Stops}
-use Rattle.unpack_run.specs.Clearing.{IsBesideOwn}
+use Rattle.unpack_steps.specs.Task.{Task, lists_at, state_on}
+use Rattle.unpack_steps.specs.At.{AreWorksAt, Stops}
+use Rattle.unpack_steps.specs.Clearing.{IsBesideOwn}
 use Rattle.unpack_engine.specs.Units.{Begins, BeginsAt, Ground, HasFollowed, IsRunning, IsStage, MayFollow, MayLeave, MayLeaveBy, changes, commit_records, last_place, package_name, table_after, task_from, unit_losers}
 use Rattle.unpack_engine.proofs.Begun.{dropped_same, may_drop_same}
 use Rattle.unpack_engine.proofs.Cleared.{begun_beside as base_beside}

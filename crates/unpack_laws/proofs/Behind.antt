@@ -15,38 +15,38 @@ use Rattle.host_core.proofs.Nodes.{none_stands}
 use Rattle.administration.specs.Places.{home_path, is_within, list_path, temporary, tmp_path}
 use Rattle.control_members.specs.Stored.{stored_member_path}
 use Rattle.diversions.specs.Places.{place}
-use Rattle.cleanup_stack.specs.Transcripts.{Committed}
+use Rattle.undo_rows.specs.Transcripts.{Committed}
 use Rattle.file_lists.specs.Owners.{has_other_owner}
 use Rattle.file_lists.specs.declared.paths.PackageList.{PackageList}
 use Rattle.file_removal.specs.Clearing.{cleared, is_among}
 use Rattle.file_removal.specs.declared.leaving.Leaving.{Leaving}
 use Rattle.file_removal.proofs.Leavings.{loose_gone}
-use Rattle.file_steps.specs.Unpacked.{IsRearranged}
-use Rattle.file_works.specs.declared.work.Work.{Work}
-use Rattle.file_works.specs.Files.{Each, HasWritten, Misses, cleared as cleared_name}
-use Rattle.file_works.specs.Names.{IsNamed}
-use Rattle.file_writing.proofs.WorkLists.{each_map, each_of}
+use Rattle.file_check.specs.Rearranged.{IsRearranged}
+use Rattle.package_files.specs.declared.work.Work.{Work}
+use Rattle.package_files.specs.Files.{Each, HasWritten, Misses, cleared as cleared_name}
+use Rattle.package_files.specs.Names.{IsNamed}
+use Rattle.package_files.proofs.WorkLists.{each_map, each_of}
 use Rattle.list_changes.specs.Leaving.{is_place_of, leaving_at, leaving_of, stays}
 use Rattle.status_db.specs.Held.{is_record_place}
 use Rattle.status_db.specs.Recorded.{Recorded}
-use Rattle.status_db.specs.declared.record.Record.{Record}
-use Rattle.unwind_stack.specs.declared.rows.Called.{Called}
+use Rattle.status_records.specs.declared.record.Record.{Record}
+use Rattle.undo_rows.specs.declared.rows.Called.{Called}
 use Rattle.unpack_commit.specs.Commit.{HasCommitted}
 use Rattle.unpack_commit.specs.Takeover.{put_records}
-use Rattle.unpack_moves.proofs.Apart.{list_below, spare_below}
-use Rattle.unpack_moves.proofs.Closings.{below_within}
+use Rattle.listed_files.proofs.Apart.{list_below, spare_below}
+use Rattle.listed_files.proofs.Closings.{below_within}
 use Rattle.unpack_plan.specs.Lists.{entry_paths, old_leaving}
 use Rattle.unpack_plan.specs.Names.{backups, cut_names, known_conffiles, left_names}
 use Rattle.unpack_plan.specs.Planned.{IsPlanned, Planned}
 use Rattle.unpack_plan.specs.Records.{IsFresh, entries_of}
 use Rattle.unpack_rows.specs.declared.rows.Present.{Present}
-use Rattle.unpack_run.specs.Task.{Task, state_on}
+use Rattle.unpack_steps.specs.Task.{Task, state_on}
 use Rattle.unpack_engine.proofs.Cleared.{works_on}
-use Rattle.unpack_run.specs.At.{AreWorksAt, IsThere}
-use Rattle.unpack_run.specs.Trail.{AreOrdered, HasCome, HasFiles}
-use Rattle.unpack_run.proofs.FileWorlds.{still_written}
-use Rattle.unpack_run.proofs.Rearranged.{each_rearranged}
-use Rattle.unpack_run.proofs.Standing.{record_below}
+use Rattle.unpack_steps.specs.At.{AreWorksAt, IsThere}
+use Rattle.unpack_steps.specs.Trail.{AreOrdered, HasCome, HasFiles}
+use Rattle.unpack_steps.proofs.FileWorlds.{still_written}
+use Rattle.unpack_steps.proofs.Rearranged.{each_rearranged}
+use Rattle.unpack_steps.proofs.Standing.{record_below}
 use Rattle.unpack_engine.specs.Units.{Given, Ground, HasCarriedOut, HasLeft, HasUnpacked, changes, commit_records, ground_of, job_of, last_place, package_name, task_from}
 use Rattle.unpack_engine.proofs.Apart.{tmp_beside}
 use Rattle.unpack_laws.specs.Done.{IsClear, IsClearBeside, LeavesNoOldFile}

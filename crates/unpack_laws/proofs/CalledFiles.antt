@@ -13,12 +13,12 @@ use Rattle.host_core.specs.declared.call.Script.TheVariants.{Preinst, Postinst, 
 use Rattle.administration.specs.Places.{list_path, script_path, tmp_script_path}
 use Rattle.administration.specs.Scripts.{file_of, script_of}
 use Rattle.administration.specs.declared.scripts.Scripts.{Scripts}
-use Rattle.cleanup_stack.specs.Place.{Place}
+use Rattle.undo_rows.specs.Place.{Place}
 use Rattle.control_members.specs.LaidOut.{IsLaying}
 use Rattle.control_members.proofs.MemberNames.{script_is_member}
-use Rattle.status_db.specs.Records.{record_in}
-use Rattle.status_db.specs.declared.record.Record.{Record}
-use Rattle.unwind_stack.specs.declared.rows.Row.{Row}
+use Rattle.status_records.specs.Records.{record_in}
+use Rattle.status_records.specs.declared.record.Record.{Record}
+use Rattle.undo_rows.specs.declared.rows.Row.{Row}
 use Rattle.unpack_commit.proofs.Ready.{member_is_no_list}
 use Rattle.unpack_engine.proofs.Apart.{entry_beside, tmp_beside}
 use Rattle.unpack_engine.proofs.Cleared.{begun_laid}
@@ -29,9 +29,9 @@ use Rattle.unpack_plan.specs.Planned.{Planned}
 use Rattle.unpack_rows.specs.ForwardRows.{is_present, others_rows}
 use Rattle.unpack_rows.specs.Kinds.{own_of, state_of}
 use Rattle.unpack_rows.specs.declared.rows.Present.{Present}
-use Rattle.unpack_run.specs.At.{Stops}
-use Rattle.unpack_run.specs.Clearing.{MayClear, is_gone, next_ready}
-use Rattle.unpack_run.specs.Task.{state_on}
+use Rattle.unpack_steps.specs.At.{Stops}
+use Rattle.unpack_steps.specs.Clearing.{MayClear, is_gone, next_ready}
+use Rattle.unpack_steps.specs.Task.{state_on}
 use Rattle.unpack_laws.specs.Called.{AreCalling, CallsStored, HasScript, IsCallAmong, OthersCallStored}
 use Rattle.unpack_laws.specs.InHand.{unit_name}
 use Rattle.unpack_laws.proofs.Alone.{Based, based_amid}

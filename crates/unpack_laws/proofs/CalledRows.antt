@@ -7,14 +7,14 @@ use Rattle.host_core.specs.declared.call.Script.{Script}
 use Rattle.host_core.specs.declared.call.Script.TheVariants as script
 use Rattle.host_core.specs.declared.call.Side.TheVariants.{Old, New}
 use Rattle.administration.specs.Places.{script_path, tmp_script_path}
-use Rattle.unwind_stack.specs.Transcript.{Goes, Succeed, Tries}
-use Rattle.unwind_stack.specs.declared.fall.Fall.{Fall}
-use Rattle.unwind_stack.specs.declared.rows.Row.{Row}
-use Rattle.cleanup_stack.specs.Transcripts.{Anyhow, Ended, Committed, Unwound, Legal, MayRun, Unwinds}
-use Rattle.cleanup_stack.specs.Undoing.{Undoes, UndoesAll}
-use Rattle.cleanup_stack.specs.declared.failed.Failed.{Failed}
-use Rattle.status_db.specs.declared.words.State.{State}
-use Rattle.status_db.specs.declared.words.State.TheVariants as state
+use Rattle.undo_rows.specs.Transcript.{Goes, Succeed, Tries}
+use Rattle.undo_rows.specs.declared.fall.Fall.{Fall}
+use Rattle.undo_rows.specs.declared.rows.Row.{Row}
+use Rattle.undo_rows.specs.Transcripts.{Anyhow, Ended, Committed, Unwound, Legal, MayRun, Unwinds}
+use Rattle.undo_rows.specs.Undoing.{Undoes, UndoesAll}
+use Rattle.undo_rows.specs.declared.failed.Failed.{Failed}
+use Rattle.status_records.specs.declared.words.State.{State}
+use Rattle.status_records.specs.declared.words.State.TheVariants as state
 use Rattle.unpack_rows.specs.ForwardRows.{files_row, first_rows, install_row, is_present, last_rows, new_call, old_call, postrm_row, preinst_row, prerm_row, reinstall_row, rows_from, upgrade_row}
 use Rattle.unpack_rows.specs.Kinds.{has_prerm, is_upgrade}
 use Rattle.unpack_rows.specs.declared.rows.Present.{Present}

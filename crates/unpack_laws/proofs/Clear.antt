@@ -5,7 +5,7 @@ use Rattle.host_core.specs.declared.node.Node.{Node}
 use Rattle.host_core.specs.declared.node.Node.TheVariants.{File, Dir, Link}
 use Rattle.host_core.proofs.Nodes.{none_stands}
 use Rattle.file_removal.specs.Clearing.{cleared}
-use Rattle.file_works.specs.Files.{cleared as cleared_name}
+use Rattle.package_files.specs.Files.{cleared as cleared_name}
 use Rattle.unpack_laws.specs.Done.{IsClear}
 
 pub clear_none : (node : Option Node) → node ≡ None → IsClear node

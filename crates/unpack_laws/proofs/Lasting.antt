@@ -16,11 +16,11 @@ use Rattle.file_lists.specs.Owners.{has_other_owner}
 use Rattle.file_lists.specs.declared.paths.PackageList.{PackageList}
 use Rattle.file_removal.specs.Clearing.{is_among}
 use Rattle.file_removal.specs.declared.leaving.Leaving.{Leaving}
-use Rattle.file_works.specs.declared.work.Work.{Work}
+use Rattle.package_files.specs.declared.work.Work.{Work}
 use Rattle.list_changes.specs.Clearable.{clearable, is_clearable}
 use Rattle.list_changes.specs.Leaving.{is_place_of, leaving_of, stays}
-use Rattle.status_db.specs.declared.record.Record.{Record}
-use Rattle.unpack_moves.specs.Areas.{is_leaving_place}
+use Rattle.status_records.specs.declared.record.Record.{Record}
+use Rattle.listed_files.specs.Areas.{is_leaving_place}
 use Rattle.unpack_plan.specs.Lists.{entry_paths, old_leaving}
 use Rattle.unpack_plan.specs.Names.{cut_names, gone_name, gone_names, waiting_name, was_cut}
 use Rattle.unpack_plan.specs.Records.{entries_of}

@@ -11,29 +11,29 @@ use Rattle.diversions.specs.declared.entry.Diversion.{Diversion}
 use Rattle.diversions.specs.Places.{place}
 use Rattle.file_check.specs.Ships.{shipped_works}
 use Rattle.file_lists.specs.Writing.{list_file}
-use Rattle.file_steps.specs.Unpacked.{IsRearranged}
-use Rattle.file_works.specs.declared.work.Work.{Work}
-use Rattle.file_works.specs.Files.{Each, Misses}
-use Rattle.file_works.specs.Names.{IsNamed}
-use Rattle.file_writing.specs.Back.{CanGoBack}
-use Rattle.file_writing.proofs.WorkNames.{by_place}
+use Rattle.file_check.specs.Rearranged.{IsRearranged}
+use Rattle.package_files.specs.declared.work.Work.{Work}
+use Rattle.package_files.specs.Files.{Each, Misses}
+use Rattle.package_files.specs.Names.{IsNamed}
+use Rattle.package_files.specs.Back.{CanGoBack}
+use Rattle.package_files.proofs.WorkNames.{by_place}
 use Rattle.package_tree.specs.ShipMap.{paths_of as shipped_paths}
 use Rattle.package_tree.specs.declared.shipped.Shipped.{Shipped}
 use Rattle.status_db.specs.Held.{HasRecords}
-use Rattle.status_db.specs.Records.{record_in}
-use Rattle.status_db.specs.declared.record.Record.{Record}
-use Rattle.unpack_moves.proofs.Apart.{list_below}
-use Rattle.unpack_moves.proofs.Listings.{all_miss}
+use Rattle.status_records.specs.Records.{record_in}
+use Rattle.status_records.specs.declared.record.Record.{Record}
+use Rattle.listed_files.proofs.Apart.{list_below}
+use Rattle.listed_files.proofs.Listings.{all_miss}
 use Rattle.unpack_plan.specs.Planned.{IsPlanned, Planned, pairs_of}
 use Rattle.unpack_rows.specs.Kinds.{own_of}
 use Rattle.unpack_rows.specs.Notes.{half_installed}
 use Rattle.unpack_rows.specs.declared.rows.Present.{Present}
-use Rattle.unpack_run.specs.At.{IsAmid, IsMarked}
-use Rattle.unpack_run.specs.Task.{Task, all_places}
-use Rattle.unpack_run.specs.Trail.{Follows, HasFiles}
-use Rattle.unpack_run.proofs.FileWorlds.{still_written}
-use Rattle.unpack_run.proofs.Rearranged.{named_rearranged}
-use Rattle.unpack_run.specs.Clearing.{IsBesideOwn}
+use Rattle.unpack_steps.specs.At.{IsAmid, IsMarked}
+use Rattle.unpack_steps.specs.Task.{Task, all_places}
+use Rattle.unpack_steps.specs.Trail.{Follows, HasFiles}
+use Rattle.unpack_steps.proofs.FileWorlds.{still_written}
+use Rattle.unpack_steps.proofs.Rearranged.{named_rearranged}
+use Rattle.unpack_steps.specs.Clearing.{IsBesideOwn}
 use Rattle.unpack_engine.specs.Units.{Given, Ground, ground_of, job_of, package_name, task_from}
 use Rattle.unpack_laws.specs.InHand.{unit_found, unit_name, unit_works}
 use Rattle.unpack_laws.specs.Marked.{IsAccounted, IsMarkedAmid, IsNamedIn, IsRestored}

@@ -18,27 +18,27 @@ use Rattle.host_core.specs.declared.suffix.Suffix.TheVariants.{New}
 use Rattle.host_core.specs.declared.node.Node.{Node}
 use Rattle.host_core.specs.declared.node.Node.TheVariants.{File, Dir, Link}
 use Rattle.administration.specs.Places.{home_path, is_within, list_path}
-use Rattle.unwind_stack.specs.declared.fall.Fall.{Fall}
-use Rattle.cleanup_stack.specs.declared.failed.Failed.{Failed}
-use Rattle.cleanup_stack.specs.Transcripts.{Ended, Committed, Unwound}
+use Rattle.undo_rows.specs.declared.fall.Fall.{Fall}
+use Rattle.undo_rows.specs.declared.failed.Failed.{Failed}
+use Rattle.undo_rows.specs.Transcripts.{Ended, Committed, Unwound}
 use Rattle.diversions.specs.declared.entry.Diversion.{Diversion}
 use Rattle.diversions.specs.Places.{place}
 use Rattle.file_lists.specs.Writing.{list_file}
 use Rattle.file_lists.specs.declared.paths.PackageList.{PackageList}
 use Rattle.file_removal.specs.Clearing.{cleared, is_among}
 use Rattle.file_removal.specs.Removal.{GoesBy}
-use Rattle.file_works.specs.declared.work.Work.{Work}
-use Rattle.file_works.specs.Names.{IsNamed}
-use Rattle.file_works.specs.Files.{Each, Misses}
+use Rattle.package_files.specs.declared.work.Work.{Work}
+use Rattle.package_files.specs.Names.{IsNamed}
+use Rattle.package_files.specs.Files.{Each, Misses}
 use Rattle.list_changes.specs.Clearable.{clearable, is_clearable}
 use Rattle.list_changes.specs.Leaving.{leaving_at, leaving_of}
 use Rattle.status_db.specs.Held.{HasRecords}
-use Rattle.status_db.specs.Records.{put_record, record_in}
-use Rattle.status_db.specs.declared.record.Record.{Record}
-use Rattle.status_db.proofs.Tables.{record_in-put_record}
+use Rattle.status_records.specs.Records.{put_record, record_in}
+use Rattle.status_records.specs.declared.record.Record.{Record}
+use Rattle.status_records.proofs.Tables.{record_in-put_record}
 use Rattle.unpack_commit.specs.Commit.{Changes, HasCommitted, MayCommit, renewed_lists}
 use Rattle.unpack_commit.specs.Takeover.{losing_records, put_records, taken_places}
-use Rattle.unpack_moves.specs.Closing.{HasReleased, HasRenewed, MayRelease, MayRenew}
+use Rattle.listed_files.specs.Closing.{HasReleased, HasRenewed, MayRelease, MayRenew}
 use Rattle.unpack_plan.specs.Lists.{entry_paths}
 use Rattle.unpack_plan.specs.Names.{backups, cut_names, gone_name, gone_names, known_conffiles, left_names, was_cut}
 use Rattle.unpack_plan.specs.Planned.{IsPlanned, Planned}
@@ -52,9 +52,9 @@ use Rattle.unpack_rows.specs.declared.rows.Present.{Present}
 use Rattle.unpack_rows.proofs.Matching.{as_many}
 use Rattle.unpack_rows.proofs.Staging.{marked}
 use Rattle.unpack_plan.specs.Members.{scripts_in}
-use Rattle.unpack_run.specs.At.{AreWorksAt}
-use Rattle.unpack_run.specs.Task.{Task, lists_at, state_on}
-use Rattle.unpack_run.specs.Trail.{HasCome, HasFiles}
+use Rattle.unpack_steps.specs.At.{AreWorksAt}
+use Rattle.unpack_steps.specs.Task.{Task, lists_at, state_on}
+use Rattle.unpack_steps.specs.Trail.{HasCome, HasFiles}
 use Rattle.unpack_engine.specs.Units.{Given, Ground, IsAmidUnit, IsRunning, IsStage, MayLeave, MayLeaveBy, changes, commit_records, ground_of, job_of, last_place, package_name, table_after, task_from, unit_losers}
 use Rattle.unpack_engine.proofs.Begun.{dropped_same, may_drop_same}
 use Rattle.unpack_engine.proofs.Dropping.{laying_records}

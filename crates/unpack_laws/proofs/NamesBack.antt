@@ -10,17 +10,17 @@ use Rattle.host_core.specs.declared.node.Node.{Node}
 use Rattle.administration.specs.Files.{IsReplacing}
 use Rattle.administration.specs.Places.{is_within, list_path, temporary, tmp_path}
 use Rattle.control_members.specs.Stored.{stored_member_path}
-use Rattle.file_steps.specs.Unpacked.{IsRearranged}
-use Rattle.file_works.specs.declared.work.Work.{Work}
-use Rattle.file_works.specs.Files.{Each, HasPutBack, IsBack, Misses, Stays, cleared, saved}
-use Rattle.file_works.specs.Names.{IsNamed}
-use Rattle.file_writing.specs.Back.{GoesBack}
-use Rattle.file_writing.proofs.WorkLists.{each_map}
-use Rattle.unpack_moves.proofs.Apart.{apart, list_below, spare_below}
-use Rattle.unpack_run.specs.Clearing.{IsBesideOwn}
-use Rattle.unpack_run.specs.Task.{Task, name}
-use Rattle.unpack_run.specs.Trail.{HasFiles, HasGoneBack}
-use Rattle.unpack_run.proofs.Rearranged.{each_rearranged}
+use Rattle.file_check.specs.Rearranged.{IsRearranged}
+use Rattle.package_files.specs.declared.work.Work.{Work}
+use Rattle.package_files.specs.Files.{Each, HasPutBack, IsBack, Misses, Stays, cleared, saved}
+use Rattle.package_files.specs.Names.{IsNamed}
+use Rattle.package_files.specs.Back.{GoesBack}
+use Rattle.package_files.proofs.WorkLists.{each_map}
+use Rattle.listed_files.proofs.Apart.{apart, list_below, spare_below}
+use Rattle.unpack_steps.specs.Clearing.{IsBesideOwn}
+use Rattle.unpack_steps.specs.Task.{Task, name}
+use Rattle.unpack_steps.specs.Trail.{HasFiles, HasGoneBack}
+use Rattle.unpack_steps.proofs.Rearranged.{each_rearranged}
 use Rattle.unpack_engine.specs.Units.{Given}
 use Rattle.unpack_engine.proofs.Apart.{tmp_beside}
 use Rattle.unpack_laws.specs.Marked.{IsNameBack}

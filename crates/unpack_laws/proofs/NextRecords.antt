@@ -10,13 +10,13 @@ use Rattle.std.proofs.lemmas.Slice.Eq.{bytes_eq-Decides}
 use Rattle.host_core.specs.Events.{Event}
 use Rattle.host_core.specs.Paths.{Path}
 use Rattle.host_core.specs.World.{World}
-use Rattle.cleanup_stack.specs.Transcripts.{Committed}
+use Rattle.undo_rows.specs.Transcripts.{Committed}
 use Rattle.file_lists.specs.declared.paths.PackageList.{PackageList}
-use Rattle.file_works.specs.declared.work.Work.{Work}
+use Rattle.package_files.specs.declared.work.Work.{Work}
 use Rattle.status_db.specs.Held.{HasRecords}
 use Rattle.status_db.specs.Recorded.{Recorded}
-use Rattle.status_db.specs.Records.{AreApart, IsWithout, record_in}
-use Rattle.status_db.specs.declared.record.Record.{Record}
+use Rattle.status_records.specs.Records.{AreApart, IsWithout, record_in}
+use Rattle.status_records.specs.declared.record.Record.{Record}
 use Rattle.status_db.proofs.Ordered.{order_apart}
 use Rattle.unpack_commit.specs.Takeover.{taken_places}
 use Rattle.unpack_plan.specs.Records.{IsFresh}

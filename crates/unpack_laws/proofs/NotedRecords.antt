@@ -8,16 +8,16 @@ use Rattle.host_core.specs.Events.{Event}
 use Rattle.host_core.specs.Host.{State}
 use Rattle.host_core.specs.Paths.{Path}
 use Rattle.host_core.specs.World.{World}
-use Rattle.cleanup_stack.specs.Place.{Place, Forward, Ready, Back}
-use Rattle.cleanup_stack.specs.Transcripts.{Committed, Unwound}
-use Rattle.cleanup_stack.specs.declared.failed.Failed.{Failed}
+use Rattle.undo_rows.specs.Place.{Place, Forward, Ready, Back}
+use Rattle.undo_rows.specs.Transcripts.{Committed, Unwound}
+use Rattle.undo_rows.specs.declared.failed.Failed.{Failed}
 use Rattle.diversions.specs.declared.entry.Diversion.{Diversion}
 use Rattle.file_lists.specs.declared.paths.PackageList.{PackageList}
-use Rattle.file_steps.specs.Unpacked.{IsRearranged}
-use Rattle.file_works.specs.declared.work.Work.{Work}
-use Rattle.status_db.specs.Records.{AreApart, IsWithout, drop_record, put_record, record_in}
-use Rattle.status_db.specs.declared.record.Record.{Record}
-use Rattle.status_db.proofs.Tables.{apart_dropped, apart_put, found_here, passed_over, record_in-put_record}
+use Rattle.file_check.specs.Rearranged.{IsRearranged}
+use Rattle.package_files.specs.declared.work.Work.{Work}
+use Rattle.status_records.specs.Records.{AreApart, IsWithout, drop_record, put_record, record_in}
+use Rattle.status_records.specs.declared.record.Record.{Record}
+use Rattle.status_records.proofs.Tables.{apart_dropped, apart_put, found_here, passed_over, record_in-put_record}
 use Rattle.unpack_commit.specs.Takeover.{loses_conffile, losing_records, put_records, taken_places, without_conffiles}
 use Rattle.unpack_plan.specs.Planned.{Planned}
 use Rattle.unpack_rows.specs.EndStates.{AreRecorded}

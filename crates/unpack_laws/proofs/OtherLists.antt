@@ -8,31 +8,31 @@ use Rattle.host_core.specs.Host.{State}
 use Rattle.host_core.proofs.Scripts.{changed_kept}
 use Rattle.host_core.specs.declared.node.Node.{Node}
 use Rattle.administration.specs.Places.{list_path, temporary}
-use Rattle.cleanup_stack.specs.Transcripts.{Ended, Committed, Unwound}
+use Rattle.undo_rows.specs.Transcripts.{Ended, Committed, Unwound}
 use Rattle.control_members.proofs.Apart.{no_list_temporary}
 use Rattle.file_lists.specs.Taking.{left_file}
 use Rattle.file_lists.specs.Writing.{left_paths, list_file}
 use Rattle.file_lists.specs.declared.paths.PackageList.{PackageList}
 use Rattle.file_removal.specs.Clearing.{cleared, is_among}
-use Rattle.file_steps.specs.Unpacked.{IsRearranged}
-use Rattle.file_works.specs.declared.work.Work.{Work}
-use Rattle.status_db.specs.Records.{record_in}
-use Rattle.status_db.specs.declared.record.Record.{Record}
+use Rattle.file_check.specs.Rearranged.{IsRearranged}
+use Rattle.package_files.specs.declared.work.Work.{Work}
+use Rattle.status_records.specs.Records.{record_in}
+use Rattle.status_records.specs.declared.record.Record.{Record}
 use Rattle.unpack_commit.specs.Commit.{Changes, HasCommitted, MayCommit, renewed_lists}
 use Rattle.unpack_commit.specs.Takeover.{put_records, taken_places}
 use Rattle.unpack_commit.proofs.Left.{list_within, no_other, same_list}
 use Rattle.unpack_commit.proofs.Ready.{list_is_no_member, renewed_same}
 use Rattle.unpack_commit.proofs.Stays.{no_renewed_place}
-use Rattle.unpack_moves.specs.Closing.{HasReleased, HasRenewed, MayRelease, MayRenew}
-use Rattle.unpack_moves.proofs.Apart.{list_below}
-use Rattle.unpack_moves.proofs.Areas.{renewing_keeps}
-use Rattle.unpack_moves.proofs.Listings.{all_miss}
+use Rattle.listed_files.specs.Closing.{HasReleased, HasRenewed, MayRelease, MayRenew}
+use Rattle.listed_files.proofs.Apart.{list_below}
+use Rattle.listed_files.proofs.Areas.{renewing_keeps}
+use Rattle.listed_files.proofs.Listings.{all_miss}
 use Rattle.unpack_plan.specs.Planned.{IsPlanned, Planned}
 use Rattle.unpack_rows.specs.Kinds.{kinds_of}
 use Rattle.unpack_rows.specs.Stages.{Stage, stage_of}
 use Rattle.unpack_rows.specs.declared.rows.Present.{Present}
-use Rattle.unpack_run.specs.Clearing.{IsBesideOwn}
-use Rattle.unpack_run.specs.Task.{lists_at, state_on}
+use Rattle.unpack_steps.specs.Clearing.{IsBesideOwn}
+use Rattle.unpack_steps.specs.Task.{lists_at, state_on}
 use Rattle.unpack_engine.specs.Units.{Given, Ground, IsAmidUnit, IsRunning, IsStage, MayLeave, MayLeaveBy, changes, commit_records, ground_of, job_of, last_place, package_name, table_after, task_from}
 use Rattle.unpack_engine.proofs.Begun.{dropped_same, may_drop_same}
 use Rattle.unpack_engine.proofs.ListEnds.{among}

@@ -11,7 +11,7 @@ use Rattle.control_members.proofs.Apart.{no_list_temporary, no_temporary, same_s
 use Rattle.unpack_commit.proofs.Left.{list_within, member_within, no_other, same_list}
 use Rattle.unpack_commit.proofs.Ready.{list_is_no_member, member_is_no_list}
 use Rattle.unpack_commit.proofs.Stays.{no_leaving_place}
-use Rattle.unpack_moves.proofs.Listings.{all_miss}
+use Rattle.listed_files.proofs.Listings.{all_miss}
 use Rattle.unpack_engine.specs.Units.{Given, IsAmid, IsAmidUnit, ground_of, package_name}
 use Rattle.unpack_laws.specs.InHand.{IsPassedBy, KeepsPlaces, unit_name}
 use Rattle.unpack_laws.proofs.Alone.{IsAlone, stage_avoids, stage_there}

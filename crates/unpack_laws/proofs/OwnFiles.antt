@@ -15,12 +15,12 @@ use Rattle.host_core.specs.declared.suffix.Suffix.TheVariants.{New, Old, Dist, T
 use Rattle.administration.specs.Places.{list_path, temporary, tmp_path, is_within}
 use Rattle.control_members.specs.Stored.{stored_member_path}
 use Rattle.file_removal.specs.Clearing.{is_among}
-use Rattle.file_works.specs.declared.work.Work.{Work}
-use Rattle.file_works.specs.Files.{Each, IsShown}
-use Rattle.file_works.specs.Names.{IsNamed}
-use Rattle.file_writing.proofs.WorkLists.{each_map, each_of}
-use Rattle.file_writing.proofs.WorkNames.{same_place}
-use Rattle.unpack_moves.proofs.Apart.{apart, list_below, spare_below}
+use Rattle.package_files.specs.declared.work.Work.{Work}
+use Rattle.package_files.specs.Files.{Each, IsShown}
+use Rattle.package_files.specs.Names.{IsNamed}
+use Rattle.package_files.proofs.WorkLists.{each_map, each_of}
+use Rattle.package_files.proofs.WorkNames.{same_place}
+use Rattle.listed_files.proofs.Apart.{apart, list_below, spare_below}
 use Rattle.unpack_plan.specs.Names.{backups}
 use Rattle.unpack_plan.specs.Planned.{IsPlanned, Planned}
 use Rattle.unpack_rows.specs.Kinds.{kinds_of}
@@ -30,7 +30,7 @@ use Rattle.unpack_engine.specs.Units.{Given, Ground, IsAmidUnit, IsRunning, IsSt
 use Rattle.unpack_engine.proofs.Apart.{tmp_beside}
 use Rattle.unpack_laws.specs.InHand.{unit_works}
 use Rattle.unpack_laws.specs.Whole.{IsLasting, IsTargetAmid, IsTargetBack, IsTargetSet, IsWorkAmid, IsWorkSet}
-use Rattle.unpack_run.specs.Task.{state_on}
+use Rattle.unpack_steps.specs.Task.{state_on}
 use Rattle.unpack_laws.proofs.Alone.{IsAside, are_moved, based_amid, begun_same, beginning_same, calls_since, leave_same}
 use Rattle.unpack_laws.proofs.Passing.{no_cleared, no_leaving, works_are}
 use Rattle.unpack_laws.proofs.Targets.{hits_target, name_apart, name_unnoted, targets_amid, targets_come}

@@ -9,30 +9,30 @@ use Rattle.host_core.specs.Host.{State}
 use Rattle.host_core.proofs.Scripts.{changed_kept}
 use Rattle.host_core.specs.declared.node.Node.{Node}
 use Rattle.administration.specs.Places.{list_path}
-use Rattle.cleanup_stack.specs.Place.{Place}
-use Rattle.cleanup_stack.specs.Transcripts.{Ended, Committed, Unwound}
+use Rattle.undo_rows.specs.Place.{Place}
+use Rattle.undo_rows.specs.Transcripts.{Ended, Committed, Unwound}
 use Rattle.control_members.specs.Stored.{AreReplaced}
 use Rattle.file_lists.specs.Writing.{list_file}
 use Rattle.file_lists.specs.declared.paths.PackageList.{PackageList}
-use Rattle.file_steps.specs.Unpacked.{IsRearranged}
-use Rattle.file_works.specs.declared.work.Work.{Work}
-use Rattle.file_works.specs.Files.{Each, Misses}
-use Rattle.file_writing.specs.Back.{CanGoBack}
+use Rattle.file_check.specs.Rearranged.{IsRearranged}
+use Rattle.package_files.specs.declared.work.Work.{Work}
+use Rattle.package_files.specs.Files.{Each, Misses}
+use Rattle.package_files.specs.Back.{CanGoBack}
 use Rattle.package_tree.specs.ShipMap.{paths_of as shipped_paths}
-use Rattle.status_db.specs.Records.{record_in}
-use Rattle.status_db.specs.declared.record.Record.{Record}
+use Rattle.status_records.specs.Records.{record_in}
+use Rattle.status_records.specs.declared.record.Record.{Record}
 use Rattle.unpack_commit.specs.Commit.{AreNoting, Changes, HasCommitted, MayCommit, renewed_lists}
 use Rattle.unpack_commit.specs.Takeover.{put_records, taken_places}
 use Rattle.unpack_commit.proofs.Left.{list_within, no_other, own_list}
 use Rattle.unpack_commit.proofs.Ready.{list_is_no_member}
 use Rattle.unpack_commit.proofs.Stays.{no_leaving_place}
-use Rattle.unpack_moves.specs.Areas.{is_leaving_place, is_list_place}
-use Rattle.unpack_moves.specs.Closing.{HasReleased, HasRenewed, MayRenew}
-use Rattle.unpack_moves.specs.Listing.{MayList, MayUnlist}
-use Rattle.unpack_moves.proofs.Apart.{list_below}
-use Rattle.unpack_moves.proofs.Areas.{released_keeps, releasing_keeps, renewing_keeps}
-use Rattle.unpack_moves.proofs.Closings.{removed_stays}
-use Rattle.unpack_moves.proofs.Listings.{all_miss}
+use Rattle.listed_files.specs.Areas.{is_leaving_place, is_list_place}
+use Rattle.listed_files.specs.Closing.{HasReleased, HasRenewed, MayRenew}
+use Rattle.listed_files.specs.Listing.{MayList, MayUnlist}
+use Rattle.listed_files.proofs.Apart.{list_below}
+use Rattle.listed_files.proofs.Areas.{released_keeps, releasing_keeps, renewing_keeps}
+use Rattle.listed_files.proofs.Closings.{removed_stays}
+use Rattle.listed_files.proofs.Listings.{all_miss}
 use Rattle.unpack_plan.specs.Lists.{IsUnion}
 use Rattle.unpack_plan.specs.Planned.{IsPlanned, Planned}
 use Rattle.unpack_plan.specs.Records.{IsFresh}
@@ -41,12 +41,12 @@ use Rattle.unpack_rows.specs.Notes.{as_before, half_configured}
 use Rattle.unpack_rows.specs.Stages.{Stage, Unwritten, Wrote, Restored, stage_of}
 use Rattle.unpack_rows.specs.declared.notes.Note.TheVariants.{Put}
 use Rattle.unpack_rows.specs.declared.rows.Present.{Present}
-use Rattle.unpack_run.specs.At.{AreWorksAt, IsAmid}
-use Rattle.unpack_run.specs.Task.{Task, all_places, lists_at, state_on}
-use Rattle.unpack_run.specs.Trail.{Follows, HasCome, HasFiles, HasGoneBack}
-use Rattle.unpack_run.proofs.FileWorlds.{still_written}
-use Rattle.unpack_run.proofs.Rearranged.{named_rearranged}
-use Rattle.unpack_run.specs.Clearing.{MayClear, is_gone, next_ready}
+use Rattle.unpack_steps.specs.At.{AreWorksAt, IsAmid}
+use Rattle.unpack_steps.specs.Task.{Task, all_places, lists_at, state_on}
+use Rattle.unpack_steps.specs.Trail.{Follows, HasCome, HasFiles, HasGoneBack}
+use Rattle.unpack_steps.proofs.FileWorlds.{still_written}
+use Rattle.unpack_steps.proofs.Rearranged.{named_rearranged}
+use Rattle.unpack_steps.specs.Clearing.{MayClear, is_gone, next_ready}
 use Rattle.unpack_laws.proofs.Alone.{Based, based_amid}
 use Rattle.unpack_engine.specs.Units.{Given, Ground, HasDropped, HasFollowed, IsAmidUnit, IsRunning, IsStage, MayDrop, MayFollow, MayLeave, MayLeaveBy, changes, commit_records, ground_of, job_of, last_place, package_name, table_after, task_from, unit_losers}
 use Rattle.unpack_engine.proofs.Losing.{loser_other}

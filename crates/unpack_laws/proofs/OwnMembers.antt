@@ -6,28 +6,28 @@ use Rattle.host_core.specs.Events.{Event, changes_of}
 use Rattle.host_core.proofs.Scripts.{changed_kept}
 use Rattle.host_core.specs.declared.node.Node.{Node}
 use Rattle.administration.specs.Places.{list_path, temporary}
-use Rattle.cleanup_stack.specs.Transcripts.{Ended, Committed, Unwound}
+use Rattle.undo_rows.specs.Transcripts.{Ended, Committed, Unwound}
 use Rattle.control_members.specs.Members.{member_node}
 use Rattle.control_members.specs.Names.{is_member_name}
 use Rattle.control_members.specs.Stored.{is_among, over, stored_member_path}
 use Rattle.file_lists.specs.Writing.{list_file}
 use Rattle.file_lists.specs.declared.paths.PackageList.{PackageList}
-use Rattle.file_works.specs.declared.work.Work.{Work}
-use Rattle.status_db.specs.Records.{record_in}
-use Rattle.status_db.specs.declared.record.Record.{Record}
+use Rattle.package_files.specs.declared.work.Work.{Work}
+use Rattle.status_records.specs.Records.{record_in}
+use Rattle.status_records.specs.declared.record.Record.{Record}
 use Rattle.unpack_commit.specs.Commit.{Changes, MayCommit, renewed_lists}
 use Rattle.unpack_commit.specs.Takeover.{put_records}
 use Rattle.unpack_commit.proofs.Left.{member_within, members_stored}
 use Rattle.unpack_commit.proofs.Ready.{member_is_no_list}
 use Rattle.unpack_commit.proofs.Stays.{no_renewed_place}
-use Rattle.unpack_moves.proofs.Areas.{released_keeps, releasing_keeps, renewed_keeps, renewing_keeps}
-use Rattle.unpack_moves.proofs.Listings.{all_miss}
+use Rattle.listed_files.proofs.Areas.{released_keeps, releasing_keeps, renewed_keeps, renewing_keeps}
+use Rattle.listed_files.proofs.Listings.{all_miss}
 use Rattle.unpack_plan.specs.Planned.{IsPlanned, Planned}
 use Rattle.unpack_rows.specs.Kinds.{kinds_of}
 use Rattle.unpack_rows.specs.Stages.{stage_of}
 use Rattle.unpack_rows.specs.declared.rows.Present.{Present}
-use Rattle.unpack_run.specs.Task.{lists_at, state_on}
-use Rattle.unpack_run.specs.Clearing.{MayClear, is_gone, next_ready}
+use Rattle.unpack_steps.specs.Task.{lists_at, state_on}
+use Rattle.unpack_steps.specs.Clearing.{MayClear, is_gone, next_ready}
 use Rattle.unpack_engine.specs.Units.{Given, Ground, IsAmidUnit, IsRunning, IsStage, MayLeave, MayLeaveBy, changes, commit_records, ground_of, job_of, last_place, package_name, table_after, task_from}
 use Rattle.unpack_engine.proofs.Begun.{dropped_same, may_drop_same}
 use Rattle.unpack_laws.specs.InHand.{unit_name}

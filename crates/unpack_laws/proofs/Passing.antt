@@ -22,25 +22,25 @@ use Rattle.file_lists.specs.Writing.{with_list}
 use Rattle.file_lists.specs.declared.paths.PackageList.{PackageList}
 use Rattle.file_lists.proofs.TakingAll.{paths_with}
 use Rattle.file_removal.specs.Clearing.{is_among}
-use Rattle.file_steps.specs.Unpacked.{IsRearranged}
-use Rattle.file_works.specs.declared.work.Work.{Work}
-use Rattle.file_works.specs.Files.{Each, Misses}
-use Rattle.file_writing.proofs.WorkLists.{each_of}
+use Rattle.file_check.specs.Rearranged.{IsRearranged}
+use Rattle.package_files.specs.declared.work.Work.{Work}
+use Rattle.package_files.specs.Files.{Each, Misses}
+use Rattle.package_files.proofs.WorkLists.{each_of}
 use Rattle.status_db.specs.Held.{is_record_place}
 use Rattle.unpack_commit.specs.Takeover.{is_at, is_taken, taken_places}
 use Rattle.unpack_commit.proofs.Left.{list_within, member_within}
-use Rattle.unpack_moves.specs.Areas.{is_leaving_place}
-use Rattle.unpack_moves.proofs.Closings.{below_within}
+use Rattle.listed_files.specs.Areas.{is_leaving_place}
+use Rattle.listed_files.proofs.Closings.{below_within}
 use Rattle.unpack_plan.specs.Lists.{old_leaving}
 use Rattle.unpack_plan.specs.Names.{backups, cut_names, known_conffiles, left_names}
 use Rattle.unpack_plan.specs.Planned.{IsPlanned, Planned}
 use Rattle.unpack_plan.specs.Records.{IsFresh}
 use Rattle.unpack_rows.specs.Stages.{Stage, Unwritten, Wrote, Restored}
 use Rattle.unpack_rows.specs.declared.rows.Present.{Present}
-use Rattle.unpack_run.specs.FileMoves.{places_of}
-use Rattle.unpack_run.specs.Task.{lists_at}
-use Rattle.unpack_run.proofs.Rearranged.{each_rearranged}
-use Rattle.unpack_run.proofs.Standing.{record_below}
+use Rattle.unpack_steps.specs.FileMoves.{places_of}
+use Rattle.unpack_steps.specs.Task.{lists_at}
+use Rattle.unpack_steps.proofs.Rearranged.{each_rearranged}
+use Rattle.unpack_steps.proofs.Standing.{record_below}
 use Rattle.unpack_engine.specs.Others.{is_other_package, yields_beside}
 use Rattle.unpack_engine.specs.Units.{Given, Ground, ground_of, job_of, package_name, task_from, unit_losers}
 use Rattle.unpack_engine.proofs.Losing.{among_kept, kept_passes}

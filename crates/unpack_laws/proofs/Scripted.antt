@@ -6,22 +6,22 @@ use Rattle.host_core.specs.Paths.{Path, is_named_by, is_own}
 use Rattle.host_core.specs.World.{World, Avoids, Change, changed, is_kept}
 use Rattle.host_core.proofs.Scripts.{Avoids-append, changed-append, changed_at}
 use Rattle.administration.specs.Places.{list_path, temporary}
-use Rattle.cleanup_stack.specs.Place.{Place}
+use Rattle.undo_rows.specs.Place.{Place}
 use Rattle.file_lists.specs.Writing.{list_file}
-use Rattle.file_steps.specs.Unpacked.{IsRearranged}
-use Rattle.file_works.specs.declared.work.Work.{Work}
-use Rattle.file_works.specs.Files.{Each, Misses}
-use Rattle.file_works.specs.Names.{IsNamed}
-use Rattle.file_writing.specs.Back.{CanGoBack}
+use Rattle.file_check.specs.Rearranged.{IsRearranged}
+use Rattle.package_files.specs.declared.work.Work.{Work}
+use Rattle.package_files.specs.Files.{Each, Misses}
+use Rattle.package_files.specs.Names.{IsNamed}
+use Rattle.package_files.specs.Back.{CanGoBack}
 use Rattle.status_db.specs.Held.{is_record_place}
-use Rattle.status_db.specs.declared.record.Record.{Record}
-use Rattle.unpack_moves.specs.Listing.{MayList, MayUnlist}
+use Rattle.status_records.specs.declared.record.Record.{Record}
+use Rattle.listed_files.specs.Listing.{MayList, MayUnlist}
 use Rattle.unpack_rows.specs.Stages.{Stage, Unwritten, Wrote, Restored}
-use Rattle.unpack_run.specs.Task.{Task, all_places, name, shipped_places}
-use Rattle.unpack_run.specs.Trail.{Follows, HasCome, HasFiles, HasGoneBack}
-use Rattle.unpack_run.specs.At.{AreWorksAt, IsAmid}
-use Rattle.unpack_run.proofs.FileWorlds.{still_written}
-use Rattle.unpack_run.proofs.Rearranged.{each_rearranged, named_rearranged}
+use Rattle.unpack_steps.specs.Task.{Task, all_places, name, shipped_places}
+use Rattle.unpack_steps.specs.Trail.{Follows, HasCome, HasFiles, HasGoneBack}
+use Rattle.unpack_steps.specs.At.{AreWorksAt, IsAmid}
+use Rattle.unpack_steps.proofs.FileWorlds.{still_written}
+use Rattle.unpack_steps.proofs.Rearranged.{each_rearranged, named_rearranged}
 
 -- scripts that leave more places alone leave these alone
 

@@ -10,27 +10,27 @@ use Rattle.host_core.specs.declared.node.Node.{Node}
 use Rattle.host_core.specs.declared.node.Node.TheVariants.{File, Dir, Link}
 use Rattle.administration.specs.Files.{IsReplacing}
 use Rattle.administration.specs.Places.{list_path, temporary}
-use Rattle.cleanup_stack.specs.Place.{Place}
+use Rattle.undo_rows.specs.Place.{Place}
 use Rattle.file_lists.specs.Writing.{list_file}
-use Rattle.file_steps.specs.Unpacked.{IsRearranged}
-use Rattle.file_works.specs.declared.work.Work.{Work}
-use Rattle.file_works.specs.Files.{Each, HasPutBack, HasWritten, IsBack, IsShown, IsWhole, Misses, Stays, is_written, shown}
-use Rattle.file_works.specs.Free.{IsWrittenFrom}
-use Rattle.file_works.specs.Names.{IsNamed}
-use Rattle.file_writing.specs.Back.{GoesBack, IsGoingBack}
-use Rattle.file_writing.proofs.WorkLists.{each_map, each_of}
-use Rattle.file_writing.proofs.WorkNames.{kept_names}
+use Rattle.file_check.specs.Rearranged.{IsRearranged}
+use Rattle.package_files.specs.declared.work.Work.{Work}
+use Rattle.package_files.specs.Files.{Each, HasPutBack, HasWritten, IsBack, IsShown, IsWhole, Misses, Stays, is_written, shown}
+use Rattle.package_files.specs.Free.{IsWrittenFrom}
+use Rattle.package_files.specs.Names.{IsNamed}
+use Rattle.package_files.specs.Back.{GoesBack, IsGoingBack}
+use Rattle.package_files.proofs.WorkLists.{each_map, each_of}
+use Rattle.package_files.proofs.WorkNames.{kept_names}
 use Rattle.status_db.specs.Held.{is_record_place}
-use Rattle.status_db.specs.declared.record.Record.{Record}
-use Rattle.unpack_moves.specs.Listing.{MayList, MayUnlist}
-use Rattle.unpack_moves.proofs.Apart.{apart, list_below, spare_below}
+use Rattle.status_records.specs.declared.record.Record.{Record}
+use Rattle.listed_files.specs.Listing.{MayList, MayUnlist}
+use Rattle.listed_files.proofs.Apart.{apart, list_below, spare_below}
 use Rattle.unpack_rows.specs.Stages.{Stage, Unwritten, Wrote, Restored}
-use Rattle.unpack_run.specs.Task.{Task, all_places, name}
-use Rattle.unpack_run.specs.Trail.{Follows, HasCome, HasFiles, HasGoneBack}
-use Rattle.unpack_run.specs.At.{AreWorksAt, IsAmid}
-use Rattle.unpack_run.proofs.FileWorlds.{still_written}
-use Rattle.unpack_run.proofs.Rearranged.{each_rearranged, named_rearranged, places_listed}
-use Rattle.unpack_run.proofs.Standing.{record_below}
+use Rattle.unpack_steps.specs.Task.{Task, all_places, name}
+use Rattle.unpack_steps.specs.Trail.{Follows, HasCome, HasFiles, HasGoneBack}
+use Rattle.unpack_steps.specs.At.{AreWorksAt, IsAmid}
+use Rattle.unpack_steps.proofs.FileWorlds.{still_written}
+use Rattle.unpack_steps.proofs.Rearranged.{each_rearranged, named_rearranged, places_listed}
+use Rattle.unpack_steps.proofs.Standing.{record_below}
 use Rattle.unpack_laws.specs.Whole.{IsTargetAmid, IsTargetBack, IsTargetSet, IsWorkAmid, IsWorkBack, IsWorkSet}
 
 -- a name of a work lies nowhere below the administration's directory

@@ -8,7 +8,7 @@ use Rattle.administration.specs.Places.{script_path, tmp_script_path}
 use Rattle.administration.specs.Scripts.{file_of, script_of}
 use Rattle.administration.specs.declared.scripts.Scripts.{Scripts}
 use Rattle.control_members.specs.LaidOut.{IsLaying}
-use Rattle.unwind_stack.specs.declared.rows.Row.{Row}
+use Rattle.undo_rows.specs.declared.rows.Row.{Row}
 use Rattle.unpack_engine.specs.Units.{Begins, Given, Ground, IsRunning, task_from}
 use Rattle.unpack_plan.specs.Planned.{Planned}
 use Rattle.unpack_rows.specs.ForwardRows.{others_rows}

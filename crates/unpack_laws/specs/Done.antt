@@ -6,9 +6,9 @@ use Rattle.host_core.specs.Paths.{Path}
 use Rattle.host_core.specs.World.{World, IsLoose}
 use Rattle.host_core.specs.declared.node.Node.{Node}
 use Rattle.diversions.specs.Places.{place}
-use Rattle.file_works.specs.declared.work.Work.{Work}
+use Rattle.package_files.specs.declared.work.Work.{Work}
 use Rattle.list_changes.specs.Leaving.{stays}
-use Rattle.status_db.specs.declared.record.Record.{Record}
+use Rattle.status_records.specs.declared.record.Record.{Record}
 use Rattle.unpack_engine.specs.Units.{Given}
 use Rattle.unpack_plan.specs.Lists.{IsAfter, entry_paths}
 use Rattle.unpack_plan.specs.Records.{IsFresh, entries_of}

@@ -7,18 +7,18 @@ use Rattle.diversions.specs.Places.{place}
 use Rattle.file_check.specs.Ships.{shipped_works}
 use Rattle.file_lists.specs.Owners.{paths_of}
 use Rattle.file_removal.specs.Clearing.{is_among}
-use Rattle.file_works.specs.Files.{Each, Misses}
-use Rattle.file_works.specs.declared.work.Work.{Work}
-use Rattle.status_db.specs.Records.{record_in}
-use Rattle.status_db.specs.declared.record.Record.{Record}
+use Rattle.package_files.specs.Files.{Each, Misses}
+use Rattle.package_files.specs.declared.work.Work.{Work}
+use Rattle.status_records.specs.Records.{record_in}
+use Rattle.status_records.specs.declared.record.Record.{Record}
 use Rattle.unpack_commit.specs.Takeover.{losers, yields_of}
 use Rattle.unpack_engine.specs.Units.{Given}
-use Rattle.unpack_moves.specs.Areas.{is_leaving_place}
+use Rattle.listed_files.specs.Areas.{is_leaving_place}
 use Rattle.unpack_plan.specs.Lists.{IsAfter, old_leaving}
 use Rattle.unpack_plan.specs.Names.{cut_names, known_conffiles, left_names}
 use Rattle.unpack_plan.specs.Planned.{pairs_of}
 use Rattle.unpack_plan.specs.Records.{IsFresh}
-use Rattle.unpack_run.specs.FileMoves.{places_of}
+use Rattle.unpack_steps.specs.FileMoves.{places_of}
 
 -- the places of the files and links among these works
 abbrev pub file_places : List Work → List Path

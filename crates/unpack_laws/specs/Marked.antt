@@ -12,10 +12,10 @@ use Rattle.administration.specs.Places.{home_path, is_within, list_path}
 use Rattle.diversions.specs.Places.{place}
 use Rattle.file_lists.specs.Writing.{list_file}
 use Rattle.file_removal.specs.Clearing.{is_among}
-use Rattle.file_works.specs.declared.work.Work.{Work}
+use Rattle.package_files.specs.declared.work.Work.{Work}
 use Rattle.status_db.specs.Held.{HasRecords}
-use Rattle.status_db.specs.Records.{record_in}
-use Rattle.status_db.specs.declared.record.Record.{Record}
+use Rattle.status_records.specs.Records.{record_in}
+use Rattle.status_records.specs.declared.record.Record.{Record}
 use Rattle.unpack_engine.specs.Units.{Given}
 use Rattle.unpack_plan.specs.Lists.{IsAfter}
 use Rattle.unpack_plan.specs.Names.{known_conffiles, left_names, was_cut}

@@ -7,10 +7,10 @@ use Rattle.host_core.specs.declared.node.Node.{Node}
 use Rattle.host_core.specs.declared.node.Node.TheVariants.{Dir}
 use Rattle.file_lists.specs.Writing.{list_file}
 use Rattle.file_removal.specs.Clearing.{is_among}
-use Rattle.file_works.specs.Files.{IsShown}
-use Rattle.file_works.specs.declared.work.Work.{Work}
+use Rattle.package_files.specs.Files.{IsShown}
+use Rattle.package_files.specs.declared.work.Work.{Work}
 use Rattle.package_tree.specs.ShipMap.{paths_of as shipped_paths}
-use Rattle.status_db.specs.declared.record.Record.{Record}
+use Rattle.status_records.specs.declared.record.Record.{Record}
 use Rattle.unpack_engine.specs.Units.{Given}
 use Rattle.unpack_plan.specs.Lists.{IsAfter, IsUnion}
 use Rattle.unpack_plan.specs.Names.{known_conffiles, left_names}

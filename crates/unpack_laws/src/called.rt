@@ -5,8 +5,8 @@ ghost use Rattle.host_core.specs.Events.{Event, Ran};
 ghost use Rattle.host_core.specs.Paths.{Path};
 ghost use Rattle.host_core.specs.World.{World};
 ghost use Rattle.host_core.specs.declared.call.Call.{Call};
-ghost use Rattle.unwind_stack.specs.declared.rows.Row.{Row};
-ghost use Rattle.cleanup_stack.specs.Transcripts.{MayRun};
+ghost use Rattle.undo_rows.specs.declared.rows.Row.{Row};
+ghost use Rattle.undo_rows.specs.Transcripts.{MayRun};
 ghost use Rattle.unpack_engine.specs.Units.{Given, IsAmid, ground_of};
 ghost use Rattle.unpack_laws.specs.Called.{AreCalling, HasScript, IsCallAmong, OthersCallStored};
 

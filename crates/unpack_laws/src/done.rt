@@ -2,11 +2,11 @@
 ghost use Rattle.std.specs.Prelude.{List, IsTrue};
 ghost use Rattle.host_core.specs.Host.{State as HostState};
 ghost use Rattle.host_core.specs.Paths.{Path};
-ghost use Rattle.cleanup_stack.specs.Transcripts.{Committed};
+ghost use Rattle.undo_rows.specs.Transcripts.{Committed};
 ghost use Rattle.file_lists.specs.declared.paths.PackageList.{PackageList as APackageList};
-ghost use Rattle.file_works.specs.Files.{Each};
+ghost use Rattle.package_files.specs.Files.{Each};
 ghost use Rattle.status_db.specs.Recorded.{Recorded};
-ghost use Rattle.unwind_stack.specs.declared.rows.Called.{Called as ACalled};
+ghost use Rattle.undo_rows.specs.declared.rows.Called.{Called as ACalled};
 ghost use Rattle.unpack_engine.specs.Units.{Given, HasUnpacked};
 ghost use Rattle.unpack_laws.specs.Done.{IsClearBeside, LeavesNoOldFile};
 ghost use Rattle.unpack_laws.specs.InHand.{unit_works};

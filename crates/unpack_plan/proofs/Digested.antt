@@ -17,10 +17,10 @@ use Rattle.file_check.specs.Ships.{is_conffile}
 use Rattle.package_tree.specs.ShipMap.{paths_of}
 use Rattle.package_tree.specs.Shipped.{AreInOrder}
 use Rattle.package_tree.specs.declared.shipped.Shipped.{Shipped}
-use Rattle.status_db.specs.Conffiles.{has_pending}
-use Rattle.status_db.specs.ConffilePaths.{is_before, placed_by}
-use Rattle.status_db.specs.declared.entries.PendingDigest.{PendingDigest}
-use Rattle.status_db.proofs.PathOrder.{placed_last}
+use Rattle.status_records.specs.Conffiles.{has_pending}
+use Rattle.status_records.specs.ConffilePaths.{is_before, placed_by}
+use Rattle.status_records.specs.declared.entries.PendingDigest.{PendingDigest}
+use Rattle.status_records.proofs.PathOrder.{placed_last}
 use Rattle.unpack_plan.specs.Digests.{PathDigest, conffile_digest, digest_at, shipped_digests, told_digest}
 use Rattle.unpack_plan.proofs.Ordered.{before_file}
 

@@ -15,14 +15,14 @@ use Rattle.administration.specs.Places.{home_path, is_within}
 use Rattle.administration.proofs.Within.{within_is}
 use Rattle.file_removal.specs.Clearing.{is_among}
 use Rattle.file_removal.specs.declared.leaving.Leaving.{Leaving}
-use Rattle.file_works.specs.Files.{Each}
-use Rattle.file_works.specs.Names.{IsNamed}
-use Rattle.file_works.specs.declared.work.Work.{Work}
+use Rattle.package_files.specs.Files.{Each}
+use Rattle.package_files.specs.Names.{IsNamed}
+use Rattle.package_files.specs.declared.work.Work.{Work}
 use Rattle.list_changes.specs.Clearable.{clearable}
 use Rattle.list_changes.proofs.Outside.{clearable_elsewhere}
-use Rattle.status_db.specs.declared.record.Record.{Record}
-use Rattle.unpack_moves.specs.Concluding.{AreElsewhere}
-use Rattle.unpack_moves.proofs.Apart.{apart, goes_on}
+use Rattle.status_records.specs.declared.record.Record.{Record}
+use Rattle.listed_files.specs.Concluding.{AreElsewhere}
+use Rattle.listed_files.proofs.Apart.{apart, goes_on}
 use Rattle.unpack_plan.specs.Names.{backups, cut_names, gone_name, gone_names, was_cut}
 
 abbrev work_at : Path → Work

@@ -10,7 +10,7 @@ use Rattle.package_tree.specs.ShipMap.{paths_of}
 use Rattle.package_tree.specs.Shipped.{AreInOrder, IsBefore}
 use Rattle.package_tree.specs.declared.shipped.Shipped.{Shipped}
 use Rattle.package_tree.proofs.Ordered.{none_in, first_or_later}
-use Rattle.status_db.specs.ConffilePaths.{is_before}
+use Rattle.status_records.specs.ConffilePaths.{is_before}
 
 pub increasing : (paths : List Path) → AreInOrder paths → AreIncreasing paths
 increasing [] order = tt

@@ -3,10 +3,10 @@ use Rattle.std.proofs.Common.{◌≡◌, true, Option, sym, ap, subst, ◌∙◌
 use Rattle.texts.specs.PackageNames.{is_package_name}
 use Rattle.file_lists.specs.Owners.{AreListPaths, paths_of}
 use Rattle.package_tree.specs.ShipMap.{paths_of as shipped_paths}
-use Rattle.status_db.specs.Records.{record_in}
-use Rattle.status_db.specs.declared.record.Record.{Record}
-use Rattle.unpack_moves.specs.Closing.{SparesAdministration}
-use Rattle.unpack_moves.specs.Concluding.{AreElsewhere}
+use Rattle.status_records.specs.Records.{record_in}
+use Rattle.status_records.specs.declared.record.Record.{Record}
+use Rattle.listed_files.specs.Closing.{SparesAdministration}
+use Rattle.listed_files.specs.Concluding.{AreElsewhere}
 use Rattle.unpack_rows.specs.ForwardRows.{others_rows, records_of, rows_of}
 use Rattle.unpack_rows.specs.Kinds.{kinds_of}
 use Rattle.unpack_plan.specs.Lists.{IsAfter, IsUnion, old_leaving}

@@ -12,9 +12,9 @@ use Rattle.package_tree.specs.ControlFile.{key_of, relation_order, IsGoodField, 
 use Rattle.package_tree.specs.declared.fault.FieldName.{FieldName}
 use Rattle.package_tree.specs.declared.fault.FieldName.TheVariants.{Essential, Relation}
 use Rattle.package_tree.proofs.FieldsOnce.{same_field, uncalled}
-use Rattle.status_db.specs.Values.{IsReadableControl}
+use Rattle.status_records.specs.Values.{IsReadableControl}
 use Rattle.status_db.proofs.ControlValues.{control_readable}
-use Rattle.status_db.proofs.Kept.{new_among}
+use Rattle.status_records.proofs.Kept.{new_among}
 
 -- the field that stands here is the one of its name
 good_at : (name : FieldName) (front rest : List Field) (f : Field) → AreFields [] (front ++ f ∷ rest) → HasNoBad name (front ++ f ∷ rest) → lower f.name ≡ key_of name → IsGoodField name f

@@ -13,7 +13,7 @@ use Rattle.file_lists.specs.declared.paths.PackageList.{PackageList}
 use Rattle.file_removal.specs.declared.leaving.Leaving.{Leaving}
 use Rattle.list_changes.specs.Leaving.{is_place_of, leaving_at, leaving_of}
 use Rattle.package_tree.proofs.Ordered.{none_in, first_or_later}
-use Rattle.unpack_moves.specs.Closing.{SparesAdministration}
+use Rattle.listed_files.specs.Closing.{SparesAdministration}
 
 -- of these tests the third holds for nothing that goes
 third_fails : (a b c d : Bool) → not (a || (b || (c || d))) ≡ true → c ≡ false

@@ -7,7 +7,7 @@ use Rattle.host_core.specs.declared.node.Node.{Node}
 use Rattle.host_core.specs.declared.node.Node.TheVariants.{File, Dir, Link}
 use Rattle.file_check.specs.Ships.{is_conffile}
 use Rattle.package_tree.specs.declared.shipped.Shipped.{Shipped}
-use Rattle.status_db.specs.declared.entries.PendingDigest.{PendingDigest}
+use Rattle.status_records.specs.declared.entries.PendingDigest.{PendingDigest}
 
 -- a path with a digest
 abbrev pub PathDigest : Type 0

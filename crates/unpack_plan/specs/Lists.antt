@@ -9,8 +9,8 @@ use Rattle.list_changes.specs.Leaving.{leaving_of}
 use Rattle.list_changes.specs.NewList.{IsNewList}
 use Rattle.package_tree.specs.ShipMap.{paths_of}
 use Rattle.package_tree.specs.declared.shipped.Shipped.{Shipped}
-use Rattle.status_db.specs.declared.entries.ConffileEntry.{ConffileEntry}
-use Rattle.status_db.specs.declared.record.Record.{Record}
+use Rattle.status_records.specs.declared.entries.ConffileEntry.{ConffileEntry}
+use Rattle.status_records.specs.declared.record.Record.{Record}
 use Rattle.unpack_plan.specs.Records.{entries_of, is_shipped}
 
 abbrev pub entry_paths : List ConffileEntry → List Path

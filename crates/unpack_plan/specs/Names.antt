@@ -8,11 +8,11 @@ use Rattle.diversions.specs.Places.{place}
 use Rattle.diversions.specs.declared.entry.Diversion.{Diversion}
 use Rattle.file_check.specs.Ships.{is_conffile}
 use Rattle.file_removal.specs.declared.leaving.Leaving.{Leaving}
-use Rattle.file_works.specs.declared.work.Work.{Work}
+use Rattle.package_files.specs.declared.work.Work.{Work}
 use Rattle.list_changes.specs.Clearable.{clearable}
-use Rattle.status_db.specs.declared.record.Record.{Record}
-use Rattle.status_db.specs.declared.words.State.{State}
-use Rattle.status_db.specs.declared.words.State.TheVariants as state
+use Rattle.status_records.specs.declared.record.Record.{Record}
+use Rattle.status_records.specs.declared.words.State.{State}
+use Rattle.status_records.specs.declared.words.State.TheVariants as state
 use Rattle.unpack_plan.specs.Lists.{entry_paths}
 use Rattle.unpack_plan.specs.Records.{entries_of, pending_of}
 

@@ -3,7 +3,7 @@ use Rattle.std.specs.Prelude.{◌≡◌, ℕ, true, List, Option, map}
 use Rattle.host_core.specs.Paths.{Path}
 use Rattle.host_core.specs.declared.node.Node.{Node}
 use Rattle.texts.specs.PackageNames.{is_package_name}
-use Rattle.unwind_stack.specs.declared.rows.Row.{Row}
+use Rattle.undo_rows.specs.declared.rows.Row.{Row}
 use Rattle.control_members.specs.declared.member.Member.{Member}
 use Rattle.diversions.specs.declared.entry.Diversion.{Diversion}
 use Rattle.file_check.specs.Ready.{IsFitting}
@@ -11,22 +11,22 @@ use Rattle.file_check.specs.Ships.{shipped_works}
 use Rattle.file_lists.specs.Owners.{AreListPaths, paths_of}
 use Rattle.file_lists.specs.declared.paths.PackageList.{PackageList}
 use Rattle.file_removal.specs.declared.leaving.Leaving.{Leaving}
-use Rattle.file_works.specs.Files.{Each}
-use Rattle.file_works.specs.Names.{IsNamed}
-use Rattle.file_works.specs.declared.work.Work.{Work}
+use Rattle.package_files.specs.Files.{Each}
+use Rattle.package_files.specs.Names.{IsNamed}
+use Rattle.package_files.specs.declared.work.Work.{Work}
 use Rattle.package_tree.specs.ShipMap.{paths_of as shipped_paths}
 use Rattle.package_tree.specs.declared.package.Package.{Package}
 use Rattle.package_tree.specs.declared.shipped.Shipped.{Shipped}
-use Rattle.status_db.specs.Records.{record_in}
-use Rattle.status_db.specs.declared.record.Record.{Record}
-use Rattle.unpack_moves.specs.Closing.{SparesAdministration}
-use Rattle.unpack_moves.specs.Concluding.{AreElsewhere}
+use Rattle.status_records.specs.Records.{record_in}
+use Rattle.status_records.specs.declared.record.Record.{Record}
+use Rattle.listed_files.specs.Closing.{SparesAdministration}
+use Rattle.listed_files.specs.Concluding.{AreElsewhere}
 use Rattle.unpack_rows.specs.ForwardRows.{others_rows, records_of, rows_of}
 use Rattle.unpack_rows.specs.Kinds.{kinds_of, own_of}
 use Rattle.unpack_rows.specs.declared.kinds.RowKind.{RowKind}
 use Rattle.unpack_rows.specs.declared.rows.OtherPackage.{OtherPackage}
 use Rattle.unpack_rows.specs.declared.rows.Present.{Present}
-use Rattle.unpack_run.specs.declared.plan.Rows.{Rows}
+use Rattle.unpack_steps.specs.declared.plan.Rows.{Rows}
 use Rattle.unpack_plan.specs.Lists.{IsAfter, IsUnion, old_leaving}
 use Rattle.unpack_plan.specs.Members.{AreMembersOf, scripts_in}
 use Rattle.unpack_plan.specs.Names.{cleared_names}

@@ -6,11 +6,11 @@ use Rattle.host_core.specs.Paths.{Path}
 use Rattle.package_tree.specs.ShipMap.{paths_of}
 use Rattle.package_tree.specs.declared.package.Package.{Package}
 use Rattle.package_tree.specs.declared.shipped.Shipped.{Shipped}
-use Rattle.status_db.specs.Conffiles.{committed_entries}
-use Rattle.status_db.specs.Standings.{IsUnpackedOf}
-use Rattle.status_db.specs.declared.entries.ConffileEntry.{ConffileEntry}
-use Rattle.status_db.specs.declared.entries.PendingDigest.{PendingDigest}
-use Rattle.status_db.specs.declared.record.Record.{Record}
+use Rattle.status_records.specs.Conffiles.{committed_entries}
+use Rattle.status_records.specs.Standings.{IsUnpackedOf}
+use Rattle.status_records.specs.declared.entries.ConffileEntry.{ConffileEntry}
+use Rattle.status_records.specs.declared.entries.PendingDigest.{PendingDigest}
+use Rattle.status_records.specs.declared.record.Record.{Record}
 use Rattle.unpack_plan.specs.Digests.{shipped_digests, told_digest}
 
 -- the conffiles that the record found has; none where the package has no record

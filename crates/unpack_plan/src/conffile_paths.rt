@@ -1,13 +1,13 @@
 // The conffiles that a record tells of.
 ghost use Rattle.std.specs.Prelude.{◌≡◌, ◌++◌, map, IfOk, OnOk};
 ghost use Rattle.std.specs.Option.{option_copied};
-ghost use Rattle.status_db.specs.declared.entries.PendingDigest.{PendingDigest as APendingDigest};
+ghost use Rattle.status_records.specs.declared.entries.PendingDigest.{PendingDigest as APendingDigest};
 ghost use Rattle.unpack_plan.specs.Lists.{entry_paths};
 ghost use Rattle.unpack_plan.specs.Names.{known_conffiles};
 ghost use Rattle.unpack_plan.specs.Records.{entries_of};
 
 use host_core::ShipPath;
-use status_db::{ConffileEntry, PendingDigest, Record};
+use status_records::{ConffileEntry, PendingDigest, Record};
 use std::alloc::{AllocError, Global};
 
 fn add_entries(entries: &[ConffileEntry], paths: &mut Vec<ShipPath>) -> Result<(), AllocError>

@@ -3,9 +3,9 @@ ghost use Rattle.std.specs.Prelude.{◌≡◌, IfOk};
 ghost use Rattle.std.specs.Option.{option_copied};
 ghost use Rattle.file_check.specs.Ready.{IsFitting};
 ghost use Rattle.file_check.specs.Ships.{shipped_works};
-ghost use Rattle.file_works.specs.Files.{Each};
-ghost use Rattle.file_works.specs.Names.{IsNamed};
-ghost use Rattle.unpack_moves.specs.Concluding.{AreElsewhere};
+ghost use Rattle.package_files.specs.Files.{Each};
+ghost use Rattle.package_files.specs.Names.{IsNamed};
+ghost use Rattle.listed_files.specs.Concluding.{AreElsewhere};
 ghost use Rattle.unpack_plan.specs.Members.{AreMembersOf};
 ghost use Rattle.unpack_plan.specs.Names.{cleared_names as names_cleared};
 ghost use Rattle.unpack_plan.specs.Planned.{pairs_of};
@@ -16,10 +16,10 @@ use crate::works::own_works;
 use control_members::Members;
 use diversions::Diversions;
 use file_removal::Leaving;
-use file_works::Work;
 use host_core::RootPath;
+use package_files::Work;
 use package_tree::Package;
-use status_db::Record;
+use status_records::Record;
 use std::alloc::{AllocError, Global};
 
 /// The works, the control files, and names that only the installer writes.

@@ -7,14 +7,14 @@ ghost use Rattle.file_check.specs.Ships.{is_conffile};
 ghost use Rattle.package_tree.specs.Package.{AreTrimmed};
 ghost use Rattle.package_tree.specs.ShipMap.{paths_of};
 ghost use Rattle.package_tree.specs.Shipped.{AreInOrder};
-ghost use Rattle.status_db.specs.ConffilePaths.{is_before, is_trimmed};
+ghost use Rattle.status_records.specs.ConffilePaths.{is_before, is_trimmed};
 ghost use Rattle.unpack_plan.specs.Digests.{conffile_digest, digest_at, shipped_digests, told_digest};
 
 use crate::texts_of::texts_of;
 use conffiles::Digest;
 use host_core::{Node, ShipPath};
 use package_tree::Shipped;
-use status_db::{PendingDigest, PendingDigests};
+use status_records::{PendingDigest, PendingDigests};
 use std::alloc::{AllocError, Global};
 use std::collections::BTreeSet;
 

@@ -5,7 +5,7 @@ ghost use Rattle.std.specs.List.{AllByRecursion};
 ghost use Rattle.std.specs.Option.{option_copied};
 ghost use Rattle.file_lists.specs.Owners.{AreListPaths, IsListable, paths_of as listed_paths};
 ghost use Rattle.package_tree.specs.ShipMap.{paths_of};
-ghost use Rattle.unpack_moves.specs.Closing.{SparesAdministration};
+ghost use Rattle.listed_files.specs.Closing.{SparesAdministration};
 ghost use Rattle.unpack_plan.specs.Lists.{entry_paths, staying, IsAfter, IsUnion, old_leaving};
 
 use crate::conffile_paths::entry_paths;
@@ -16,7 +16,7 @@ use file_removal::Leaving;
 use host_core::RootPath;
 use list_changes::{leaving_of, list_of, union_of};
 use package_tree::{Package, Shipped};
-use status_db::{ConffileEntry, Record};
+use status_records::{ConffileEntry, Record};
 use std::alloc::{AllocError, Global};
 use std::collections::BTreeSet;
 use texts::Text;

@@ -3,20 +3,20 @@ ghost use Rattle.std.specs.Prelude.{◌≡◌, ◌++◌, ◌∷◌, [], List, If
 ghost use Rattle.std.specs.BTreeSet.{contains_text};
 ghost use Rattle.std.specs.Option.{option_copied};
 ghost use Rattle.file_check.specs.Ships.{is_conffile};
-ghost use Rattle.file_works.specs.Files.{Each};
-ghost use Rattle.file_works.specs.Names.{IsNamed};
+ghost use Rattle.package_files.specs.Files.{Each};
+ghost use Rattle.package_files.specs.Names.{IsNamed};
 ghost use Rattle.host_core.specs.Paths.{Path};
-ghost use Rattle.unpack_moves.specs.Concluding.{AreElsewhere};
+ghost use Rattle.listed_files.specs.Concluding.{AreElsewhere};
 ghost use Rattle.unpack_plan.specs.Names.{backups, cleared_names, cut_names, gone_name, left_names, was_cut};
 
 use crate::conffile_paths::known_conffiles;
 use crate::texts_of::texts_of;
 use diversions::Diversions;
 use file_removal::Leaving;
-use file_works::Work;
 use host_core::{RootPath, ShipPath, Suffix};
 use list_changes::clearable_name;
-use status_db::{Record, State};
+use package_files::Work;
+use status_records::{Record, State};
 use std::alloc::{AllocError, Global};
 use std::collections::BTreeSet;
 use texts::Text;

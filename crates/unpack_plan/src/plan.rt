@@ -12,14 +12,15 @@ use control_members::Members;
 use diversions::Diversions;
 use file_lists::{FileLists, Paths};
 use file_removal::Leaving;
-use file_works::Work;
 use host_core::RootPath;
+use package_files::Work;
 use package_tree::Package;
-use status_db::{NotedDatabase, Record};
+use status_db::NotedDatabase;
+use status_records::Record;
 use std::alloc::{AllocError, Global};
+use undo_rows::Row;
 use unpack_rows::Present;
-use unpack_run::Rows;
-use unwind_stack::Row;
+use unpack_steps::Rows;
 
 /// What is done once all rows have succeeded, and the control files that lie in `tmp.ci` until the
 /// end.

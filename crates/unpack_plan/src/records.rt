@@ -2,14 +2,16 @@
 ghost use Rattle.std.specs.Prelude.{◌≡◌, IfOk};
 ghost use Rattle.std.specs.BTreeSet.{contains_text};
 ghost use Rattle.std.specs.Option.{option_copied};
-ghost use Rattle.status_db.specs.Conffiles.{committed_entries as committed};
+ghost use Rattle.status_records.specs.Conffiles.{committed_entries as committed};
 ghost use Rattle.unpack_plan.specs.Records.{entries_of, IsFresh, IsIncoming};
 
 use crate::digests::digests_of;
 use crate::texts_of::shipped_texts;
 use host_core::ShipPath;
 use package_tree::Package;
-use status_db::{ConffileEntries, Flag, PendingDigests, Record, Ships, State, committed_entries};
+use status_records::{
+    ConffileEntries, Flag, PendingDigests, Record, Ships, State, committed_entries,
+};
 use std::alloc::{AllocError, Global};
 use std::collections::BTreeSet;
 

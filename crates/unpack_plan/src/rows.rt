@@ -6,10 +6,10 @@ ghost use Rattle.unpack_rows.specs.ForwardRows.{others_rows, records_of, rows_of
 ghost use Rattle.unpack_rows.specs.Kinds.{kinds_of as row_kinds};
 
 use administration::Scripts;
-use status_db::Record;
+use status_records::Record;
 use std::alloc::{AllocError, Global};
+use undo_rows::Row;
 use unpack_rows::{OtherPackage, Present, RowKind, kinds_of, rows_of};
-use unwind_stack::Row;
 
 fn scripts_in(scripts: &Scripts) -> Present
     ensures { result ≡ scripts_in scripts.now }

@@ -2,16 +2,16 @@
 ghost use Rattle.std.specs.Prelude.{◌≡◌, List, IfOk};
 ghost use Rattle.file_check.specs.Ready.{IsFitting};
 ghost use Rattle.file_check.specs.Ships.{shipped_works};
-ghost use Rattle.file_works.specs.Files.{Each};
-ghost use Rattle.file_works.specs.Names.{IsNamed};
+ghost use Rattle.package_files.specs.Files.{Each};
+ghost use Rattle.package_files.specs.Names.{IsNamed};
 ghost use Rattle.host_core.specs.Paths.{Path};
 ghost use Rattle.package_tree.specs.Package.{AreFitting};
 ghost use Rattle.unpack_plan.specs.Planned.{pairs_of};
 
 use diversions::Diversions;
 use file_check::works_of;
-use file_works::Work;
 use host_core::{Node, ShipPath};
+use package_files::Work;
 use package_tree::{ShipMap, ShipPaths, Shipped};
 use std::alloc::{AllocError, Global};
 use texts::Text;

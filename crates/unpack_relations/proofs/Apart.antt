@@ -11,8 +11,8 @@ use Rattle.dependency_check.specs.declared.plan.Plan.{Plan}
 use Rattle.recorded_packages.specs.Packages.{ArePackagesOf}
 use Rattle.relation_index.specs.Packages.{AreInNameOrder}
 use Rattle.relation_index.specs.declared.package.Package.{Package}
-use Rattle.status_db.specs.Records.{record_in}
-use Rattle.status_db.specs.declared.record.Record.{Record}
+use Rattle.status_records.specs.Records.{record_in}
+use Rattle.status_records.specs.declared.record.Record.{Record}
 use Rattle.unpack_relations.specs.Beside.{IsBeside, name_at}
 use Rattle.unpack_relations.specs.Checks.{names_beside, AreApart, AreBesideApart, AreDistinct, IsCheckedBy}
 use Rattle.unpack_relations.specs.declared.beside.Beside.{Beside}

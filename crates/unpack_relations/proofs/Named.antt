@@ -7,10 +7,10 @@ use Rattle.relation_index.specs.Order.{AreInOrder, IsBefore, IsBeforeAll}
 use Rattle.relation_index.specs.Packages.{AreInNameOrder}
 use Rattle.relation_index.specs.declared.package.Package.{Package}
 use Rattle.status_db.specs.Order.{names_of}
-use Rattle.status_db.specs.Records.{record_in}
-use Rattle.status_db.specs.declared.record.Record.{Record}
+use Rattle.status_records.specs.Records.{record_in}
+use Rattle.status_records.specs.declared.record.Record.{Record}
 use Rattle.status_db.proofs.Ordered.{before_differs}
-use Rattle.status_db.proofs.Tables.{found_here}
+use Rattle.status_records.proofs.Tables.{found_here}
 use Rattle.unpack_relations.specs.Beside.{name_at}
 
 names_are : (records : List Record) (packages : List Package) → ArePackagesOf records packages → map (λ p. p.name) packages ≡ names_of records

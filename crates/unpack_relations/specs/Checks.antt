@@ -8,8 +8,8 @@ use Rattle.dependency_check.specs.declared.unpack.UnpackRefusal.TheVariants as r
 use Rattle.package_tree.specs.declared.package.Package.{Package as Tree}
 use Rattle.recorded_packages.specs.Packages.{ArePackagesOf}
 use Rattle.relation_index.specs.declared.package.Package.{Package}
-use Rattle.status_db.specs.Records.{record_in}
-use Rattle.status_db.specs.declared.record.Record.{Record}
+use Rattle.status_records.specs.Records.{record_in}
+use Rattle.status_records.specs.declared.record.Record.{Record}
 use Rattle.unit_reports.specs.declared.refusal.Rule.{Rule}
 use Rattle.unit_reports.specs.declared.refusal.Rule.TheVariants.{PreDepends, Conflicts, ConflictEssential, Dependents, Breaks}
 use Rattle.unpack_relations.specs.Beside.{IsBeside, name_at}

@@ -1,7 +1,7 @@
 // Whether a tree can be unpacked beside the recorded packages.
 ghost use Rattle.std.specs.Prelude.{IfOk, List};
 ghost use Rattle.recorded_packages.specs.Packages.{ArePackagesOf};
-ghost use Rattle.status_db.specs.declared.record.Record.{Record as ARecord};
+ghost use Rattle.status_records.specs.declared.record.Record.{Record as ARecord};
 ghost use Rattle.unpack_relations.specs.Checks.{AreBesideApart, IsChecked, IsCheckedBy};
 
 use crate::beside::{Beside, beside_of};

@@ -2,9 +2,9 @@
 use Rattle.std.proofs.Common.{◌≡◌, ℕ, Bool, true, false, cond, List, [], ◌∷◌, ◌++◌, Option, Some, None, refl, sym, ap, ◌∙◌}
 use Rattle.std.specs.Str.{bytes_eq}
 use Rattle.std.proofs.lemmas.Bool.{true≢false}
-use Rattle.status_db.specs.declared.record.Record.{Record}
-use Rattle.status_db.specs.Records.{record_in, put_record, drop_record}
-use Rattle.status_db.proofs.Tables.{record_in-put_record, record_in-drop_record}
+use Rattle.status_records.specs.declared.record.Record.{Record}
+use Rattle.status_records.specs.Records.{record_in, put_record, drop_record}
+use Rattle.status_records.proofs.Tables.{record_in-put_record, record_in-drop_record}
 use Rattle.unpack_rows.specs.declared.notes.Note.{Note}
 use Rattle.unpack_rows.specs.declared.notes.Note.TheVariants.{Put, Drop}
 use Rattle.unpack_rows.specs.Notes.{noted}

@@ -1,11 +1,11 @@
 -- Each row is of the owner that its kind says.
 use Rattle.std.proofs.Common.{◌≡◌, ℕ, ◌<◌, zero, suc, Bool, true, false, cond, List, [], ◌∷◌, ◌++◌, Option, length, get_or, map, refl, sym, ap, ◌∙◌, arith}
-use Rattle.unwind_stack.specs.declared.rows.Row.{Row}
-use Rattle.unwind_stack.specs.declared.rows.Owner.TheVariants.{Package as OfPackage}
-use Rattle.cleanup_stack.specs.Place.{Fit}
-use Rattle.status_db.specs.declared.record.Record.{Record}
-use Rattle.status_db.specs.declared.words.State.{State}
-use Rattle.status_db.specs.declared.words.State.TheVariants as state
+use Rattle.undo_rows.specs.declared.rows.Row.{Row}
+use Rattle.undo_rows.specs.declared.rows.Owner.TheVariants.{Package as OfPackage}
+use Rattle.undo_rows.specs.Place.{Fit}
+use Rattle.status_records.specs.declared.record.Record.{Record}
+use Rattle.status_records.specs.declared.words.State.{State}
+use Rattle.status_records.specs.declared.words.State.TheVariants as state
 use Rattle.unpack_rows.specs.declared.kinds.RowKind.{RowKind}
 use Rattle.unpack_rows.specs.declared.kinds.RowKind.TheVariants.{Other, Postrm}
 use Rattle.unpack_rows.specs.declared.rows.OtherPackage.{OtherPackage}

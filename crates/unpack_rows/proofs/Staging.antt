@@ -4,12 +4,12 @@ use Rattle.std.specs.Str.{bytes_eq}
 use Rattle.std.proofs.lemmas.Bool.{true≢false, false_from_ne_true}
 use Rattle.std.proofs.lemmas.List.{append-nil, take_more}
 use Rattle.std.proofs.lemmas.Slice.Eq.{bytes_eq-Decides}
-use Rattle.unwind_stack.specs.declared.fall.Fall.{Fall}
-use Rattle.unwind_stack.specs.declared.fall.StepFault.{StepFault}
-use Rattle.cleanup_stack.specs.declared.failed.Failed.{Failed}
-use Rattle.cleanup_stack.specs.Place.{Place, Back, Forward, Ready, called, worked}
-use Rattle.status_db.specs.declared.record.Record.{Record}
-use Rattle.status_db.specs.Records.{record_in}
+use Rattle.undo_rows.specs.declared.fall.Fall.{Fall}
+use Rattle.undo_rows.specs.declared.fall.StepFault.{StepFault}
+use Rattle.undo_rows.specs.declared.failed.Failed.{Failed}
+use Rattle.undo_rows.specs.Place.{Place, Back, Forward, Ready, called, worked}
+use Rattle.status_records.specs.declared.record.Record.{Record}
+use Rattle.status_records.specs.Records.{record_in}
 use Rattle.unpack_rows.specs.declared.kinds.RowKind.{RowKind}
 use Rattle.unpack_rows.specs.declared.kinds.RowKind.TheVariants.{Other, Files}
 use Rattle.unpack_rows.specs.declared.notes.Note.{Note}

@@ -1,8 +1,8 @@
 -- The files and the postrm have no notes.
 use Rattle.std.proofs.Common.{◌≡◌, ℕ, ◌+◌, zero, suc, Bool, true, false, cond, List, [], ◌∷◌, ◌++◌, Option, take, drop, refl, ap, ◌∙◌}
-use Rattle.unwind_stack.specs.declared.rows.Owner.TheVariants.{Package as OfPackage, Files as OfFiles}
-use Rattle.cleanup_stack.specs.declared.failed.Failed.{Failed}
-use Rattle.status_db.specs.declared.record.Record.{Record}
+use Rattle.undo_rows.specs.declared.rows.Owner.TheVariants.{Package as OfPackage, Files as OfFiles}
+use Rattle.undo_rows.specs.declared.failed.Failed.{Failed}
+use Rattle.status_records.specs.declared.record.Record.{Record}
 use Rattle.unpack_rows.specs.declared.kinds.RowKind.{RowKind}
 use Rattle.unpack_rows.specs.declared.kinds.RowKind.TheVariants.{Files, Postrm}
 use Rattle.unpack_rows.specs.declared.notes.Note.{Note}

@@ -1,13 +1,13 @@
 -- How each package ends (Policy 6.6): by its own record before, its own last row and its own failed undo.
 use Rattle.std.specs.Prelude.{◌≡◌, ℕ, ◌+◌, ◌&&◌, Bool, true, false, cond, nat_le, List, [], ◌∷◌, Option, Some, length}
 use Rattle.std.specs.Str.{bytes_eq}
-use Rattle.unwind_stack.specs.declared.fall.Fall.{Fall}
-use Rattle.unwind_stack.specs.declared.rows.Owner.TheVariants.{Package as OfPackage}
-use Rattle.cleanup_stack.specs.declared.failed.Failed.{Failed}
-use Rattle.cleanup_stack.specs.Place.{Place, Forward, Back}
-use Rattle.cleanup_stack.specs.Transcripts.{Ended, Committed, Unwound}
-use Rattle.status_db.specs.declared.record.Record.{Record}
-use Rattle.status_db.specs.Records.{record_in, AreApart}
+use Rattle.undo_rows.specs.declared.fall.Fall.{Fall}
+use Rattle.undo_rows.specs.declared.rows.Owner.TheVariants.{Package as OfPackage}
+use Rattle.undo_rows.specs.declared.failed.Failed.{Failed}
+use Rattle.undo_rows.specs.Place.{Place, Forward, Back}
+use Rattle.undo_rows.specs.Transcripts.{Ended, Committed, Unwound}
+use Rattle.status_records.specs.declared.record.Record.{Record}
+use Rattle.status_records.specs.Records.{record_in, AreApart}
 use Rattle.unpack_rows.specs.Kinds.{own_of, has_prerm, state_of}
 use Rattle.unpack_rows.specs.Failures.{has_failed}
 use Rattle.unpack_rows.specs.Notes.{half_configured, half_installed, unpacked}

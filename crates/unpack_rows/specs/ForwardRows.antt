@@ -5,11 +5,11 @@ use Rattle.host_core.specs.declared.call.Side.TheVariants.{Old, New}
 use Rattle.host_core.specs.declared.call.Script.{Script}
 use Rattle.host_core.specs.declared.call.Script.TheVariants as script
 use Rattle.administration.specs.Places.{script_path, tmp_script_path}
-use Rattle.unwind_stack.specs.declared.rows.Row.{Row}
-use Rattle.unwind_stack.specs.declared.rows.Owner.TheVariants.{Package as OfPackage, Files as OfFiles}
-use Rattle.status_db.specs.declared.record.Record.{Record}
-use Rattle.status_db.specs.declared.words.State.{State}
-use Rattle.status_db.specs.declared.words.State.TheVariants as state
+use Rattle.undo_rows.specs.declared.rows.Row.{Row}
+use Rattle.undo_rows.specs.declared.rows.Owner.TheVariants.{Package as OfPackage, Files as OfFiles}
+use Rattle.status_records.specs.declared.record.Record.{Record}
+use Rattle.status_records.specs.declared.words.State.{State}
+use Rattle.status_records.specs.declared.words.State.TheVariants as state
 use Rattle.unpack_rows.specs.declared.kinds.RowKind.{RowKind}
 use Rattle.unpack_rows.specs.declared.rows.Present.{Present}
 use Rattle.unpack_rows.specs.declared.rows.OtherPackage.{OtherPackage}

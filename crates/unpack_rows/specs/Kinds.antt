@@ -1,10 +1,10 @@
 -- Which rows an unpack has, by the state in which it finds the package (Policy 6.6).
 use Rattle.std.specs.Prelude.{ℕ, Bool, true, false, cond, List, [], ◌∷◌, ◌++◌, Option, Some, None, map}
-use Rattle.unwind_stack.specs.declared.rows.Owner.{Owner}
-use Rattle.unwind_stack.specs.declared.rows.Owner.TheVariants.{Package as OfPackage, Files as OfFiles}
-use Rattle.status_db.specs.declared.record.Record.{Record}
-use Rattle.status_db.specs.declared.words.State.{State}
-use Rattle.status_db.specs.declared.words.State.TheVariants as state
+use Rattle.undo_rows.specs.declared.rows.Owner.{Owner}
+use Rattle.undo_rows.specs.declared.rows.Owner.TheVariants.{Package as OfPackage, Files as OfFiles}
+use Rattle.status_records.specs.declared.record.Record.{Record}
+use Rattle.status_records.specs.declared.words.State.{State}
+use Rattle.status_records.specs.declared.words.State.TheVariants as state
 use Rattle.unpack_rows.specs.declared.kinds.RowKind.{RowKind}
 use Rattle.unpack_rows.specs.declared.kinds.RowKind.TheVariants.{Prerm, Other, Preinst, Files, Postrm}
 

@@ -1,18 +1,18 @@
 -- What is noted beside the rows of an unpack: a function of how far they are (Policy 6.6).
 use Rattle.std.specs.Prelude.{ℕ, ◌+◌, cond, List, [], ◌∷◌, ◌++◌, Option, Some, None, take, drop}
-use Rattle.status_db.specs.declared.record.Record.{Record}
-use Rattle.status_db.specs.declared.words.Flag.TheVariants as flag
-use Rattle.status_db.specs.declared.words.State.TheVariants as state
-use Rattle.status_db.specs.Records.{put_record, drop_record}
-use Rattle.cleanup_stack.specs.declared.failed.Failed.{Failed}
-use Rattle.cleanup_stack.specs.Place.{Place, Forward, Ready, Back}
+use Rattle.status_records.specs.declared.record.Record.{Record}
+use Rattle.status_records.specs.declared.words.Flag.TheVariants as flag
+use Rattle.status_records.specs.declared.words.State.TheVariants as state
+use Rattle.status_records.specs.Records.{put_record, drop_record}
+use Rattle.undo_rows.specs.declared.failed.Failed.{Failed}
+use Rattle.undo_rows.specs.Place.{Place, Forward, Ready, Back}
 use Rattle.unpack_rows.specs.declared.kinds.RowKind.{RowKind}
 use Rattle.unpack_rows.specs.declared.kinds.RowKind.TheVariants.{Prerm, Other, Preinst, Files, Postrm}
 use Rattle.unpack_rows.specs.declared.notes.Note.{Note}
 use Rattle.unpack_rows.specs.declared.notes.Note.TheVariants.{Put, Drop}
 use Rattle.unpack_rows.specs.Kinds.{own_of, owner_of, has_prerm, state_of}
 use Rattle.unpack_rows.specs.Failures.{has_failed}
-use Rattle.status_db.specs.Standings.{standing_as}
+use Rattle.status_records.specs.Standings.{standing_as}
 
 -- want and flag stay
 abbrev pub half_configured : Record → Record

@@ -1,6 +1,6 @@
 -- How far the files are, by how far the rows are.
 use Rattle.std.specs.Prelude.{Bool, true, false, cond, ◌||◌, List, [], ◌∷◌, take}
-use Rattle.cleanup_stack.specs.Place.{Place, Forward, Ready, Back}
+use Rattle.undo_rows.specs.Place.{Place, Forward, Ready, Back}
 use Rattle.unpack_rows.specs.declared.kinds.RowKind.{RowKind}
 use Rattle.unpack_rows.specs.declared.kinds.RowKind.TheVariants.{Prerm, Other, Preinst, Files, Postrm}
 

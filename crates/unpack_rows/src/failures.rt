@@ -2,8 +2,7 @@
 ghost use Rattle.std.specs.Prelude.{◌≡◌, ◌||◌};
 ghost use Rattle.unpack_rows.specs.Failures.{has_failed, is_same};
 
-use cleanup_stack::Failed;
-use unwind_stack::Owner;
+use undo_rows::{Failed, Owner};
 
 fn is_same(a: &Owner, b: &Owner) -> bool
     ensures { result ≡ is_same a.now b.now }

@@ -6,7 +6,7 @@ ghost use Rattle.unpack_rows.specs.declared.kinds.RowKind.TheVariants as kind;
 ghost use Rattle.unpack_rows.specs.Kinds.{first_kinds, has_prerm, is_upgrade, kinds_of, last_kinds, own_of, state_of};
 
 use crate::rows::OtherPackage;
-use status_db::{Record, State};
+use status_records::{Record, State};
 use std::alloc::{AllocError, Global};
 
 /// Whose row it is and which: the old prerm; that of another package, which is deconfigured or

@@ -1,12 +1,12 @@
 // Laws of rows, of the notes beside them and of the ends of packages.
 ghost use Rattle.std.specs.Prelude.{◌≡◌, ◌≤◌, ◌<◌, ◌+◌, ◌||◌, ◌++◌, ℕ, Bool, false, List, [], Option, Some, None, cond, get_or, length};
-ghost use Rattle.unwind_stack.specs.declared.fall.Fall.{Fall as AFall};
-ghost use Rattle.unwind_stack.specs.declared.fall.StepFault.{StepFault as AStepFault};
-ghost use Rattle.cleanup_stack.specs.declared.failed.Failed.{Failed as AFailed};
-ghost use Rattle.cleanup_stack.specs.Place.{Back, Fit, Forward, Place, Ready, blamed, called, worked};
-ghost use Rattle.status_db.specs.declared.record.Record.{Record as ARecord};
-ghost use Rattle.status_db.specs.Records.{record_in};
-ghost use Rattle.cleanup_stack.specs.Transcripts.{Ended};
+ghost use Rattle.undo_rows.specs.declared.fall.Fall.{Fall as AFall};
+ghost use Rattle.undo_rows.specs.declared.fall.StepFault.{StepFault as AStepFault};
+ghost use Rattle.undo_rows.specs.declared.failed.Failed.{Failed as AFailed};
+ghost use Rattle.undo_rows.specs.Place.{Back, Fit, Forward, Place, Ready, blamed, called, worked};
+ghost use Rattle.status_records.specs.declared.record.Record.{Record as ARecord};
+ghost use Rattle.status_records.specs.Records.{record_in};
+ghost use Rattle.undo_rows.specs.Transcripts.{Ended};
 ghost use Rattle.unpack_rows.specs.declared.kinds.RowKind.{RowKind as ARowKind};
 ghost use Rattle.unpack_rows.specs.declared.kinds.RowKind.TheVariants.{Files};
 ghost use Rattle.unpack_rows.specs.declared.rows.OtherPackage.{OtherPackage as AnOtherPackage};

@@ -7,7 +7,7 @@ ghost use Rattle.unpack_rows.specs.declared.kinds.RowKind.TheVariants as kind;
 ghost use Rattle.unpack_rows.specs.declared.notes.Note.TheVariants as note;
 
 use crate::kinds::{RowKind, has_prerm, own_of, state_of};
-use status_db::{Flag, Record, State};
+use status_records::{Flag, Record, State};
 use std::alloc::AllocError;
 use texts::Text;
 

@@ -7,10 +7,10 @@ ghost use Rattle.unpack_rows.specs.ForwardRows.{files_row, first_rows, install_r
 use crate::kinds::{has_prerm, is_upgrade, own_of, state_of};
 use administration::{script_path, tmp_script_path};
 use host_core::{Call, Script, Side};
-use status_db::{Record, State};
+use status_records::{Record, State};
 use std::alloc::{AllocError, Global};
 use texts::{Text, Texts};
-use unwind_stack::{Owner, Row};
+use undo_rows::{Owner, Row};
 use version_order::Version;
 
 /// Which of a package's four scripts are there.

@@ -1,5 +1,5 @@
 use Rattle.std.proofs.Common.{◌≡◌, drop}
-use Rattle.status_db.specs.Conffiles.{recorded_digest}
+use Rattle.status_records.specs.Conffiles.{recorded_digest}
 use Rattle.configure_engine.proofs.decisions.recorded_digest.Given as goal
 
 abbrev pub invariant-loop-entry : goal.invariant-loop-entry

@@ -1,5 +1,5 @@
 use Rattle.std.proofs.Common.{◌≡◌, ◌<◌, List, length, get_or, ap, subst, ◌∙◌}
-use Rattle.status_db.specs.declared.entries.PendingDigest.{PendingDigest}
+use Rattle.status_records.specs.declared.entries.PendingDigest.{PendingDigest}
 use Rattle.configure_engine.proofs.Staying.{settled_more, settled_new}
 use Rattle.configure_engine.proofs.settled.settled_entries.Goals as goal
 

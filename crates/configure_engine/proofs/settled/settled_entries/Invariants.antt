@@ -1,6 +1,6 @@
 use Rattle.std.proofs.Common.{◌≡◌, filter, map, take}
-use Rattle.status_db.specs.declared.entries.ConffileEntry.{ConffileEntry}
-use Rattle.status_db.specs.ConffilePaths.{all_placed_by}
+use Rattle.status_records.specs.declared.entries.ConffileEntry.{ConffileEntry}
+use Rattle.status_records.specs.ConffilePaths.{all_placed_by}
 use Rattle.configure_engine.specs.Settled.{settled_entry, stays}
 use Rattle.configure_engine.proofs.settled.settled_entries.Given as goal
 

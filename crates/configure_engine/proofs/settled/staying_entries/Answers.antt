@@ -1,5 +1,5 @@
 use Rattle.std.proofs.Common.{◌≡◌, ◌<◌, List, length, get_or, ap, subst, ◌∙◌}
-use Rattle.status_db.specs.declared.entries.ConffileEntry.{ConffileEntry}
+use Rattle.status_records.specs.declared.entries.ConffileEntry.{ConffileEntry}
 use Rattle.configure_engine.specs.Settled.{stays}
 use Rattle.configure_engine.proofs.Staying.{behind_staying}
 use Rattle.configure_engine.proofs.settled.staying_entries.Goals as goal

@@ -1,5 +1,5 @@
 use Rattle.std.proofs.Common.{refl, ◌∙◌}
-use Rattle.unit_parts.specs.declared.part.Part.TheVariants.{Settle}
+use Rattle.unit_stages.specs.declared.part.Part.TheVariants.{Settle}
 use Rattle.configure_engine.proofs.Made.{all_made, first_are, not_empty}
 use Rattle.configure_engine.proofs.stages.first_parts.Goals as goal
 

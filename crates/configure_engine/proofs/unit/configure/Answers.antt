@@ -1,7 +1,7 @@
 use Rattle.std.proofs.Common.{◌≡◌, true, List, Some, sym, ap, subst, ◌∙◌, option_copied}
 use Rattle.host_core.specs.Paths.{Path}
 use Rattle.host_core.specs.World.{World}
-use Rattle.status_db.specs.Records.{record_in}
+use Rattle.status_records.specs.Records.{record_in}
 use Rattle.texts.specs.PackageNames.{is_package_name}
 use Rattle.unit_stages.specs.Fitting.{AreStagesSettleable}
 use Rattle.unit_stages.specs.Holding.{holding_of}

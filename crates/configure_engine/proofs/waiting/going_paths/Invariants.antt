@@ -1,5 +1,5 @@
 use Rattle.std.proofs.Common.{◌≡◌, map, filter, take}
-use Rattle.status_db.specs.declared.entries.ConffileEntry.{ConffileEntry}
+use Rattle.status_records.specs.declared.entries.ConffileEntry.{ConffileEntry}
 use Rattle.configure_engine.specs.Waiting.{goes}
 use Rattle.configure_engine.proofs.waiting.going_paths.Given as goal
 

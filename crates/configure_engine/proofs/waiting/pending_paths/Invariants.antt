@@ -1,5 +1,5 @@
 use Rattle.std.proofs.Common.{◌≡◌, map, take}
-use Rattle.status_db.specs.declared.entries.PendingDigest.{PendingDigest}
+use Rattle.status_records.specs.declared.entries.PendingDigest.{PendingDigest}
 use Rattle.configure_engine.proofs.waiting.pending_paths.Given as goal
 
 abbrev pub invariant-loop-digest : goal.invariant-loop-digest

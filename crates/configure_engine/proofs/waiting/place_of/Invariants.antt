@@ -1,6 +1,6 @@
 use Rattle.std.proofs.Common.{◌≡◌, ◌++◌, take, drop}
 use Rattle.host_core.specs.Paths.{Path}
-use Rattle.status_db.specs.ConffilePaths.{placed_by}
+use Rattle.status_records.specs.ConffilePaths.{placed_by}
 use Rattle.configure_engine.proofs.waiting.place_of.Given as goal
 
 abbrev pub invariant-loop-i : goal.invariant-loop-i

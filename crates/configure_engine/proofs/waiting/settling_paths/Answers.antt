@@ -2,8 +2,8 @@ use Rattle.std.proofs.Common.{List, sym, ap, ◌∙◌, arith}
 use Rattle.std.proofs.lemmas.Grind.{common_steps}
 use Rattle.std.specs.List.{insert}
 use Rattle.host_core.specs.Paths.{Path}
-use Rattle.status_db.specs.ConffilePaths.{placed_by}
-use Rattle.status_db.proofs.Placing.{all_placed_more}
+use Rattle.status_records.specs.ConffilePaths.{placed_by}
+use Rattle.status_records.proofs.Placing.{all_placed_more}
 use Rattle.configure_engine.specs.Waiting.{pending_paths}
 use Rattle.configure_engine.proofs.waiting.settling_paths.Goals as goal
 

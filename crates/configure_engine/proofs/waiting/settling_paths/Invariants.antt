@@ -1,6 +1,6 @@
 use Rattle.std.proofs.Common.{◌≡◌, ◌++◌}
 use Rattle.host_core.specs.Paths.{Path}
-use Rattle.status_db.specs.ConffilePaths.{all_placed_by}
+use Rattle.status_records.specs.ConffilePaths.{all_placed_by}
 use Rattle.configure_engine.specs.Waiting.{going_paths, pending_paths}
 use Rattle.configure_engine.proofs.waiting.settling_paths.Given as goal
 

@@ -1,6 +1,6 @@
 use Rattle.std.proofs.Common.{◌≡◌, [], ℕ, List, Option, refl, subst, sym, ap, ◌∙◌, get_or}
 use Rattle.std.proofs.lemmas.List.{append-nil}
-use Rattle.status_db.specs.Records.{record_in}
+use Rattle.status_records.specs.Records.{record_in}
 use Rattle.unit_reports.specs.declared.refusal.Rule.{Rule}
 use Rattle.unit_reports.specs.declared.report.Unit.{Unit as AUnit}
 use Rattle.configure_run.specs.Early.{AreRefused, AreSomeRefused, HasRefused, early_refusal, early_refusals, early_rule, refusal_by}

@@ -2,7 +2,7 @@ use Rattle.std.proofs.Common.{List, subst, sym}
 use Rattle.recorded_packages.specs.Packages.{ArePackagesOf}
 use Rattle.relation_index.specs.declared.package.Package.{Package}
 use Rattle.configure_run.specs.Starting.{AreSilentOf}
-use Rattle.status_db.specs.declared.record.Record.{Record}
+use Rattle.status_records.specs.declared.record.Record.{Record}
 use Rattle.configure_run.proofs.Numbers.{are_silent}
 use Rattle.configure_run.proofs.run.begun.Goals as goal
 

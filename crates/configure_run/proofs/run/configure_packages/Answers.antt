@@ -3,8 +3,8 @@ use Rattle.std.proofs.lemmas.List.{append-nil}
 use Rattle.host_core.specs.Host.{Since}
 use Rattle.unit_reports.specs.Held.{held_by}
 use Rattle.unit_reports.specs.Units.{calls_of}
-use Rattle.unwind_stack.specs.Transcript.{TellsAll}
-use Rattle.unwind_stack.specs.declared.rows.Called.{Called}
+use Rattle.undo_rows.specs.Transcript.{TellsAll}
+use Rattle.undo_rows.specs.declared.rows.Called.{Called}
 use Rattle.configure_run.specs.Run.{HasRun, IsAmidRun, IsConfigureRun}
 use Rattle.configure_run.proofs.Runs.{run_of_whole}
 use Rattle.configure_run.proofs.run.configure_packages.Goals as goal

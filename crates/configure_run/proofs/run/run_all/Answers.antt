@@ -4,7 +4,7 @@ use Rattle.dependency_sets.specs.Sets.{has}
 use Rattle.unit_reports.specs.Held.{held_by}
 use Rattle.unit_reports.specs.Units.{calls_of}
 use Rattle.unit_reports.specs.declared.report.Reply.TheVariants.{Broken}
-use Rattle.unwind_stack.proofs.Makes.{tells_then}
+use Rattle.undo_rows.proofs.Makes.{tells_then}
 use Rattle.configure_run.specs.Asked.{each_once}
 use Rattle.configure_run.specs.Early.{early_refusals}
 use Rattle.configure_run.specs.Starting.{AreSilent}

@@ -1,5 +1,5 @@
 use Rattle.std.proofs.Common.{◌≡◌, map, take}
-use Rattle.status_db.specs.Words.{is_installed}
+use Rattle.status_records.specs.Words.{is_installed}
 use Rattle.configure_run.proofs.starting.installed_of.Given as goal
 
 abbrev pub invariant-loop-entry : goal.invariant-loop-entry

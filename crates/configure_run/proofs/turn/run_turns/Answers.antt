@@ -1,8 +1,8 @@
 use Rattle.std.proofs.Common.{List, subst, sym, ◌∙◌}
 use Rattle.unit_reports.specs.Held.{held_by}
 use Rattle.unit_reports.specs.Units.{calls_of}
-use Rattle.unwind_stack.specs.Transcript.{TellsAll}
-use Rattle.unwind_stack.specs.declared.rows.Called.{Called}
+use Rattle.undo_rows.specs.Transcript.{TellsAll}
+use Rattle.undo_rows.specs.declared.rows.Called.{Called}
 use Rattle.configure_run.specs.Turns.{StopTurns}
 use Rattle.configure_run.proofs.Replies.{broken_by, counts_no_memory, not_closed_by}
 use Rattle.configure_run.proofs.Told.{refused_left_calls, some_left_calls, tells_no_more}

@@ -13,7 +13,7 @@ use Rattle.configure_run.proofs.Replies.{broken_by, counts_no_memory, not_closed
 use Rattle.configure_run.proofs.Taking.{amid_next, broken_at, takes_one}
 use Rattle.configure_run.proofs.Told.{tells_silent}
 use Rattle.configure_run.proofs.Units.{no_calls}
-use Rattle.unwind_stack.proofs.Makes.{tells_none}
+use Rattle.undo_rows.proofs.Makes.{tells_none}
 use Rattle.unit_reports.specs.Units.{calls_of}
 use Rattle.configure_run.proofs.turn.take_next.Goals as goal
 

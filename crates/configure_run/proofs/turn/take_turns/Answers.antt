@@ -9,8 +9,8 @@ use Rattle.host_core.proofs.Moments.{since_start}
 use Rattle.unit_reports.specs.Held.{held_by}
 use Rattle.unit_reports.specs.Units.{calls_of}
 use Rattle.unit_reports.specs.declared.report.Unit.{Unit as AUnit}
-use Rattle.unwind_stack.proofs.Makes.{tells_none, tells_then}
-use Rattle.unwind_stack.specs.Transcript.{TellsAll}
+use Rattle.undo_rows.proofs.Makes.{tells_none, tells_then}
+use Rattle.undo_rows.specs.Transcript.{TellsAll}
 use Rattle.configure_run.specs.Starting.{AreWaiting}
 use Rattle.configure_run.specs.Taking.{TakesNext}
 use Rattle.configure_run.specs.Turns.{HaveTurned, IsAmidNext, StopTurns, after_turn}

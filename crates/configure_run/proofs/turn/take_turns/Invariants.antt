@@ -4,11 +4,11 @@ use Rattle.host_core.specs.Host.{Since, faults}
 use Rattle.host_core.specs.Loss.{IsAnswered}
 use Rattle.host_core.specs.Host.{Needs}
 use Rattle.held_administration.specs.Open.{IsOpen}
-use Rattle.unit_parts.specs.Order.{IsInOrder}
+use Rattle.unit_stages.specs.Order.{IsInOrder}
 use Rattle.unit_reports.specs.Held.{held_by}
 use Rattle.unit_reports.specs.Units.{calls_of}
 use Rattle.unit_reports.specs.Watching.{AddsTold}
-use Rattle.unwind_stack.specs.Transcript.{TellsAll}
+use Rattle.undo_rows.specs.Transcript.{TellsAll}
 use Rattle.configure_run.specs.Starting.{AreWaiting}
 use Rattle.configure_run.specs.Turns.{HaveTurned, IsAmidTurns}
 use Rattle.configure_run.proofs.Others.{Leave}

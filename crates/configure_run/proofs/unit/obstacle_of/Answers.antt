@@ -4,7 +4,7 @@ use Rattle.conffiles.specs.Settling.{CanSettle}
 use Rattle.configure_engine.specs.Obstacles.{IsObstacle, names_of_all}
 use Rattle.configure_engine.specs.Units.{CanConfigure}
 use Rattle.configure_engine.specs.Waiting.{settling_paths}
-use Rattle.status_db.specs.Records.{record_in}
+use Rattle.status_records.specs.Records.{record_in}
 use Rattle.configure_run.specs.Turns.{HasObstacle}
 use Rattle.configure_run.proofs.Units.{clear_is, obstacle_is, ok_so}
 use Rattle.configure_run.proofs.unit.obstacle_of.Goals as goal

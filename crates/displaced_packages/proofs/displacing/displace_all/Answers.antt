@@ -1,6 +1,6 @@
 use Rattle.std.specs.Prelude.{ℕ, List, Contains}
 use Rattle.std.proofs.Common.{◌≡◌}
-use Rattle.status_db.specs.Records.{record_in}
+use Rattle.status_records.specs.Records.{record_in}
 use Rattle.unit_stages.proofs.RunLaws.{if_ok_one}
 use Rattle.unit_stages.specs.Holding.{holding_of}
 use Rattle.displaced_packages.specs.Displacing.{HaveBeenRemovedBehind, HaveGone}

@@ -1,7 +1,7 @@
 use Rattle.std.proofs.Common.{◌≡◌, false, sym, subst, Option}
 use Rattle.std.specs.Prelude.{IfOk, IfSome, MatchBool}
-use Rattle.status_db.specs.Words.{is_not_installed}
-use Rattle.status_db.specs.declared.record.Record.{Record}
+use Rattle.status_records.specs.Words.{is_not_installed}
+use Rattle.status_records.specs.declared.record.Record.{Record}
 use Rattle.dpkg_session.proofs.Alike.{found_stands}
 use Rattle.dpkg_session.proofs.unchanged.is_unchanged.Goals as goal
 

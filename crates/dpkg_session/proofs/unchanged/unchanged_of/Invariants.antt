@@ -1,5 +1,5 @@
 use Rattle.std.proofs.Common.{◌≡◌, ℕ, List, map, take}
-use Rattle.status_db.specs.declared.record.Record.{Record}
+use Rattle.status_records.specs.declared.record.Record.{Record}
 use Rattle.unit_reports.specs.Units.{touched_at}
 use Rattle.dpkg_session.specs.Touched.{AreUnchanged}
 use Rattle.dpkg_session.proofs.unchanged.unchanged_of.Given as goal

@@ -3,7 +3,7 @@ use Rattle.std.specs.Prelude.{IfSome}
 use Rattle.host_core.specs.Host.{faults}
 use Rattle.held_administration.specs.Open.{IsOpen}
 use Rattle.recorded_packages.specs.Packages.{ArePackagesOf}
-use Rattle.unwind_stack.specs.Transcript.{TellsAll}
+use Rattle.undo_rows.specs.Transcript.{TellsAll}
 use Rattle.unit_reports.specs.Held.{held_by}
 use Rattle.unit_reports.specs.Units.{calls_of}
 use Rattle.unit_reports.specs.Watching.{IsTold}

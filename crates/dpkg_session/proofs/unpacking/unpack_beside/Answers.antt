@@ -1,4 +1,4 @@
-use Rattle.stack_run.specs.Ended.{ended_as}
+use Rattle.undo_rows.specs.Ended.{ended_as}
 use Rattle.unpack_engine.specs.Units.{HasFailedFor, HasUnpacked}
 use Rattle.unit_reports.specs.Held.{held_by}
 use Rattle.dpkg_session.specs.Units.{HasUnpackedBeside, given_by}

@@ -3,7 +3,7 @@ use Rattle.std.specs.Prelude.{MatchOption, IfNone}
 use Rattle.std.specs.BTreeSet.{contains_text}
 use Rattle.host_core.specs.World.{World}
 use Rattle.host_core.proofs.Moments.{reads_then, silent_then}
-use Rattle.unwind_stack.specs.declared.fall.StepFault.{StepFault}
+use Rattle.undo_rows.specs.declared.fall.StepFault.{StepFault}
 use Rattle.file_check.specs.Sound.{IsSound, IsFaultOf}
 use Rattle.file_check.proofs.Sounds.{sound_next, fault_next, outside_next}
 use Rattle.file_check.proofs.checking.check_each.Goals as goal

@@ -3,8 +3,8 @@ use Rattle.std.proofs.Math.Seq.{map-set_same}
 use Rattle.std.proofs.lemmas.List.{take_more_set}
 use Rattle.host_core.specs.World.{World}
 use Rattle.host_core.proofs.Moments.{reads_then, silent_then}
-use Rattle.file_works.specs.Files.{Each}
-use Rattle.file_works.specs.Free.{IsSeen}
+use Rattle.package_files.specs.Files.{Each}
+use Rattle.package_files.specs.Free.{IsSeen}
 use Rattle.file_check.specs.Ready.{unseen}
 use Rattle.file_check.proofs.WorkLists.{each_more}
 use Rattle.file_check.proofs.targets.look_at_targets.Goals as goal

@@ -1,7 +1,7 @@
 use Rattle.std.proofs.Common.{◌≡◌, IsTrue, take}
 use Rattle.host_core.specs.Host.{Reads, Silent, faults}
-use Rattle.file_works.specs.Files.{Each}
-use Rattle.file_works.specs.Free.{IsSeen}
+use Rattle.package_files.specs.Files.{Each}
+use Rattle.package_files.specs.Free.{IsSeen}
 use Rattle.file_check.specs.Ready.{IsSameBut}
 use Rattle.file_check.proofs.targets.look_at_targets.Given as goal
 

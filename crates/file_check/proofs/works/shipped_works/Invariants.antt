@@ -1,6 +1,6 @@
 use Rattle.std.proofs.Common.{◌≡◌, ◌++◌}
-use Rattle.file_works.specs.Files.{Each}
-use Rattle.file_works.specs.Names.{IsNamed}
+use Rattle.package_files.specs.Files.{Each}
+use Rattle.package_files.specs.Names.{IsNamed}
 use Rattle.file_check.specs.Ships.{shipped_works}
 use Rattle.file_check.proofs.works.shipped_works.Given as goal
 

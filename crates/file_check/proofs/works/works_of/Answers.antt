@@ -1,5 +1,5 @@
 use Rattle.std.proofs.Common.{sym, subst}
-use Rattle.file_works.specs.Files.{Each}
+use Rattle.package_files.specs.Files.{Each}
 use Rattle.file_check.specs.Ready.{IsFitting}
 use Rattle.file_check.proofs.Shipping.{fits, if_so}
 use Rattle.file_check.proofs.works.works_of.Goals as goal

@@ -1,5 +1,5 @@
 use Rattle.std.proofs.Common.{◌≡◌, ◌++◌, take, drop, map}
-use Rattle.status_db.specs.Records.{place_record}
+use Rattle.status_records.specs.Records.{place_record}
 use Rattle.queries.proofs.records.place_of.Given as goal
 
 abbrev pub invariant-loop-i : goal.invariant-loop-i

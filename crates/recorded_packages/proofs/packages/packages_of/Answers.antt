@@ -1,7 +1,7 @@
 use Rattle.std.proofs.Common.{◌≡◌, ◌++◌, ◌∷◌, [], List, rules, subst, sym, ap, take, arith, length, ◌≤◌, ◌+◌, ◌∙◌}
 use Rattle.std.proofs.lemmas.List.{take_more, take_all}
 use Rattle.relation_index.specs.declared.package.Package.{Package}
-use Rattle.status_db.specs.declared.record.Record.{Record}
+use Rattle.status_records.specs.declared.record.Record.{Record}
 use Rattle.recorded_packages.specs.Packages.{ArePackagesOf}
 use Rattle.recorded_packages.proofs.InNameOrder.{in_name_order, none_found, packages_more}
 use Rattle.recorded_packages.proofs.packages.packages_of.Goals as goal

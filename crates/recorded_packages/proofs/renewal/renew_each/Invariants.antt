@@ -1,6 +1,6 @@
 use Rattle.std.proofs.Common.{List, take}
 use Rattle.status_db.specs.Order.{AreInOrder}
-use Rattle.status_db.specs.declared.record.Record.{Record}
+use Rattle.status_records.specs.declared.record.Record.{Record}
 use Rattle.recorded_packages.specs.Packages.{ArePackagesOf}
 use Rattle.recorded_packages.specs.Renewal.{AreUpToDate}
 use Rattle.recorded_packages.proofs.renewal.renew_each.Given as goal

@@ -1,5 +1,5 @@
 use Rattle.std.proofs.Common.{Option, subst}
-use Rattle.status_db.specs.declared.record.Record.{Record}
+use Rattle.status_records.specs.declared.record.Record.{Record}
 use Rattle.recorded_packages.specs.Renewal.{IsRenewedBy}
 use Rattle.recorded_packages.proofs.renewal.renew_package.Goals as goal
 

@@ -1,5 +1,5 @@
 use Rattle.std.proofs.Common.{sym, subst}
-use Rattle.unpack_moves.specs.Closing.{SparesAdministration}
+use Rattle.listed_files.specs.Closing.{SparesAdministration}
 use Rattle.removal_engine.proofs.Sparing.{leaving_spares}
 use Rattle.removal_engine.proofs.lists.leaving_directories.Goals as goal
 

@@ -1,5 +1,5 @@
 use Rattle.std.proofs.Common.{sym, subst}
-use Rattle.unpack_moves.specs.Concluding.{AreElsewhere}
+use Rattle.listed_files.specs.Concluding.{AreElsewhere}
 use Rattle.removal_engine.proofs.Elsewhere.{append_elsewhere, nothing_elsewhere, waiting_elsewhere}
 use Rattle.removal_engine.proofs.names.waiting_names.Goals as goal
 

@@ -1,7 +1,7 @@
 use Rattle.std.proofs.Common.{sym, subst}
 use Rattle.std.specs.List.{AllByRecursion}
 use Rattle.file_lists.specs.Owners.{IsListable}
-use Rattle.status_db.specs.declared.entries.ConffileEntry.{ConffileEntry}
+use Rattle.status_records.specs.declared.entries.ConffileEntry.{ConffileEntry}
 use Rattle.removal_engine.proofs.Chosen.{mapped_more}
 use Rattle.removal_engine.proofs.Listable.{ship_listable, listable_more}
 use Rattle.removal_engine.proofs.paths.listed_paths.Goals as goal

@@ -1,8 +1,8 @@
 use Rattle.std.proofs.Common.{◌∙◌, ap}
-use Rattle.status_db.specs.Standings.{standing_as, wanting, removed, with_conffiles}
-use Rattle.status_db.specs.declared.words.Want.TheVariants as want
-use Rattle.status_db.specs.declared.words.Flag.TheVariants as flag
-use Rattle.status_db.specs.declared.words.State.TheVariants as state
+use Rattle.status_records.specs.Standings.{standing_as, wanting, removed, with_conffiles}
+use Rattle.status_records.specs.declared.words.Want.TheVariants as want
+use Rattle.status_records.specs.declared.words.Flag.TheVariants as flag
+use Rattle.status_records.specs.declared.words.State.TheVariants as state
 use Rattle.removal_engine.proofs.records.without_files.Goals as goal
 
 pub returns : goal.returns

@@ -2,8 +2,8 @@ use Rattle.std.proofs.Common.{sym, subst, ap, [], List, ◌<◌, ◌≤◌, ◌�
 use Rattle.std.specs.List.{flat_map}
 use Rattle.std.proofs.lemmas.List.{take_all}
 use Rattle.diversions.specs.Places.{place}
-use Rattle.status_db.specs.declared.entries.ConffileEntry.{ConffileEntry}
-use Rattle.unpack_moves.specs.Concluding.{AreElsewhere}
+use Rattle.status_records.specs.declared.entries.ConffileEntry.{ConffileEntry}
+use Rattle.listed_files.specs.Concluding.{AreElsewhere}
 use Rattle.removal_engine.specs.Names.{side_names_at}
 use Rattle.removal_engine.proofs.Chosen.{flat_more}
 use Rattle.removal_engine.proofs.Elsewhere.{purged_elsewhere}

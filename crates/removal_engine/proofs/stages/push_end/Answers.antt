@@ -1,5 +1,5 @@
 use Rattle.std.proofs.Common.{map, ap, sym, ◌∙◌, ◌++◌}
-use Rattle.status_db.specs.declared.record.Record.{Record}
+use Rattle.status_records.specs.declared.record.Record.{Record}
 use Rattle.removal_engine.specs.Stages.{gone_stage, left_stage, planned, purge_stages}
 use Rattle.removal_engine.specs.Records.{config_files, goes_at_once}
 use Rattle.removal_engine.proofs.Pushed.{goes_on, pushed}

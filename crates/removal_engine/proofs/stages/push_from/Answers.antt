@@ -1,6 +1,6 @@
 use Rattle.std.proofs.Common.{◌≡◌, ◌∷◌, ◌++◌, List, map, inl, inr, sym, ap, ◌∙◌}
 use Rattle.std.proofs.lemmas.Result.{on_ok_weaker}
-use Rattle.status_db.specs.declared.words.State.{State}
+use Rattle.status_records.specs.declared.words.State.{State}
 use Rattle.removal_engine.specs.Stages.{Planned, files_stages, planned, prerm_stage, stages_from}
 use Rattle.removal_engine.proofs.Pushed.{behind}
 use Rattle.removal_engine.proofs.stages.push_from.Goals as goal

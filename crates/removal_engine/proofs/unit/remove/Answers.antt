@@ -4,7 +4,7 @@ use Rattle.std.specs.Option.{option_copied}
 use Rattle.texts.specs.PackageNames.{is_package_name}
 use Rattle.host_core.specs.Host.{AtEachMomentOf}
 use Rattle.file_lists.specs.Filed.{Filed}
-use Rattle.status_db.specs.declared.record.Record.{Record}
+use Rattle.status_records.specs.declared.record.Record.{Record}
 use Rattle.unit_stages.specs.Holding.{holding, holding_of}
 use Rattle.removal_engine.specs.Extents.{BeginsFrom}
 use Rattle.removal_engine.specs.Stages.{Planned}

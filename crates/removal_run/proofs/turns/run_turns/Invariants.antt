@@ -3,11 +3,11 @@ use Rattle.std.specs.Prelude.{IsTrue}
 use Rattle.host_core.specs.Host.{Needs, Since, faults}
 use Rattle.host_core.specs.Loss.{IsAnswered}
 use Rattle.held_administration.specs.Open.{IsOpen}
-use Rattle.unit_parts.specs.Order.{IsInOrder}
+use Rattle.unit_stages.specs.Order.{IsInOrder}
 use Rattle.unit_reports.specs.Held.{held_by}
 use Rattle.unit_reports.specs.Units.{calls_of}
 use Rattle.unit_reports.specs.Watching.{AddsTold}
-use Rattle.unwind_stack.specs.Transcript.{TellsAll}
+use Rattle.undo_rows.specs.Transcript.{TellsAll}
 use Rattle.recorded_packages.specs.Renewal.{AreSameBut}
 use Rattle.removal_run.specs.Names.{is_among}
 use Rattle.removal_run.specs.Waiting.{IsQueueNow}

@@ -1,4 +1,4 @@
-use Rattle.status_db.proofs.Tables.{record_in-put_record, record_in-drop_record}
+use Rattle.status_records.proofs.Tables.{record_in-put_record, record_in-drop_record}
 use Rattle.status_db.proofs.laws.records_are_a_table.Goals as goal
 
 pub returns-clause-put : goal.returns-clause-put

@@ -1,7 +1,7 @@
 use Rattle.std.proofs.Common.{sym, subst, arith}
 use Rattle.status_db.specs.Notes.{below_limit}
 use Rattle.status_db.specs.Noting.{IsStatusFile}
-use Rattle.status_db.specs.Records.{AreApart}
+use Rattle.status_records.specs.Records.{AreApart}
 use Rattle.status_db.proofs.NotedWorlds.{merged_by, notes_loose, since_merging, status_loose}
 use Rattle.status_db.proofs.Ordered.{order_apart}
 use Rattle.status_db.proofs.merging.merge.Goals as goal

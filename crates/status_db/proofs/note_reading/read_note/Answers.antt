@@ -1,14 +1,14 @@
 use Rattle.std.proofs.Common.{◌<◌, ◌^◌, ◌∙◌, List, ℕ, length, sym, subst, arith, ◌==◌, ◌≡◌, ◌-◌, false, drop, take}
 use Rattle.std.specs.List.{AllByRecursion}
 use Rattle.std.specs.Option.{option_to_list}
-use Rattle.status_db.specs.Paragraphs.{IsEntry}
+use Rattle.status_records.specs.Paragraphs.{IsEntry}
 use Rattle.std.proofs.lemmas.Result.{err_from_is_err_and}
 use Rattle.control_fields.specs.Faults.{IsReadTo}
 use Rattle.control_fields.specs.Grammar.{lines_of}
 use Rattle.control_fields.specs.declared.located.Located.{Located}
-use Rattle.status_db.specs.Faults.{IsEntryFault, IsSound}
+use Rattle.status_records.specs.Faults.{IsEntryFault, IsSound}
 use Rattle.status_db.proofs.NoteTexts.{cut_rest, entry_fault, first_sound, head_of, note_of, rest_fault}
-use Rattle.status_db.proofs.WholeText.{read_sound}
+use Rattle.status_records.proofs.WholeText.{read_sound}
 use Rattle.status_db.proofs.note_reading.read_note.Goals as goal
 
 pub fault_of_start-requires : goal.fault_of_start-requires

@@ -1,5 +1,5 @@
 use Rattle.std.proofs.Common.{◌∙◌, sym}
-use Rattle.status_db.specs.Records.{drop_record}
+use Rattle.status_records.specs.Records.{drop_record}
 use Rattle.status_db.proofs.NotedWorlds.{found_named, none_there, nothing_dropped, noting_not}
 use Rattle.status_db.proofs.noting.forget_record.Goals as goal
 

@@ -1,5 +1,5 @@
 use Rattle.status_db.specs.Notes.{said_gone}
-use Rattle.status_db.specs.Records.{drop_record}
+use Rattle.status_records.specs.Records.{drop_record}
 use Rattle.status_db.proofs.NotedWorlds.{drop_entered}
 use Rattle.status_db.proofs.noting.write_gone.Goals as goal
 

@@ -1,5 +1,5 @@
 use Rattle.status_db.specs.Notes.{said_of}
-use Rattle.status_db.specs.Records.{put_record}
+use Rattle.status_records.specs.Records.{put_record}
 use Rattle.status_db.proofs.NotedWorlds.{put_entered}
 use Rattle.status_db.proofs.noting.write_record.Goals as goal
 

@@ -1,6 +1,6 @@
 use Rattle.std.proofs.Common.{◌∙◌, ap, List}
-use Rattle.status_db.specs.declared.record.Record.{Record}
-use Rattle.status_db.specs.Records.{record_in}
+use Rattle.status_records.specs.declared.record.Record.{Record}
+use Rattle.status_records.specs.Records.{record_in}
 use Rattle.status_db.proofs.Filling.{over, over_none, put_last, standing_front, standing_last}
 use Rattle.status_db.proofs.Ordered.{same_standing}
 use Rattle.status_db.proofs.table.put_all.Goals as goal

@@ -1,5 +1,5 @@
 use Rattle.std.proofs.Common.{◌≡◌, ℕ, List, length}
-use Rattle.status_db.specs.Records.{AreStanding, record_in}
+use Rattle.status_records.specs.Records.{AreStanding, record_in}
 use Rattle.status_db.proofs.Filling.{over}
 use Rattle.status_db.proofs.table.put_all.Given as goal
 

@@ -1,7 +1,7 @@
 use Rattle.std.proofs.Common.{false, subst}
 use Rattle.host_core.specs.World.{is_kept}
 use Rattle.host_core.specs.Host.{OnlyScripts, Since}
-use Rattle.unwind_stack.specs.Transcript.{Makes, Tries}
+use Rattle.undo_rows.specs.Transcript.{Makes, Tries}
 use Rattle.unit_stages.specs.Holding.{holding_of}
 use Rattle.unit_stages.proofs.Keeping.{order_after}
 use Rattle.unit_stages.proofs.Moments.{since_called, since_undone}

@@ -1,4 +1,4 @@
-use Rattle.cleanup_stack.proofs.Tellings.{made_calls}
+use Rattle.undo_rows.proofs.Tellings.{made_calls}
 use Rattle.unit_stages.specs.Calls.{AreCallsOf}
 use Rattle.unit_stages.proofs.RunLaws.{run_later, run_left, run_made}
 use Rattle.unit_stages.proofs.laws.what_a_run_of_stages_leaves.Goals as goal

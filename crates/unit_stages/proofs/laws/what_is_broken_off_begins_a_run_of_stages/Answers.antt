@@ -1,4 +1,4 @@
-use Rattle.cleanup_stack.proofs.Tellings.{begun_calls}
+use Rattle.undo_rows.proofs.Tellings.{begun_calls}
 use Rattle.unit_stages.specs.Calls.{MayRunStages}
 use Rattle.unit_stages.proofs.laws.what_is_broken_off_begins_a_run_of_stages.Goals as goal
 

@@ -1,6 +1,6 @@
 use Rattle.std.proofs.Common.{inr, ap, ◌∙◌}
 use Rattle.file_lists.specs.Filed.{Filed}
-use Rattle.file_writing.proofs.WriteMoments.{on_ok}
+use Rattle.package_files.proofs.WriteMoments.{on_ok}
 use Rattle.unpack_commit.specs.Commit.{changes_of}
 use Rattle.unpack_commit.proofs.Parts.{has_committed, kept_released, kept_renewed, kept_stored, lists_amid, lists_both, lists_first, lists_last, none_noted, on_err_as, on_ok_as, released_as, releasing_as, while_noting, while_releasing, while_renewing, while_storing}
 use Rattle.unpack_commit.proofs.Ready.{list_ready_renewed, list_ready_stored, members_ready_renewed}

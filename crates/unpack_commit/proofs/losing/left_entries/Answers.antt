@@ -1,6 +1,6 @@
 use Rattle.std.proofs.Common.{◌≡◌, ◌<◌, ◌≤◌, Bool, List, filter, length, get_or, ap, not, subst, sym, ◌∙◌}
 use Rattle.std.proofs.lemmas.List.{take_all}
-use Rattle.status_db.specs.declared.entries.ConffileEntry.{ConffileEntry}
+use Rattle.status_records.specs.declared.entries.ConffileEntry.{ConffileEntry}
 use Rattle.unpack_commit.specs.Takeover.{is_at}
 use Rattle.unpack_commit.proofs.Filtering.{kept_more, left_before, left_out}
 use Rattle.unpack_commit.proofs.losing.left_entries.Goals as goal

@@ -1,7 +1,7 @@
 use Rattle.std.proofs.Common.{◌&&◌, ap, sym, ◌∙◌}
 use Rattle.std.specs.List.{list_any}
 use Rattle.std.specs.Str.{bytes_eq}
-use Rattle.status_db.specs.declared.record.Record.{Record}
+use Rattle.status_records.specs.declared.record.Record.{Record}
 use Rattle.unpack_commit.specs.Takeover.{loses_conffile, without_conffiles}
 use Rattle.unpack_commit.proofs.Filtering.{told_more, untold}
 use Rattle.unpack_commit.proofs.losing.losing_records.Goals as goal

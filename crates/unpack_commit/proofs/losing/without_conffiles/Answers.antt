@@ -1,6 +1,6 @@
 use Rattle.std.proofs.Common.{◌∙◌}
 use Rattle.std.proofs.lemmas.Result.{IfOk-weaker}
-use Rattle.status_db.specs.Standings.{with_conffiles}
+use Rattle.status_records.specs.Standings.{with_conffiles}
 use Rattle.unpack_commit.proofs.losing.without_conffiles.Goals as goal
 
 pub returns : goal.returns

@@ -4,7 +4,7 @@ use Rattle.host_core.specs.Host.{AtEachMoment}
 use Rattle.host_core.specs.Paths.{Path}
 use Rattle.file_lists.specs.Filed.{Filed}
 use Rattle.file_lists.specs.Taking.{without_all}
-use Rattle.unpack_moves.specs.Closing.{HasReleased, MayRelease}
+use Rattle.listed_files.specs.Closing.{HasReleased, MayRelease}
 use Rattle.unpack_commit.proofs.moving.release_places.Goals as goal
 
 pub release-requires-clause-named : goal.release-requires-clause-named

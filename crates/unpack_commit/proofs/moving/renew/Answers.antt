@@ -2,7 +2,7 @@ use Rattle.std.proofs.Common.{OnOk, sym, subst}
 use Rattle.host_core.specs.Host.{AtEachMoment}
 use Rattle.administration.specs.Places.{list_path}
 use Rattle.file_lists.specs.Writing.{list_file}
-use Rattle.unpack_moves.specs.Closing.{HasRenewed, MayRenew, SparesAdministration}
+use Rattle.listed_files.specs.Closing.{HasRenewed, MayRenew, SparesAdministration}
 use Rattle.unpack_commit.proofs.moving.renew.Goals as goal
 
 pub renew_list-requires-clause-spared : goal.renew_list-requires-clause-spared

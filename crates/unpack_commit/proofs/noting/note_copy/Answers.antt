@@ -1,11 +1,11 @@
 use Rattle.std.proofs.Common.{ap, subst, ◌∙◌}
 use Rattle.host_core.specs.Host.{AtEachMoment}
-use Rattle.file_writing.proofs.WriteMoments.{on_ok}
+use Rattle.package_files.proofs.WriteMoments.{on_ok}
 use Rattle.status_db.proofs.NotedWorlds.{noting_not}
 use Rattle.status_db.specs.Noting.{IsNoting}
-use Rattle.status_db.specs.Records.{put_record}
-use Rattle.status_db.specs.Words.{is_not_installed}
-use Rattle.status_db.specs.declared.record.Record.{Record}
+use Rattle.status_records.specs.Records.{put_record}
+use Rattle.status_records.specs.Words.{is_not_installed}
+use Rattle.status_records.specs.declared.record.Record.{Record}
 use Rattle.unpack_commit.proofs.noting.note_copy.Goals as goal
 
 pub returns-in_err-copy-clause-any_moment : goal.returns-in_err-copy-clause-any_moment

@@ -2,7 +2,7 @@ use Rattle.std.proofs.Common.{refl, sym, ap, subst, rules, ◌∙◌}
 use Rattle.std.proofs.lemmas.List.{take_all}
 use Rattle.control_members.proofs.Starting.{since_here}
 use Rattle.status_db.specs.Held.{HasRecords}
-use Rattle.status_db.specs.Records.{put_record}
+use Rattle.status_records.specs.Records.{put_record}
 use Rattle.unpack_commit.specs.Takeover.{put_records}
 use Rattle.unpack_commit.proofs.NotedOnes.{noting_start, put_more, since_noting, some_noted, standing_at}
 use Rattle.unpack_commit.proofs.Parts.{on_err_as}

@@ -1,6 +1,6 @@
 use Rattle.std.proofs.Common.{sym, subst}
 use Rattle.host_core.specs.Host.{AtEachMoment}
-use Rattle.file_writing.proofs.WriteMoments.{on_ok}
+use Rattle.package_files.proofs.WriteMoments.{on_ok}
 use Rattle.control_members.specs.Stored.{AreMemberNames, AreReplaced, AreReplacing, IsMembersReady}
 use Rattle.unpack_commit.proofs.StoredOnes.{since_stored, since_told, stored_all}
 use Rattle.unpack_commit.proofs.storing.store_members.Goals as goal

@@ -1,5 +1,5 @@
 use Rattle.std.proofs.Common.{ap, sym, ◌∙◌}
-use Rattle.file_works.specs.declared.work.Work.{Work}
+use Rattle.package_files.specs.declared.work.Work.{Work}
 use Rattle.unpack_commit.specs.Takeover.{is_taken}
 use Rattle.unpack_commit.proofs.Filtering.{told_more, untold}
 use Rattle.unpack_commit.proofs.taken.places_of.Goals as goal

@@ -1,5 +1,5 @@
 use Rattle.std.proofs.Common.{sym, ◌∙◌}
-use Rattle.status_db.specs.declared.record.Record.{Record}
+use Rattle.status_records.specs.declared.record.Record.{Record}
 use Rattle.unpack_commit.specs.Takeover.{is_config_files}
 use Rattle.unpack_commit.proofs.Filtering.{told_more, untold}
 use Rattle.unpack_commit.proofs.takeover.yields_of.Goals as goal

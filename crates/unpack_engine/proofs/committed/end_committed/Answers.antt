@@ -1,11 +1,11 @@
 use Rattle.administration.specs.Directories.{IsRemoved}
 use Rattle.administration.specs.Places.{tmp_path}
 use Rattle.control_members.specs.LaidOut.{IsLaying}
-use Rattle.file_writing.proofs.WriteMoments.{on_ok}
+use Rattle.package_files.proofs.WriteMoments.{on_ok}
 use Rattle.status_db.specs.Held.{IsKept}
 use Rattle.unpack_commit.specs.Commit.{HasCommitted, MayCommit, changes_of}
 use Rattle.unpack_commit.specs.Takeover.{put_records}
-use Rattle.unpack_moves.proofs.Moments.{at_each, then_at_each}
+use Rattle.listed_files.proofs.Moments.{at_each, then_at_each}
 use Rattle.unpack_engine.specs.Units.{HasLeftBy, MayLeaveBy}
 use Rattle.unpack_engine.proofs.Dropping.{committed_laid, laying_kept}
 use Rattle.unpack_engine.proofs.Ready.{kept_opens}

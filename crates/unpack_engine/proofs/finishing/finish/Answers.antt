@@ -1,11 +1,11 @@
 use Rattle.std.proofs.Common.{◌≡◌, ◌++◌, List, Option, None, length, nat_le, sym, subst}
-use Rattle.cleanup_stack.specs.Transcripts.{Committed}
+use Rattle.undo_rows.specs.Transcripts.{Committed}
 use Rattle.host_core.specs.Paths.{Path}
 use Rattle.host_core.specs.Host.{AtEachMoment}
 use Rattle.file_lists.specs.Writing.{IsListReady}
-use Rattle.stack_run.specs.Ended.{ended_as}
-use Rattle.stack_run.specs.declared.unwinding.Unwinding.{Unwinding}
-use Rattle.status_db.specs.Records.{record_in}
+use Rattle.undo_rows.specs.Ended.{ended_as}
+use Rattle.undo_rows.specs.declared.unwinding.Unwinding.{Unwinding}
+use Rattle.status_records.specs.Records.{record_in}
 use Rattle.unpack_rows.specs.EndStates.{own_name}
 use Rattle.unpack_engine.specs.Endings.{changes_from, ended_lists, ended_records, ended_table, records_from}
 use Rattle.unpack_engine.specs.Touched.{AreTold, deconfigured}

@@ -1,14 +1,14 @@
 use Rattle.std.proofs.Common.{Contains, length, sym, ap, subst, ◌∙◌}
 use Rattle.texts.specs.PackageNames.{is_package_name}
-use Rattle.cleanup_stack.specs.Transcripts.{Committed}
+use Rattle.undo_rows.specs.Transcripts.{Committed}
 use Rattle.control_members.specs.LaidOut.{AreLaidOut}
 use Rattle.file_lists.specs.Owners.{AreListPaths}
-use Rattle.status_db.specs.Records.{AreStanding}
-use Rattle.file_writing.proofs.WriteMoments.{on_ok}
+use Rattle.status_records.specs.Records.{AreStanding}
+use Rattle.package_files.proofs.WriteMoments.{on_ok}
 use Rattle.host_core.specs.Host.{AtEachMoment}
 use Rattle.unpack_commit.specs.Commit.{Changes, changes_of}
-use Rattle.unpack_moves.specs.Closing.{SparesAdministration}
-use Rattle.unpack_moves.specs.Concluding.{AreElsewhere}
+use Rattle.listed_files.specs.Closing.{SparesAdministration}
+use Rattle.listed_files.specs.Concluding.{AreElsewhere}
 use Rattle.unpack_engine.specs.Endings.{records_from}
 use Rattle.unpack_engine.specs.Units.{HasLeft, MayLeave}
 use Rattle.unpack_engine.proofs.Losing.{loser_named}

@@ -2,8 +2,8 @@ use Rattle.std.proofs.Common.{length, subst}
 use Rattle.host_core.proofs.Moments.{since_now}
 use Rattle.control_members.specs.LaidOut.{IsLaying}
 use Rattle.unpack_rows.specs.EndStates.{own_name}
-use Rattle.unpack_run.specs.Task.{task_by}
-use Rattle.unpack_run.specs.At.{At, holding_by}
+use Rattle.unpack_steps.specs.Task.{task_by}
+use Rattle.unpack_steps.specs.At.{At, holding_by}
 use Rattle.unpack_engine.specs.Units.{HasBegun}
 use Rattle.unpack_engine.proofs.Carrying.{same_end}
 use Rattle.unpack_engine.proofs.Order.{home_there, list_begun, members_begun, records_begun}

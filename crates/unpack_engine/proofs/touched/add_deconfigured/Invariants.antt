@@ -2,7 +2,7 @@ use Rattle.std.proofs.Common.{◌≡◌, ◌||◌, take}
 use Rattle.std.specs.BTreeSet.{contains_text}
 use Rattle.std.specs.List.{list_any}
 use Rattle.host_core.specs.Paths.{Path}
-use Rattle.status_db.specs.Records.{record_in}
+use Rattle.status_records.specs.Records.{record_in}
 use Rattle.unpack_engine.specs.Touched.{is_deconfigured}
 use Rattle.unpack_engine.proofs.Names.{is_kept_so}
 use Rattle.unpack_engine.proofs.touched.add_deconfigured.Given as goal

@@ -1,12 +1,12 @@
 use Rattle.std.proofs.Common.{◌≡◌, ◌++◌, List, length, sym, ap, subst, ◌∙◌}
 use Rattle.host_core.specs.Host.{AtEachMoment}
-use Rattle.stack_run.specs.Ended.{IsCauseOf, ended_as}
-use Rattle.status_db.specs.Records.{AreStanding}
+use Rattle.undo_rows.specs.Ended.{IsCauseOf, ended_as}
+use Rattle.status_records.specs.Records.{AreStanding}
 use Rattle.status_db.proofs.Ordered.{order_apart, same_standing}
-use Rattle.file_works.specs.declared.work.Work.{Work}
+use Rattle.package_files.specs.declared.work.Work.{Work}
 use Rattle.held_administration.specs.declared.administration.Administration.{Administration}
 use Rattle.unpack_rows.specs.EndStates.{own_name}
-use Rattle.unpack_run.specs.At.{holding_by}
+use Rattle.unpack_steps.specs.At.{holding_by}
 use Rattle.unpack_plan.specs.Planned.{planned}
 use Rattle.unpack_engine.specs.Endings.{changes_from, ended_lists, ended_records, ended_table, records_from}
 use Rattle.unpack_engine.specs.Touched.{AreTold, deconfigured}

@@ -4,7 +4,7 @@ use Rattle.std.specs.Str.{IsUtf8}
 use Rattle.std.specs.Prelude.{IfOk}
 use Rattle.host_core.specs.Host.{AtEachMomentOf}
 use Rattle.host_core.specs.Paths.{Path}
-use Rattle.stack_run.specs.Ended.{IsCauseOf, ended_as}
+use Rattle.undo_rows.specs.Ended.{IsCauseOf, ended_as}
 use Rattle.unpack_plan.specs.Planned.{planned}
 use Rattle.unpack_rows.specs.EndStates.{own_name}
 use Rattle.unpack_engine.specs.Units.{HasCarriedOut, HasFailedFor, HasUnpacked, IsTouched, IsUnderWay, given_from, ground_by, ground_of, job_of}

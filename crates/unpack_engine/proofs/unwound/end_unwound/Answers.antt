@@ -1,9 +1,9 @@
 use Rattle.administration.specs.Directories.{IsRemoved}
 use Rattle.administration.specs.Places.{tmp_path}
 use Rattle.control_members.specs.LaidOut.{IsLaying}
-use Rattle.file_writing.proofs.WriteMoments.{on_ok}
-use Rattle.status_db.specs.Records.{record_in}
-use Rattle.unpack_moves.proofs.Moments.{at_each, then_at_each}
+use Rattle.package_files.proofs.WriteMoments.{on_ok}
+use Rattle.status_records.specs.Records.{record_in}
+use Rattle.listed_files.proofs.Moments.{at_each, then_at_each}
 use Rattle.unpack_engine.specs.Units.{HasDropped, HasLeftBy, MayDrop, MayLeaveBy}
 use Rattle.unpack_engine.proofs.Dropping.{dropped_laid, dropped_opens}
 use Rattle.unpack_engine.proofs.unwound.end_unwound.Goals as goal

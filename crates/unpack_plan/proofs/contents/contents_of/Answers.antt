@@ -1,6 +1,6 @@
 use Rattle.std.proofs.Common.{◌∙◌, List, ap}
 use Rattle.std.specs.Option.{option_copied}
-use Rattle.file_works.specs.declared.work.Work.{Work}
+use Rattle.package_files.specs.declared.work.Work.{Work}
 use Rattle.host_core.specs.Paths.{Path}
 use Rattle.unpack_plan.specs.Names.{cleared_names}
 use Rattle.unpack_plan.proofs.contents.contents_of.Goals as goal

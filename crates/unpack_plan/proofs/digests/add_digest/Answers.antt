@@ -1,7 +1,7 @@
 use Rattle.std.proofs.Common.{◌++◌, ◌∷◌, [], map, ap, ◌∙◌, sym}
 use Rattle.md5.specs.Md5.{md5}
 use Rattle.host_core.specs.Paths.{Path}
-use Rattle.status_db.specs.Conffiles.{has_pending}
+use Rattle.status_records.specs.Conffiles.{has_pending}
 use Rattle.unpack_plan.specs.Digests.{digest_at, told_digest}
 use Rattle.unpack_plan.proofs.Digested.{digest_put, none_pending}
 use Rattle.unpack_plan.proofs.digests.add_digest.Goals as goal

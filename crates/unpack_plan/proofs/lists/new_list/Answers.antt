@@ -3,7 +3,7 @@ use Rattle.std.specs.BTreeSet.{contains_text}
 use Rattle.std.specs.List.{filter}
 use Rattle.host_core.specs.Paths.{Path}
 use Rattle.list_changes.specs.NewList.{IsNewList}
-use Rattle.status_db.specs.declared.entries.ConffileEntry.{ConffileEntry}
+use Rattle.status_records.specs.declared.entries.ConffileEntry.{ConffileEntry}
 use Rattle.unpack_plan.specs.Lists.{entry_paths, staying}
 use Rattle.unpack_plan.specs.Records.{is_shipped}
 use Rattle.unpack_plan.proofs.lists.new_list.Goals as goal

@@ -1,5 +1,5 @@
 use Rattle.std.proofs.Common.{sym, subst}
-use Rattle.unpack_moves.specs.Closing.{SparesAdministration}
+use Rattle.listed_files.specs.Closing.{SparesAdministration}
 use Rattle.unpack_plan.proofs.Sparing.{leaving_spares}
 use Rattle.unpack_plan.proofs.lists.old_leaving.Goals as goal
 

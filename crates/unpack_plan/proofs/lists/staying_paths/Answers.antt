@@ -2,7 +2,7 @@ use Rattle.std.proofs.Common.{◌∙◌, [], not, sym, ap, subst}
 use Rattle.std.specs.BTreeSet.{contains_text}
 use Rattle.std.specs.List.{AllByRecursion}
 use Rattle.file_lists.specs.Owners.{IsListable}
-use Rattle.status_db.specs.declared.entries.ConffileEntry.{ConffileEntry}
+use Rattle.status_records.specs.declared.entries.ConffileEntry.{ConffileEntry}
 use Rattle.unpack_plan.proofs.Gathered.{chosen_more, passed_over}
 use Rattle.unpack_plan.proofs.Listable.{ship_listable, listable_more}
 use Rattle.unpack_plan.proofs.lists.staying_paths.Goals as goal

@@ -4,7 +4,7 @@ use Rattle.std.specs.List.{filter}
 use Rattle.file_check.specs.Ships.{is_conffile}
 use Rattle.std.proofs.lemmas.List.{take_all}
 use Rattle.host_core.specs.Paths.{Path}
-use Rattle.unpack_moves.specs.Concluding.{AreElsewhere}
+use Rattle.listed_files.specs.Concluding.{AreElsewhere}
 use Rattle.unpack_plan.specs.Names.{waiting_name}
 use Rattle.unpack_plan.proofs.Elsewhere.{elsewhere_more}
 use Rattle.unpack_plan.proofs.Gathered.{chosen_more, passed_over}

@@ -1,7 +1,7 @@
 use Rattle.std.proofs.Common.{◌≡◌, ◌++◌, not, map, take}
 use Rattle.std.specs.BTreeSet.{contains_text}
 use Rattle.std.specs.List.{filter}
-use Rattle.unpack_moves.specs.Concluding.{AreElsewhere}
+use Rattle.listed_files.specs.Concluding.{AreElsewhere}
 use Rattle.unpack_plan.specs.Names.{waiting_name}
 use Rattle.unpack_plan.proofs.names.add_left.Given as goal
 

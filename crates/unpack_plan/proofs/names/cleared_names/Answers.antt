@@ -1,5 +1,5 @@
 use Rattle.std.proofs.Common.{sym, subst}
-use Rattle.unpack_moves.specs.Concluding.{AreElsewhere}
+use Rattle.listed_files.specs.Concluding.{AreElsewhere}
 use Rattle.unpack_plan.proofs.Elsewhere.{append_elsewhere, backups_elsewhere, cut_elsewhere}
 use Rattle.unpack_plan.proofs.names.cleared_names.Goals as goal
 

@@ -1,6 +1,6 @@
 use Rattle.std.proofs.Common.{[], ◌∷◌, sym, subst}
 use Rattle.host_core.specs.Paths.{Path}
-use Rattle.unpack_moves.specs.Concluding.{AreElsewhere}
+use Rattle.listed_files.specs.Concluding.{AreElsewhere}
 use Rattle.unpack_plan.proofs.Elsewhere.{new_elsewhere}
 use Rattle.unpack_plan.proofs.names.waiting_name.Goals as goal
 

@@ -1,6 +1,6 @@
 use Rattle.std.proofs.Common.{refl, ap, ◌∙◌}
 use Rattle.host_core.specs.declared.call.Script.TheVariants as script
-use Rattle.unwind_stack.specs.declared.rows.Owner.TheVariants.{Package as OfPackage}
+use Rattle.undo_rows.specs.declared.rows.Owner.TheVariants.{Package as OfPackage}
 use Rattle.unpack_rows.specs.ForwardRows.{new_call}
 use Rattle.unpack_rows.proofs.RowParts.{row_is}
 use Rattle.unpack_rows.proofs.rows.upgrade_row.Goals as goal

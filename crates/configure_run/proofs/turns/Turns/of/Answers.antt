@@ -2,8 +2,8 @@ use Rattle.std.proofs.Common.{◌≡◌, List, ap, map, subst, sym, ◌∙◌}
 use Rattle.dependency_check.specs.Waiting.{Waiting}
 use Rattle.recorded_packages.specs.Packages.{ArePackagesOf}
 use Rattle.relation_index.specs.declared.package.Package.{Package}
-use Rattle.status_db.specs.Words.{is_installed}
-use Rattle.status_db.specs.declared.record.Record.{Record}
+use Rattle.status_records.specs.Words.{is_installed}
+use Rattle.status_records.specs.declared.record.Record.{Record}
 use Rattle.configure_run.specs.Starting.{IsBegun, waits}
 use Rattle.configure_run.proofs.Numbers.{begun_even, named_apart}
 use Rattle.configure_run.proofs.turns.Turns.of.Goals as goal

@@ -1,6 +1,6 @@
 use Rattle.std.proofs.Common.{◌≡◌, subst, List}
-use Rattle.status_db.specs.declared.record.Record.{Record}
-use Rattle.status_db.specs.Records.{standing}
+use Rattle.status_records.specs.declared.record.Record.{Record}
+use Rattle.status_records.specs.Records.{standing}
 use Rattle.status_db.proofs.Ordered.{standing_same}
 use Rattle.status_db.proofs.table.Table.law.Goals as goal
 

@@ -1,8 +1,8 @@
 use Rattle.std.proofs.Common.{◌∙◌, sym, ap, subst, List}
 use Rattle.std.proofs.lemmas.Bool.{MatchBool-at_true, MatchBool-at_false}
-use Rattle.status_db.specs.declared.record.Record.{Record}
+use Rattle.status_records.specs.declared.record.Record.{Record}
 use Rattle.status_db.specs.Order.{AreInOrder, IsPlaceOf, IsThere}
-use Rattle.status_db.specs.Records.{AreStanding, put_record}
+use Rattle.status_records.specs.Records.{AreStanding, put_record}
 use Rattle.status_db.proofs.Ordered.{put_there, put_between, put_order, put_standing}
 use Rattle.status_db.proofs.table.Table.put.Goals as goal
 

@@ -1,8 +1,8 @@
 use Rattle.std.proofs.Common.{◌∙◌, sym, ap, subst, List}
 use Rattle.std.proofs.lemmas.Bool.{MatchBool-at_true, MatchBool-at_false}
-use Rattle.status_db.specs.declared.record.Record.{Record}
+use Rattle.status_records.specs.declared.record.Record.{Record}
 use Rattle.status_db.specs.Order.{AreInOrder, IsPlaceOf, IsThere}
-use Rattle.status_db.specs.Records.{AreStanding, drop_record}
+use Rattle.status_records.specs.Records.{AreStanding, drop_record}
 use Rattle.status_db.proofs.Ordered.{dropped_there, dropped_nowhere, dropped_order, dropped_standing}
 use Rattle.status_db.proofs.table.Table.remove.Goals as goal
 

@@ -1,5 +1,0 @@
-pub mod Place
-pub mod Undoing
-pub mod Transcripts
-pub mod Telling
-pub mod Stops

@@ -1,4 +1,0 @@
-pub mod Works
-pub mod Files
-pub mod Names
-pub mod Free

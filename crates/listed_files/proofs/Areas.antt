@@ -1,0 +1,102 @@
+-- What moves leave outside the places that they may change.
+use Rattle.std.proofs.Common.{◌≡◌, ◌≢◌, ◌⊎◌, ◌||◌, ◌&&◌, inl, inr, Bool, true, false, cond, List, [], ◌∷◌, IsTrue, refl, sym, ap, ◌∙◌}
+use Rattle.std.specs.Str.{bytes_eq}
+use Rattle.std.proofs.lemmas.Bool.{true≢false}
+use Rattle.std.proofs.lemmas.Slice.Eq.{bytes_eq-Decides}
+use Rattle.host_core.specs.Paths.{Path}
+use Rattle.host_core.specs.World.{World, KeepsBut}
+use Rattle.host_core.specs.declared.node.Node.{Node}
+use Rattle.administration.specs.Places.{temporary}
+use Rattle.diversions.specs.declared.entry.Diversion.{Diversion}
+use Rattle.file_lists.specs.declared.paths.PackageList.{PackageList}
+use Rattle.file_lists.specs.Taking.{IsNoList}
+use Rattle.package_files.specs.declared.work.Work.{Work}
+use Rattle.package_files.specs.Files.{Each, Misses}
+use Rattle.package_files.specs.Back.{CanGoBack}
+use Rattle.file_removal.specs.declared.leaving.Leaving.{Leaving}
+use Rattle.file_removal.specs.Removal.{Goes, Removed, IsRemoving}
+use Rattle.file_removal.specs.Clearing.{cleared, is_among}
+use Rattle.listed_files.specs.Areas.{is_leaving_place, is_list_place, is_listing_place, is_renewed_place, is_work_name}
+use Rattle.listed_files.specs.Closing.{HasReleased, HasRenewed, MayRelease, MayRenew}
+use Rattle.listed_files.specs.Listing.{HasListed, HasUnlisted, MayList, MayUnlist}
+
+neither : (a b : Bool) → a || b ≡ false → (a ≡ false) × (b ≡ false)
+neither true b is = absurd (true≢false is)
+neither false b is = (refl, is)
+
+differs : (q p : Path) → bytes_eq q p ≡ false → q ≢ p
+differs q p is e = true≢false (sym ((bytes_eq-Decides q p).1 e) ∙ is)
+
+no_list : (list q : Path) → is_list_place list q ≡ false → (q ≢ list) × (q ≢ temporary list)
+no_list list q out = let n = neither (bytes_eq q list) (bytes_eq q (temporary list)) out in (differs q list n.0, differs q (temporary list) n.1)
+
+misses : (x : Work) (q : Path) → (bytes_eq q x.target || (bytes_eq q x.backup || bytes_eq q x.fresh)) ≡ false → Misses x q
+misses x q out =
+    let t = neither (bytes_eq q x.target) (bytes_eq q x.backup || bytes_eq q x.fresh) out in
+    let b = neither (bytes_eq q x.backup) (bytes_eq q x.fresh) t.1 in
+    record { target = differs q x.target t.0; backup = differs q x.backup b.0; fresh = differs q x.fresh b.1 }
+
+all_miss : (works : List Work) (q : Path) → is_work_name works q ≡ false → Each (λ x. Misses x q) works
+all_miss [] q out = tt
+all_miss (x ∷ works) q out =
+    let n = neither (bytes_eq q x.target || (bytes_eq q x.backup || bytes_eq q x.fresh)) (is_work_name works q) out in
+    (misses x q n.0, all_miss works q n.1)
+
+module _ (list : Path) (node : Node) (works : List Work) (old : World) where
+  outside : (q : Path) → is_listing_place list works q ≡ false → (q ≢ list) × (q ≢ temporary list) × Each (λ x. Misses x q) works
+  outside q out =
+      let n = neither (is_list_place list q) (is_work_name works q) out in
+      let l = no_list list q n.0 in
+      (l.0, l.1, all_miss works q n.1)
+
+  pub listed_keeps : (new : World) → HasListed list node works old new → KeepsBut (is_listing_place list works) old new
+  listed_keeps new has q out = let o = outside q out in has.written.rest q o.2 ∙ has.replaced.rest q o.0 o.1
+
+  pub listing_keeps : (now : World) → MayList list node works old now → KeepsBut (is_listing_place list works) old now
+  listing_keeps now (inl is) q out = let o = outside q out in is.rest q o.0 o.1
+  listing_keeps now (inr m) q out = let o = outside q out in m.2.rest q o.2 ∙ m.1.rest q o.0 o.1
+
+  pub unlisted_keeps : (new : World) → CanGoBack works old → HasUnlisted list node works old new → KeepsBut (is_listing_place list works) old new
+  unlisted_keeps new can has q out = let o = outside q out in has.replaced.rest q o.0 o.1 ∙ (has.back can.0 can.1).rest q o.2
+
+  pub unlisting_keeps : (now : World) → CanGoBack works old → MayUnlist list node works old now → KeepsBut (is_listing_place list works) old now
+  unlisting_keeps now can (inl is) q out = let o = outside q out in (is can.0 can.1).rest q o.2
+  unlisting_keeps now can (inr m) q out = let o = outside q out in m.2.rest q o.0 o.1 ∙ (m.1 can.0 can.1).rest q o.2
+
+no_leaving : (xs : List Leaving) (old : World) (q : Path) → is_leaving_place xs q ≡ false → Goes old xs q → ⊥
+no_leaving [] old q out goes = goes
+no_leaving (x ∷ xs) old q out (inl later) = no_leaving xs old q (neither (x.goes && bytes_eq q x.place) (is_leaving_place xs q) out).1 later
+no_leaving (x ∷ xs) old q out (inr here) =
+    let at : bytes_eq q x.place ≡ true = (bytes_eq-Decides q x.place).1 (sym here.0) in
+    true≢false (sym (ap (λ b. b && bytes_eq q x.place) here.1 ∙ at) ∙ (neither (x.goes && bytes_eq q x.place) (is_leaving_place xs q) out).0)
+
+removed_keeps : (xs : List Leaving) (old new : World) (q : Path) → Removed xs old new → is_leaving_place xs q ≡ false → new q ≡ old q
+removed_keeps xs old new q removed out = elim (removed.each q) [ inl gone ↦ absurd (no_leaving xs old q out gone.0) | inr kept ↦ kept.1 ]
+
+removing_keeps : (xs : List Leaving) (old now : World) (q : Path) → IsRemoving xs old now → is_leaving_place xs q ≡ false → now q ≡ old q
+removing_keeps xs old now q amid out = elim (amid.each q) [ inl same ↦ same | inr gone ↦ absurd (no_leaving xs old q out gone.0) ]
+
+pub renewed_keeps : (xs : List Leaving) (list : Path) (node : Node) (old new : World) → HasRenewed xs list node old new → KeepsBut (is_renewed_place xs list) old new
+renewed_keeps xs list node old new has q out =
+    let n = neither (is_leaving_place xs q) (is_list_place list q) out in
+    let l = no_list list q n.1 in
+    has.replaced.rest q l.0 l.1 ∙ removed_keeps xs old has.mid q has.removed n.0
+
+pub renewing_keeps : (xs : List Leaving) (list : Path) (node : Node) (old now : World) → MayRenew xs list node old now → KeepsBut (is_renewed_place xs list) old now
+renewing_keeps xs list node old now (inl is) q out = removing_keeps xs old now q is (neither (is_leaving_place xs q) (is_list_place list q) out).0
+renewing_keeps xs list node old now (inr m) q out =
+    let n = neither (is_leaving_place xs q) (is_list_place list q) out in
+    let l = no_list list q n.1 in
+    m.2.rest q l.0 l.1 ∙ removed_keeps xs old m.0 q m.1 n.0
+
+module _ (entries : List Diversion) (places from : List Path) (had : List PackageList) (names : List Path) (old : World) where
+  pub released_keeps : (new : World) (q : Path) → HasReleased entries places from had names old new → IsNoList from q → is_among names q ≡ false → new q ≡ old q
+  released_keeps new q has none out = has.cleared.each q ∙ ap (λ b. cond b (cleared (has.mid q)) (has.mid q)) out ∙ has.taken.rest q none
+
+  clearing_keeps : (mid now : World) (q : Path) → (now q ≡ mid q) ⊎ (IsTrue (is_among names q) × (now q ≡ cleared (mid q))) → is_among names q ≡ false → now q ≡ mid q
+  clearing_keeps mid now q (inl same) out = same
+  clearing_keeps mid now q (inr gone) out = absurd (true≢false (sym gone.0 ∙ out))
+
+  pub releasing_keeps : (now : World) (q : Path) → MayRelease entries places from had names old now → IsNoList from q → is_among names q ≡ false → now q ≡ old q
+  releasing_keeps now q (inl is) none out = is.rest q none
+  releasing_keeps now q (inr m) none out = clearing_keeps m.0 now q (m.3.each q) out ∙ m.1.rest q none

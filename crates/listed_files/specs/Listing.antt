@@ -1,0 +1,29 @@
+-- A package's list and its files: while files are written the list names old and new paths (Policy 6.6).
+use Rattle.std.specs.Prelude.{◌⊎◌, List}
+use Rattle.host_core.specs.Paths.{Path}
+use Rattle.host_core.specs.World.{World}
+use Rattle.host_core.specs.declared.node.Node.{Node}
+use Rattle.administration.specs.Files.{IsReplaced, IsReplacing}
+use Rattle.package_files.specs.declared.work.Work.{Work}
+use Rattle.package_files.specs.Files.{IsAmid, Written}
+use Rattle.package_files.specs.Back.{GoesBack, IsGoingBack}
+
+-- the list was written, and then the files
+pub record HasListed (list : Path) (node : Node) (works : List Work) (old new : World) : Type 0 where
+  pub mid : World
+  pub replaced : IsReplaced list node old mid
+  pub written : Written works mid new
+
+-- at each moment: the list is being written, or it stands and the files are being written
+abbrev pub MayList : Path → Node → List Work → World → World → Type 0
+MayList list node works old now = IsReplacing list node old now ⊎ ((mid : World) × IsReplaced list node old mid × IsAmid works mid mid now)
+
+-- the files were put back, and then the list was written
+pub record HasUnlisted (list : Path) (node : Node) (works : List Work) (old new : World) : Type 0 where
+  pub mid : World
+  pub back : GoesBack works old mid
+  pub replaced : IsReplaced list node mid new
+
+-- at each moment: the files are being put back, or they are back and the list is being written
+abbrev pub MayUnlist : Path → Node → List Work → World → World → Type 0
+MayUnlist list node works old now = IsGoingBack works old now ⊎ ((mid : World) × GoesBack works old mid × IsReplacing list node mid now)

@@ -1,6 +1,0 @@
-use Rattle.std.proofs.Common.{◌≡◌, ◌++◌, take}
-use Rattle.other_rows.specs.Entries.{conflicting_entries}
-use Rattle.other_rows.proofs.entries.push_conflicting.Given as goal
-
-abbrev pub invariant-loop-name : goal.invariant-loop-name
-invariant-loop-name l = l.entries.items ≡ l.fn.entries.items ++ conflicting_entries l.database.records (take l.name-index l.names)

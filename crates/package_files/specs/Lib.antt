@@ -1,0 +1,7 @@
+pub mod Works
+pub mod Files
+pub mod Names
+pub mod Free
+pub mod Apart
+pub mod Steps
+pub mod Back

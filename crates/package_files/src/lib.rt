@@ -1,0 +1,22 @@
+//! The paths that a package ships, with the names at which they are written; their file step, and
+//! putting it back (Policy 6.6, the files of an unpack).
+//!
+//! # What is proved
+//!
+//! `write_files` leaves each target with its shipped node and what stood there at `.dpkg-tmp`, and
+//! all else as before (`written`); `put_back_files` leaves each target as it was, and made
+//! directories only where something stays below them (`back`). At each moment of both a target is
+//! as before or whole as shipped, what stood there is at the target or its second name, and it is
+//! missing only where a directory takes the place of a file (`any_moment`). No byte of an old file
+//! is read.
+#![tactic(auto)]
+
+mod laws;
+mod putting_back;
+mod work;
+mod writing;
+
+pub use laws::{names_of_works_differ, written_files_stay};
+pub use putting_back::put_back_files;
+pub use work::Work;
+pub use writing::write_files;

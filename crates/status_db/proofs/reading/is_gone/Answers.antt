@@ -1,8 +1,0 @@
-use Rattle.status_db.proofs.Sayings.{not_gone, gone_by}
-use Rattle.status_db.proofs.reading.is_gone.Goals as goal
-
-pub returns-in-None : goal.returns-in-None
-returns-in-None c = not_gone c.args.fields.now c.in-None.ensures.none
-
-pub returns-in-Some : goal.returns-in-Some
-returns-in-Some c = gone_by c.args.fields.now _ _ _ c.is_not_installed.result c.in-Some.ensures.some c.is_not_installed.ensures

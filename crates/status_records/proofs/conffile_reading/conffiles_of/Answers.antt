@@ -1,0 +1,23 @@
+use Rattle.std.proofs.Common.{◌≡◌, ap, sym, ◌∙◌}
+use Rattle.status_records.specs.declared.entries.ConffileEntry.{ConffileEntry}
+use Rattle.status_records.specs.ConffileFields.{ConffileWords, conffile_words, words_of_conffile, is_conffile_line}
+use Rattle.status_records.proofs.Apart.{some_read}
+use Rattle.status_records.proofs.Placing.{put_new, put_more, not_unread}
+use Rattle.status_db.proofs.conffile_reading.conffiles_of.Goals as goal
+use Rattle.status_db.proofs.conffile_reading.conffiles_of.Goals.{in-Some+in_ok-put, in_default}
+
+pub put-requires : goal.put-requires
+put-requires c =
+    let e = c.in-Some.entry in
+    let read = some_read c.in_ok-entry.field-0 e (is_conffile_line c.as_slice.result.now) (λ (x : ConffileEntry). words_of_conffile x ≡ conffile_words c.as_slice.result.now) c.in-Some.is c.in_ok-entry.ensures in
+    put_new words_of_conffile (λ (x : ConffileWords). x.path) conffile_words c.args.lines.now c.loop-line.line-index c.line-item.result c.loop-line.entries e c.loop-line-test.true c.line-item.is (read.1 ∙ ap conffile_words c.as_slice.ensures) c.loop-line.invariant c.requires.apart
+
+pub loop-line-preserved : goal.loop-line-preserved
+loop-line-preserved c = elim c.match-branch-2.branch [
+  | in-Some+in_ok-put w ↦
+      let e = w.in-Some.entry in
+      let read = some_read c.in_ok-entry.field-0 e (is_conffile_line c.as_slice.result.now) (λ (x : ConffileEntry). words_of_conffile x ≡ conffile_words c.as_slice.result.now) w.in-Some.is c.in_ok-entry.ensures in
+      put_more words_of_conffile (λ (x : ConffileWords). x.path) conffile_words c.args.lines.now c.loop-line.line-index c.line-item.result c.loop-line.entries e c.loop-line-test.true c.line-item.is (read.1 ∙ ap conffile_words c.as_slice.ensures) c.loop-line.invariant
+      c.match-branch-2.entries (w.entries-is ∙ w.in_ok-put.ensures.ok)
+  | in_default w ↦ absurd (not_unread is_conffile_line c.args.lines.now c.loop-line.line-index c.line-item.result c.loop-line-test.true c.line-item.is c.requires.lines (ap is_conffile_line (sym c.as_slice.ensures) ∙ (rw w.in_default.is at c.in_ok-entry.ensures)))
+]

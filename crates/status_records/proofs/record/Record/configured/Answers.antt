@@ -1,0 +1,17 @@
+use Rattle.std.proofs.Common.{refl}
+use Rattle.status_records.proofs.SameRecords.{same_record}
+use Rattle.status_db.proofs.record.Record.configured.Goals as goal
+
+pub returns : goal.returns
+returns c = same_record _ _ record {
+  name = c.in_ok-copy.ensures;
+  wanted = refl;
+  flagged = refl;
+  standing = refl;
+  version = c.in_ok-copy-2.ensures;
+  config_version = refl;
+  removed_since = refl;
+  conffiles = c.in_ok-copy-3.ensures;
+  pending = c.in_ok-copy-4.ensures;
+  fields = c.in_ok-copy-5.ensures;
+}

@@ -1,0 +1,15 @@
+pub mod Words
+pub mod Fields
+pub mod ConffilePaths
+pub mod Digests
+pub mod ConffileFields
+pub mod Values
+pub mod Writable
+pub mod Records
+pub mod Paragraphs
+pub mod Conffiles
+pub mod Configured
+pub mod Standings
+pub mod Damage
+pub mod Faults
+pub mod Status

@@ -1,0 +1,132 @@
+// The record of a package, and which fields of a control file it keeps.
+ghost use Rattle.std.specs.Prelude.{◌≡◌, ◌&&◌, IfOk, true, false, None, is_some, []};
+ghost use Rattle.std.specs.List.{list_any, AllByRecursion};
+ghost use Rattle.std.specs.Str.{bytes_eq};
+ghost use Rattle.control_fields.specs.Names.{lower};
+ghost use Rattle.control_fields.specs.Spelling.{AreFields};
+ghost use Rattle.texts.specs.PackageNames.{is_package_name};
+ghost use Rattle.status_records.specs.Fields.{own_names, recorded_fields};
+ghost use Rattle.status_records.specs.Values.{IsReadableControl};
+ghost use Rattle.status_records.specs.Words.{is_installed};
+ghost use Rattle.status_records.specs.Writable.{IsWritable};
+
+use crate::conffile_lists::{ConffileEntries, PendingDigests};
+use crate::words::{Flag, State, Want};
+use control_fields::Paragraph;
+use std::alloc::{AllocError, Global};
+use texts::Text;
+use version_order::Version;
+
+/// What the status file says of a package. `fields` are all fields but those of the record's own, in
+/// their order; written, their values can be read again.
+#[derive(Drop)]
+pub struct Record {
+    pub name: Text,
+    pub want: Want,
+    pub flag: Flag,
+    pub state: State,
+    pub version: Version,
+    /// The version last configured, where it is another one than that of an installed package.
+    pub config_version: Option<Version>,
+    /// Whether a removal has reached the package's files since then.
+    pub removed_since: bool,
+    pub conffiles: ConffileEntries,
+    pub pending: PendingDigests,
+    pub fields: Paragraph,
+    pub ghost writable: { ∥ IsWritable name fields ∥₁ },
+    pub ghost current: { is_installed state && is_some config_version ≡ false },
+}
+
+fn is_own(name: &[u8]) -> bool
+    ensures { result ≡ list_any (bytes_eq (lower name.now)) own_names }
+{
+    name.eq_ignore_ascii_case(b"package")
+        || name.eq_ignore_ascii_case(b"status")
+        || name.eq_ignore_ascii_case(b"version")
+        || name.eq_ignore_ascii_case(b"config-version")
+        || name.eq_ignore_ascii_case(b"removed-since")
+        || name.eq_ignore_ascii_case(b"conffiles")
+        || name.eq_ignore_ascii_case(b"new-conffiles")
+}
+
+/// The fields of a control file or a status paragraph that a record keeps as they are.
+pub(crate) fn recorded_fields(alloc: Global, control: &Paragraph) -> Result<Paragraph, AllocError>
+    requires { ∥ AreFields [] control.now ∥₁ }
+    ensures { IfOk result (λ p. p ≡ recorded_fields control.now) }
+{
+    let mut kept = Paragraph::new(alloc);
+    for field in control.fields() {
+        if !is_own(field.name.as_slice()) {
+            kept.push(field.copy()?)?;
+        }
+    }
+    Ok(kept)
+}
+
+/// An equal version, where there is one.
+pub(crate) fn copied_version(version: &Option<Version>) -> Result<Option<Version>, AllocError>
+    ensures { IfOk result (λ copy. copy ≡ version.now) }
+{
+    match version {
+        Some(version) => Ok(Some(version.copy()?)),
+        None => Ok(None),
+    }
+}
+
+impl Record {
+    /// The record of a package whose control file was read, wanted installed, never configured and
+    /// without conffiles.
+    pub fn of_package(
+        alloc: Global,
+        name: &Text,
+        version: &Version,
+        control: &Paragraph,
+        flag: Flag,
+        state: State,
+    ) -> Result<Record, AllocError>
+        requires named { is_package_name name.now ≡ true }
+        requires written { ∥ AreFields [] control.now ∥₁ }
+        requires readable { ∥ AllByRecursion IsReadableControl control.now ∥₁ }
+        ensures name { IfOk result (λ r. r.name ≡ name.now) }
+        ensures want { IfOk result (λ r. r.want ≡ Want.Install) }
+        ensures flag { IfOk result (λ r. r.flag ≡ flag) }
+        ensures state { IfOk result (λ r. r.state ≡ state) }
+        ensures version { IfOk result (λ r. r.version ≡ version.now) }
+        ensures config { IfOk result (λ r. r.config_version ≡ None) }
+        ensures removed { IfOk result (λ r. r.removed_since ≡ false) }
+        ensures conffiles { IfOk result (λ r. r.conffiles ≡ []) }
+        ensures pending { IfOk result (λ r. r.pending ≡ []) }
+        ensures fields { IfOk result (λ r. r.fields ≡ recorded_fields control.now) }
+    {
+        Ok(Record {
+            name: name.copy()?,
+            want: Want::Install,
+            flag,
+            state,
+            version: version.copy()?,
+            config_version: None,
+            removed_since: false,
+            conffiles: ConffileEntries::new(alloc),
+            pending: PendingDigests::new(alloc),
+            fields: recorded_fields(alloc, control)?,
+        })
+    }
+
+    /// An equal record, or want of memory.
+    pub fn copy(&self) -> Result<Record, AllocError>
+        ensures { IfOk result (λ r. r ≡ self.now) }
+    {
+        Ok(Record {
+            name: self.name.copy()?,
+            want: self.want,
+            flag: self.flag,
+            state: self.state,
+            version: self.version.copy()?,
+            config_version: copied_version(&self.config_version)?,
+            removed_since: self.removed_since,
+            conffiles: self.conffiles.copy()?,
+            pending: self.pending.copy()?,
+            fields: self.fields.copy()?,
+        })
+    }
+}

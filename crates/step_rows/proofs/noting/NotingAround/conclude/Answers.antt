@@ -1,5 +1,0 @@
-use Rattle.host_core.proofs.Moments.{since_start}
-use Rattle.step_rows.proofs.noting.NotingAround.conclude.Goals as goal
-
-pub returns-clause-any_moment : goal.returns-clause-any_moment
-returns-clause-any_moment g c = since_start (λ so_far w. Unit {0}) _ tt

@@ -1,0 +1,11 @@
+pub mod Makes
+pub mod OneRow
+pub mod Tellings
+pub mod Parts
+pub mod Rowwise
+pub mod Undone
+pub mod Growth
+pub mod Runs
+pub mod Stops
+pub mod Listed
+pub mod Falls

@@ -1,0 +1,142 @@
+use Rattle.std.proofs.Common.{◌≡◌, ◌+◌, List, [], ◌∷◌, ◌++◌, Option, length, refl, sym, ap, subst, ◌∙◌, append_assoc, length-append, rules}
+use Rattle.host_core.specs.World.{is_kept}
+use Rattle.undo_rows.specs.declared.rows.Row.{Row}
+use Rattle.undo_rows.specs.declared.fall.Fall.{Fall}
+use Rattle.undo_rows.specs.Place.{Forward, leads}
+use Rattle.undo_rows.specs.Telling.{Begun, HasStepped}
+use Rattle.undo_rows.specs.Transcripts.{MayRun}
+use Rattle.undo_rows.proofs.Listed.{at_once, fit_at, next_part, nothing_done}
+use Rattle.undo_rows.proofs.run.step_rows.Goals as goal
+
+pub loop-row-init : goal.loop-row-init
+loop-row-init g c =
+    let A = g.A.Around in
+    let s = g.H.Host.state c.args.host.now in
+    let t = A.task c.args.around.now in
+    record {
+      left = search rules;
+      stack = c.requires.empty;
+      succeeded = c.steps_and_an_unwind_are_a_run.ensures.none t s s c.args.told.now.items (nothing_done s);
+      place = c.requires.place;
+      any_moment = at_once (A.stops t) (is_kept (A.kept c.args.around.now)) s (λ h more v only. g.met.A.Around.holds c.args.around.now s (Forward 0) more v c.requires.place h only);
+      task = refl;
+      reference = refl;
+      counts = refl;
+    }
+
+pub step-requires-clause-place : goal.step-requires-clause-place
+step-requires-clause-place g c = subst (λ (l : List Row). g.A.Around.at c.loop-row.around (g.H.Host.state c.loop-row.host) (Forward (length l))) (sym c.loop-row.invariant.stack) c.loop-row.invariant.place
+
+pub step-requires-clause-row : goal.step-requires-clause-row
+step-requires-clause-row g c =
+    let A = g.A.Around in
+    let inv = c.loop-row.invariant in
+    let fits = A.fits (A.task c.args.around.now) in
+    let here = fit_at fits c.args.rows.items c.loop-row.yielded c.in-Some.row c.next.new.self.rest.items (search rules) c.requires.rows in
+    subst (λ t. A.fits t (length c.loop-row.stack) c.in-Some.row) (sym inv.task) (subst (λ (l : List Row). fits (length l) c.in-Some.row) (sym inv.stack) here)
+
+pub loop-row-preserved-in_default : goal.loop-row-preserved-in_default
+loop-row-preserved-in_default g c =
+    let A = g.A.Around in
+    let inv = c.loop-row.invariant in
+    let t = A.task c.args.around.now in
+    let a = g.H.Host.state c.args.host.now in
+    let b = g.H.Host.state c.loop-row.host in
+    let d = g.H.Host.state c.step.new.host in
+    let xs = c.loop-row.yielded in
+    let row = c.in-Some.row in
+    let was = c.loop-row.told.items in
+    let walk : c.args.rows.items ≡ xs ++ row ∷ c.next.new.self.rest.items = search rules in
+    let now = c.step.new.told.items in
+    let stepped = subst (λ (o : Option Fall). HasStepped (A.file_step_fault t) row o b d was now) c.in_default.is
+    (subst (λ u. HasStepped (A.file_step_fault u) row c.in_ok-fall.field-0 b d was now) inv.task c.in_ok-fall.ensures.calls) in
+    record {
+      left = walk ∙ sym (append_assoc xs (row ∷ []) c.next.new.self.rest.items);
+      stack = c.in_ok-fall.ensures.rows ∙ ap (λ (l : List Row). l ++ row ∷ []) inv.stack;
+      succeeded = c.steps_and_an_unwind_are_a_run.ensures.step t xs row a b d c.args.told.now.items was now inv.succeeded stepped;
+      place = subst (λ n. A.at c.step.new.around d (Forward n)) (ap (λ (l : List Row). length l + 1) inv.stack ∙ sym (length-append xs (row ∷ [])))
+          (subst (λ (o : Option Fall). A.at c.step.new.around d (leads (length c.loop-row.stack) o)) c.in_default.is c.in_ok-fall.ensures.place);
+      any_moment = next_part _ A.stops _ _ inv.task _ _ _ inv.any_moment c.step.ensures.any_moment;
+      task = c.step.ensures.task ∙ inv.task;
+      reference = c.step.ensures.reference ∙ inv.reference;
+      counts = c.in_ok-fall.ensures.counts ∙ inv.counts;
+    }
+
+pub loop-row-preserved : goal.loop-row-preserved
+loop-row-preserved g c =
+    let A = g.A.Around in
+    let inv = c.loop-row.invariant in
+    let t = A.task c.args.around.now in
+    let a = g.H.Host.state c.args.host.now in
+    let b = g.H.Host.state c.loop-row.host in
+    let d = g.H.Host.state c.step.new.host in
+    let xs = c.loop-row.yielded in
+    let row = c.in-Some.row in
+    let was = c.loop-row.told.items in
+    let walk : c.args.rows.items ≡ xs ++ row ∷ c.next.new.self.rest.items = search rules in
+    let now = c.step.new.told.items in
+    let stepped = subst (λ (o : Option Fall). HasStepped (A.file_step_fault t) row o b d was now) c.in_default.is
+    (subst (λ u. HasStepped (A.file_step_fault u) row c.in_ok-fall.field-0 b d was now) inv.task c.in_ok-fall.ensures.calls) in
+    record {
+      left = walk ∙ sym (append_assoc xs (row ∷ []) c.next.new.self.rest.items);
+      stack = c.in_ok-fall.ensures.rows ∙ ap (λ (l : List Row). l ++ row ∷ []) inv.stack;
+      succeeded = c.steps_and_an_unwind_are_a_run.ensures.step t xs row a b d c.args.told.now.items was now inv.succeeded stepped;
+      place = subst (λ n. A.at c.step.new.around d (Forward n)) (ap (λ (l : List Row). length l + 1) inv.stack ∙ sym (length-append xs (row ∷ [])))
+          (subst (λ (o : Option Fall). A.at c.step.new.around d (leads (length c.loop-row.stack) o)) c.in_default.is c.in_ok-fall.ensures.place);
+      any_moment = next_part _ A.stops _ _ inv.task _ _ _ inv.any_moment c.step.ensures.any_moment;
+      task = c.step.ensures.task ∙ inv.task;
+      reference = c.step.ensures.reference ∙ inv.reference;
+      counts = c.in_ok-fall.ensures.counts ∙ inv.counts;
+    }
+
+pub returns-in_err-forward-clause-told : goal.returns-in_err-forward-clause-told
+returns-in_err-forward-clause-told g c =
+    let inv = c.loop-row.invariant in
+    let a = g.H.Host.state c.args.host.now in
+    let b = g.H.Host.state c.loop-row.host in
+    let was = c.loop-row.told.items in
+    subst (λ (l : List Row). Begun (MayRun l) a b c.args.told.now.items was) (sym {A = List Row} inv.left)
+    (c.what_is_broken_off_begins_a_run.ensures.beside (g.A.Around.task c.args.around.now) c.loop-row.yielded c.loop-row.row-iterator.rest.items a b b c.args.told.now.items was inv.succeeded (nothing_done b))
+
+pub returns-in_err-fall-clause-told : goal.returns-in_err-fall-clause-told
+returns-in_err-fall-clause-told g c =
+    let inv = c.loop-row.invariant in
+    let a = g.H.Host.state c.args.host.now in
+    let b = g.H.Host.state c.loop-row.host in
+    let d = g.H.Host.state c.step.new.host in
+    let was = c.loop-row.told.items in
+    let now = c.step.new.told.items in
+    let walk : c.args.rows.items ≡ c.loop-row.yielded ++ c.in-Some.row ∷ c.next.new.self.rest.items = search rules in
+    subst (λ (l : List Row). Begun (MayRun l) a d c.args.told.now.items now) (sym walk)
+    (c.what_is_broken_off_begins_a_run.ensures.step (g.A.Around.task c.args.around.now) c.loop-row.yielded c.next.new.self.rest.items c.in-Some.row a b d c.args.told.now.items was now inv.succeeded c.step.ensures.told)
+
+pub returns-in_err-fall-clause-any_moment : goal.returns-in_err-fall-clause-any_moment
+returns-in_err-fall-clause-any_moment g c =
+    let inv = c.loop-row.invariant in
+    next_part _ g.A.Around.stops _ _ inv.task _ _ _ inv.any_moment c.step.ensures.any_moment
+
+pub returns-in-Some-2-clause-told : goal.returns-in-Some-2-clause-told
+returns-in-Some-2-clause-told g c =
+    let inv = c.loop-row.invariant in
+    let a = g.H.Host.state c.args.host.now in
+    let b = g.H.Host.state c.loop-row.host in
+    let d = g.H.Host.state c.step.new.host in
+    let was = c.loop-row.told.items in
+    let now = c.step.new.told.items in
+    let walk : c.args.rows.items ≡ c.loop-row.yielded ++ c.in-Some.row ∷ c.next.new.self.rest.items = search rules in
+    subst (λ (l : List Row). Begun (MayRun l) a d c.args.told.now.items now) (sym walk)
+    (c.what_is_broken_off_begins_a_run.ensures.step (g.A.Around.task c.args.around.now) c.loop-row.yielded c.next.new.self.rest.items c.in-Some.row a b d c.args.told.now.items was now inv.succeeded c.step.ensures.told)
+
+pub returns-in-Some-2-clause-any_moment : goal.returns-in-Some-2-clause-any_moment
+returns-in-Some-2-clause-any_moment g c =
+    let inv = c.loop-row.invariant in
+    next_part _ g.A.Around.stops _ _ inv.task _ _ _ inv.any_moment c.step.ensures.any_moment
+
+pub returns-clause-told : goal.returns-clause-told
+returns-clause-told g c =
+    let inv = c.loop-row.invariant in
+    let a = g.H.Host.state c.args.host.now in
+    let b = g.H.Host.state c.loop-row.host in
+    let was = c.loop-row.told.items in
+    subst (λ (l : List Row). Begun (MayRun l) a b c.args.told.now.items was) (sym {A = List Row} inv.left)
+    (c.what_is_broken_off_begins_a_run.ensures.beside (g.A.Around.task c.args.around.now) c.loop-row.yielded c.loop-row.row-iterator.rest.items a b b c.args.told.now.items was inv.succeeded (nothing_done b))

@@ -1,0 +1,101 @@
+-- The file row and its undo by what was answered.
+use Rattle.std.proofs.Common.{◌≡◌, inl, inr, ◌+◌, ◌<◌, ℕ, List, [], ◌++◌, Option, Some, None, IsTrue, Result, Ok, Err, OnOk, refl, subst, sym, ◌∙◌, ap}
+use Rattle.std.specs.Prelude.{IfOk, IfNone, IfSome, MatchOption}
+use Rattle.std.proofs.lemmas.List.{append-nil}
+use Rattle.std.specs.List.Sorted.{IsPermutation}
+use Rattle.host_core.specs.Paths.{Path}
+use Rattle.host_core.specs.World.{World, kind_of}
+use Rattle.host_core.specs.Events.{Event}
+use Rattle.host_core.specs.Host.{State, AtEachMoment, Reads, Gives, Leaves, Silent, Since, Tells, calls}
+use Rattle.host_core.proofs.Moments.{since_reads, since_then, since_weaker}
+use Rattle.host_core.specs.declared.fault.HostFault.{HostFault}
+use Rattle.host_core.specs.declared.node.Node.{Node}
+use Rattle.administration.specs.Files.{KeepsBesideFile}
+use Rattle.administration.specs.Places.{list_path, temporary}
+use Rattle.undo_rows.specs.Place.{Back, Forward, worked}
+use Rattle.undo_rows.specs.Transcripts.{IfHonest}
+use Rattle.undo_rows.specs.declared.failed.Failed.{Failed}
+use Rattle.file_check.specs.Clashes.{Owning, owning}
+use Rattle.file_check.specs.Ready.{IsSameBut}
+use Rattle.file_check.specs.Sound.{AllSound, IsFirstFault}
+use Rattle.file_lists.specs.Filed.{Filed}
+use Rattle.file_lists.specs.Writing.{list_file, with_list}
+use Rattle.file_check.specs.Rearranged.{IsRearranged}
+use Rattle.file_check.proofs.Permuting.{each_permuted}
+use Rattle.package_files.specs.declared.work.Work.{Work}
+use Rattle.package_files.specs.Free.{IsFreeIn, IsSeen}
+use Rattle.package_files.specs.Files.{Each}
+use Rattle.package_files.specs.Names.{AllInOrder, IsNamed}
+use Rattle.package_files.proofs.WorkLists.{each_map}
+use Rattle.status_db.specs.Recorded.{Recorded}
+use Rattle.listed_files.specs.Listing.{HasListed, HasUnlisted, MayList}
+use Rattle.listed_files.proofs.Apart.{apart, list_below, spare_below}
+use Rattle.listed_files.proofs.Listings.{free_still}
+use Rattle.undo_rows.specs.declared.fall.Fall.{Fall}
+use Rattle.undo_rows.specs.declared.fall.StepFault.{StepFault}
+use Rattle.unpack_steps.specs.At.{At, IsFileFault, holding}
+use Rattle.unpack_steps.specs.FileMoves.{HasWrittenRow, MayWriteRow, places_before, places_of}
+use Rattle.unpack_steps.specs.Task.{IsFileRow, Task, kinds, name}
+use Rattle.unpack_steps.proofs.FileRow.{at_back, at_stopped, at_written, file_fault}
+use Rattle.unpack_steps.proofs.Rearranged.{sound_same}
+
+-- nothing was done
+pub quiet_moments : (P : World → Type 0) (s : State) → (IsTrue s.honest → P s.world) → Since (λ so_far. P) s s
+quiet_moments P s here = record { added = []; events = sym (append-nil s.events); honest = λ h. h; world = refl; each = here }
+
+-- it was looked at, and perhaps written then
+module _ (list : Path) (node : Node) (works : List Work) (a b : State) (reads : Reads a b) where
+  pub looking_moments : AtEachMoment (MayWriteRow list node works) a b
+  looking_moments = since_reads (λ so_far. MayWriteRow list node works a.world) a b reads (λ fs failed. inl refl)
+
+  pub writing_moments : (ordered : List Work) (c : State) → IsRearranged works ordered → AtEachMoment (MayList list node ordered) b c → AtEachMoment (MayWriteRow list node works) a c
+  writing_moments ordered c moved second = since_then (λ so_far. MayWriteRow list node works a.world) a b c looking_moments
+      (since_weaker (λ so_far. MayList list node ordered b.world) (λ so_far. MayWriteRow list node works a.world) b c
+      (λ so_far w is. inr (ordered, moved, subst (λ (v : World). MayList list node ordered v w) reads.world is)) second)
+
+seen_still : (name : Path) (v w : World) → KeepsBesideFile (list_path name) v w → (works : List Work) → Each IsNamed works → Each (IsSeen v) works → Each (IsSeen w) works
+seen_still name v w rest works named seen = each_map IsNamed (IsSeen v) (IsSeen w)
+    (λ x is saw. saw ∙ ap kind_of (sym (rest x.target (λ e. (apart x (list_path name) is (list_below name)).target (sym e)) (λ e. (apart x (temporary (list_path name)) is (spare_below name)).target (sym e))))) works named seen
+
+-- what was checked was written, in another order
+pub row_written : (name : Path) (node : Node) (checked ordered : List Work) (v w : World) → Each IsNamed checked → IsPermutation checked ordered → Each (IsFreeIn v) checked → Each (IsSeen v) checked
+    → HasListed (list_path name) node ordered v w → HasWrittenRow (list_path name) node ordered v w
+row_written name node checked ordered v w named moved free seen has =
+    let ordered_named = each_permuted IsNamed checked ordered moved named in
+    record {
+      listed = has;
+      from = record {
+        free = free_still name v has.mid has.replaced.rest ordered ordered_named (each_permuted (IsFreeIn v) checked ordered moved free);
+        seen = seen_still name v has.mid has.replaced.rest ordered ordered_named (each_permuted (IsSeen v) checked ordered moved seen);
+        has = has.written.each;
+      };
+    }
+
+-- the judgement of the works as they were given, whatever was seen of them
+pub judged_by : (o : Owning) (w : World) (xs ys : List Work) (result : Result (Option StepFault) HostFault) → IsSameBut xs ys → IfOk result (λ found. IfNone found (AllSound o ys w)) → IfOk result (λ found. IfSome found (IsFirstFault o xs w))
+    → IfOk result (λ found. MatchOption found (AllSound o xs w) (IsFirstFault o xs w))
+judged_by o w xs ys (Ok None) same sound fault = sound_same o w xs ys same sound
+judged_by o w xs ys (Ok (Some f)) same sound fault = fault
+judged_by o w xs ys (Err e) same sound fault = tt
+
+module _ (t : Task) (d : Recorded) (lists : Filed) (places : List Path) (works : List Work) (s : State) (i : ℕ) (row : IsFileRow (kinds t) i) (at : At t (holding d lists places works) s (Forward i)) (u : State) (silent : Silent s u) where
+  pub row_judged : (result : Result (Option StepFault) HostFault) → Tells result (λ found w. MatchOption found (AllSound (owning t.entries lists.lists t.yields (name t)) works w) (IsFirstFault (owning t.entries lists.lists t.yields (name t)) works w)) s u
+      → IfOk result (IfHonest u (IsFileFault t) (calls s))
+  row_judged (Ok found) judged = λ h. file_fault t d lists places works s i row at found (silent.honest h) (judged h)
+  row_judged (Err e) judged = tt
+
+  pub row_placed : (result : Result (Option StepFault) HostFault) (P : List Event → World → Type 0) → Since P s u → (filed : Filed) (now : List Path) (ordered : List Work)
+      → IfOk result (λ found. MatchOption found (filed ≡ record lists { lists = with_list (name t) t.union lists.lists }) (λ fault. filed ≡ lists))
+      → IfOk result (λ found. MatchOption found (now ≡ places ++ places_of works) (λ fault. now ≡ places)) → IsRearranged works ordered → Each IsNamed ordered → IfOk result (λ found. IfNone found (AllInOrder ordered))
+      → Gives result (λ found old new. MatchOption found (HasWrittenRow (list_path (name t)) (list_file t.union) ordered old new) (λ fault. new ≡ old)) s u
+      → IfOk result (λ fault. At t (holding d filed now ordered) u (worked i fault))
+  row_placed (Ok None) P moments filed now ordered filed_is now_is moved named order wrote = at_written t d lists places works s i row at u silent P moments filed now ordered filed_is now_is moved named order wrote
+  row_placed (Ok (Some fault)) P moments filed now ordered filed_is now_is moved named order wrote = at_stopped t d lists places works s i row at u silent P moments fault filed now ordered filed_is now_is wrote
+  row_placed (Err e) P moments filed now ordered filed_is now_is moved named order wrote = tt
+
+pub back_placed : {T : Type 0} (t : Task) (d : Recorded) (lists : Filed) (places : List Path) (works : List Work) (s : State) (i : ℕ) (fall : Fall) (failed : List Failed) → IsFileRow (kinds t) i → i < fall.row
+    → At t (holding d lists places works) s (Back (i + 1) fall failed) → (u : State) → Silent s u → (result : Result T HostFault) (P : List Event → World → Type 0) → Since P s u → (filed : Filed) (now : List Path)
+    → OnOk result (filed ≡ record lists { lists = with_list (name t) t.listed lists.lists }) → OnOk result (now ≡ places_before places works) → Leaves result (HasUnlisted (list_path (name t)) (list_file t.listed) works) s u
+    → OnOk result (At t (holding d filed now works) u (Back i fall failed))
+back_placed t d lists places works s i fall failed row less at u silent (Ok x) P moments filed now filed_is now_is undone = at_back t d lists places works s i fall failed row less at u silent P moments filed now filed_is now_is undone
+back_placed t d lists places works s i fall failed row less at u silent (Err e) P moments filed now filed_is now_is undone = tt

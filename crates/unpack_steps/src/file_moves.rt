@@ -1,0 +1,257 @@
+// The list and the files of a package, written or put back, whatever the rows around them.
+ghost use Rattle.std.specs.Prelude.{◌≡◌, ◌≤◌, ◌++◌, IfOk, IfNone, OnOk, MatchOption, false, true, length};
+ghost use Rattle.std.specs.List.{IsDistinct};
+ghost use Rattle.std.specs.List.Sorted.{IsPermutation};
+ghost use Rattle.host_core.specs.Host.{AtEachMoment, Counts, Gives, Leaves, Needs, Reads, Silent, Tells};
+ghost use Rattle.texts.specs.PackageNames.{is_package_name};
+ghost use Rattle.administration.specs.Places.{list_path};
+ghost use Rattle.file_check.specs.Clashes.{owning};
+ghost use Rattle.file_check.specs.Ready.{IsFitting, IsSameBut, is_one_place};
+ghost use Rattle.file_check.specs.Sound.{AllSound, IsFirstFault};
+ghost use Rattle.file_lists.specs.Owners.{AreListPaths};
+ghost use Rattle.file_lists.specs.Writing.{IsListReady, list_file, with_list};
+ghost use Rattle.file_check.specs.Rearranged.{IsRearranged};
+ghost use Rattle.package_files.specs.Files.{Each};
+ghost use Rattle.package_files.specs.Free.{IsFreeIn, IsSeen};
+ghost use Rattle.package_files.specs.Names.{AllInOrder, IsHomed, IsNamed};
+ghost use Rattle.package_files.specs.Back.{CanGoBack};
+ghost use Rattle.listed_files.specs.Listing.{HasListed, HasUnlisted, MayList, MayUnlist};
+ghost use Rattle.unpack_rows.specs.EndStates.{own_name};
+ghost use Rattle.unpack_steps.specs.FileMoves.{HasWrittenRow, MayWriteRow, places_before, places_of};
+
+use crate::plan::Rows;
+use diversions::Diversions;
+use file_check::{check, order_works};
+use file_lists::{FileLists, Paths};
+use host_core::{Host, HostFault, Places};
+use listed_files::{put_back_listed, write_listed};
+use package_files::Work;
+use std::alloc::{AllocError, Global};
+use texts::Text;
+use undo_rows::StepFault;
+
+fn copy_of(alloc: Global, paths: &Paths) -> Result<Paths, AllocError>
+    ensures { IfOk result (λ p. p ≡ paths.now) }
+{
+    let mut items = Vec::new(alloc);
+    for path in &paths.items {
+        items.push(path.copy()?)?;
+    }
+    Ok(Paths { items })
+}
+
+// Adds the places of shipped paths to those that scripts leave alone.
+fn push_places(places: &mut Places, works: &[Work]) -> Result<(), AllocError>
+    ensures { OnOk result (places.new ≡ places.old ++ places_of works.now) }
+{
+    for work in works {
+        places.items.push(work.place.copy()?)?;
+    }
+    Ok(())
+}
+
+// Checks all shipped paths. Where none has a fault the works have what stands at their targets.
+fn check_works<H: Host>(
+    alloc: Global,
+    host: &mut H,
+    lists: &FileLists,
+    diversions: &Diversions,
+    rows: &Rows,
+    works: &mut Vec<Work>,
+) -> Result<Option<StepFault>, HostFault>
+    requires named { Each IsNamed works.old.items }
+    requires fitting { Each IsFitting works.old.items }
+    ensures same_works { IsSameBut works.old.items works.new.items }
+    ensures seen { Tells result (λ found w. IfNone found (Each (IsSeen w) works.new.items))
+        (H.state host.old) (H.state host.new) }
+    ensures free { Tells result (λ found w. IfNone found (Each (IsFreeIn w) works.new.items))
+        (H.state host.old) (H.state host.new) }
+    ensures homed { Tells result (λ found w. IfNone found (Each (IsHomed works.new.items w)
+        works.new.items)) (H.state host.old) (H.state host.new) }
+    ensures distinct { IfOk result
+        (λ found. IfNone found (IsDistinct is_one_place works.new.items)) }
+    ensures judged { Tells result (λ found w. MatchOption found
+        (AllSound (owning diversions.now.entries lists.now.lists rows.now.yields
+        (own_name rows.now.found rows.now.incoming)) works.old.items w)
+        (IsFirstFault (owning diversions.now.entries lists.now.lists rows.now.yields
+        (own_name rows.now.found rows.now.incoming)) works.old.items w)) (H.state host.old)
+        (H.state host.new) }
+    ensures reads { Reads (H.state host.old) (H.state host.new) }
+    ensures silent { Silent (H.state host.old) (H.state host.new) }
+    ensures counts { Counts (H.state host.old) (H.state host.new) result }
+{
+    check(
+        alloc,
+        host,
+        lists,
+        diversions,
+        rows.yields.as_slice(),
+        rows.name(),
+        works.as_mut_slice(),
+    )
+}
+
+// Writes the list and then the files, in the order of their places.
+fn write_ordered<H: Host>(
+    alloc: Global,
+    host: &mut H,
+    lists: &mut FileLists,
+    name: &Text,
+    union: Paths,
+    works: &mut Vec<Work>,
+) -> Result<(), HostFault>
+    requires opened { lists.old.closed ≡ false }
+    requires name { is_package_name name.now ≡ true }
+    requires paths { AreListPaths union }
+    requires ready { Needs (H.state host.old) (IsListReady name.now) }
+    requires named { Each IsNamed works.old.items }
+    requires distinct { IsDistinct is_one_place works.old.items }
+    requires free { Needs (H.state host.old) (λ w. Each (IsFreeIn w) works.old.items) }
+    requires homed { Needs (H.state host.old) (λ w. Each (IsHomed works.old.items w)
+        works.old.items) }
+    ensures works { IsPermutation works.old.items works.new.items }
+    ensures order { AllInOrder works.new.items }
+    ensures lists { OnOk result (lists.new ≡ record lists.old {
+      lists = with_list name.now union
+          lists.old.lists;
+    }) }
+    ensures listed { Leaves result (HasListed (list_path name.now) (list_file union)
+        works.new.items) (H.state host.old) (H.state host.new) }
+    ensures any_moment { AtEachMoment (MayList (list_path name.now) (list_file union)
+        works.new.items) (H.state host.old) (H.state host.new) }
+    ensures silent { Silent (H.state host.old) (H.state host.new) }
+    ensures counts { Counts (H.state host.old) (H.state host.new) result }
+{
+    order_works(works);
+    write_listed(alloc, host, lists, name, union, works.as_slice())
+}
+
+// Writes what was checked. From here on scripts leave the shipped places alone.
+fn write_checked<H: Host>(
+    alloc: Global,
+    host: &mut H,
+    lists: &mut FileLists,
+    places: &mut Places,
+    rows: &Rows,
+    works: &mut Vec<Work>,
+) -> Result<(), HostFault>
+    requires opened { lists.old.closed ≡ false }
+    requires name { is_package_name (own_name rows.now.found rows.now.incoming) ≡ true }
+    requires paths { AreListPaths rows.now.union }
+    requires ready { Needs (H.state host.old)
+        (IsListReady (own_name rows.now.found rows.now.incoming)) }
+    requires named { Each IsNamed works.old.items }
+    requires distinct { IsDistinct is_one_place works.old.items }
+    requires free { Needs (H.state host.old) (λ w. Each (IsFreeIn w) works.old.items) }
+    requires homed { Needs (H.state host.old) (λ w. Each (IsHomed works.old.items w)
+        works.old.items) }
+    ensures works { IsPermutation works.old.items works.new.items }
+    ensures order { OnOk result (AllInOrder works.new.items) }
+    ensures lists { OnOk result (lists.new ≡ record lists.old {
+      lists = with_list (own_name rows.now.found rows.now.incoming) rows.now.union
+          lists.old.lists;
+    }) }
+    ensures places { OnOk result (places.new ≡ places.old ++ places_of works.old.items) }
+    ensures listed { Leaves result (HasListed
+        (list_path (own_name rows.now.found rows.now.incoming)) (list_file rows.now.union)
+        works.new.items) (H.state host.old) (H.state host.new) }
+    ensures any_moment { AtEachMoment (MayList
+        (list_path (own_name rows.now.found rows.now.incoming)) (list_file rows.now.union)
+        works.new.items) (H.state host.old) (H.state host.new) }
+    ensures silent { Silent (H.state host.old) (H.state host.new) }
+    ensures counts { Counts (H.state host.old) (H.state host.new) result }
+{
+    push_places(places, works.as_slice())?;
+    let union = copy_of(alloc, &rows.union)?;
+    write_ordered(alloc, host, lists, rows.name(), union, works)
+}
+
+/// Checks a package's paths and writes its list and then its files, or answers the first step fault and
+/// changes nothing. The works are left in the order of their places.
+pub(crate) fn check_and_write<H: Host>(
+    alloc: Global,
+    host: &mut H,
+    lists: &mut FileLists,
+    places: &mut Places,
+    diversions: &Diversions,
+    rows: &Rows,
+    works: &mut Vec<Work>,
+) -> Result<Option<StepFault>, HostFault>
+    requires opened { lists.old.closed ≡ false }
+    requires name { is_package_name (own_name rows.now.found rows.now.incoming) ≡ true }
+    requires paths { AreListPaths rows.now.union }
+    requires ready { Needs (H.state host.old)
+        (IsListReady (own_name rows.now.found rows.now.incoming)) }
+    requires named { Each IsNamed works.old.items }
+    requires fitting { Each IsFitting works.old.items }
+    ensures judged { Tells result (λ found w. MatchOption found
+        (AllSound (owning diversions.now.entries lists.old.lists rows.now.yields
+        (own_name rows.now.found rows.now.incoming)) works.old.items w)
+        (IsFirstFault (owning diversions.now.entries lists.old.lists rows.now.yields
+        (own_name rows.now.found rows.now.incoming)) works.old.items w)) (H.state host.old)
+        (H.state host.new) }
+    ensures written { Gives result (λ found old new. MatchOption found
+        (HasWrittenRow (list_path (own_name rows.now.found rows.now.incoming))
+        (list_file rows.now.union) works.new.items old new) (λ fault. new ≡ old)) (H.state host.old)
+        (H.state host.new) }
+    ensures works { IsRearranged works.old.items works.new.items }
+    ensures named { Each IsNamed works.new.items }
+    ensures order { IfOk result (λ found. IfNone found (AllInOrder works.new.items)) }
+    ensures lists { IfOk result (λ found. MatchOption found (lists.new ≡ record lists.old {
+      lists = with_list (own_name rows.now.found rows.now.incoming) rows.now.union
+          lists.old.lists;
+    }) (λ fault. lists.new ≡ lists.old)) }
+    ensures places { IfOk result (λ found. MatchOption found (places.new ≡ places.old ++ places_of
+        works.old.items) (λ fault. places.new ≡ places.old)) }
+    ensures any_moment { AtEachMoment (MayWriteRow
+        (list_path (own_name rows.now.found rows.now.incoming)) (list_file rows.now.union)
+        works.old.items) (H.state host.old) (H.state host.new) }
+    ensures silent { Silent (H.state host.old) (H.state host.new) }
+    ensures counts { Counts (H.state host.old) (H.state host.new) result }
+{
+    let found = check_works(alloc, host, lists, diversions, rows, works)?;
+    if let Some(fault) = found {
+        return Ok(Some(fault));
+    }
+    write_checked(alloc, host, lists, places, rows, works)?;
+    Ok(None)
+}
+
+/// Puts a package's files back, the last first, and writes the list that it had. Scripts need not leave the
+/// shipped places alone any more: the last of the places.
+pub(crate) fn put_back<H: Host>(
+    alloc: Global,
+    host: &mut H,
+    lists: &mut FileLists,
+    places: &mut Places,
+    rows: &Rows,
+    works: &[Work],
+) -> Result<(), HostFault>
+    requires opened { lists.old.closed ≡ false }
+    requires name { is_package_name (own_name rows.now.found rows.now.incoming) ≡ true }
+    requires paths { AreListPaths rows.now.listed }
+    requires ready { Needs (H.state host.old)
+        (IsListReady (own_name rows.now.found rows.now.incoming)) }
+    requires named { Each IsNamed works.now }
+    requires order { AllInOrder works.now }
+    requires written { Needs (H.state host.old) (CanGoBack works.now) }
+    requires grown { length works.now ≤ length places.old }
+    ensures lists { OnOk result (lists.new ≡ record lists.old {
+      lists = with_list (own_name rows.now.found rows.now.incoming) rows.now.listed
+          lists.old.lists;
+    }) }
+    ensures places { OnOk result (places.new ≡ places_before places.old works.now) }
+    ensures unlisted { Leaves result (HasUnlisted
+        (list_path (own_name rows.now.found rows.now.incoming)) (list_file rows.now.listed)
+        works.now) (H.state host.old) (H.state host.new) }
+    ensures any_moment { AtEachMoment (MayUnlist
+        (list_path (own_name rows.now.found rows.now.incoming)) (list_file rows.now.listed)
+        works.now) (H.state host.old) (H.state host.new) }
+    ensures silent { Silent (H.state host.old) (H.state host.new) }
+    ensures counts { Counts (H.state host.old) (H.state host.new) result }
+{
+    let listed = copy_of(alloc, &rows.listed)?;
+    let before = places.items.len() - works.len();
+    places.items.truncate(before);
+    put_back_listed(alloc, host, lists, rows.name(), listed, works)
+}

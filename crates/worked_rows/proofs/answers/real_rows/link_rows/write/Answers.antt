@@ -1,8 +1,0 @@
-use Rattle.host_files.specs.Replay.{unknown_needs}
-use Rattle.worked_rows.proofs.answers.real_rows.link_rows.write.Goals as goal
-
-pub write_new-requires-clause-absent : goal.write_new-requires-clause-absent
-write_new-requires-clause-absent c = λ h. unknown_needs _ h
-
-pub write_new-requires-clause-parent : goal.write_new-requires-clause-parent
-write_new-requires-clause-parent c = λ h. unknown_needs _ h
