@@ -30,8 +30,8 @@ use host_core::{Host, HostFault};
 use recorded_packages::renew;
 use relation_index::Packages;
 use status_db::NotedDatabase;
-use std::mem;
 use std::alloc::{AllocError, Global};
+use std::mem;
 use texts::Text;
 use unit_reports::{Report, Unit, Watcher, breakage_of, broken, what_is_told_in_turn};
 

@@ -2,6 +2,6 @@
 //! the lists of their packages, and the places of these that running scripts leave alone.
 #![tactic(auto)]
 
-mod administration;
+mod held;
 
-pub use administration::Administration;
+pub use held::Administration;

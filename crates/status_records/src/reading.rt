@@ -289,11 +289,7 @@ fn read_entry(alloc: Global, fields: &Paragraph) -> Result<Option<Entry>, AllocE
 }
 
 /// Judges a paragraph after those of other packages.
-pub fn entry_of(
-    alloc: Global,
-    names: &Names,
-    located: &Located,
-) -> Result<Entry, StatusFault>
+pub fn entry_of(alloc: Global, names: &Names, located: &Located) -> Result<Entry, StatusFault>
     requires { IsSound located.now }
     ensures entry { IfOk result (λ e. IsEntry names.now located.now.paragraph e.name
         (option_to_list e.kept)) }

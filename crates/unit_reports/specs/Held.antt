@@ -6,7 +6,7 @@ use Rattle.diversions.specs.declared.entry.Diversion.{Diversion}
 use Rattle.file_lists.specs.Filed.{Filed}
 use Rattle.file_lists.specs.Owners.{places_in}
 use Rattle.file_lists.specs.declared.paths.PackageList.{PackageList}
-use Rattle.held_administration.specs.declared.administration.Administration.{Administration}
+use Rattle.held_administration.specs.declared.held.Administration.{Administration}
 use Rattle.status_db.specs.Recorded.{Recorded}
 
 -- its records, the lists of their packages, and its diversions

@@ -2,7 +2,7 @@
 use Rattle.std.specs.Prelude.{ℕ, Bool, true, false, List, [], ◌∷◌}
 use Rattle.file_lists.specs.Filed.{Filed}
 use Rattle.file_lists.specs.declared.paths.PackageList.{PackageList}
-use Rattle.held_administration.specs.declared.administration.Administration.{Administration}
+use Rattle.held_administration.specs.declared.held.Administration.{Administration}
 use Rattle.status_db.specs.Recorded.{Recorded}
 use Rattle.status_records.specs.declared.record.Record.{Record}
 use Rattle.unit_stages.specs.Parts.{parts_lists, parts_records}

@@ -7,7 +7,7 @@ use Rattle.undo_rows.specs.declared.unwinding.Unwinding.{Unwinding}
 use Rattle.status_db.specs.Recorded.{Recorded}
 use Rattle.file_lists.specs.Filed.{Filed}
 use Rattle.package_files.specs.declared.work.Work.{Work}
-use Rattle.held_administration.specs.declared.administration.Administration.{Administration}
+use Rattle.held_administration.specs.declared.held.Administration.{Administration}
 use Rattle.undo_rows.specs.declared.rows.Called.{Called}
 use Rattle.undo_rows.specs.declared.rows.Row.{Row}
 use Rattle.diversions.specs.declared.entry.Diversion.{Diversion}

@@ -17,7 +17,7 @@ use Rattle.control_members.proofs.LaidOut.{incoming_absent}
 use Rattle.diversions.specs.declared.entry.Diversion.{Diversion}
 use Rattle.file_lists.specs.declared.paths.PackageList.{PackageList}
 use Rattle.package_files.specs.declared.work.Work.{Work}
-use Rattle.held_administration.specs.declared.administration.Administration.{Administration}
+use Rattle.held_administration.specs.declared.held.Administration.{Administration}
 use Rattle.status_db.specs.Recorded.{Recorded}
 use Rattle.unpack_plan.specs.Planned.{IsPlanned, Job, Planned, planned_from}
 use Rattle.unpack_plan.specs.declared.plan.PlannedCommit.{PlannedCommit}

@@ -16,7 +16,7 @@ use Rattle.file_lists.specs.Info.{AreLoose}
 use Rattle.file_lists.specs.declared.paths.PackageList.{PackageList}
 use Rattle.package_files.specs.declared.work.Work.{Work}
 use Rattle.held_administration.specs.Open.{CanWrite}
-use Rattle.held_administration.specs.declared.administration.Administration.{Administration}
+use Rattle.held_administration.specs.declared.held.Administration.{Administration}
 use Rattle.status_db.specs.Held.{IsKept}
 use Rattle.status_db.specs.Recorded.{Recorded}
 use Rattle.status_records.specs.Records.{AreApart, AreStanding, IsWithout, record_in}

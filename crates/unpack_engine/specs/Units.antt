@@ -22,7 +22,7 @@ use Rattle.file_lists.specs.Increasing.{AreIncreasing}
 use Rattle.file_lists.specs.Info.{AreLoose}
 use Rattle.file_lists.specs.declared.paths.PackageList.{PackageList}
 use Rattle.package_files.specs.declared.work.Work.{Work}
-use Rattle.held_administration.specs.declared.administration.Administration.{Administration}
+use Rattle.held_administration.specs.declared.held.Administration.{Administration}
 use Rattle.package_tree.specs.declared.package.Package.{Package}
 use Rattle.status_db.specs.Held.{CanOpenRecords, HasRecords}
 use Rattle.status_db.specs.Recorded.{Recorded}

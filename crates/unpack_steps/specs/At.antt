@@ -15,7 +15,7 @@ use Rattle.file_lists.specs.Writing.{IsListReady, list_file}
 use Rattle.file_lists.specs.declared.paths.PackageList.{PackageList}
 use Rattle.file_check.specs.Rearranged.{IsRearranged}
 use Rattle.package_files.specs.declared.work.Work.{Work}
-use Rattle.held_administration.specs.declared.administration.Administration.{Administration}
+use Rattle.held_administration.specs.declared.held.Administration.{Administration}
 use Rattle.status_db.specs.Held.{CanOpenRecords, HasRecords, IsKept}
 use Rattle.status_db.specs.Recorded.{Recorded}
 use Rattle.status_records.specs.Records.{record_in}

@@ -13,7 +13,7 @@ use Rattle.file_check.specs.Ready.{IsFitting}
 use Rattle.package_files.specs.Files.{Each}
 use Rattle.package_files.specs.Names.{IsNamed}
 use Rattle.package_files.specs.declared.work.Work.{Work}
-use Rattle.held_administration.specs.declared.administration.Administration.{Administration}
+use Rattle.held_administration.specs.declared.held.Administration.{Administration}
 use Rattle.status_db.specs.Recorded.{Recorded}
 use Rattle.status_records.specs.Records.{AreStanding}
 use Rattle.status_records.specs.declared.record.Record.{Record}

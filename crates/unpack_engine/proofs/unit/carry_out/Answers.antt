@@ -4,7 +4,7 @@ use Rattle.undo_rows.specs.Ended.{IsCauseOf, ended_as}
 use Rattle.status_records.specs.Records.{AreStanding}
 use Rattle.status_db.proofs.Ordered.{order_apart, same_standing}
 use Rattle.package_files.specs.declared.work.Work.{Work}
-use Rattle.held_administration.specs.declared.administration.Administration.{Administration}
+use Rattle.held_administration.specs.declared.held.Administration.{Administration}
 use Rattle.unpack_rows.specs.EndStates.{own_name}
 use Rattle.unpack_steps.specs.At.{holding_by}
 use Rattle.unpack_plan.specs.Planned.{planned}

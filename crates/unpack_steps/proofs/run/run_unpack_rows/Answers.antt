@@ -3,7 +3,7 @@ use Rattle.host_core.specs.Host.{State}
 use Rattle.undo_rows.specs.Place.{Forward}
 use Rattle.undo_rows.specs.Telling.{HasRun}
 use Rattle.package_files.specs.declared.work.Work.{Work}
-use Rattle.held_administration.specs.declared.administration.Administration.{Administration}
+use Rattle.held_administration.specs.declared.held.Administration.{Administration}
 use Rattle.undo_rows.specs.Ended.{ended_as}
 use Rattle.unpack_steps.specs.At.{At, IsFileFault, holding_by}
 use Rattle.unpack_steps.specs.Task.{Task, task_by}
