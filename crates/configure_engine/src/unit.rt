@@ -6,7 +6,7 @@ ghost use Rattle.host_core.specs.declared.call.Script.TheVariants.{Postinst};
 ghost use Rattle.administration.specs.Places.{script_path as stored_path};
 ghost use Rattle.status_records.specs.ConffilePaths.{AreInOrder};
 ghost use Rattle.held_administration.specs.Open.{IsOpen};
-ghost use Rattle.unit_stages.specs.Order.{IsInOrder};
+ghost use Rattle.held_administration.specs.Order.{IsInOrder};
 ghost use Rattle.unit_stages.specs.Holding.{holding_of};
 ghost use Rattle.configure_engine.specs.Units.{CanConfigure, HasCalled, HasConfigured, HasEnded, IsAmidUnit, IsPlanFor, IsWaiting, given};
 ghost use Rattle.configure_engine.specs.Waiting.{settling_paths};

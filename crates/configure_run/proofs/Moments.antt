@@ -11,7 +11,7 @@ use Rattle.host_core.proofs.Scripts.{silent_added}
 use Rattle.host_core.specs.World.{World, Step, Barrier}
 use Rattle.host_core.specs.declared.fault.HostFault.{HostFault}
 use Rattle.host_core.specs.declared.fault.HostFault.TheVariants.{Device, NoMemory}
-use Rattle.unit_stages.specs.Order.{IsInOrder}
+use Rattle.held_administration.specs.Order.{IsInOrder}
 use Rattle.unit_reports.specs.Held.{Held}
 use Rattle.configure_run.specs.Turns.{IsAmidUnit, IsBeside, IsStill, given_by}
 

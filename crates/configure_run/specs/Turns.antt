@@ -14,7 +14,7 @@ use Rattle.relation_index.specs.declared.package.Package.{Package}
 use Rattle.undo_rows.specs.declared.failure.Failure.TheVariants.{OfCall}
 use Rattle.status_records.specs.Records.{record_in}
 use Rattle.status_records.specs.declared.record.Record.{Record}
-use Rattle.unit_stages.specs.Order.{IsInOrder}
+use Rattle.held_administration.specs.Order.{IsInOrder}
 use Rattle.unit_stages.specs.Holding.{Holding}
 use Rattle.unit_reports.specs.Held.{Held}
 use Rattle.unit_reports.specs.Units.{HasNoCalls, IsBroken, IsRefused, TellsNoPackage, touched_at}

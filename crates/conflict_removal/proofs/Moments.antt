@@ -11,7 +11,7 @@ use Rattle.file_lists.specs.Filed.{Filed}
 use Rattle.removal_engine.specs.Units.{HasCalled, IsAmidUnit, given}
 use Rattle.removal_engine.specs.declared.extent.Extent.TheVariants.{InFavour}
 use Rattle.status_db.specs.Recorded.{Recorded}
-use Rattle.unit_stages.specs.Order.{IsInOrder}
+use Rattle.held_administration.specs.Order.{IsInOrder}
 use Rattle.unit_stages.specs.Holding.{Holding, holding}
 use Rattle.undo_rows.specs.declared.rows.Called.{Called}
 use Rattle.conflict_removal.specs.Removals.{CanBeOpened, HaveBeenRemoved, HaveCalled, IsAmidNext, IsAmidRemovals}

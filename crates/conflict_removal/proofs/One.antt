@@ -11,7 +11,7 @@ use Rattle.removal_engine.specs.declared.extent.Extent.TheVariants.{InFavour}
 use Rattle.status_db.specs.Recorded.{Recorded}
 use Rattle.status_records.specs.Records.{record_in}
 use Rattle.status_records.specs.declared.record.Record.{Record}
-use Rattle.unit_stages.specs.Order.{IsInOrder}
+use Rattle.held_administration.specs.Order.{IsInOrder}
 use Rattle.unit_stages.specs.Holding.{Holding, holding}
 use Rattle.undo_rows.specs.declared.rows.Called.{Called}
 use Rattle.conflict_removal.specs.Removals.{IsRemovedOrGone}

@@ -15,7 +15,7 @@ use Rattle.status_records.specs.declared.record.Record.{Record}
 use Rattle.status_records.specs.declared.words.State.{State as PackageState}
 use Rattle.status_records.specs.declared.words.State.TheVariants.{NotInstalled, ConfigFiles, HalfInstalled, Unpacked, HalfConfigured, Installed}
 use Rattle.unit_stages.specs.Aside.{IsAside}
-use Rattle.unit_stages.specs.Order.{IsInOrder}
+use Rattle.held_administration.specs.Order.{IsInOrder}
 use Rattle.unit_stages.specs.Holding.{Holding}
 use Rattle.unit_stages.specs.Running.{IsOpenable}
 use Rattle.undo_rows.specs.declared.rows.Called.{Called}

@@ -5,7 +5,7 @@ ghost use Rattle.held_administration.specs.Open.{IsOpen};
 ghost use Rattle.removal_engine.specs.Units.{HasCalled, IsAmidUnit, given};
 ghost use Rattle.removal_engine.specs.declared.extent.Extent.TheVariants.{InFavour};
 ghost use Rattle.status_records.specs.Records.{record_in};
-ghost use Rattle.unit_stages.specs.Order.{IsInOrder};
+ghost use Rattle.held_administration.specs.Order.{IsInOrder};
 ghost use Rattle.unit_stages.specs.Holding.{holding_of};
 ghost use Rattle.conflict_removal.specs.Removals.{HaveBeenRemoved, HaveCalled, IsAmidRemovals, IsRemovedOrGone, begins_in_favour, can_be_removed, first_failed};
 

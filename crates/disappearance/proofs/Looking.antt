@@ -13,7 +13,7 @@ use Rattle.diversions.specs.declared.entry.Diversion.{Diversion}
 use Rattle.file_lists.specs.declared.paths.PackageList.{PackageList}
 use Rattle.removal_engine.specs.Stages.{Planned, planned}
 use Rattle.status_db.specs.Recorded.{Recorded}
-use Rattle.unit_stages.specs.Order.{IsInOrder}
+use Rattle.held_administration.specs.Order.{IsInOrder}
 use Rattle.unit_stages.specs.Parts.{HaveDone}
 use Rattle.unit_stages.specs.declared.part.Part.{Part}
 use Rattle.unit_stages.proofs.Keeping.{order_opens}

@@ -15,7 +15,7 @@ use Rattle.status_records.specs.Records.{drop_record, record_in}
 use Rattle.status_db.specs.Recorded.{Recorded}
 use Rattle.status_records.specs.declared.record.Record.{Record}
 use Rattle.status_records.proofs.Tables.{record_in-drop_record}
-use Rattle.unit_stages.specs.Order.{IsInOrder}
+use Rattle.held_administration.specs.Order.{IsInOrder}
 use Rattle.unit_stages.proofs.Keeping.{order_opens}
 use Rattle.unit_stages.proofs.Tellings.{nothing_done}
 use Rattle.unit_stages.specs.Holding.{Holding}

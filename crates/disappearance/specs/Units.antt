@@ -8,7 +8,7 @@ use Rattle.undo_rows.specs.Telling.{Begun}
 use Rattle.diversions.specs.declared.entry.Diversion.{Diversion}
 use Rattle.status_db.specs.Recorded.{Recorded}
 use Rattle.status_records.specs.declared.record.Record.{Record}
-use Rattle.unit_stages.specs.Order.{IsInOrder}
+use Rattle.held_administration.specs.Order.{IsInOrder}
 use Rattle.unit_stages.specs.Calls.{MayRunStages}
 use Rattle.unit_stages.specs.Holding.{Holding}
 use Rattle.unit_stages.specs.Running.{AreRunning, IsOpenable}

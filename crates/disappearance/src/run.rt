@@ -4,7 +4,7 @@ ghost use Rattle.host_core.specs.Host.{Counts, Needs, Since};
 ghost use Rattle.held_administration.specs.Open.{IsOpen};
 ghost use Rattle.recorded_packages.specs.Packages.{ArePackagesOf};
 ghost use Rattle.status_records.specs.Records.{record_in};
-ghost use Rattle.unit_stages.specs.Order.{IsInOrder};
+ghost use Rattle.held_administration.specs.Order.{IsInOrder};
 ghost use Rattle.unit_stages.specs.Holding.{holding_of};
 ghost use Rattle.disappearance.specs.Runs.{AreLeft, HaveCalled, HaveDisappeared, IsAmidDisappearances, first_failed};
 

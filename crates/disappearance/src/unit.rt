@@ -7,7 +7,7 @@ ghost use Rattle.held_administration.specs.Open.{IsOpen};
 ghost use Rattle.recorded_packages.specs.Packages.{ArePackagesOf};
 ghost use Rattle.removal_engine.specs.Stages.{gone_stage, planned};
 ghost use Rattle.status_records.specs.declared.record.Record.{Record as ARecord};
-ghost use Rattle.unit_stages.specs.Order.{IsInOrder};
+ghost use Rattle.held_administration.specs.Order.{IsInOrder};
 ghost use Rattle.unit_stages.specs.Calls.{MayRunStages};
 ghost use Rattle.unit_stages.specs.Fitting.{AreStagesFit};
 ghost use Rattle.unit_stages.specs.Holding.{holding, holding_of};

@@ -15,7 +15,7 @@ use Rattle.host_core.specs.declared.call.Call.{Call}
 use Rattle.host_core.specs.declared.fault.HostFault.{HostFault}
 use Rattle.host_core.specs.declared.fault.HostFault.TheVariants.{Device, NoMemory}
 use Rattle.status_db.specs.Recorded.{Recorded}
-use Rattle.unit_stages.specs.Order.{IsInOrder}
+use Rattle.held_administration.specs.Order.{IsInOrder}
 use Rattle.unit_stages.specs.Holding.{Holding}
 use Rattle.undo_rows.specs.declared.rows.Called.{Called}
 use Rattle.displaced_packages.specs.Displacing.{HaveBeenDisplaced, IsBroughtToDisk, is_nothing}

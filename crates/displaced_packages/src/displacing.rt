@@ -7,7 +7,7 @@ ghost use Rattle.host_core.specs.World.{Barrier};
 ghost use Rattle.held_administration.specs.Open.{IsOpen};
 ghost use Rattle.recorded_packages.specs.Packages.{ArePackagesOf};
 ghost use Rattle.status_records.specs.Records.{record_in};
-ghost use Rattle.unit_stages.specs.Order.{IsInOrder};
+ghost use Rattle.held_administration.specs.Order.{IsInOrder};
 ghost use Rattle.unit_stages.specs.Holding.{holding_of};
 ghost use Rattle.displaced_packages.specs.Displacing.{AreGoing, HasCalled, HasCalledFirst, HaveBeenDisplaced, HaveBeenRemovedBehind, HaveGone, IsAmidDisplacing, IsBroughtToDisk, is_nothing};
 

@@ -19,7 +19,7 @@ use Rattle.opening.specs.Parts.{HasMerged, IsDamaged, Merges, Opens, OpensAndMer
 use Rattle.undo_rows.specs.declared.unwinding.Unwinding.{Unwinding}
 use Rattle.status_db.specs.Noting.{IsMerging}
 use Rattle.status_db.specs.Recorded.{Recorded}
-use Rattle.unpack_engine.specs.Order.{IsInOrder}
+use Rattle.held_administration.specs.Order.{IsInOrder}
 use Rattle.unpack_engine.specs.Units.{Given, Ground, HasCalled, HasCalledRows, HasCarriedOut, HasFailedFor, HasLeft, HasUnpacked, IsPlanFor, changes, commit_records, ground_of}
 use Rattle.unpack_plan.specs.Planned.{Planned}
 use Rattle.undo_rows.specs.declared.rows.Called.{Called}

@@ -13,8 +13,8 @@ use Rattle.diversions.specs.Lines.{HasEntries}
 use Rattle.opening.specs.Parts.{names_of}
 use Rattle.removal_run.specs.Units.{holding_of}
 use Rattle.status_db.proofs.Ordered.{same_standing, standing_same}
-use Rattle.unit_stages.specs.Order.{IsInOrder}
-use Rattle.unpack_engine.specs.Order.{IsInOrder as IsInOrderHere}
+use Rattle.held_administration.specs.Order.{IsInOrder}
+use Rattle.held_administration.specs.Order.{IsInOrder as IsInOrderHere}
 use Rattle.unit_reports.specs.Held.{Held}
 use Rattle.unit_reports.specs.Units.{IsRefused}
 use Rattle.unit_reports.specs.declared.refusal.Rule.{Rule}

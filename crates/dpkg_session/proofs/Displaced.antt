@@ -22,7 +22,7 @@ use Rattle.unit_stages.specs.Holding.{Holding}
 use Rattle.unit_stages.specs.Runs.{HaveRun}
 use Rattle.unit_stages.specs.declared.stage.Stage.{Stage}
 use Rattle.unpack_engine.proofs.EndRecords.{has_name}
-use Rattle.unpack_engine.specs.Order.{record_names}
+use Rattle.held_administration.specs.Order.{record_names}
 use Rattle.undo_rows.specs.declared.rows.Called.{Called}
 use Rattle.dpkg_session.specs.Units.{HasDisplaced}
 use Rattle.dpkg_session.proofs.Keeping.{KeepsUnnamed, unnamed_here, unnamed_of, unnamed_then}

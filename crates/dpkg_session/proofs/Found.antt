@@ -31,7 +31,7 @@ use Rattle.unpack_engine.proofs.EndLists.{gone_after}
 use Rattle.unpack_engine.proofs.EndRecords.{IsKnown, all_known, committed_known, found_known, has_name, known_name, known_standing, recorded_known, rows_known}
 use Rattle.unpack_engine.proofs.InfoSound.{sound_left, text_left}
 use Rattle.unpack_engine.proofs.Order.{directory_there}
-use Rattle.unpack_engine.specs.Order.{IsInOrder, record_names}
+use Rattle.held_administration.specs.Order.{IsInOrder, record_names}
 use Rattle.unpack_engine.specs.Units.{Ground, end_table, ground_of, last_place, package_name, table_after, unit_losers}
 use Rattle.unpack_plan.specs.Planned.{IsPlanned, Job, Planned, name_of}
 use Rattle.unpack_rows.specs.EndStates.{AreRecorded}

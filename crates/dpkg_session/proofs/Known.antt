@@ -17,7 +17,7 @@ use Rattle.unit_stages.specs.Holding.{Holding, after_parts}
 use Rattle.unit_stages.specs.Runs.{HasRestored, HaveRun}
 use Rattle.unit_stages.specs.declared.stage.Stage.{Stage}
 use Rattle.unpack_engine.proofs.EndRecords.{head_of, tail_of}
-use Rattle.unpack_engine.specs.Order.{record_names}
+use Rattle.held_administration.specs.Order.{record_names}
 use Rattle.undo_rows.specs.declared.rows.Called.{Called}
 use Rattle.undo_rows.specs.declared.rows.Owner.{Owner}
 use Rattle.dpkg_session.proofs.Keeping.{AreOwn, IsOwn}

@@ -17,7 +17,7 @@ use Rattle.file_lists.specs.Filed.{Filed}
 use Rattle.opening.specs.Opened.{IsFound, IsOpened}
 use Rattle.status_db.specs.Held.{IsKept}
 use Rattle.status_db.specs.Recorded.{Recorded}
-use Rattle.unpack_engine.specs.Order.{IsInOrder}
+use Rattle.held_administration.specs.Order.{IsInOrder}
 use Rattle.dpkg_session.specs.declared.report.Candidate.{Candidate}
 use Rattle.unit_reports.specs.declared.report.Unit.{Unit as AUnit}
 use Rattle.unit_reports.specs.Held.{Held, held}

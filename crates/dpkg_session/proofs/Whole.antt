@@ -16,7 +16,7 @@ use Rattle.removal_run.specs.Units.{holding_of}
 use Rattle.undo_rows.specs.declared.unwinding.Unwinding.{Unwinding}
 use Rattle.status_db.specs.Recorded.{Recorded}
 use Rattle.unit_reports.specs.Held.{Held, places_of}
-use Rattle.unpack_engine.specs.Order.{IsInOrder}
+use Rattle.held_administration.specs.Order.{IsInOrder}
 use Rattle.unpack_relations.specs.declared.beside.Beside.{Beside}
 use Rattle.undo_rows.specs.declared.rows.Called.{Called}
 use Rattle.dpkg_session.specs.Run.{IsAmidBeside, IsAmidUnpack}

@@ -19,7 +19,7 @@ use Rattle.undo_rows.specs.declared.unwinding.Unwinding.{Unwinding}
 use Rattle.status_db.specs.Recorded.{Recorded}
 use Rattle.status_db.specs.Order.{AreInOrder}
 use Rattle.status_records.specs.declared.record.Record.{Record}
-use Rattle.unpack_engine.specs.Order.{IsInOrder}
+use Rattle.held_administration.specs.Order.{IsInOrder}
 use Rattle.unpack_engine.specs.Others.{AreOthers}
 use Rattle.unpack_engine.specs.Units.{Given, HasCalled, HasFailedFor, HasUnpacked, given_beside}
 use Rattle.unpack_relations.specs.declared.beside.Beside.{Beside}

@@ -5,7 +5,7 @@ ghost use Rattle.held_administration.specs.Open.{IsOpen};
 ghost use Rattle.host_core.specs.Host.{Falls, Needs, Since};
 ghost use Rattle.host_core.specs.Loss.{IsAnswered};
 ghost use Rattle.recorded_packages.specs.Packages.{ArePackagesOf};
-ghost use Rattle.unit_stages.specs.Order.{IsInOrder};
+ghost use Rattle.held_administration.specs.Order.{IsInOrder};
 ghost use Rattle.unit_reports.specs.Held.{held_by};
 ghost use Rattle.unit_reports.specs.Units.{CountsLast, IsBrokenBy, IsClosedReport, TellsCalls};
 ghost use Rattle.unit_reports.specs.Watching.{IsTold};

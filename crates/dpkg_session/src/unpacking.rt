@@ -4,7 +4,7 @@ ghost use Rattle.host_core.specs.Host.{AtEachMomentOf, Counts, Needs, Reads, Sil
 ghost use Rattle.host_core.specs.Loss.{IsOnDisk};
 ghost use Rattle.held_administration.specs.Open.{CanWrite};
 ghost use Rattle.undo_rows.specs.Ended.{ended_as};
-ghost use Rattle.unpack_engine.specs.Order.{IsInOrder};
+ghost use Rattle.held_administration.specs.Order.{IsInOrder};
 ghost use Rattle.unpack_engine.specs.Others.{AreOthers};
 ghost use Rattle.unpack_engine.specs.Units.{HasCalled, HasFailedFor, HasUnpacked, IsAmidUnit, IsTouched};
 ghost use Rattle.unpack_relations.specs.Checks.{AreApart};

@@ -10,7 +10,7 @@ use Rattle.host_core.specs.declared.call.Call.{Call}
 use Rattle.host_core.specs.declared.fault.HostFault.{HostFault}
 use Rattle.removal_engine.specs.Units.{HasCalled, IsAmidUnit, given}
 use Rattle.removal_engine.specs.declared.extent.Extent.{Extent}
-use Rattle.unit_stages.specs.Order.{IsInOrder}
+use Rattle.held_administration.specs.Order.{IsInOrder}
 use Rattle.unit_reports.specs.Held.{Held}
 use Rattle.unit_reports.specs.Units.{IsBroken, IsBrokenBy, calls_of}
 use Rattle.unit_reports.specs.declared.report.Breakage.TheVariants.{NoMemory}

@@ -11,7 +11,7 @@ use Rattle.removal_engine.specs.declared.extent.Extent.TheVariants.{Purge, Remov
 use Rattle.undo_rows.specs.declared.failure.Failure.TheVariants.{OfCall}
 use Rattle.status_records.specs.Records.{record_in}
 use Rattle.status_records.specs.declared.record.Record.{Record}
-use Rattle.unit_stages.specs.Order.{IsInOrder}
+use Rattle.held_administration.specs.Order.{IsInOrder}
 use Rattle.unit_reports.specs.Held.{Held}
 use Rattle.unit_reports.specs.Units.{IsBroken, TellsNoPackage, touched_at}
 use Rattle.unit_reports.specs.declared.report.Reply.{Reply}

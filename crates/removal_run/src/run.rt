@@ -10,7 +10,7 @@ ghost use Rattle.recorded_packages.specs.Packages.{ArePackagesOf};
 ghost use Rattle.removal_run.specs.Run.{AddsLeft, AreRenewed, EndsAs, HasRun, IsRemovalRun, RunsThrough, RunsUpTo, waiting_for};
 ghost use Rattle.removal_run.specs.Waiting.{is_named};
 ghost use Rattle.removal_run.specs.Turns.{AreAccepted, IsAmidTurns};
-ghost use Rattle.unit_stages.specs.Order.{IsInOrder};
+ghost use Rattle.held_administration.specs.Order.{IsInOrder};
 ghost use Rattle.unit_reports.specs.Held.{held_by};
 ghost use Rattle.unit_reports.specs.Units.{CountsLast, IsBrokenBy, TellsCalls, calls_of};
 ghost use Rattle.unit_reports.specs.Watching.{AddsTold, IsTold};

@@ -7,7 +7,7 @@ ghost use Rattle.recorded_packages.specs.Packages.{ArePackagesOf};
 ghost use Rattle.recorded_packages.specs.Renewal.{AreSameBut};
 ghost use Rattle.removal_run.specs.Next.{IsNothing};
 ghost use Rattle.removal_run.specs.Turns.{AreAccepted, HasStopped, HasTurned, IsAmidTurns};
-ghost use Rattle.unit_stages.specs.Order.{IsInOrder};
+ghost use Rattle.held_administration.specs.Order.{IsInOrder};
 ghost use Rattle.unit_reports.specs.Held.{held_by};
 ghost use Rattle.unit_reports.specs.Units.{CountsReply, IsBrokenBy, TellsNoPackage, calls_of};
 ghost use Rattle.unit_reports.specs.declared.report.Breakage.TheVariants.{Closed, NoMemory};

@@ -3,7 +3,7 @@ ghost use Rattle.std.specs.Prelude.{◌≡◌, ◌⊎◌, ◌∷◌, [], IfOk, O
 ghost use Rattle.host_core.specs.Host.{AtEachMomentOf, Counts, Needs, faults};
 ghost use Rattle.host_core.specs.Loss.{IsAnswered, IsOnDisk};
 ghost use Rattle.held_administration.specs.Open.{IsOpen};
-ghost use Rattle.unit_stages.specs.Order.{IsInOrder};
+ghost use Rattle.held_administration.specs.Order.{IsInOrder};
 ghost use Rattle.unit_reports.specs.Held.{held_by};
 ghost use Rattle.unit_reports.specs.Units.{CountsReply, IsBroken, IsBrokenBy, TellsNoPackage, calls_of, touched_at};
 ghost use Rattle.unit_reports.specs.declared.report.Breakage.TheVariants.{NoMemory, Closed};

@@ -23,7 +23,7 @@ use Rattle.status_db.proofs.NotedWorlds.{records_same}
 use Rattle.status_db.specs.Held.{CanOpenRecords, HasRecords}
 use Rattle.status_db.specs.Notes.{digits, note_path}
 use Rattle.unit_reports.specs.Held.{Held}
-use Rattle.unpack_engine.specs.Order.{record_names}
+use Rattle.held_administration.specs.Order.{record_names}
 use Rattle.reopening.proofs.Entries.{IsSafe}
 use Rattle.reopening.proofs.Parts.{temporary_is}
 use Rattle.reopening.proofs.Sounds.{IsSound, sound_opens}

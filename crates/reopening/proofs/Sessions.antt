@@ -25,7 +25,7 @@ use Rattle.status_db.specs.Recorded.{Recorded}
 use Rattle.unit_reports.specs.Held.{Held, places_of}
 use Rattle.unit_reports.specs.declared.report.Report.{Report}
 use Rattle.unit_reports.specs.declared.report.Unit.{Unit as AUnit}
-use Rattle.unpack_engine.specs.Order.{record_names}
+use Rattle.held_administration.specs.Order.{record_names}
 use Rattle.unpack_engine.specs.Units.{Given, Ground, end_table, ground_of, job_of, package_name}
 use Rattle.unpack_relations.specs.declared.beside.Beside.{Beside}
 use Rattle.unpack_relations.specs.declared.checking.Checked.{Checked}

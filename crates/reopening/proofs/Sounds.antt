@@ -13,7 +13,7 @@ use Rattle.removal_run.specs.Units.{holding_of}
 use Rattle.status_db.specs.Held.{HasRecords}
 use Rattle.status_records.specs.Records.{AreStanding, record_in}
 use Rattle.status_records.specs.declared.record.Record.{Record}
-use Rattle.unit_stages.specs.Order.{IsInOrder as IsInOrderHere}
+use Rattle.held_administration.specs.Order.{IsInOrder as IsInOrderHere}
 use Rattle.unit_reports.specs.Held.{Held}
 use Rattle.unit_reports.specs.Units.{IsRefused}
 use Rattle.unit_reports.specs.declared.refusal.Rule.{Rule}
@@ -22,7 +22,7 @@ use Rattle.unit_stages.specs.Runs.{HaveRun}
 use Rattle.unit_stages.specs.declared.stage.Stage.{Stage}
 use Rattle.undo_rows.specs.declared.rows.Called.{Called}
 use Rattle.unpack_engine.proofs.Ready.{kept_opens}
-use Rattle.unpack_engine.specs.Order.{IsInOrder, record_names}
+use Rattle.held_administration.specs.Order.{IsInOrder, record_names}
 use Rattle.reopening.proofs.Entries.{IsSafe, safe_fewer}
 use Rattle.reopening.proofs.Inside.{quiet_here}
 use Rattle.reopening.proofs.Stages.{AreSafeStages, run_falls}

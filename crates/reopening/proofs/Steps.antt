@@ -29,7 +29,7 @@ use Rattle.file_lists.specs.declared.paths.PackageList.{PackageList}
 use Rattle.unpack_commit.proofs.Left.{no_other, same_list}
 use Rattle.unpack_commit.proofs.Loose.{replaced_replacing}
 use Rattle.unit_stages.proofs.Names.{among}
-use Rattle.unit_stages.proofs.ReadBack.{list_readable}
+use Rattle.file_lists.proofs.ReadBack.{list_readable}
 use Rattle.reopening.proofs.Inside.{IsQuiet}
 
 -- paths that a list can have, as it is read back

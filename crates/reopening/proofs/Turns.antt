@@ -18,7 +18,7 @@ use Rattle.removal_run.specs.Turns.{IsAmidNext as IsAmidRemovals, RemovesTo}
 use Rattle.removal_run.specs.Units.{IsAmidRemoval, IsRemoval, extent_of, given_by as removal_given}
 use Rattle.unit_reports.specs.Held.{Held}
 use Rattle.unit_reports.specs.declared.report.Unit.{Unit as AUnit}
-use Rattle.unpack_engine.specs.Order.{record_names}
+use Rattle.held_administration.specs.Order.{record_names}
 use Rattle.reopening.proofs.Removals.{configure_plan_safe, removal_plan_safe}
 use Rattle.reopening.proofs.Sounds.{Goes, IsSound, Opened, goes_here, goes_reads, goes_refused, goes_stages, goes_then, opened_here, opened_reads, opened_then, sound_held, sound_lists, sound_opens}
 use Rattle.reopening.proofs.Units.{configuring_opens, removing_opens}

@@ -29,7 +29,7 @@ use Rattle.unit_stages.specs.Runs.{HaveRun}
 use Rattle.unit_stages.specs.declared.stage.Stage.{Stage}
 use Rattle.undo_rows.specs.declared.rows.Called.{Called}
 use Rattle.unpack_engine.proofs.EndRecords.{has_name}
-use Rattle.unpack_engine.specs.Order.{record_names}
+use Rattle.held_administration.specs.Order.{record_names}
 use Rattle.reopening.proofs.Entries.{IsSafe, safe_quiet}
 use Rattle.reopening.proofs.Inside.{IsQuiet, quiet_then}
 use Rattle.reopening.proofs.Parts.{AreOf, IsCalm, calm_here, calm_then}

@@ -37,7 +37,7 @@ use Rattle.unpack_engine.proofs.EndRecords.{IsKnown, all_known, found_known, has
 use Rattle.unpack_engine.proofs.Leaving.{noted_first}
 use Rattle.unpack_engine.proofs.Losing.{loser_named}
 use Rattle.unpack_engine.proofs.Order.{info_there}
-use Rattle.unpack_engine.specs.Order.{IsInOrder, record_names}
+use Rattle.held_administration.specs.Order.{IsInOrder, record_names}
 use Rattle.unpack_engine.proofs.Dropping.{dropped_kept, laying_records}
 use Rattle.unpack_engine.specs.Units.{Begins, BeginsAt, Ground, HasLeft, IsRunning, IsStage, IsUnderWay, MayLeave, changes, commit_records, end_table, last_place, lists_after, noted_so_far, package_name, stage_records, table_after, task_from, unit_losers}
 use Rattle.unpack_plan.specs.Planned.{IsPlanned, Job, Planned, name_of}

@@ -19,7 +19,7 @@ use Rattle.status_db.specs.Held.{HasRecords}
 use Rattle.status_db.specs.Recorded.{Recorded}
 use Rattle.status_records.specs.Records.{put_record, record_in}
 use Rattle.status_records.specs.declared.record.Record.{Record}
-use Rattle.unit_stages.specs.Order.{IsInOrder}
+use Rattle.held_administration.specs.Order.{IsInOrder}
 use Rattle.unit_stages.proofs.ConffileNames.{beside_outside, home_outside}
 use Rattle.undo_rows.specs.declared.rows.Row.{Row}
 use Rattle.removal_engine.specs.Stages.{Deed}

@@ -19,7 +19,7 @@ use Rattle.status_db.specs.Held.{HasRecords, is_record_place}
 use Rattle.status_db.specs.Recorded.{Recorded}
 use Rattle.status_records.specs.Records.{record_in}
 use Rattle.status_records.specs.declared.record.Record.{Record}
-use Rattle.unit_stages.specs.Order.{IsInOrder}
+use Rattle.held_administration.specs.Order.{IsInOrder}
 use Rattle.unit_stages.proofs.ConffileNames.{below_none}
 use Rattle.unit_stages.proofs.Places.{kept_opens}
 use Rattle.unpack_commit.proofs.Left.{same_list}

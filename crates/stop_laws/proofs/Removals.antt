@@ -17,7 +17,7 @@ use Rattle.list_changes.specs.Leaving.{leaving_of}
 use Rattle.status_db.specs.Held.{HasRecords, is_record_place}
 use Rattle.status_db.specs.Recorded.{Recorded}
 use Rattle.status_records.specs.declared.record.Record.{Record}
-use Rattle.unit_stages.specs.Order.{IsInOrder}
+use Rattle.held_administration.specs.Order.{IsInOrder}
 use Rattle.unit_stages.proofs.Places.{kept_opens}
 use Rattle.unpack_commit.proofs.Left.{list_within, member_within, same_list}
 use Rattle.unpack_commit.proofs.Ready.{list_is_no_member, member_is_no_list}

@@ -14,7 +14,7 @@ use Rattle.status_records.specs.Records.{put_record, record_in}
 use Rattle.status_records.specs.declared.record.Record.{Record}
 use Rattle.status_records.specs.declared.words.State.{State}
 use Rattle.status_records.specs.declared.words.State.TheVariants as state
-use Rattle.unit_stages.specs.Order.{IsInOrder}
+use Rattle.held_administration.specs.Order.{IsInOrder}
 use Rattle.removal_engine.specs.Extents.{BeginsFrom}
 use Rattle.removal_engine.specs.Lists.{IsToCome, leaving_files}
 use Rattle.removal_engine.specs.Names.{cleared_names, purged_names, waiting_names}

@@ -9,7 +9,7 @@ ghost use Rattle.control_members.specs.Stored.{stored_member_path};
 ghost use Rattle.status_db.specs.Recorded.{Recorded};
 ghost use Rattle.status_records.specs.Records.{record_in};
 ghost use Rattle.status_records.specs.declared.record.Record.{Record as ARecord};
-ghost use Rattle.unit_stages.specs.Order.{IsInOrder};
+ghost use Rattle.held_administration.specs.Order.{IsInOrder};
 ghost use Rattle.configure_engine.specs.Units.{Given, IsAmidUnit};
 ghost use Rattle.stop_laws.specs.Configuring.{HasRecordsAmid, IsOwnList, is_settling_name};
 

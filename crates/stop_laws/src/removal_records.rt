@@ -3,7 +3,7 @@ ghost use Rattle.std.specs.Prelude.{◌≡◌, List};
 ghost use Rattle.host_core.specs.Events.{Event};
 ghost use Rattle.host_core.specs.World.{World};
 ghost use Rattle.status_db.specs.Recorded.{Recorded};
-ghost use Rattle.unit_stages.specs.Order.{IsInOrder};
+ghost use Rattle.held_administration.specs.Order.{IsInOrder};
 ghost use Rattle.removal_engine.specs.Scripts.{stored_in};
 ghost use Rattle.removal_engine.specs.Units.{Given, IsAmidUnit, IsRemovable};
 ghost use Rattle.stop_laws.specs.Removing.{HasRecordsAmid};

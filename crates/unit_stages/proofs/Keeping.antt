@@ -19,7 +19,7 @@ use Rattle.file_lists.specs.declared.paths.PackageList.{PackageList}
 use Rattle.status_db.specs.Held.{IsKept, is_record_place}
 use Rattle.status_db.specs.Recorded.{Recorded}
 use Rattle.status_db.proofs.NotedWorlds.{kept_on}
-use Rattle.unit_stages.specs.Order.{IsInOrder}
+use Rattle.held_administration.specs.Order.{IsInOrder}
 use Rattle.unit_stages.specs.Parts.{parts_lists}
 use Rattle.unit_stages.specs.declared.part.Part.{Part}
 use Rattle.unit_stages.specs.declared.part.Part.TheVariants.{Note, Forget, Settle, Remove, RemoveDirectories, Clear, List as Listing, DropList, DropMembers}

@@ -1,7 +1,6 @@
 pub mod ConffileNames
 pub mod Outside
 pub mod Places
-pub mod ReadBack
 pub mod Lists
 pub mod Names
 pub mod Order

@@ -16,7 +16,7 @@ use Rattle.file_lists.specs.Owners.{IsListable, paths_of}
 use Rattle.file_lists.specs.Writing.{list_file, with_list}
 use Rattle.file_lists.specs.declared.paths.PackageList.{PackageList}
 use Rattle.file_lists.proofs.TakingAll.{paths_with}
-use Rattle.unit_stages.proofs.ReadBack.{list_readable, list_says}
+use Rattle.file_lists.proofs.ReadBack.{list_readable, list_says}
 
 pub none_has : {X : Type 0} (x : X) → Contains [] x → ⊥
 none_has x has = absurd (omega (arith, has.1))

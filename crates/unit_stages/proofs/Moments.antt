@@ -11,7 +11,7 @@ use Rattle.file_lists.specs.Filed.{Filed}
 use Rattle.status_db.specs.Recorded.{Recorded}
 use Rattle.status_records.specs.declared.record.Record.{Record}
 use Rattle.unit_stages.specs.Doing.{AreDoing, IsFirstDoing}
-use Rattle.unit_stages.specs.Order.{IsInOrder}
+use Rattle.held_administration.specs.Order.{IsInOrder}
 use Rattle.unit_stages.specs.Parts.{part_records, parts_records}
 use Rattle.unit_stages.specs.declared.part.Part.{Part}
 use Rattle.unit_stages.specs.Holding.{Holding, after_parts, holding}

@@ -10,7 +10,7 @@ use Rattle.host_core.proofs.Paths.{decide}
 use Rattle.status_records.specs.Records.{drop_record, put_record, record_in}
 use Rattle.status_records.specs.declared.record.Record.{Record}
 use Rattle.status_records.proofs.Tables.{record_in-drop_record, record_in-put_record}
-use Rattle.unit_stages.specs.Order.{record_names}
+use Rattle.held_administration.specs.Order.{record_names}
 
 -- a name is among these or not
 

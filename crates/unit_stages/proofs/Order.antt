@@ -29,7 +29,7 @@ use Rattle.status_db.specs.Recorded.{Recorded}
 use Rattle.status_records.specs.Records.{drop_record, put_record, record_in}
 use Rattle.status_records.specs.declared.record.Record.{Record}
 use Rattle.unit_stages.specs.PartFitting.{IsListing, IsNotable}
-use Rattle.unit_stages.specs.Order.{IsInOrder, record_names}
+use Rattle.held_administration.specs.Order.{IsInOrder, record_names}
 use Rattle.unit_stages.proofs.Lists.{lists_dropped, lists_named, lists_written}
 use Rattle.unit_stages.proofs.Names.{dropped_had, dropped_has, is_recorded, put_had, put_has}
 use Rattle.unit_stages.proofs.Outside.{IsOutside}

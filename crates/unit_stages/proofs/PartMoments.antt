@@ -15,7 +15,7 @@ use Rattle.std.specs.List.{All}
 use Rattle.std.specs.Prelude.{Result, Ok, Err, OnOk}
 use Rattle.unit_stages.specs.Doing.{IsDoing, IsFirstDoing, MayDo, MayDrop}
 use Rattle.unit_stages.specs.PartFitting.{AreSettleable}
-use Rattle.unit_stages.specs.Order.{IsInOrder}
+use Rattle.held_administration.specs.Order.{IsInOrder}
 use Rattle.unit_stages.specs.declared.part.Part.{Part}
 use Rattle.unit_stages.specs.declared.part.Part.TheVariants.{Note, Forget, Settle, Remove, RemoveDirectories, Clear, List as Listing, DropList, DropMembers}
 use Rattle.unit_stages.proofs.Order.{home_there, outside_order, own_list, taking_kept, taking_loose}

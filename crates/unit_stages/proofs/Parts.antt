@@ -13,7 +13,7 @@ use Rattle.status_records.specs.declared.record.Record.{Record}
 use Rattle.texts.specs.PackageNames.{is_package_name}
 use Rattle.unit_stages.specs.Doing.{AreDoing, IsDoing, IsFirstDoing}
 use Rattle.unit_stages.specs.PartFitting.{AreFit, AreSettleable, IsFit}
-use Rattle.unit_stages.specs.Order.{IsInOrder}
+use Rattle.held_administration.specs.Order.{IsInOrder}
 use Rattle.unit_stages.specs.Parts.{HasDone, HaveDone, part_lists, part_records, parts_lists, parts_records}
 use Rattle.unit_stages.specs.declared.part.Part.{Part}
 use Rattle.unit_stages.proofs.PartMoments.{first_doing}

@@ -12,7 +12,7 @@ use Rattle.diversions.specs.declared.entry.Diversion.{Diversion}
 use Rattle.file_lists.specs.Filed.{Filed}
 use Rattle.status_db.specs.Recorded.{Recorded}
 use Rattle.unit_stages.specs.PartFitting.{AreSettleable, HaveNoSettle}
-use Rattle.unit_stages.specs.Order.{IsInOrder}
+use Rattle.held_administration.specs.Order.{IsInOrder}
 use Rattle.unit_stages.specs.declared.part.Part.{Part}
 use Rattle.unit_stages.specs.declared.part.Part.TheVariants.{Note, Forget, Settle, Remove, RemoveDirectories, Clear, List as Listing, DropList, DropMembers}
 use Rattle.unit_stages.specs.Fitting.{AreStagesFit, AreStagesSettleable, IsStageFit, SettlesNothing}

@@ -8,7 +8,7 @@ ghost use Rattle.undo_rows.specs.Transcript.{Begins, Makes, Tries, TriesRow, Und
 ghost use Rattle.undo_rows.specs.Telling.{Begun};
 ghost use Rattle.held_administration.specs.Open.{IsOpen};
 ghost use Rattle.unit_stages.specs.PartFitting.{AreFit, HaveNoSettle};
-ghost use Rattle.unit_stages.specs.Order.{IsInOrder};
+ghost use Rattle.held_administration.specs.Order.{IsInOrder};
 ghost use Rattle.unit_stages.specs.Calls.{MayCallRow};
 ghost use Rattle.unit_stages.specs.Holding.{holding_of};
 ghost use Rattle.unit_stages.specs.Running.{AreCalled};

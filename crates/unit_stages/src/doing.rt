@@ -4,7 +4,7 @@ ghost use Rattle.host_core.specs.Host.{AtEachMoment, Counts, Leaves, Needs, Sile
 ghost use Rattle.texts.specs.PackageNames.{is_package_name};
 ghost use Rattle.unit_stages.specs.Doing.{AreDoing};
 ghost use Rattle.unit_stages.specs.PartFitting.{AreFit, AreSettleable};
-ghost use Rattle.unit_stages.specs.Order.{IsInOrder};
+ghost use Rattle.held_administration.specs.Order.{IsInOrder};
 ghost use Rattle.unit_stages.specs.Parts.{HaveDone, parts_lists, parts_records};
 
 use crate::part::Part;

@@ -8,7 +8,7 @@ ghost use Rattle.file_lists.specs.Owners.{places_in};
 ghost use Rattle.held_administration.specs.Open.{IsOpen};
 ghost use Rattle.unit_stages.specs.Doing.{AreDoing};
 ghost use Rattle.unit_stages.specs.PartFitting.{AreFit, AreSettleable};
-ghost use Rattle.unit_stages.specs.Order.{IsInOrder};
+ghost use Rattle.held_administration.specs.Order.{IsInOrder};
 ghost use Rattle.unit_stages.specs.Holding.{after_parts, holding_of, is_listing};
 ghost use Rattle.unit_stages.specs.Runs.{DoesParts};
 

@@ -5,7 +5,7 @@ ghost use Rattle.texts.specs.PackageNames.{is_package_name};
 ghost use Rattle.undo_rows.specs.Telling.{Begun};
 ghost use Rattle.held_administration.specs.Open.{IsOpen};
 ghost use Rattle.unit_stages.specs.PartFitting.{AreSettleable, HaveNoSettle};
-ghost use Rattle.unit_stages.specs.Order.{IsInOrder};
+ghost use Rattle.held_administration.specs.Order.{IsInOrder};
 ghost use Rattle.unit_stages.specs.Calls.{MayRunStages};
 ghost use Rattle.unit_stages.specs.Fitting.{AreStagesFit, AreStagesSettleable, IsStageFit};
 ghost use Rattle.unit_stages.specs.Holding.{holding_of};

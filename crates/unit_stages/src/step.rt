@@ -4,7 +4,7 @@ ghost use Rattle.host_core.specs.Host.{AtEachMoment, Counts, Leaves, Needs, Sile
 ghost use Rattle.texts.specs.PackageNames.{is_package_name};
 ghost use Rattle.unit_stages.specs.Doing.{IsDoing};
 ghost use Rattle.unit_stages.specs.PartFitting.{AreSettleable, IsFit};
-ghost use Rattle.unit_stages.specs.Order.{IsInOrder};
+ghost use Rattle.held_administration.specs.Order.{IsInOrder};
 ghost use Rattle.unit_stages.specs.Parts.{HasDone, part_lists, part_records};
 
 use crate::listing::{are_texts, drop_list, write_list};

@@ -46,7 +46,7 @@ use Rattle.unpack_commit.specs.Takeover.{losing_records, put_records, taken_plac
 use Rattle.unpack_commit.proofs.Left.{loser_list, other_list, own_list, same_list}
 use Rattle.unpack_plan.specs.Planned.{IsPlanned, Planned}
 use Rattle.unpack_plan.specs.Members.{scripts_in}
-use Rattle.unpack_engine.specs.Order.{record_names}
+use Rattle.held_administration.specs.Order.{record_names}
 use Rattle.unpack_engine.specs.Units.{BeginsAt, Given, HasBegun, HasCarriedOut, HasDropped, HasLeft, changes, commit_records, end_table as table_then, ground_of, job_of, last_place, package_name, task_from, unit_losers}
 use Rattle.unpack_engine.proofs.Begun.{cleared_if, dropped_same}
 use Rattle.unpack_engine.proofs.Cleared.{begun_at, begun_beside, works_on}

@@ -13,7 +13,7 @@ use Rattle.status_records.specs.Records.{put_record, record_in}
 use Rattle.status_records.specs.declared.record.Record.{Record}
 use Rattle.status_records.proofs.Tables.{record_in-put_record}
 use Rattle.unpack_commit.specs.Takeover.{losing_records, loses_conffile, put_records, without_conffiles}
-use Rattle.unpack_engine.specs.Order.{record_names}
+use Rattle.held_administration.specs.Order.{record_names}
 use Rattle.unpack_engine.proofs.ListEnds.{any_has, has_any, none_has}
 
 -- a name is among those of the records exactly where it has a record

@@ -31,7 +31,7 @@ use Rattle.unpack_rows.specs.Kinds.{kinds_of}
 use Rattle.unpack_rows.specs.Stages.{stage_of}
 use Rattle.unpack_steps.specs.At.{At, Holding}
 use Rattle.unpack_steps.specs.Task.{state_on}
-use Rattle.unpack_engine.specs.Order.{IsInOrder, record_names}
+use Rattle.held_administration.specs.Order.{IsInOrder, record_names}
 use Rattle.unpack_engine.specs.Units.{Begins, Ground, HasCarriedOut, HasFollowed, HasLeft, changes, commit_records, last_place, package_name, task_from}
 use Rattle.unpack_engine.proofs.Apart.{loose_still}
 use Rattle.unpack_engine.proofs.Begun.{dropped_same}

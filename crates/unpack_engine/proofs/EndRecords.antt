@@ -22,7 +22,7 @@ use Rattle.unpack_rows.specs.declared.kinds.RowKind.{RowKind}
 use Rattle.unpack_rows.specs.declared.kinds.RowKind.TheVariants.{Prerm, Other, Preinst, Files, Postrm}
 use Rattle.unpack_rows.specs.declared.notes.Note.{Note}
 use Rattle.unpack_rows.specs.declared.notes.Note.TheVariants.{Put, Drop}
-use Rattle.unpack_engine.specs.Order.{record_names}
+use Rattle.held_administration.specs.Order.{record_names}
 
 -- what holds of all holds of those that are kept
 

@@ -14,7 +14,6 @@ pub mod Carrying
 pub mod Losing
 pub mod Leaving
 pub mod AfterRows
-pub mod ReadBack
 pub mod ListEnds
 pub mod EndNames
 pub mod EndOthers

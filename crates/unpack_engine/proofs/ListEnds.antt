@@ -23,7 +23,7 @@ use Rattle.file_lists.specs.Writing.{left_paths, list_file, without_places}
 use Rattle.file_lists.specs.declared.paths.PackageList.{PackageList}
 use Rattle.file_lists.proofs.Sorting.{all_of, listable}
 use Rattle.file_lists.proofs.TakingAll.{lefts_step, paths_with}
-use Rattle.unpack_engine.proofs.ReadBack.{list_readable, list_says}
+use Rattle.file_lists.proofs.ReadBack.{list_readable, list_says}
 
 -- a name is among these or not
 

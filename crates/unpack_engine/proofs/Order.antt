@@ -13,7 +13,7 @@ use Rattle.file_lists.specs.Writing.{IsListReady}
 use Rattle.file_lists.specs.declared.paths.PackageList.{PackageList}
 use Rattle.status_db.specs.Held.{IsKept}
 use Rattle.status_db.specs.Recorded.{Recorded}
-use Rattle.unpack_engine.specs.Order.{IsInOrder}
+use Rattle.held_administration.specs.Order.{IsInOrder}
 use Rattle.unpack_engine.specs.Units.{HasBegun}
 use Rattle.unpack_engine.proofs.Cleared.{laid_info, laid_loose}
 use Rattle.unpack_engine.proofs.Dropping.{laying_kept}

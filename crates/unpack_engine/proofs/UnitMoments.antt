@@ -26,7 +26,7 @@ use Rattle.unpack_steps.specs.At.{Holding}
 use Rattle.unpack_steps.specs.Task.{task_by}
 use Rattle.unpack_steps.specs.declared.plan.Rows.{Rows}
 use Rattle.unpack_engine.specs.Endings.{changes_from, records_from}
-use Rattle.unpack_engine.specs.Order.{IsInOrder}
+use Rattle.held_administration.specs.Order.{IsInOrder}
 use Rattle.unpack_engine.specs.Units.{Begins, Ground, HasBegun, HasRunRows, IsRunning, IsUnderWay, MayLeave, changes, commit_records, ground_by, package_name, task_from}
 use Rattle.unpack_engine.proofs.AfterRows.{leaving_under_way}
 use Rattle.unpack_engine.proofs.EndOrder.{plan_named}

@@ -39,7 +39,7 @@ use Rattle.unpack_steps.specs.At.{At, Holding}
 use Rattle.unpack_steps.specs.Task.{IsSound, task_by}
 use Rattle.unpack_steps.specs.declared.plan.Rows.{Rows}
 use Rattle.unpack_engine.specs.Endings.{ended_records, ended_table, records_from}
-use Rattle.unpack_engine.specs.Order.{IsInOrder}
+use Rattle.held_administration.specs.Order.{IsInOrder}
 use Rattle.unpack_engine.specs.Others.{AreOthers}
 use Rattle.unpack_engine.specs.Touched.{AreTold, deconfigured}
 use Rattle.unpack_engine.specs.Units.{Begins, Ground, HasBegun, HasRunRows, IsPlanBy, IsTouched, commit_records, ground_by, package_name, task_from}

@@ -1,4 +1,3 @@
-pub mod Order
 pub mod Others
 pub mod Units
 pub mod Endings

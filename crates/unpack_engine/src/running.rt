@@ -10,7 +10,7 @@ ghost use Rattle.unpack_rows.specs.ForwardRows.{Fits};
 ghost use Rattle.unpack_rows.specs.Kinds.{kinds_of};
 ghost use Rattle.unpack_steps.specs.At.{holding_by};
 ghost use Rattle.unpack_steps.specs.Task.{IsSound, task_by};
-ghost use Rattle.unpack_engine.specs.Order.{IsInOrder};
+ghost use Rattle.held_administration.specs.Order.{IsInOrder};
 ghost use Rattle.unpack_engine.specs.Units.{HasBegun, HasCalledRows, HasRunRows, IsRunning};
 
 use control_members::{Members, lay_out};

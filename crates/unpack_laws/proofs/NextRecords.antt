@@ -27,7 +27,7 @@ use Rattle.unpack_rows.specs.Notes.{as_before, half_configured, half_installed, 
 use Rattle.unpack_rows.specs.Stages.{stage_of}
 use Rattle.unpack_rows.specs.declared.notes.Note.TheVariants.{Put}
 use Rattle.unpack_rows.proofs.LastNotes.{note_name}
-use Rattle.unpack_engine.specs.Order.{IsInOrder}
+use Rattle.held_administration.specs.Order.{IsInOrder}
 use Rattle.unpack_engine.specs.Others.{AreOthers}
 use Rattle.unpack_engine.specs.Units.{Given, Ground, IsAmid, IsAmidUnit, ground_of, last_place, lists_after, package_name, stage_records, unit_losers}
 use Rattle.unpack_engine.proofs.Losing.{loser_other}

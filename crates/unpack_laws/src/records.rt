@@ -4,7 +4,7 @@ ghost use Rattle.host_core.specs.Events.{Event};
 ghost use Rattle.host_core.specs.Paths.{Path};
 ghost use Rattle.host_core.specs.World.{World};
 ghost use Rattle.status_db.specs.Recorded.{Recorded};
-ghost use Rattle.unpack_engine.specs.Order.{IsInOrder};
+ghost use Rattle.held_administration.specs.Order.{IsInOrder};
 ghost use Rattle.unpack_engine.specs.Others.{AreOthers};
 ghost use Rattle.unpack_engine.specs.Units.{Given, IsAmidUnit};
 ghost use Rattle.unpack_laws.specs.InHand.{unit_name};

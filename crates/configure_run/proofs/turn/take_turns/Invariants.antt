@@ -4,7 +4,7 @@ use Rattle.host_core.specs.Host.{Since, faults}
 use Rattle.host_core.specs.Loss.{IsAnswered}
 use Rattle.host_core.specs.Host.{Needs}
 use Rattle.held_administration.specs.Open.{IsOpen}
-use Rattle.unit_stages.specs.Order.{IsInOrder}
+use Rattle.held_administration.specs.Order.{IsInOrder}
 use Rattle.unit_reports.specs.Held.{held_by}
 use Rattle.unit_reports.specs.Units.{calls_of}
 use Rattle.unit_reports.specs.Watching.{AddsTold}

@@ -3,7 +3,7 @@ use Rattle.std.specs.Prelude.{Contains}
 use Rattle.host_core.specs.Host.{Needs, Since, faults}
 use Rattle.held_administration.specs.Open.{IsOpen}
 use Rattle.status_records.specs.Records.{record_in}
-use Rattle.unit_stages.specs.Order.{IsInOrder}
+use Rattle.held_administration.specs.Order.{IsInOrder}
 use Rattle.unit_stages.specs.Holding.{holding_of}
 use Rattle.conflict_removal.specs.Removals.{HaveBeenRemoved, IsAmidRemovals}
 use Rattle.conflict_removal.proofs.removing.remove_in_favour.Given as goal

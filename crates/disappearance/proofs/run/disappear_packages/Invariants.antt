@@ -2,7 +2,7 @@ use Rattle.std.proofs.Common.{◌≡◌, take}
 use Rattle.host_core.specs.Host.{Needs, Since, faults}
 use Rattle.held_administration.specs.Open.{IsOpen}
 use Rattle.recorded_packages.specs.Packages.{ArePackagesOf}
-use Rattle.unit_stages.specs.Order.{IsInOrder}
+use Rattle.held_administration.specs.Order.{IsInOrder}
 use Rattle.unit_stages.specs.Holding.{holding_of}
 use Rattle.disappearance.specs.Runs.{HaveDisappeared, IsAmidDisappearances}
 use Rattle.disappearance.proofs.run.disappear_packages.Given as goal

@@ -3,7 +3,7 @@ use Rattle.std.specs.Prelude.{IsTrue}
 use Rattle.host_core.specs.Host.{Needs, Since, faults}
 use Rattle.host_core.specs.Loss.{IsAnswered}
 use Rattle.held_administration.specs.Open.{IsOpen}
-use Rattle.unit_stages.specs.Order.{IsInOrder}
+use Rattle.held_administration.specs.Order.{IsInOrder}
 use Rattle.unit_reports.specs.Held.{held_by}
 use Rattle.unit_reports.specs.Units.{calls_of}
 use Rattle.unit_reports.specs.Watching.{AddsTold}

@@ -6,7 +6,7 @@ use Rattle.status_records.specs.ConffilePaths.{all_placed_by}
 use Rattle.status_records.specs.Conffiles.{shipped_entry, left_entries}
 use Rattle.status_records.proofs.PathOrder.{order_apart}
 use Rattle.status_records.proofs.Placing.{shipped_new, shipped_more}
-use Rattle.status_db.proofs.committed.committed_entries.Goals as goal
+use Rattle.status_records.proofs.committed.committed_entries.Goals as goal
 
 pub loop-digest-init : goal.loop-digest-init
 loop-digest-init g c = c.in_ok-committed.ensures

@@ -2,7 +2,7 @@ use Rattle.std.proofs.Common.{◌≡◌, map, take}
 use Rattle.status_records.specs.declared.entries.ConffileEntry.{ConffileEntry}
 use Rattle.status_records.specs.ConffilePaths.{all_placed_by}
 use Rattle.status_records.specs.Conffiles.{shipped_entry, left_entries}
-use Rattle.status_db.proofs.committed.committed_entries.Given as goal
+use Rattle.status_records.proofs.committed.committed_entries.Given as goal
 
 abbrev pub invariant-loop-digest : goal.invariant-loop-digest
 invariant-loop-digest g l =

@@ -5,8 +5,8 @@ use Rattle.status_records.specs.Conffiles.{marked_entry, left_entries}
 use Rattle.std.proofs.lemmas.Bool.{not-true}
 use Rattle.status_records.proofs.Answered.{unturned}
 use Rattle.status_records.proofs.Placing.{left_behind, left_kept, left_gone, gone_shipped, gone_other}
-use Rattle.status_db.proofs.committed.left_entries.Goals as goal
-use Rattle.status_db.proofs.committed.left_entries.Goals.{then-not-has+then-stays+in_ok-marked_entry+in_ok-push, else-not-has, else-not-has-via-then-not-has+else-stays, else-not-has-via-else-not-has}
+use Rattle.status_records.proofs.committed.left_entries.Goals as goal
+use Rattle.status_records.proofs.committed.left_entries.Goals.{then-not-has+then-stays+in_ok-marked_entry+in_ok-push, else-not-has, else-not-has-via-then-not-has+else-stays, else-not-has-via-else-not-has}
 
 pub push-requires : goal.push-requires
 push-requires g c =

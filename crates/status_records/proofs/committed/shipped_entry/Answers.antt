@@ -2,7 +2,7 @@ use Rattle.std.proofs.Common.{Option, ap, ◌∙◌}
 use Rattle.status_records.specs.declared.entries.ConffileEntry.{ConffileEntry}
 use Rattle.status_records.specs.Conffiles.{renewed_entry}
 use Rattle.status_records.proofs.SameRecords.{same_entry}
-use Rattle.status_db.proofs.committed.shipped_entry.Goals as goal
+use Rattle.status_records.proofs.committed.shipped_entry.Goals as goal
 
 pub returns : goal.returns
 returns c =

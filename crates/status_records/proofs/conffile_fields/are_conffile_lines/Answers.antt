@@ -4,7 +4,7 @@ use Rattle.std.specs.Str.{bytes_eq}
 use Rattle.status_records.specs.declared.entries.ConffileEntry.{ConffileEntry}
 use Rattle.status_records.specs.ConffileFields.{ConffileWords, conffile_words, is_conffile_line, words_of_conffile}
 use Rattle.status_records.proofs.Apart.{known, unknown, some_read, read_more, stood}
-use Rattle.status_db.proofs.conffile_fields.are_conffile_lines.Goals as goal
+use Rattle.status_records.proofs.conffile_fields.are_conffile_lines.Goals as goal
 
 pub returns-then-not-branch : goal.returns-then-not-branch
 returns-then-not-branch c =

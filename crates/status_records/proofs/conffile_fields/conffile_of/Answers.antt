@@ -5,7 +5,7 @@ use Rattle.status_records.specs.Digests.{is_recorded_text, digest_word}
 use Rattle.status_records.specs.ConffileFields.{last_word, text_before_flags, conffile_words, words_of_conffile}
 use Rattle.status_records.proofs.EntryLines.{same_words}
 use Rattle.status_records.proofs.TrimmedPaths.{words_trimmed}
-use Rattle.status_db.proofs.conffile_fields.conffile_of.Goals as goal
+use Rattle.status_records.proofs.conffile_fields.conffile_of.Goals as goal
 
 pub new-requires : goal.new-requires
 new-requires c =

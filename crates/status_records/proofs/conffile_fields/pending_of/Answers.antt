@@ -6,7 +6,7 @@ use Rattle.status_records.specs.ConffilePaths.{is_ship_path, is_trimmed}
 use Rattle.status_records.specs.ConffileFields.{last_word, line_text, pending_words, words_of_pending}
 use Rattle.status_records.proofs.EntryLines.{same_pending}
 use Rattle.status_records.proofs.TrimmedPaths.{words_trimmed}
-use Rattle.status_db.proofs.conffile_fields.pending_of.Goals as goal
+use Rattle.status_records.proofs.conffile_fields.pending_of.Goals as goal
 
 pub new-requires : goal.new-requires
 new-requires c =

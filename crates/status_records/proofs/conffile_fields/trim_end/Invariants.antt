@@ -1,6 +1,6 @@
 use Rattle.std.proofs.Common.{◌≡◌, length}
 use Rattle.control_fields.specs.Names.{trim_end}
-use Rattle.status_db.proofs.conffile_fields.trim_end.Given as goal
+use Rattle.status_records.proofs.conffile_fields.trim_end.Given as goal
 
 abbrev pub invariant-loop-rest : goal.invariant-loop-rest
 invariant-loop-rest l = trim_end l.rest ≡ trim_end l.fn.text

@@ -1,7 +1,7 @@
 use Rattle.std.proofs.Common.{Bool, cond, ◌+◌, sym, ap, ◌∙◌, arith}
 use Rattle.status_records.proofs.ConffileWords.{start_more}
-use Rattle.status_db.proofs.conffile_fields.word_start.Goals as goal
-use Rattle.status_db.proofs.conffile_fields.word_start.Goals.{then-is_blank, else-is_blank}
+use Rattle.status_records.proofs.conffile_fields.word_start.Goals as goal
+use Rattle.status_records.proofs.conffile_fields.word_start.Goals.{then-is_blank, else-is_blank}
 
 pub loop-i-preserved : goal.loop-i-preserved
 loop-i-preserved c =

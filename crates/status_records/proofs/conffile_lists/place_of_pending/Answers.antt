@@ -3,7 +3,7 @@ use Rattle.std.proofs.lemmas.Grind.{common_steps}
 use Rattle.status_records.specs.declared.entries.PendingDigest.{PendingDigest}
 use Rattle.status_records.specs.ConffilePaths.{placed_by}
 use Rattle.status_records.proofs.PathOrder.{placed_here, placed_behind}
-use Rattle.status_db.proofs.conffile_lists.place_of_pending.Goals as goal
+use Rattle.status_records.proofs.conffile_lists.place_of_pending.Goals as goal
 
 pub returns-then-not-is_before-clause-place : goal.returns-then-not-is_before-clause-place
 returns-then-not-is_before-clause-place c = λ e named.

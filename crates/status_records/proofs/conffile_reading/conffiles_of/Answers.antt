@@ -3,8 +3,8 @@ use Rattle.status_records.specs.declared.entries.ConffileEntry.{ConffileEntry}
 use Rattle.status_records.specs.ConffileFields.{ConffileWords, conffile_words, words_of_conffile, is_conffile_line}
 use Rattle.status_records.proofs.Apart.{some_read}
 use Rattle.status_records.proofs.Placing.{put_new, put_more, not_unread}
-use Rattle.status_db.proofs.conffile_reading.conffiles_of.Goals as goal
-use Rattle.status_db.proofs.conffile_reading.conffiles_of.Goals.{in-Some+in_ok-put, in_default}
+use Rattle.status_records.proofs.conffile_reading.conffiles_of.Goals as goal
+use Rattle.status_records.proofs.conffile_reading.conffiles_of.Goals.{in-Some+in_ok-put, in_default}
 
 pub put-requires : goal.put-requires
 put-requires c =

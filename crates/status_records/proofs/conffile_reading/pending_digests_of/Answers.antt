@@ -3,8 +3,8 @@ use Rattle.status_records.specs.declared.entries.PendingDigest.{PendingDigest}
 use Rattle.status_records.specs.ConffileFields.{PendingWords, pending_words, words_of_pending, is_pending_line}
 use Rattle.status_records.proofs.Apart.{some_read}
 use Rattle.status_records.proofs.Placing.{put_new, put_more, not_unread}
-use Rattle.status_db.proofs.conffile_reading.pending_digests_of.Goals as goal
-use Rattle.status_db.proofs.conffile_reading.pending_digests_of.Goals.{in-Some+in_ok-put, in_default}
+use Rattle.status_records.proofs.conffile_reading.pending_digests_of.Goals as goal
+use Rattle.status_records.proofs.conffile_reading.pending_digests_of.Goals.{in-Some+in_ok-put, in_default}
 
 pub put-requires : goal.put-requires
 put-requires c =

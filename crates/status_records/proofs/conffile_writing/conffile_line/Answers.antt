@@ -2,7 +2,7 @@ use Rattle.std.proofs.Common.{◌++◌, ℕ, List, ap, ◌∙◌, codes}
 use Rattle.status_records.specs.Digests.{digest_word}
 use Rattle.status_records.specs.ConffileFields.{flag_text}
 use Rattle.status_records.proofs.Answered.{line_parts}
-use Rattle.status_db.proofs.conffile_writing.conffile_line.Goals as goal
+use Rattle.status_records.proofs.conffile_writing.conffile_line.Goals as goal
 
 pub returns : goal.returns
 returns c =

@@ -3,7 +3,7 @@ use Rattle.std.proofs.lemmas.List.{take_all}
 use Rattle.status_records.specs.declared.entries.ConffileEntry.{ConffileEntry}
 use Rattle.status_records.specs.ConffileFields.{conffile_line}
 use Rattle.status_records.proofs.Apart.{mapped_more}
-use Rattle.status_db.proofs.conffile_writing.conffile_lines.Goals as goal
+use Rattle.status_records.proofs.conffile_writing.conffile_lines.Goals as goal
 
 pub loop-entry-preserved : goal.loop-entry-preserved
 loop-entry-preserved c =

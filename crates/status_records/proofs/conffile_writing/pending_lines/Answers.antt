@@ -3,7 +3,7 @@ use Rattle.std.proofs.lemmas.List.{take_all}
 use Rattle.status_records.specs.declared.entries.PendingDigest.{PendingDigest}
 use Rattle.status_records.specs.ConffileFields.{pending_line}
 use Rattle.status_records.proofs.Apart.{mapped_more}
-use Rattle.status_db.proofs.conffile_writing.pending_lines.Goals as goal
+use Rattle.status_records.proofs.conffile_writing.pending_lines.Goals as goal
 
 pub loop-digest-preserved : goal.loop-digest-preserved
 loop-digest-preserved c =

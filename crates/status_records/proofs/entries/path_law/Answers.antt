@@ -3,7 +3,7 @@ use Rattle.std.specs.Str.{is_utf8}
 use Rattle.std.proofs.lemmas.Bool.{and_from}
 use Rattle.std.proofs.lemmas.Str.{is_utf8-from_IsUtf8}
 use Rattle.host_core.specs.Paths.{is_ship_text}
-use Rattle.status_db.proofs.entries.path_law.Goals as goal
+use Rattle.status_records.proofs.entries.path_law.Goals as goal
 
 pub returns : goal.returns
 returns c =

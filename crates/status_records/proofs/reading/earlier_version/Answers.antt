@@ -2,7 +2,7 @@ use Rattle.std.proofs.Common.{◌≡◌, Bool, cond, None, sym, subst, ◌∙◌
 use Rattle.std.specs.Prelude.{IfOk}
 use Rattle.status_records.specs.Paragraphs.{field_in, line_of}
 use Rattle.status_records.proofs.ConffileReading.{version_read}
-use Rattle.status_db.proofs.reading.earlier_version.Goals as goal
+use Rattle.status_records.proofs.reading.earlier_version.Goals as goal
 
 pub returns-in-Some : goal.returns-in-Some
 returns-in-Some c =

@@ -4,7 +4,7 @@ use Rattle.std.proofs.lemmas.Bool.{true≢false}
 use Rattle.std.proofs.lemmas.Result.{IfOk-from_err}
 use Rattle.status_records.specs.Faults.{IsEntryFault}
 use Rattle.status_records.proofs.Entering.{none_told, entry_here}
-use Rattle.status_db.proofs.reading.entry_of.Goals as goal
+use Rattle.status_records.proofs.reading.entry_of.Goals as goal
 
 pub returns-then-is_faulty_whole-clause-fault : goal.returns-then-is_faulty_whole-clause-fault
 returns-then-is_faulty_whole-clause-fault c = inl (c.is_faulty_whole.ensures.0 c.if-is_faulty_whole.true, refl)

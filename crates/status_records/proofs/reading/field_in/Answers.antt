@@ -1,5 +1,5 @@
 use Rattle.status_records.proofs.Sayings.{found_field}
-use Rattle.status_db.proofs.reading.field_in.Goals as goal
+use Rattle.status_records.proofs.reading.field_in.Goals as goal
 
 pub returns : goal.returns
 returns c = found_field c.get.result c.args.lower.now c.args.fields.now c.get.ensures.some c.get.ensures.none

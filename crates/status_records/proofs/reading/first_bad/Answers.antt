@@ -1,7 +1,7 @@
 use Rattle.std.proofs.Common.{map, arith}
 use Rattle.control_fields.proofs.Keyed.{walk_more}
 use Rattle.status_records.proofs.Sayings.{good_more, bad_here, before_last, line_fits, one_more}
-use Rattle.status_db.proofs.reading.first_bad.Goals as goal
+use Rattle.status_records.proofs.reading.first_bad.Goals as goal
 
 pub line_of-requires : goal.line_of-requires
 line_of-requires c = line_fits c.args.located.now (map (λ b. b.now) c.loop-field.yielded) c.loop-field.field-iterator c.next.new.self c.in-Some.field.now c.loop-field.index c.loop-field.invariant.0 c.loop-field.invariant.1 c.in-Some.ensures.steps c.requires

@@ -1,7 +1,7 @@
 use Rattle.std.proofs.Common.{◌≡◌, ◌++◌, map, length}
 use Rattle.std.specs.List.{AllByRecursion}
 use Rattle.status_records.specs.Values.{IsReadable}
-use Rattle.status_db.proofs.reading.first_bad.Given as goal
+use Rattle.status_records.proofs.reading.first_bad.Given as goal
 
 abbrev pub invariant-loop-field : goal.invariant-loop-field
 invariant-loop-field l =

@@ -1,5 +1,5 @@
 use Rattle.status_records.proofs.Sayings.{not_gone, gone_by}
-use Rattle.status_db.proofs.reading.is_gone.Goals as goal
+use Rattle.status_records.proofs.reading.is_gone.Goals as goal
 
 pub returns-in-None : goal.returns-in-None
 returns-in-None c = not_gone c.args.fields.now c.in-None.ensures.none

@@ -1,5 +1,5 @@
 use Rattle.status_records.proofs.Sayings.{not_taken, taken_by}
-use Rattle.status_db.proofs.reading.is_taken.Goals as goal
+use Rattle.status_records.proofs.reading.is_taken.Goals as goal
 
 pub returns-in-None : goal.returns-in-None
 returns-in-None c = not_taken c.args.names.now c.args.fields.now c.in-None.ensures.none

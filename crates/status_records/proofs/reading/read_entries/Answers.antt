@@ -3,7 +3,7 @@ use Rattle.std.specs.Option.{option_to_list}
 use Rattle.std.proofs.lemmas.Result.{IfOk-from_err, err_from_is_err_and}
 use Rattle.status_records.specs.Faults.{IsTableFault}
 use Rattle.status_records.proofs.Entering.{none_told, table_fault, enters_next}
-use Rattle.status_db.proofs.reading.read_entries.Goals as goal
+use Rattle.status_records.proofs.reading.read_entries.Goals as goal
 
 pub returns-in_err-entry-clause-fault : goal.returns-in_err-entry-clause-fault
 returns-in_err-entry-clause-fault c =

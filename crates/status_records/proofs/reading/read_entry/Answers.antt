@@ -1,6 +1,6 @@
 use Rattle.std.proofs.Common.{◌∙◌, sym}
 use Rattle.status_records.proofs.Missing.{missing_name, missing_status, missing_version, said_record}
-use Rattle.status_db.proofs.reading.read_entry.Goals as goal
+use Rattle.status_records.proofs.reading.read_entry.Goals as goal
 
 pub returns-in_default-clause-none : goal.returns-in_default-clause-none
 returns-in_default-clause-none c = missing_name c.args.fields.now c.in_default.ensures.none c.requires.readable

@@ -6,7 +6,7 @@ use Rattle.control_fields.specs.declared.located.Located.{Located}
 use Rattle.status_records.specs.Paragraphs.{Enters}
 use Rattle.status_records.specs.Faults.{IsSound}
 use Rattle.status_records.proofs.WholeText.{read_sound, text_records, text_apart, text_standing, fault_behind}
-use Rattle.status_db.proofs.reading.read_text.Goals as goal
+use Rattle.status_records.proofs.reading.read_text.Goals as goal
 
 pub read_entries-requires : goal.read_entries-requires
 read_entries-requires c =

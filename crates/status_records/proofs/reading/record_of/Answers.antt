@@ -4,7 +4,7 @@ use Rattle.status_records.specs.Words.{is_installed}
 use Rattle.status_records.specs.Paragraphs.{field_in, line_of}
 use Rattle.status_records.specs.Standings.{one_version}
 use Rattle.status_records.proofs.Kept.{writable_others}
-use Rattle.status_db.proofs.reading.record_of.Goals as goal
+use Rattle.status_records.proofs.reading.record_of.Goals as goal
 
 pub invariant_of-result-4-clause-writable : goal.invariant_of-result-4-clause-writable
 invariant_of-result-4-clause-writable c = writable_others c.in_ok-from_str.field-0 c.args.name.now c.in_ok-recorded_fields.field-0 c.args.fields.now c.in_ok-from_str.ensures c.requires.named c.in_ok-recorded_fields.ensures c.requires.written c.requires.readable

@@ -1,4 +1,4 @@
-use Rattle.status_db.proofs.reading.version_in.Goals as goal
+use Rattle.status_records.proofs.reading.version_in.Goals as goal
 use Rattle.std.proofs.Common.{rules}
 
 pub returns-in-None-clause-none : goal.returns-in-None-clause-none

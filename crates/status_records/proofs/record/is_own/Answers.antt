@@ -1,5 +1,5 @@
 use Rattle.std.proofs.Common.{rules}
-use Rattle.status_db.proofs.record.is_own.Goals as goal
+use Rattle.status_records.proofs.record.is_own.Goals as goal
 
 pub returns-then-eq_ignore_ascii_case-6 : goal.returns-then-eq_ignore_ascii_case-6
 returns-then-eq_ignore_ascii_case-6 c = search rules

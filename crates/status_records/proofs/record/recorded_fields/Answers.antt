@@ -6,7 +6,7 @@ use Rattle.control_fields.specs.Names.{lower}
 use Rattle.control_fields.proofs.Keyed.{walk_more}
 use Rattle.status_records.specs.Fields.{own_names}
 use Rattle.status_records.proofs.Kept.{kept_new, kept_more, kept_same}
-use Rattle.status_db.proofs.record.recorded_fields.Goals as goal
+use Rattle.status_records.proofs.record.recorded_fields.Goals as goal
 
 pub returns-in_err-copy : goal.returns-in_err-copy
 returns-in_err-copy c = IfOk-from_err c.from_residual.result _ c.from_residual.ensures.0

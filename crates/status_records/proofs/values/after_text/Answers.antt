@@ -1,7 +1,7 @@
 use Rattle.std.proofs.lemmas.Slice.Eq.{strip_prefix_is}
 use Rattle.std.proofs.lemmas.Bool.Decides.{Decides-eqb}
 use Rattle.status_records.proofs.Parsing.{prefix_some, prefix_none}
-use Rattle.status_db.proofs.values.after_text.Goals as goal
+use Rattle.status_records.proofs.values.after_text.Goals as goal
 
 pub returns : goal.returns
 returns c =

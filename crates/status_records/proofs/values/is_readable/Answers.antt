@@ -3,7 +3,7 @@ use Rattle.std.specs.Prelude.{IfOk, ◌↔◌}
 use Rattle.control_fields.specs.Names.{lower}
 use Rattle.status_records.specs.declared.values.Kind.{Kind}
 use Rattle.status_records.specs.Values.{kind_of, IsReadableAs}
-use Rattle.status_db.proofs.values.is_readable.Goals as goal
+use Rattle.status_records.proofs.values.is_readable.Goals as goal
 
 pub returns-in-Relation : goal.returns-in-Relation
 returns-in-Relation c =

@@ -1,5 +1,5 @@
 use Rattle.status_records.proofs.Parsing.{no_want, no_flag, no_state}
-use Rattle.status_db.proofs.values.read_status.Goals as goal
+use Rattle.status_records.proofs.values.read_status.Goals as goal
 
 pub returns-in_default-clause-none : goal.returns-in_default-clause-none
 returns-in_default-clause-none c = no_want c.args.bytes.now c.in_default.ensures.none

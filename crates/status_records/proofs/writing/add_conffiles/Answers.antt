@@ -5,7 +5,7 @@ use Rattle.status_records.specs.ConffileFields.{conffile_line, pending_line}
 use Rattle.status_records.specs.Paragraphs.{lines_field}
 use Rattle.status_records.proofs.Answered.{on_ok}
 use Rattle.status_records.proofs.OwnFields.{pending_behind}
-use Rattle.status_db.proofs.writing.add_conffiles.Goals as goal
+use Rattle.status_records.proofs.writing.add_conffiles.Goals as goal
 
 pub add_lines-requires-2 : goal.add_lines-requires-2
 add_lines-requires-2 c =

@@ -1,7 +1,7 @@
 use Rattle.std.proofs.Common.{◌≡◌, ◌++◌, ◌∷◌, [], ℕ, List, Option, sym, subst, ◌∙◌, codes}
 use Rattle.std.specs.Prelude.{OnOk}
 use Rattle.status_records.specs.Paragraphs.{line_field, config_field}
-use Rattle.status_db.proofs.writing.add_config.Goals as goal
+use Rattle.status_records.proofs.writing.add_config.Goals as goal
 
 pub returns-in-Some-clause-field : goal.returns-in-Some-clause-field
 returns-in-Some-clause-field c =

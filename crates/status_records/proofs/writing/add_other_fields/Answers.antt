@@ -2,7 +2,7 @@ use Rattle.control_fields.proofs.Keyed.{walk_more}
 use Rattle.status_records.specs.Paragraphs.{own_fields}
 use Rattle.status_records.proofs.Kept.{written_new, written_more}
 use Rattle.status_records.proofs.OwnFields.{others_after}
-use Rattle.status_db.proofs.writing.add_other_fields.Goals as goal
+use Rattle.status_records.proofs.writing.add_other_fields.Goals as goal
 
 pub push-requires : goal.push-requires
 push-requires c =

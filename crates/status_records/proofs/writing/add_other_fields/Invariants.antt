@@ -1,6 +1,6 @@
 use Rattle.std.proofs.Common.{◌≡◌, ◌++◌, map}
 use Rattle.status_records.specs.Paragraphs.{own_fields}
-use Rattle.status_db.proofs.writing.add_other_fields.Given as goal
+use Rattle.status_records.proofs.writing.add_other_fields.Given as goal
 
 abbrev pub invariant-loop-field : goal.invariant-loop-field
 invariant-loop-field l =

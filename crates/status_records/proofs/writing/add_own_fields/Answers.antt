@@ -6,7 +6,7 @@ use Rattle.status_records.specs.Paragraphs.{config_field, removed_field, lines_f
 use Rattle.status_records.specs.Words.{status_text}
 use Rattle.status_records.proofs.Answered.{on_ok}
 use Rattle.status_records.proofs.OwnFields.{no_removed, no_conffiles, no_pending, own_joined}
-use Rattle.status_db.proofs.writing.add_own_fields.Goals as goal
+use Rattle.status_records.proofs.writing.add_own_fields.Goals as goal
 
 pub add_config-requires : goal.add_config-requires
 add_config-requires c = ap (stands (codes "Config-Version")) c.in_ok-add_first_fields.ensures.fields

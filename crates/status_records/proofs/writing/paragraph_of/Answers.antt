@@ -1,5 +1,5 @@
 use Rattle.std.proofs.lemmas.Result.{IfOk-from_err}
-use Rattle.status_db.proofs.writing.paragraph_of.Goals as goal
+use Rattle.status_records.proofs.writing.paragraph_of.Goals as goal
 
 pub returns-in_err-add_own_fields-clause-paragraph : goal.returns-in_err-add_own_fields-clause-paragraph
 returns-in_err-add_own_fields-clause-paragraph c = IfOk-from_err c.from_residual.result _ c.from_residual.ensures.0

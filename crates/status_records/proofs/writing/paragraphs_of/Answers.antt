@@ -1,8 +1,8 @@
 use Rattle.std.proofs.Common.{◌<◌, ◌∙◌, ap, sym, length, arith}
 use Rattle.status_records.specs.Paragraphs.{paragraph_of, HasParts}
 use Rattle.status_records.proofs.Standing.{written_more, all_more, paragraphs_same, all_same}
-use Rattle.status_db.proofs.writing.paragraphs_of.Goals as goal
-use Rattle.status_db.proofs.writing.paragraphs_of.Goals.{then-not-is_not_installed+in_ok-paragraph_of+in_ok-push, else-not-is_not_installed}
+use Rattle.status_records.proofs.writing.paragraphs_of.Goals as goal
+use Rattle.status_records.proofs.writing.paragraphs_of.Goals.{then-not-is_not_installed+in_ok-paragraph_of+in_ok-push, else-not-is_not_installed}
 
 pub loop-entry-preserved : goal.loop-entry-preserved
 loop-entry-preserved c =

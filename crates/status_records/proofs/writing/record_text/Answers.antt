@@ -1,7 +1,7 @@
 use Rattle.std.proofs.Common.{◌∙◌, ap}
 use Rattle.control_fields.specs.Spelling.{spell}
 use Rattle.status_records.proofs.Rounds.{record_read}
-use Rattle.status_db.proofs.writing.record_text.Goals as goal
+use Rattle.status_records.proofs.writing.record_text.Goals as goal
 
 pub returns-in-Ok-clause-read : goal.returns-in-Ok-clause-read
 returns-in-Ok-clause-read c = λ there.

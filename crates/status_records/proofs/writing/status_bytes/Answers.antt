@@ -1,7 +1,7 @@
 use Rattle.std.proofs.Common.{◌∙◌, ap}
 use Rattle.control_fields.specs.Spelling.{spell_all}
 use Rattle.status_records.proofs.Rounds.{status_again}
-use Rattle.status_db.proofs.writing.status_bytes.Goals as goal
+use Rattle.status_records.proofs.writing.status_bytes.Goals as goal
 
 pub returns-in-Ok : goal.returns-in-Ok
 returns-in-Ok c =

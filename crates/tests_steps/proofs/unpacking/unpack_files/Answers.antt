@@ -9,7 +9,7 @@ use Rattle.package_files.specs.Names.{IsNamed}
 use Rattle.file_check.specs.Ready.{IsSameBut}
 use Rattle.file_check.proofs.WorkLists.{named_still}
 use Rattle.file_check.proofs.Permuting.{amid_here, written_back, rearranged, written_from, none_told}
-use Rattle.file_check.proofs.unpacking.unpack_files.Goals as goal
+use Rattle.tests_steps.proofs.unpacking.unpack_files.Goals as goal
 
 pub returns-in_err-found-clause-any_moment : goal.returns-in_err-found-clause-any_moment
 returns-in_err-found-clause-any_moment g c = since_reads _ _ _ c.check.ensures.reads (λ fs failed. amid_here _ _)

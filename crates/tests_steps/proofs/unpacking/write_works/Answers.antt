@@ -4,7 +4,7 @@ use Rattle.package_files.specs.Files.{Each}
 use Rattle.package_files.specs.Free.{IsFreeIn}
 use Rattle.package_files.specs.Names.{IsNamed, IsHomed}
 use Rattle.file_check.proofs.Permuting.{each_permuted, homed_permuted}
-use Rattle.file_check.proofs.unpacking.write_works.Goals as goal
+use Rattle.tests_steps.proofs.unpacking.write_works.Goals as goal
 
 pub write_files-requires-clause-named : goal.write_files-requires-clause-named
 write_files-requires-clause-named g c = subst (Each IsNamed) (sym c.as_slice.ensures.value) (each_permuted IsNamed c.args.works.now.items _ c.order_works.ensures.same c.requires.named)

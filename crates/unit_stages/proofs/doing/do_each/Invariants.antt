@@ -2,7 +2,7 @@ use Rattle.std.proofs.Common.{◌≡◌, false, drop, take, IsTrue}
 use Rattle.host_core.specs.Host.{AtEachMoment, Needs, Silent, faults}
 use Rattle.unit_stages.specs.Doing.{AreDoing}
 use Rattle.unit_stages.specs.PartFitting.{AreFit, AreSettleable}
-use Rattle.unit_stages.specs.Order.{IsInOrder}
+use Rattle.held_administration.specs.Order.{IsInOrder}
 use Rattle.unit_stages.specs.Parts.{HaveDone, parts_lists, parts_records}
 use Rattle.unit_stages.proofs.doing.do_each.Given as goal
 

@@ -1,7 +1,7 @@
 use Rattle.std.proofs.Common.{◌≡◌, ◌++◌, None}
 use Rattle.host_core.specs.Host.{AtEachMomentOf, Needs, faults}
 use Rattle.held_administration.specs.Open.{IsOpen}
-use Rattle.unit_stages.specs.Order.{IsInOrder}
+use Rattle.held_administration.specs.Order.{IsInOrder}
 use Rattle.unit_stages.specs.Holding.{holding_of}
 use Rattle.unit_stages.specs.Running.{AreRunning}
 use Rattle.unit_stages.specs.Runs.{HaveRun}

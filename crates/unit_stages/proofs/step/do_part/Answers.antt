@@ -14,7 +14,7 @@ use Rattle.status_db.specs.Noting.{IsNoting}
 use Rattle.status_records.specs.Records.{drop_record, put_record}
 use Rattle.unit_stages.specs.Doing.{IsDoing, MayDrop}
 use Rattle.unit_stages.specs.PartFitting.{AreSettleable, IsFit}
-use Rattle.unit_stages.specs.Order.{IsInOrder}
+use Rattle.held_administration.specs.Order.{IsInOrder}
 use Rattle.unit_stages.specs.declared.part.Part.TheVariants.{Note, Forget, Settle, Remove, RemoveDirectories, Clear, List as Listing, DropList, DropMembers}
 use Rattle.unit_stages.proofs.PartMoments.{kept_doing, members_doing, on_both, outside_doing, since_doing, since_settled}
 use Rattle.unit_stages.proofs.Order.{dropped_order, dropping_kept, dropping_loose, forget_order, home_there, listing_order, note_order, noting_loose, outside_order, own_list, own_members, replacing_kept, replacing_loose, taken_order}

@@ -3,7 +3,7 @@ use Rattle.std.specs.Prelude.{IfOk}
 use Rattle.host_core.specs.Host.{AtEachMomentOf, Needs}
 use Rattle.file_lists.specs.Filed.{Filed}
 use Rattle.undo_rows.specs.Ended.{ended_as}
-use Rattle.unpack_engine.specs.Order.{IsInOrder}
+use Rattle.held_administration.specs.Order.{IsInOrder}
 use Rattle.unpack_engine.specs.Units.{HasCalled, HasFailedFor, HasUnpacked, IsAmidUnit, given_beside}
 use Rattle.unpack_engine.proofs.unit.unpack.Goals as goal
 

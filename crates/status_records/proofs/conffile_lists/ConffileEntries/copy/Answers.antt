@@ -3,7 +3,7 @@ use Rattle.std.proofs.lemmas.Grind.{common_steps}
 use Rattle.std.proofs.lemmas.List.{take_all}
 use Rattle.status_records.specs.ConffilePaths.{AreInOrder}
 use Rattle.status_records.specs.declared.entries.ConffileEntry.{ConffileEntry}
-use Rattle.status_db.proofs.conffile_lists.ConffileEntries.copy.Goals as goal
+use Rattle.status_records.proofs.conffile_lists.ConffileEntries.copy.Goals as goal
 
 pub loop-entry-preserved : goal.loop-entry-preserved
 loop-entry-preserved c = grind (arith, common_steps)

@@ -3,7 +3,7 @@ use Rattle.std.specs.List.{AllByRecursion}
 use Rattle.status_records.specs.ConffilePaths.{is_before, AreInOrder}
 use Rattle.status_records.specs.declared.entries.ConffileEntry.{ConffileEntry}
 use Rattle.status_records.proofs.PathOrder.{order_last}
-use Rattle.status_db.proofs.conffile_lists.ConffileEntries.push.Goals as goal
+use Rattle.status_records.proofs.conffile_lists.ConffileEntries.push.Goals as goal
 
 pub invariant_of-self-2 : goal.invariant_of-self-2
 invariant_of-self-2 c =

@@ -3,7 +3,7 @@ use Rattle.std.specs.List.{insert}
 use Rattle.status_records.specs.ConffilePaths.{AreInOrder, placed_by}
 use Rattle.status_records.specs.declared.entries.ConffileEntry.{ConffileEntry}
 use Rattle.status_records.proofs.PathOrder.{has_path, order_placed}
-use Rattle.status_db.proofs.conffile_lists.ConffileEntries.put.Goals as goal
+use Rattle.status_records.proofs.conffile_lists.ConffileEntries.put.Goals as goal
 
 pub invariant_of-self-2 : goal.invariant_of-self-2
 invariant_of-self-2 c =

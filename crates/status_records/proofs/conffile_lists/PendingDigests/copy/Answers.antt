@@ -3,7 +3,7 @@ use Rattle.std.proofs.lemmas.Grind.{common_steps}
 use Rattle.std.proofs.lemmas.List.{take_all}
 use Rattle.status_records.specs.ConffilePaths.{AreInOrder}
 use Rattle.status_records.specs.declared.entries.PendingDigest.{PendingDigest}
-use Rattle.status_db.proofs.conffile_lists.PendingDigests.copy.Goals as goal
+use Rattle.status_records.proofs.conffile_lists.PendingDigests.copy.Goals as goal
 
 pub loop-digest-preserved : goal.loop-digest-preserved
 loop-digest-preserved c = grind (arith, common_steps)

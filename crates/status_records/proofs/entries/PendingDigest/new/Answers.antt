@@ -1,6 +1,6 @@
 use Rattle.std.proofs.lemmas.Bool.{and_from}
 use Rattle.status_records.specs.ConffilePaths.{is_ship_path, is_trimmed}
-use Rattle.status_db.proofs.entries.PendingDigest.new.Goals as goal
+use Rattle.status_records.proofs.entries.PendingDigest.new.Goals as goal
 
 pub invariant_of-result : goal.invariant_of-result
 invariant_of-result c = record {

@@ -4,7 +4,7 @@ use Rattle.std.specs.List.{list_any}
 use Rattle.std.specs.Str.{bytes_eq}
 use Rattle.std.proofs.lemmas.Map.Text.{hash_set_updates_text}
 use Rattle.status_records.proofs.NameSets.{set_more}
-use Rattle.status_db.proofs.names.Names.push.Goals as goal
+use Rattle.status_records.proofs.names.Names.push.Goals as goal
 
 pub invariant_of-self-2 : goal.invariant_of-self-2
 invariant_of-self-2 c = λ whole q.

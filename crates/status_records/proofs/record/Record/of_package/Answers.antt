@@ -2,7 +2,7 @@ use Rattle.std.proofs.Common.{rules}
 use Rattle.status_records.specs.Words.{is_installed}
 use Rattle.status_records.proofs.Answered.{none_beside}
 use Rattle.status_records.proofs.Kept.{writable_of}
-use Rattle.status_db.proofs.record.Record.of_package.Goals as goal
+use Rattle.status_records.proofs.record.Record.of_package.Goals as goal
 
 pub invariant_of-result-clause-writable : goal.invariant_of-result-clause-writable
 invariant_of-result-clause-writable c = writable_of c.in_ok-copy.field-0 c.args.name.now c.in_ok-recorded_fields.field-0 c.args.control.now c.in_ok-copy.ensures c.requires.named c.in_ok-recorded_fields.ensures c.requires.written c.requires.readable

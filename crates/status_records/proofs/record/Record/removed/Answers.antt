@@ -1,6 +1,6 @@
 use Rattle.std.proofs.Common.{refl}
 use Rattle.status_records.proofs.SameRecords.{same_record}
-use Rattle.status_db.proofs.record.Record.removed.Goals as goal
+use Rattle.status_records.proofs.record.Record.removed.Goals as goal
 
 pub returns : goal.returns
 returns c = same_record _ _ record {

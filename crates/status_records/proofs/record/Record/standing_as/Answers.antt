@@ -2,7 +2,7 @@ use Rattle.std.proofs.Common.{refl, ap, ◌∙◌}
 use Rattle.status_records.specs.Standings.{version_beside}
 use Rattle.status_records.specs.Words.{is_installed}
 use Rattle.status_records.proofs.SameRecords.{same_record}
-use Rattle.status_db.proofs.record.Record.standing_as.Goals as goal
+use Rattle.status_records.proofs.record.Record.standing_as.Goals as goal
 
 pub returns : goal.returns
 returns c = same_record _ _ record {

@@ -1,6 +1,6 @@
 use Rattle.std.proofs.Common.{refl, ◌∙◌}
 use Rattle.status_records.proofs.Kept.{writable_of}
-use Rattle.status_db.proofs.record.Record.unpacked.Goals as goal
+use Rattle.status_records.proofs.record.Record.unpacked.Goals as goal
 
 pub invariant_of-result-3-clause-writable : goal.invariant_of-result-3-clause-writable
 invariant_of-result-3-clause-writable c = writable_of c.in_ok-copy.field-0 c.args.name.now c.in_ok-recorded_fields.field-0 c.args.control.now c.in_ok-copy.ensures c.requires.named c.in_ok-recorded_fields.ensures c.requires.written c.requires.readable

@@ -1,4 +1,4 @@
--- The administration as a unit finds it and leaves it.
+-- The administration in order: as a unit finds it and leaves it.
 use Rattle.std.specs.Prelude.{◌≡◌, ℕ, true, List, None, map}
 use Rattle.host_core.specs.World.{World, is_directory}
 use Rattle.administration.specs.Places.{home_path, info_path, tmp_path}
