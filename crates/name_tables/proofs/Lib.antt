@@ -1,0 +1,4 @@
+pub mod Names
+pub mod Ordered
+pub mod Placed
+pub mod Searching
