@@ -6,7 +6,7 @@ use Rattle.std.specs.Ordering.{nat_cmp, is_lt}
 use Rattle.std.specs.Cmp.Lexicographic.{slice_cmp}
 use Rattle.std.proofs.lemmas.Bool.{true≢false, false_from_ne_true}
 use Rattle.std.proofs.lemmas.Slice.Eq.{bytes_eq-Decides}
-use Rattle.name_tables.specs.Order.{IsBefore, IsBeforeAll, AreInOrder}
+use Rattle.name_tables.specs.Order.{IsBefore, IsBeforeAll, AreInOrder, names_of}
 use Rattle.name_tables.specs.Tables.{value_in, drop_value, place_value, put_value}
 use Rattle.name_tables.proofs.Names.{not_before_itself, before_differs, before_then, either_before, told_before, not_told_before, differs}
 
@@ -101,7 +101,7 @@ module _ {X : Type 0} (called : X → List ℕ) where
           let less = either_before (called y) (called x) (λ s. true≢false (sym ((bytes_eq-Decides (called y) (called x)).1 s) ∙ without.0)) (not_told_before (slice_cmp nat_cmp (called y) (called x)) e) in
           ((less, before_all_then (called x) (called y) ys less order.0), order)
 
-  lacks : (name : List ℕ) (xs : List X) → AllByRecursion (λ y. bytes_eq (called y) name ≡ false) (drop_value called name xs)
+  pub lacks : (name : List ℕ) (xs : List X) → AllByRecursion (λ y. bytes_eq (called y) name ≡ false) (drop_value called name xs)
   lacks name [] = tt
   lacks name (x ∷ xs) = by (bytes_eq (called x) name) refl (lacks name xs)
     where
@@ -112,3 +112,21 @@ module _ {X : Type 0} (called : X → List ℕ) where
 
   pub put_order : (x : X) (xs : List X) → AreInOrder called xs → AreInOrder called (put_value called x xs)
   put_order x xs order = placed_order x (drop_value called (called x) xs) (lacks (called x) xs) (dropped_order (called x) xs order)
+
+  -- the order of values, and of their names
+
+  all_names : (name : List ℕ) (xs : List X) → IsBeforeAll called name xs → IsBeforeAll (λ (n : List ℕ). n) name (names_of called xs)
+  all_names name [] all = tt
+  all_names name (x ∷ xs) all = (all.0, all_names name xs all.1)
+
+  pub names_in_order : (xs : List X) → AreInOrder called xs → AreInOrder (λ (n : List ℕ). n) (names_of called xs)
+  names_in_order [] order = tt
+  names_in_order (x ∷ xs) order = (all_names (called x) xs order.0, names_in_order xs order.1)
+
+  all_values : (name : List ℕ) (xs : List X) → IsBeforeAll (λ (n : List ℕ). n) name (names_of called xs) → IsBeforeAll called name xs
+  all_values name [] all = tt
+  all_values name (x ∷ xs) all = (all.0, all_values name xs all.1)
+
+  pub values_in_order : (xs : List X) → AreInOrder (λ (n : List ℕ). n) (names_of called xs) → AreInOrder called xs
+  values_in_order [] order = tt
+  values_in_order (x ∷ xs) order = (all_values (called x) xs order.0, values_in_order xs order.1)

@@ -1,14 +1,17 @@
 -- What stands at the place of a name, put in or taken away there.
-use Rattle.std.proofs.Common.{◌≡◌, ◌≢◌, ℕ, zero, suc, ◌<◌, List, [], ◌∷◌, length, get_or, Some, None, refl, sym, ap, subst, ◌∙◌, arith}
+use Rattle.std.proofs.Common.{◌≡◌, ◌≢◌, inl, inr, ℕ, zero, suc, ◌<◌, List, [], ◌∷◌, length, get_or, Some, None, refl, sym, ap, subst, ◌∙◌, arith, Contains}
 use Rattle.std.proofs.Math.ListN.{set}
 use Rattle.std.specs.List.{insert, remove}
-use Rattle.name_tables.specs.Order.{IsBeforeAll, AreInOrder, IsPlaceOf, IsThere, names_of}
+use Rattle.std.proofs.lemmas.Bool.{cases_lt, cases_eq}
+use Rattle.std.proofs.lemmas.List.{length-map, get_or_default}
+use Rattle.name_tables.specs.Order.{IsBefore, IsBeforeAll, AreInOrder, IsPlaceOf, IsThere, names_of}
 use Rattle.name_tables.specs.Tables.{value_in, drop_value, place_value, put_value}
-use Rattle.name_tables.proofs.Names.{either_before}
+use Rattle.name_tables.proofs.Names.{either_before, not_before_itself}
 use Rattle.name_tables.proofs.Ordered.{before_all_then, found_here, found_later, no_value, nothing_dropped, dropped_here, dropped_later, placed_first, put_first, put_later}
+use Rattle.name_tables.proofs.Searching.{order_at}
 
 module _ {X : Type 0} (called : X → List ℕ) where
-  place_behind : (x : X) (xs : List X) (name : List ℕ) (i : ℕ) → IsPlaceOf called (x ∷ xs) name (suc i) → IsPlaceOf called xs name i
+  pub place_behind : (x : X) (xs : List X) (name : List ℕ) (i : ℕ) → IsPlaceOf called (x ∷ xs) name (suc i) → IsPlaceOf called xs name i
   place_behind x xs name i is = record {
     within = omega (arith, is.within);
     before = λ k less. is.before (suc k) (omega (arith, less));
@@ -56,12 +59,27 @@ module _ {X : Type 0} (called : X → List ℕ) where
 
   -- what was told of a slice and a name that are these
 
-  pub place_for : (x : X) (xs ys : List X) (name : List ℕ) (at : ℕ) → ys ≡ xs → name ≡ called x → IsPlaceOf called ys name at → IsPlaceOf called xs (called x) at
-  place_for x xs ys name at same is place = subst (λ (n : List ℕ). IsPlaceOf called xs n at) is (subst (λ (l : List X). IsPlaceOf called l name at) same place)
+  pub place_for : (xs ys : List X) (name other : List ℕ) (at : ℕ) → ys ≡ xs → other ≡ name → IsPlaceOf called ys other at → IsPlaceOf called xs name at
+  place_for xs ys name other at same is place = subst (λ (n : List ℕ). IsPlaceOf called xs n at) is (subst (λ (l : List X). IsPlaceOf called l other at) same place)
 
-  pub there_of : (x : X) (xs ys : List X) (name : List ℕ) (at : ℕ) → ys ≡ xs → name ≡ called x → IsThere called ys name at → IsThere called xs (called x) at
-  there_of x xs ys name at same is there = subst (λ (n : List ℕ). IsThere called xs n at) is (subst (λ (l : List X). IsThere called l name at) same there)
+  pub there_for : (xs ys : List X) (name other : List ℕ) (at : ℕ) → ys ≡ xs → other ≡ name → IsThere called ys other at → IsThere called xs name at
+  there_for xs ys name other at same is there = subst (λ (n : List ℕ). IsThere called xs n at) is (subst (λ (l : List X). IsThere called l other at) same there)
 
-  pub not_there_of : (x : X) (xs ys : List X) (name : List ℕ) (at : ℕ) → ys ≡ xs → name ≡ called x → (IsThere called ys name at → ⊥) → at < length xs → get_or (names_of called xs) at [] ≢ called x
-  not_there_of x xs ys name at same is absent lt e =
-      absurd (absent (subst (λ (l : List X). IsThere called l name at) (sym same) (subst (λ (n : List ℕ). IsThere called xs n at) (sym is) (lt, e))))
+  pub not_there_for : (xs ys : List X) (name other : List ℕ) (at : ℕ) → ys ≡ xs → other ≡ name → (IsThere called ys other at → ⊥) → at < length xs → get_or (names_of called xs) at [] ≢ name
+  not_there_for xs ys name other at same is absent lt e = absurd (absent (there_for ys xs other name at (sym same) (sym is) (lt, e)))
+
+  -- a name whose place another has, or none, stands nowhere
+  pub stands_nowhere : (xs : List X) (name : List ℕ) (at : ℕ) → AreInOrder called xs → IsPlaceOf called xs name at → (IsThere called xs name at → ⊥) → Contains (names_of called xs) name → ⊥
+  stands_nowhere xs name at order place absent has =
+      let k = has.0 in
+      let lt : k < length xs = subst (λ (n : ℕ). k < n) (length-map xs called) has.1 in
+      let here : get_or (names_of called xs) k [] ≡ name = sym (get_or_default (names_of called xs) k name [] has.1) ∙ has.2 in
+      elim (cases_lt k at) [
+        | inl less ↦ not_before_itself name (subst (λ (n : List ℕ). IsBefore n name) here (place.before k less))
+        | inr up ↦ elim (cases_eq k at) [
+          | inl same ↦ absent (subst (λ (i : ℕ). IsThere called xs name i) same (lt, here))
+          | inr ne ↦
+              let behind : at < k = omega (arith, up, ne) in
+              place.here (omega (arith, behind, lt)) (subst (λ (n : List ℕ). IsBefore (get_or (names_of called xs) at []) n) here (order_at called xs at k order behind lt))
+        ]
+      ]

@@ -36,6 +36,14 @@ impl<T: Named> NameTable<T> {
         }
     }
 
+    /// These values as they stand.
+    pub fn of(values: Vec<T>) -> NameTable<T>
+        requires { AreInOrder T.called values.items }
+        ensures { result ≡ values.items }
+    {
+        NameTable { values }
+    }
+
     /// These values as they stand, or they come back where they aren't in name order.
     pub fn in_order(values: Vec<T>) -> Result<NameTable<T>, Vec<T>>
         ensures ok { IfOk result (λ t. t ≡ values.items) }

@@ -1,6 +1,6 @@
 use Rattle.std.proofs.Common.{◌-◌, ◌<◌, ◌≤◌, ℕ, [], length, get_or}
 use Rattle.name_tables.specs.Order.{IsBefore, names_of}
-use Rattle.name_tables.proofs.places.place_of.Given as goal
+use Rattle.name_tables.proofs.places.search.Given as goal
 
 abbrev pub invariant-loop-low : goal.invariant-loop-low
 invariant-loop-low g l = record {

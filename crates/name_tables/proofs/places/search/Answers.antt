@@ -1,7 +1,7 @@
 use Rattle.std.proofs.Common.{◌<◌, ◌+◌, ◌-◌, ◌/◌, sym, subst, arith, length, List, ℕ}
 use Rattle.name_tables.specs.Order.{IsBefore}
 use Rattle.name_tables.proofs.Searching.{before_up_to, name_at}
-use Rattle.name_tables.proofs.places.place_of.Goals as goal
+use Rattle.name_tables.proofs.places.search.Goals as goal
 
 pub loop-low-preserved-then-is_before : goal.loop-low-preserved-then-is_before
 loop-low-preserved-then-is_before g c =
