@@ -1,11 +1,13 @@
 -- Control files looked up by their names.
-use Rattle.std.proofs.Common.{◌≡◌, ◌≢◌, ◌+◌, ◌<◌, ◌≤◌, ℕ, ◌-◌, zero, suc, Bool, true, false, cond, List, [], ◌∷◌, ◌++◌, take, drop, length, get_or, Option, Some, None, is_some, refl, sym, ap, subst, ◌∙◌, arith, Contains, drop-cons, add-one}
-use Rattle.std.specs.Prelude.{IsSome, IfSome, IfNone, ◌||◌}
-use Rattle.std.specs.List.{AllByRecursion, insert}
+use Rattle.std.proofs.Common.{◌≡◌, ◌≢◌, ◌+◌, ◌<◌, ℕ, zero, suc, Bool, true, false, cond, List, [], ◌∷◌, ◌++◌, take, drop, length, get_or, Option, Some, None, is_some, refl, sym, ap, subst, ◌∙◌, arith, Contains, drop-cons, add-one}
+use Rattle.std.specs.Prelude.{IsSome, ◌||◌}
+use Rattle.std.specs.List.{AllByRecursion}
+use Rattle.std.specs.Option.{option_copied}
 use Rattle.std.specs.Str.{bytes_eq}
 use Rattle.std.proofs.lemmas.Bool.{true≢false, false_from_ne_true}
-use Rattle.std.proofs.lemmas.List.{take-append-drop, get_or-map}
+use Rattle.std.proofs.lemmas.List.{take-append-drop}
 use Rattle.std.proofs.lemmas.Slice.Eq.{bytes_eq-Decides}
+use denote.Ref.{Bor}
 use Rattle.host_core.specs.Paths.{Path}
 use Rattle.host_core.specs.World.{IsFile, is_file}
 use Rattle.host_core.specs.declared.node.Node.{Node}
@@ -146,6 +148,16 @@ already_found ms m name some = at (bytes_eq m.name name) refl
         ap (member_of ms) (sym same) ∙ stays (member_of ms m.name) some
         ∙ ap (or_else (member_of ms m.name)) (sym (found_here [] m m.name refl)) ∙ sym (member_of-append ms (m ∷ []) m.name) ∙ ap (member_of (ms ++ m ∷ [])) same)
     at false e = sym (pushed_other ms m name (λ same. true≢false (sym ((bytes_eq-Decides m.name name).1 same) ∙ e)))
+
+-- whether a name is found, as a look told
+
+pub told_some : (r : Option (Bor Member)) (b : Bool) (o : Option Member) → option_copied r ≡ o → b ≡ is_some r → b ≡ is_some (node_of o)
+told_some None b o e told = told ∙ ap (λ (x : Option Member). is_some (node_of x)) e
+told_some (Some m) b o e told = told ∙ ap (λ (x : Option Member). is_some (node_of x)) e
+
+pub told_none : (r : Option (Bor Member)) (b : Bool) (o : Option Member) → option_copied r ≡ o → b ≡ is_some r → b ≡ false → o ≡ None
+told_none None b o e told lacks = sym e
+told_none (Some m) b o e told lacks = absurd (true≢false (sym told ∙ lacks))
 
 -- one more, as nodes
 pub added_node : (ms : List Member) (m : Member) (name : Path) → member_node (ms ++ m ∷ []) name ≡ over (member_node ms name) (cond (bytes_eq m.name name) (Some m.node) None)
