@@ -1,7 +1,6 @@
 pub mod MemberNames
 pub mod Apart
 pub mod Order
-pub mod Finding
 pub mod Lookup
 pub mod Drawn
 pub mod Cutting

@@ -1,11 +1,13 @@
 -- Control files looked up by their names.
-use Rattle.std.proofs.Common.{◌≡◌, ◌≢◌, ◌+◌, ◌<◌, ◌≤◌, ℕ, ◌-◌, zero, suc, Bool, true, false, cond, List, [], ◌∷◌, ◌++◌, take, drop, length, get_or, Option, Some, None, is_some, refl, sym, ap, subst, ◌∙◌, arith, Contains, drop-cons, add-one}
-use Rattle.std.specs.Prelude.{IsSome, IfSome, IfNone, ◌||◌}
-use Rattle.std.specs.List.{AllByRecursion, insert}
+use Rattle.std.proofs.Common.{◌≡◌, ◌≢◌, ◌+◌, ◌<◌, ℕ, zero, suc, Bool, true, false, cond, List, [], ◌∷◌, ◌++◌, take, drop, length, get_or, Option, Some, None, is_some, refl, sym, ap, subst, ◌∙◌, arith, Contains, drop-cons, add-one}
+use Rattle.std.specs.Prelude.{IsSome, ◌||◌}
+use Rattle.std.specs.List.{AllByRecursion}
+use Rattle.std.specs.Option.{option_copied}
 use Rattle.std.specs.Str.{bytes_eq}
 use Rattle.std.proofs.lemmas.Bool.{true≢false, false_from_ne_true}
-use Rattle.std.proofs.lemmas.List.{take-append-drop, get_or-map}
+use Rattle.std.proofs.lemmas.List.{take-append-drop}
 use Rattle.std.proofs.lemmas.Slice.Eq.{bytes_eq-Decides}
+use denote.Ref.{Bor}
 use Rattle.host_core.specs.Paths.{Path}
 use Rattle.host_core.specs.World.{IsFile, is_file}
 use Rattle.host_core.specs.declared.node.Node.{Node}
@@ -16,12 +18,12 @@ use Rattle.host_core.specs.Outcome.{script_name}
 use Rattle.host_core.specs.declared.call.Script.{Script}
 use Rattle.host_core.specs.declared.call.Script.TheVariants.{Preinst, Postinst, Prerm, Postrm}
 use Rattle.control_members.specs.Names.{is_member_name, is_script_name}
-use Rattle.control_members.specs.Members.{IsBefore, AreInOrder, names_of, member_of, node_of, member_node}
-use Rattle.control_members.specs.Places.{IsAt, IsPlaceFor}
+use Rattle.name_tables.specs.Tables.{put_value}
+use Rattle.name_tables.proofs.Lookups.{value_in-put_value}
+use Rattle.name_tables.proofs.Names.{before_differs}
+use Rattle.control_members.specs.Members.{IsBefore, AreInOrder, name_of, names_of, member_of, node_of, member_node}
 use Rattle.control_members.specs.Stored.{over}
-use Rattle.control_members.proofs.Finding.{at_contains}
 use Rattle.control_members.specs.declared.member.Member.{Member}
-use Rattle.control_members.proofs.Order.{all_at, before_differs, front_before}
 
 -- the first of two
 abbrev pub or_else : Option Member → Option Member → Option Member
@@ -97,19 +99,6 @@ none_unnamed ms name not = at (member_node ms name) refl
 
 -- among the names
 
-pub within_names : (ms : List Member) (i : ℕ) → i < length ms → i < length (names_of ms)
-within_names [] i less = less
-within_names (m ∷ ms) zero less = omega arith
-within_names (m ∷ ms) (suc i) less = (let rest = within_names ms i (omega (arith, less)) in omega (arith, rest))
-
-pub length_names : (ms : List Member) (i : ℕ) → i < length (names_of ms) → i < length ms
-length_names [] i less = less
-length_names (m ∷ ms) zero less = omega arith
-length_names (m ∷ ms) (suc i) less = (let rest = length_names ms i (omega (arith, less)) in omega (arith, rest))
-
-pub name_at : (ms : List Member) (i : ℕ) (m : Member) → i < length ms → m ≡ get_or ms i m → get_or (names_of ms) i [] ≡ m.name
-name_at ms i m lt is = get_or-map (λ (x : Member). x.name) ms i m [] lt ∙ ap (λ (x : Member). x.name) (sym is)
-
 pub found_listed : (ms : List Member) (name : Path) → IsSome (member_node ms name) → Contains (names_of ms) name
 found_listed [] name some = absurd (true≢false (sym some))
 found_listed (m ∷ ms) name some = at (bytes_eq m.name name) refl (found_listed ms name) some
@@ -122,22 +111,6 @@ pub listed_named : (ms : List Member) (name : Path) → Contains (names_of ms) n
 listed_named [] name has = absurd (omega (arith, has.1))
 listed_named (m ∷ ms) name (zero, lt, e) = subst (λ n. is_member_name n ≡ true) e m.named
 listed_named (m ∷ ms) name (suc k, lt, e) = listed_named ms name (k, omega (arith, lt), e)
-
--- a name that isn't among them
-pub unlisted : (ms : List Member) (name : Path) → (Contains (names_of ms) name → ⊥) → member_of ms name ≡ None
-unlisted ms name not = at (member_of ms name) refl
-  where
-    at : (o : Option Member) → member_of ms name ≡ o → o ≡ None
-    at None e = refl
-    at (Some m) e = absurd (not (found_listed ms name (ap (λ o. is_some (node_of o)) e)))
-
--- the one that stands at a place
-pub found_at : (ms : List Member) (i : ℕ) (m : Member) (name : Path) → AreInOrder (names_of ms) → i < length ms → get_or (names_of ms) i [] ≡ name → m ≡ get_or ms i m → member_of ms name ≡ Some m
-found_at [] i m name order lt named is = absurd (omega (arith, lt))
-found_at (x ∷ ms) zero m name order lt named is = found_here ms x name named ∙ ap (λ (y : Member). Some y) (sym is)
-found_at (x ∷ ms) (suc i) m name order lt named is =
-    let less = subst (IsBefore x.name) named (all_at (IsBefore x.name) (names_of ms) i [] order.0 (within_names ms i (omega (arith, lt)))) in
-    passed_over ms x name (before_differs x.name name less) ∙ found_at ms i m name order.1 (omega (arith, lt)) named is
 
 -- of names in order none is that of one behind
 pub none_before : (front back : List Member) (m : Member) → AreInOrder (names_of (front ++ m ∷ back)) → member_of front m.name ≡ None
@@ -155,62 +128,12 @@ cut_at ms i m lt e =
     ap (λ (l : List Member). take i ms ++ l) (sym (drop-cons ms i m lt ∙ ap (λ x. x ∷ drop (suc i) ms) (sym e) ∙ ap (λ k. m ∷ drop k ms) (sym (add-one i)))) ∙ take-append-drop i ms
 
 -- one that comes in
-
-none_behind : (ms : List Member) (name : Path) → AllByRecursion (IsBefore name) (names_of ms) → member_of ms name ≡ None
-none_behind [] name all = refl
-none_behind (m ∷ ms) name all = passed_over ms m name (λ e. before_differs name m.name all.0 (sym e)) ∙ none_behind ms name all.1
-
-all_behind : (names : List Path) (name : Path) → ((k : ℕ) → k < length names → IsBefore name (get_or names k [])) → AllByRecursion (IsBefore name) names
-all_behind [] name each = tt
-all_behind (n ∷ names) name each = (each zero (omega arith), all_behind names name (λ k less. each (suc k) (omega (arith, less))))
-
--- all in front are before it, and all behind are behind it
-record Fits (names : List Path) (name : Path) (at : ℕ) : Type 0 where
-  pub within : at ≤ length names
-  pub before : (k : ℕ) → k < at → IsBefore (get_or names k []) name
-  pub behind : (k : ℕ) → at ≤ k → k < length names → IsBefore name (get_or names k [])
-
-fits_rest : (n : Path) (names : List Path) (name : Path) (at : ℕ) → Fits (n ∷ names) name (suc at) → Fits names name at
-fits_rest n names name at fits = record {
-  within = (let w = fits.within in omega (arith, w));
-  before = λ k less. fits.before (suc k) (omega (arith, less));
-  behind = λ k large small. fits.behind (suc k) (omega (arith, large)) (omega (arith, small));
-}
-
-among_inserted : (P : Path → Type 0) (ms : List Member) (m : Member) (at : ℕ) → AllByRecursion P (names_of ms) → P m.name → AllByRecursion P (names_of (insert ms at m))
-among_inserted P ms m zero all here = (here, all)
-among_inserted P [] m (suc i) all here = (here, tt)
-among_inserted P (x ∷ ms) m (suc i) all here = (all.0, among_inserted P ms m i all.1 here)
-
-inserted_order : (ms : List Member) (m : Member) (at : ℕ) → AreInOrder (names_of ms) → Fits (names_of ms) m.name at → AreInOrder (names_of (insert ms at m))
-inserted_order ms m zero order fits = (all_behind (names_of ms) m.name (λ k less. fits.behind k (omega arith) less), order)
-inserted_order [] m (suc i) order fits = (let w = fits.within in absurd (omega (arith, w)))
-inserted_order (x ∷ ms) m (suc i) order fits =
-    (among_inserted (IsBefore x.name) ms m i order.0 (fits.before zero (omega arith)), inserted_order ms m i order.1 (fits_rest x.name (names_of ms) m.name i fits))
-
-inserted_found : (ms : List Member) (m : Member) (at : ℕ) (name : Path) → AreInOrder (names_of ms) → Fits (names_of ms) m.name at → member_of (insert ms at m) name ≡ member_of (ms ++ m ∷ []) name
-inserted_found ms m zero name order fits = at (bytes_eq m.name name) refl
+pub added_found : (ms : List Member) (m : Member) (name : Path) → member_of ms m.name ≡ None → member_of (put_value name_of m ms) name ≡ member_of (ms ++ m ∷ []) name
+added_found ms m name none = value_in-put_value name_of m ms name ∙ at (bytes_eq m.name name) refl
   where
-    none : member_of ms m.name ≡ None
-    none = none_behind ms m.name (all_behind (names_of ms) m.name (λ k less. fits.behind k (omega arith) less))
-
-    at : (b : Bool) → bytes_eq m.name name ≡ b → member_of (m ∷ ms) name ≡ member_of (ms ++ m ∷ []) name
-    at true e = (let same = (bytes_eq-Decides m.name name).0 e in
-        found_here ms m name same ∙ sym (pushed_here ms m none) ∙ ap (member_of (ms ++ m ∷ [])) same)
-    at false e = (let differs : m.name ≢ name = λ same. true≢false (sym ((bytes_eq-Decides m.name name).1 same) ∙ e) in
-        passed_over ms m name differs ∙ sym (pushed_other ms m name differs))
-inserted_found [] m (suc i) name order fits = (let w = fits.within in absurd (omega (arith, w)))
-inserted_found (x ∷ ms) m (suc i) name order fits = ap (λ o. cond (bytes_eq x.name name) (Some x) o) (inserted_found ms m i name order.1 (fits_rest x.name (names_of ms) m.name i fits))
-
-module _ (ms : List Member) (m : Member) (at : ℕ) (order : AreInOrder (names_of ms)) (place : IsPlaceFor (names_of ms) m.name at) (differs : 0 < at → get_or (names_of ms) (at - 1) [] ≢ m.name) where
-  fits : Fits (names_of ms) m.name at
-  fits = record { within = place.within; before = front_before (names_of ms) m.name at order place differs; behind = place.behind }
-
-  pub added_order : AreInOrder (names_of (insert ms at m))
-  added_order = inserted_order ms m at order fits
-
-  pub added_found : (name : Path) → member_of (insert ms at m) name ≡ member_of (ms ++ m ∷ []) name
-  added_found name = inserted_found ms m at name order fits
+    at : (b : Bool) → bytes_eq m.name name ≡ b → cond b (Some m) (member_of ms name) ≡ member_of (ms ++ m ∷ []) name
+    at true e = sym (pushed_here ms m none) ∙ ap (member_of (ms ++ m ∷ [])) ((bytes_eq-Decides m.name name).0 e)
+    at false e = sym (pushed_other ms m name (λ same. true≢false (sym ((bytes_eq-Decides m.name name).1 same) ∙ e)))
 
 -- one whose name is there already
 pub already_found : (ms : List Member) (m : Member) (name : Path) → IsSome (node_of (member_of ms m.name)) → member_of ms name ≡ member_of (ms ++ m ∷ []) name
@@ -226,20 +149,15 @@ already_found ms m name some = at (bytes_eq m.name name) refl
         ∙ ap (or_else (member_of ms m.name)) (sym (found_here [] m m.name refl)) ∙ sym (member_of-append ms (m ∷ []) m.name) ∙ ap (member_of (ms ++ m ∷ [])) same)
     at false e = sym (pushed_other ms m name (λ same. true≢false (sym ((bytes_eq-Decides m.name name).1 same) ∙ e)))
 
--- a listed name is found
-pub listed_found : (ms : List Member) (name : Path) → Contains (names_of ms) name → IsSome (member_node ms name)
-listed_found [] name has = absurd (omega (arith, has.1))
-listed_found (m ∷ ms) name (zero, lt, e) = ap (λ o. is_some (node_of o)) (found_here ms m name e)
-listed_found (m ∷ ms) name (suc k, lt, e) = at (bytes_eq m.name name) (listed_found ms name (k, omega (arith, lt), e))
-  where
-    at : (b : Bool) → IsSome (member_node ms name) → IsSome (node_of (cond b (Some m) (member_of ms name)))
-    at true rest = refl
-    at false rest = rest
+-- whether a name is found, as a look told
 
--- whether a name is found, as a search told
-pub told_by : (r : Option ℕ) (b : Bool) (ms : List Member) (name : Path) → b ≡ is_some r → IfSome r (IsAt (names_of ms) name) → IfNone r (Contains (names_of ms) name → ⊥) → b ≡ is_some (member_node ms name)
-told_by None b ms name e some none = e ∙ sym (ap (λ o. is_some (node_of o)) (unlisted ms name none))
-told_by (Some at) b ms name e some none = e ∙ sym (listed_found ms name (at_contains (names_of ms) name at some.within some.is))
+pub told_some : (r : Option (Bor Member)) (b : Bool) (o : Option Member) → option_copied r ≡ o → b ≡ is_some r → b ≡ is_some (node_of o)
+told_some None b o e told = told ∙ ap (λ (x : Option Member). is_some (node_of x)) e
+told_some (Some m) b o e told = told ∙ ap (λ (x : Option Member). is_some (node_of x)) e
+
+pub told_none : (r : Option (Bor Member)) (b : Bool) (o : Option Member) → option_copied r ≡ o → b ≡ is_some r → b ≡ false → o ≡ None
+told_none None b o e told lacks = sym e
+told_none (Some m) b o e told lacks = absurd (true≢false (sym told ∙ lacks))
 
 -- one more, as nodes
 pub added_node : (ms : List Member) (m : Member) (name : Path) → member_node (ms ++ m ∷ []) name ≡ over (member_node ms name) (cond (bytes_eq m.name name) (Some m.node) None)

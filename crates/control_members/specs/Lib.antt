@@ -2,5 +2,4 @@ pub mod Names
 pub mod Members
 pub mod Stored
 pub mod LaidOut
-pub mod Places
 pub mod Written

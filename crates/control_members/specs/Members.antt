@@ -1,30 +1,25 @@
 -- Control files of a package, by their names.
-use Rattle.std.specs.Prelude.{◌≡◌, List, [], ◌∷◌, map, cond, Option, Some, None}
-use Rattle.std.specs.List.{AllByRecursion}
-use Rattle.std.specs.Ordering.{nat_cmp}
-use Rattle.std.specs.Cmp.Lexicographic.{slice_cmp}
-use Rattle.std.specs.declared.cmp.Ordering.TheVariants.{Less}
-use Rattle.std.specs.Str.{bytes_eq}
+use Rattle.std.specs.Prelude.{List, Option, Some, None}
+pub use Rattle.name_tables.specs.Order.{IsBefore}
+use Rattle.name_tables.specs.Order as names
+use Rattle.name_tables.specs.Tables.{value_in}
 use Rattle.host_core.specs.Paths.{Path}
 use Rattle.host_core.specs.declared.node.Node.{Node}
 use Rattle.control_members.specs.declared.member.Member.{Member}
 
--- names stand in the order of their bytes
-abbrev pub IsBefore : Path → Path → Type 0
-IsBefore p q = slice_cmp nat_cmp p q ≡ Less
-
--- in that order, each once
+-- names in the order of their bytes, each once
 abbrev pub AreInOrder : List Path → Type 0
-AreInOrder [] = Unit {0}
-AreInOrder (p ∷ ps) = AllByRecursion (IsBefore p) ps × AreInOrder ps
+AreInOrder = names.AreInOrder (λ (name : Path). name)
+
+abbrev pub name_of : Member → Path
+name_of m = m.name
 
 abbrev pub names_of : List Member → List Path
-names_of members = map (λ (m : Member). m.name) members
+names_of = names.names_of name_of
 
 -- the first of a name
 abbrev pub member_of : List Member → Path → Option Member
-member_of [] name = None
-member_of (m ∷ ms) name = cond (bytes_eq m.name name) (Some m) (member_of ms name)
+member_of = value_in name_of
 
 abbrev pub node_of : Option Member → Option Node
 node_of None = None

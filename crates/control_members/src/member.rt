@@ -5,6 +5,7 @@ ghost use Rattle.control_members.specs.Names.{is_member_name};
 
 use crate::names::is_member_name;
 use host_core::Node;
+use name_tables::Named;
 use std::alloc::AllocError;
 use texts::Text;
 
@@ -15,6 +16,14 @@ pub struct Member {
     pub node: Node,
     pub ghost named: { is_member_name name ≡ true },
     pub ghost file: { is_file node ≡ true },
+}
+
+impl Named for Member {
+    ghost called = { λ m. m.name };
+
+    fn name(&self) -> &Text {
+        &self.name
+    }
 }
 
 impl Member {

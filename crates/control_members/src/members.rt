@@ -1,86 +1,34 @@
 // Control files of a package, by their names.
-ghost use Rattle.std.specs.Prelude.{◌≡◌, ◌++◌, ◌∷◌, [], ◌&&◌, ◌<◌, ◌≤◌, ◌-◌, ◌↔◌, true, false, cond, List, ℕ, length, get_or, map, IfOk, OnOk, OnErr, IfSome, IfNone, IsTrue, is_some, None, Contains};
+ghost use Rattle.std.specs.Prelude.{◌≡◌, ◌++◌, ◌∷◌, [], false, cond, List, ℕ, IfOk, OnOk, OnErr, None};
 ghost use Rattle.std.specs.Option.{option_copied};
-ghost use Rattle.std.specs.Ordering.{nat_cmp, is_lt};
-ghost use Rattle.std.specs.Cmp.Lexicographic.{slice_cmp};
 ghost use Rattle.std.specs.Str.{bytes_eq};
 ghost use Rattle.host_core.specs.Outcome.{script_name};
 ghost use Rattle.host_core.specs.declared.call.Script.{Script as AScript};
 ghost use Rattle.administration.specs.Scripts.{script_of, file_of};
-ghost use Rattle.control_members.specs.Names.{is_member_name, is_script_name};
+ghost use Rattle.control_members.specs.Names.{is_script_name};
 ghost use Rattle.control_members.specs.Members.{AreInOrder, names_of, member_of, member_node};
 ghost use Rattle.control_members.specs.Stored.{over};
 ghost use Rattle.control_members.specs.declared.member.Member.{Member as AMember};
-ghost use Rattle.control_members.specs.Places.{IsAt, IsPlaceFor};
 
 use crate::member::Member;
 use crate::names::is_script_name;
 use administration::{ScriptFile, Scripts};
 use host_core::Script;
+use name_tables::NameTable;
 use std::alloc::{AllocError, Global};
-use std::cmp::Ordering;
 use std::marker::Model;
 use texts::{Text, Texts};
 
 /// Control files in the order of their names, each name once.
 #[derive(Drop)]
 pub struct Members {
-    items: Vec<Member>,
+    items: NameTable<Member>,
 }
 
 impl Model for Members {
     ghost Value = { List AMember };
 
-    ghost view = { λ ms. ms.items.items };
-
-    ghost invariant = { λ ms. AreInOrder (names_of ms.items.items) };
-}
-
-// Where the one of a name stands among these.
-fn find(items: &[Member], name: &[u8]) -> Option<usize>
-    requires { AreInOrder (names_of items.now) }
-    ensures some { IfSome result (IsAt (names_of items.now) name.now) }
-    ensures none { IfNone result (Contains (names_of items.now) name.now → ⊥) }
-{
-    let mut low = 0;
-    let mut high = items.len();
-    while low < high {
-        let middle = low + (high - low) / 2;
-        match items[middle].name.as_str().as_bytes().cmp(name) {
-            Ordering::Equal => return Some(middle),
-            Ordering::Less => low = middle + 1,
-            Ordering::Greater => high = middle,
-        }
-    }
-    None
-}
-
-fn is_before(name: &Text, member: &Member) -> bool
-    ensures { result ≡ is_lt (slice_cmp nat_cmp name.now member.now.name) }
-{
-    name.as_str()
-        .as_bytes()
-        .cmp(member.name.as_str().as_bytes())
-        == Ordering::Less
-}
-
-// Where one of a name comes in: behind the last that isn't greater. Those that are added in order are placed at once.
-fn place_for(items: &[Member], name: &Text) -> usize
-    ensures { IsPlaceFor (names_of items.now) name.now result }
-{
-    let mut at = items.len();
-    while at > 0 && is_before(name, &items[at - 1]) {
-        at -= 1;
-    }
-    at
-}
-
-// Whether the one in front of a place has a name.
-fn is_taken(items: &[Member], at: usize, name: &Text) -> bool
-    requires { at ≤ length items.now }
-    ensures { IsTrue result ↔ ((0 < at) × (get_or (names_of items.now) (at - 1) [] ≡ name.now)) }
-{
-    at > 0 && items[at - 1].name.is(name)
+    ghost view = { λ ms. ms.items };
 }
 
 impl Members {
@@ -88,7 +36,7 @@ impl Members {
         ensures { result ≡ [] }
     {
         Members {
-            items: Vec::new(alloc),
+            items: NameTable::new(alloc),
         }
     }
 
@@ -98,11 +46,10 @@ impl Members {
             (self.old ++ member ∷ []) name) }
         ensures err { OnErr result (self.new ≡ self.old) }
     {
-        let at = place_for(self.items.as_slice(), &member.name);
-        if is_taken(self.items.as_slice(), at, &member.name) {
+        if self.items.get(&member.name).is_some() {
             return Ok(());
         }
-        self.items.insert(at, member)?;
+        self.items.put(member)?;
         Ok(())
     }
 
@@ -125,7 +72,7 @@ impl Members {
     pub fn law(&self)
         ensures { AreInOrder (names_of self.now) }
     {
-        let _ = &self.items;
+        self.items.law();
     }
 
     pub fn as_slice(&self) -> &[Member]
@@ -138,10 +85,7 @@ impl Members {
     pub fn find(&self, name: &Text) -> Option<&Member>
         ensures { option_copied result ≡ member_of self.now name.now }
     {
-        match find(self.items.as_slice(), name.as_str().as_bytes()) {
-            Some(at) => Some(&self.items[at]),
-            None => None,
-        }
+        self.items.get(name)
     }
 
     /// Their names, in order.
@@ -149,7 +93,7 @@ impl Members {
         ensures { IfOk result (λ names. names ≡ names_of self.now) }
     {
         let mut names = Texts::new(alloc);
-        for member in &self.items {
+        for member in self.items.as_slice() {
             names.push(member.name.copy()?)?;
         }
         Ok(names)
@@ -158,11 +102,14 @@ impl Members {
     pub fn copy(&self, alloc: Global) -> Result<Members, AllocError>
         ensures { IfOk result (λ ms. ms ≡ self.now) }
     {
+        self.items.law();
         let mut items = Vec::new(alloc);
-        for member in &self.items {
+        for member in self.items.as_slice() {
             items.push(member.copy()?)?;
         }
-        Ok(Members { items })
+        Ok(Members {
+            items: NameTable::of(items),
+        })
     }
 }
 

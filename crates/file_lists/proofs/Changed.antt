@@ -12,12 +12,15 @@ use Rattle.std.proofs.lemmas.Bool.Decides.{Decides-eqb}
 use Rattle.std.proofs.lemmas.Cmp.{tied_itself, nat_list_cmp_total}
 use Rattle.std.proofs.lemmas.List.{map-set, get_or-set_same, get_or-set_other}
 use Rattle.std.proofs.lemmas.Map.Lookups.{exact_bytes}
+use Rattle.name_tables.specs.Order.{IsPlaceOf}
+use Rattle.name_tables.proofs.Names.{either_before}
+use Rattle.name_tables.proofs.Placed.{place_behind}
 use Rattle.host_core.specs.Paths.{Path}
 use Rattle.file_lists.specs.declared.paths.PackageList.{PackageList}
 use Rattle.file_lists.specs.Increasing.{IsBefore, AreIncreasing}
 use Rattle.file_lists.specs.Index.{row_of, paths_of_slot, IsComplete, KeepsRows, IsIndexed}
-use Rattle.file_lists.specs.Owners.{AreListPaths, AreLists, names_of}
-use Rattle.file_lists.specs.Table.{IsAt, IsPlaceFor}
+use Rattle.file_lists.specs.Owners.{AreListPaths, AreLists, name_of, names_of}
+use Rattle.file_lists.specs.Table.{IsAt}
 use Rattle.file_lists.specs.Writing.{package_list, with_list, with_paths_at, IsEntered}
 use Rattle.file_lists.proofs.Finding.{behind}
 use Rattle.file_lists.proofs.Increasing.{all_at, get_or_any}
@@ -32,27 +35,24 @@ same_name name other is = ap (slice_cmp nat_cmp name) is ∙ tied_itself nat_lis
 
 -- the list of a name that stands there is the one that is changed
 pub with_there : (lists : List PackageList) (name : List ℕ) (paths : List Path) (at : ℕ) → AreIncreasing (names_of lists) → IsAt lists name at → with_paths_at at paths lists ≡ with_list name paths lists
-with_there [] name paths at order is = absurd (omega (arith, is.within))
+with_there [] name paths at order is = absurd (omega (arith, is.0))
 with_there (l ∷ lists) name paths zero order is =
-    ap (λ (n : List ℕ). package_list n paths ∷ lists) is.is ∙ sym (ap (λ o. match_ordering o (package_list name paths ∷ l ∷ lists) (package_list name paths ∷ lists) (l ∷ with_list name paths lists)) (same_name name l.name is.is))
+    ap (λ (n : List ℕ). package_list n paths ∷ lists) is.1 ∙ sym (ap (λ o. match_ordering o (package_list name paths ∷ l ∷ lists) (package_list name paths ∷ lists) (l ∷ with_list name paths lists)) (same_name name l.name is.1))
 with_there (l ∷ lists) name paths (suc i) order is =
-    let lt : i < length lists = omega (arith, is.within) in
-    let less = subst (IsBefore l.name) is.is (all_at (IsBefore l.name) (names_of lists) i [] order.0 (within_names lists i lt)) in
-    ap (λ (ls : List PackageList). l ∷ ls) (with_there lists name paths i order.1 record { within = lt; is = is.is })
+    let lt : i < length lists = omega (arith, is.0) in
+    let less = subst (IsBefore l.name) is.1 (all_at (IsBefore l.name) (names_of lists) i [] order.0 (within_names lists i lt)) in
+    ap (λ (ls : List PackageList). l ∷ ls) (with_there lists name paths i order.1 (lt, is.1))
     ∙ sym (ap (λ o. match_ordering o (package_list name paths ∷ l ∷ lists) (package_list name paths ∷ lists) (l ∷ with_list name paths lists)) (greater name l.name less))
 
 -- a list that comes in
-pub with_inserted : (lists : List PackageList) (name : List ℕ) (paths : List Path) (at : ℕ) → IsPlaceFor lists name at → insert lists at (package_list name paths) ≡ with_list name paths lists
-with_inserted [] name paths zero is = refl
-with_inserted [] name paths (suc i) is = absurd (omega (arith, is.within))
-with_inserted (l ∷ lists) name paths zero is =
-    sym (ap (λ o. match_ordering o (package_list name paths ∷ l ∷ lists) (package_list name paths ∷ lists) (l ∷ with_list name paths lists)) (is.behind (omega arith)))
-with_inserted (l ∷ lists) name paths (suc i) is =
-    ap (λ (ls : List PackageList). l ∷ ls) (with_inserted lists name paths i record {
-      within = omega (arith, is.within);
-      before = λ k less. is.before (suc k) (omega (arith, less));
-      behind = λ less. is.behind (omega (arith, less));
-    })
+pub with_inserted : (lists : List PackageList) (name : List ℕ) (paths : List Path) (at : ℕ) → IsPlaceOf name_of lists name at → (IsAt lists name at → ⊥) → insert lists at (package_list name paths) ≡ with_list name paths lists
+with_inserted [] name paths zero is other = refl
+with_inserted [] name paths (suc i) is other = absurd (omega (arith, is.within))
+with_inserted (l ∷ lists) name paths zero is other =
+    let less = either_before l.name name (λ same. other (omega arith, same)) (is.here (omega arith)) in
+    sym (ap (λ o. match_ordering o (package_list name paths ∷ l ∷ lists) (package_list name paths ∷ lists) (l ∷ with_list name paths lists)) less)
+with_inserted (l ∷ lists) name paths (suc i) is other =
+    ap (λ (ls : List PackageList). l ∷ ls) (with_inserted lists name paths i (place_behind name_of l lists name i is) (λ there. other (omega (arith, there.0), there.1)))
     ∙ sym (ap (λ o. match_ordering o (package_list name paths ∷ l ∷ lists) (package_list name paths ∷ lists) (l ∷ with_list name paths lists)) (greater name l.name (is.before zero (omega arith))))
 
 -- they are lists as before
@@ -91,20 +91,6 @@ with_paths_of (l ∷ lists) name paths all here = by (slice_cmp nat_cmp name l.n
 pub with_lists : (lists : List PackageList) (name : List ℕ) (paths : List Path) → AreLists lists → AreListPaths paths → AreLists (with_list name paths lists)
 with_lists lists name paths are ok = record { names = with_increasing lists name paths are.names; paths = with_paths_of lists name paths are.paths ok }
 
--- what isn't before a name, and isn't it, is behind it
-pub behind_other : (name other : Path) → is_lt (slice_cmp nat_cmp other name) ≡ false → (other ≡ name → ⊥) → IsBefore name other
-behind_other name other not_less differs = by (slice_cmp nat_cmp other name) refl not_less
-  where
-    by : (o : Ordering) → slice_cmp nat_cmp other name ≡ o → is_lt o ≡ false → IsBefore name other
-    by Less e is = absurd (true≢false is)
-    by Equal e is = absurd (differs (exact_bytes other name e))
-    by Greater e is = behind name other e
-
-pub told_before : (o : Ordering) → is_lt o ≡ true → o ≡ Less
-told_before Less is = refl
-told_before Equal is = absurd (false≢true is)
-told_before Greater is = absurd (false≢true is)
-
 -- The index of lists of which one has other paths.
 
 paths_there : (lists : List PackageList) (at s : ℕ) (paths : List Path) → at < length lists → (b : Bool) → nat_eq s at ≡ b → paths_of_slot (with_paths_at at paths lists) s ≡ cond b paths (paths_of_slot lists s)
@@ -132,19 +118,3 @@ pub indexed_with : (lists : List PackageList) (at : ℕ) (paths : List Path) (ol
 indexed_with lists at paths old None lt indexed entered = tt
 indexed_with lists at paths None (Some rows) lt indexed entered = absurd entered
 indexed_with lists at paths (Some old) (Some rows) lt indexed entered = complete_with lists at paths old rows lt indexed entered.0 entered.1
-
--- Where a list comes in.
-
-pub place_here : (lists : List PackageList) (name : List ℕ) (at : ℕ) (l : PackageList) → at < length lists → l ≡ get_or lists at l → ((k : ℕ) → k < at → IsBefore (get_or (names_of lists) k []) name) → is_lt (slice_cmp nat_cmp l.name name) ≡ false → (Contains (names_of lists) name → ⊥) → IsPlaceFor lists name at
-place_here lists name at l lt is before not_less other = record {
-  within = omega (arith, lt);
-  before = before;
-  behind = λ less. subst (IsBefore name) (sym (name_at lists at l lt is)) (behind_other name l.name not_less (λ same. other (at, within_names lists at lt, get_or_any (names_of lists) at name [] (within_names lists at lt) ∙ name_at lists at l lt is ∙ same)));
-}
-
-pub place_later : (lists : List PackageList) (name : List ℕ) (at : ℕ) (l : PackageList) → at < length lists → l ≡ get_or lists at l → ((k : ℕ) → k < at → IsBefore (get_or (names_of lists) k []) name) → is_lt (slice_cmp nat_cmp l.name name) ≡ true → (k : ℕ) → k < at + 1 → IsBefore (get_or (names_of lists) k []) name
-place_later lists name at l lt is before less k small = elim (cases_lt k at) [
-  | inl lower ↦ before k lower
-  | inr here ↦ (let same : at ≡ k = omega (arith, here, small) in
-      subst (λ (i : ℕ). IsBefore (get_or (names_of lists) i []) name) same (subst (λ (n : Path). IsBefore n name) (sym (name_at lists at l lt is)) (told_before (slice_cmp nat_cmp l.name name) less)))
-]

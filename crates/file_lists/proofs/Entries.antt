@@ -48,7 +48,7 @@ any_contains names name is = Contains-from_any (λ x y e. (bytes_eq-Decides x y)
 
 -- where a name stands among the lists it is one of their names
 pub at_contains : (lists : List PackageList) (name : List ℕ) (at : ℕ) → IsAt lists name at → Contains (names_of lists) name
-at_contains lists name at is = (let lt = within_names lists at is.within in (at, lt, get_or_any (names_of lists) at name [] lt ∙ is.is))
+at_contains lists name at is = (let lt = within_names lists at is.0 in (at, lt, get_or_any (names_of lists) at name [] lt ∙ is.1))
 
 pub one_of : (lists : List PackageList) (ending entry front : List ℕ) (r : Option ℕ) (b : Bool) → entry ≡ front ++ ending → b ≡ is_some r → IfSome r (λ at. IsAt lists front at) → IfNone r (Contains (names_of lists) front → ⊥) → IsTrue b ↔ IsOneOf (names_of lists) ending entry
 one_of lists ending entry front None b is told some none = (
@@ -60,7 +60,7 @@ one_of lists ending entry front (Some at) b is told some none = (λ t. (front, a
 -- the list of a name that stands there, and of one that stands nowhere
 pub list_found : (lists : List PackageList) (entry front : List ℕ) (r : Option ℕ) → entry ≡ front ++ codes ".list" → IfSome r (λ at. IsAt lists front at) → IfSome r (λ at. IsListAt lists entry at)
 list_found lists entry front None is some = tt
-list_found lists entry front (Some at) is some = record { within = some.within; is = is ∙ ap list_name (sym some.is) }
+list_found lists entry front (Some at) is some = record { within = some.0; is = is ∙ ap list_name (sym some.1) }
 
 pub list_missing : (lists : List PackageList) (entry front : List ℕ) (r : Option ℕ) → entry ≡ front ++ codes ".list" → IfNone r (Contains (names_of lists) front → ⊥) → IfNone r (IsListOf (names_of lists) entry → ⊥)
 list_missing lists entry front None is none = λ of. none (subst (Contains (names_of lists)) (append_cancel_right of.0 front (codes ".list") (sym of.2 ∙ is)) of.1)

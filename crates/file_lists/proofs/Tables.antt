@@ -21,11 +21,6 @@ within_names [] i less = less
 within_names (l ∷ lists) zero less = omega arith
 within_names (l ∷ lists) (suc i) less = (let rest = within_names lists i (omega (arith, less)) in omega (arith, rest))
 
-pub length_names : (lists : List PackageList) (i : ℕ) → i < length (names_of lists) → i < length lists
-length_names [] i less = less
-length_names (l ∷ lists) zero less = omega arith
-length_names (l ∷ lists) (suc i) less = (let rest = length_names lists i (omega (arith, less)) in omega (arith, rest))
-
 -- the name of the list at i
 pub name_at : (lists : List PackageList) (i : ℕ) (l : PackageList) → i < length lists → l ≡ get_or lists i l → get_or (names_of lists) i [] ≡ l.name
 name_at lists i l lt is = get_or-map (λ (x : PackageList). x.name) lists i l [] lt ∙ ap (λ (x : PackageList). x.name) (sym is)

@@ -5,6 +5,7 @@ use Rattle.std.specs.Str.{bytes_eq}
 use Rattle.host_core.specs.Paths.{Path, is_path, has_room}
 use Rattle.diversions.specs.declared.entry.Diversion.{Diversion}
 use Rattle.diversions.specs.Places.{place}
+use Rattle.name_tables.specs.Order as names
 use Rattle.file_lists.specs.Increasing.{AreIncreasing}
 use Rattle.file_lists.specs.declared.paths.PackageList.{PackageList}
 use Rattle.file_lists.specs.declared.paths.Listed.{Listed}
@@ -19,8 +20,11 @@ pub record AreListPaths (paths : List Path) : Type 0 where
   pub order : AreIncreasing paths
   pub room : AllByRecursion IsListable paths
 
+abbrev pub name_of : PackageList → List ℕ
+name_of l = l.name
+
 abbrev pub names_of : List PackageList → List (List ℕ)
-names_of lists = map (λ l. l.name) lists
+names_of = names.names_of name_of
 
 -- the lists of an administration: at most one a name, in the order of names
 pub record AreLists (lists : List PackageList) : Type 0 where

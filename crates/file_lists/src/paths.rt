@@ -2,6 +2,7 @@
 ghost use Rattle.std.specs.Prelude.{◌≡◌, ℕ, List};
 
 use host_core::RootPath;
+use name_tables::Named;
 use std::marker::Model;
 use texts::Text;
 
@@ -30,6 +31,14 @@ impl Paths {
 pub struct PackageList {
     pub name: Text,
     pub paths: Paths,
+}
+
+impl Named for PackageList {
+    ghost called = { λ l. l.name };
+
+    fn name(&self) -> &Text {
+        &self.name
+    }
 }
 
 /// A path, and the name of a package that lists it.

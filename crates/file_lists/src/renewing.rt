@@ -7,12 +7,18 @@ ghost use Rattle.file_lists.specs.Beside.{HadPlaces, lists_before, lists_behind,
 ghost use Rattle.file_lists.specs.Owners.{places_in};
 
 use crate::paths::PackageList;
-use crate::table::{Table, is_before, take_places};
+use crate::table::{Table, take_places};
 use diversions::Diversions;
 use host_core::{Places, RootPath};
 use std::alloc::{AllocError, Global};
 use std::cmp::Ordering;
 use texts::Text;
+
+fn is_before(list: &PackageList, name: &Text) -> bool
+    ensures { result ≡ is_lt (slice_cmp nat_cmp list.now.name name.now) }
+{
+    list.name.as_str().as_bytes().cmp(name.as_str().as_bytes()) == Ordering::Less
+}
 
 fn is_behind(list: &PackageList, name: &Text) -> bool
     ensures { result ≡ is_lt (slice_cmp nat_cmp name.now list.now.name) }

@@ -1,20 +1,17 @@
 // The table of the lists.
-ghost use Rattle.std.specs.Prelude.{◌≡◌, ◌++◌, [], ◌∷◌, List, ℕ, IfOk, OnOk, OnErr, IfSome, IfNone, ◌<◌, length, Contains, ◌↔◌, false, cond, map};
-ghost use Rattle.std.specs.Str.{bytes_eq};
+ghost use Rattle.std.specs.Prelude.{◌≡◌, ◌++◌, [], List, ℕ, IfOk, OnOk, OnErr, IfSome, IfNone, ◌<◌, length, Contains, ◌↔◌, map};
 ghost use Rattle.file_lists.specs.declared.paths.PackageList.{PackageList as AList};
 ghost use Rattle.file_lists.specs.Owners.{AreLists, AreListPaths, names_of, paths_of, places_in};
 ghost use Rattle.diversions.specs.Places.{place};
-ghost use Rattle.std.specs.Ordering.{nat_cmp, is_lt};
-ghost use Rattle.std.specs.Cmp.Lexicographic.{slice_cmp};
-ghost use Rattle.file_lists.specs.Table.{IsAt, IsSet, IsPlaceFor};
+ghost use Rattle.file_lists.specs.Table.{IsAt, IsSet};
 ghost use Rattle.file_lists.specs.Writing.{with_list, with_paths_at};
 
 use crate::ordering::sorted;
 use crate::paths::{PackageList, Paths};
 use diversions::Diversions;
 use host_core::{Places, RootPath};
+use name_tables::{find, place_of};
 use std::alloc::{AllocError, Global};
-use std::cmp::Ordering;
 use std::marker::Model;
 use texts::Text;
 
@@ -30,44 +27,6 @@ impl Model for Table {
     ghost view = { λ t. t.lists.items };
 
     ghost invariant = { λ t. AreLists t.lists.items };
-}
-
-// Where the list of a name stands among these.
-fn find(lists: &[PackageList], name: &[u8]) -> Option<usize>
-    requires { AreLists lists.now }
-    ensures some { IfSome result (λ at. IsAt lists.now name.now at) }
-    ensures none { IfNone result (Contains (names_of lists.now) name.now → ⊥) }
-{
-    let mut low = 0;
-    let mut high = lists.len();
-    while low < high {
-        let middle = low + (high - low) / 2;
-        match lists[middle].name.as_str().as_bytes().cmp(name) {
-            Ordering::Equal => return Some(middle),
-            Ordering::Less => low = middle + 1,
-            Ordering::Greater => high = middle,
-        }
-    }
-    None
-}
-
-pub(crate) fn is_before(list: &PackageList, name: &Text) -> bool
-    ensures { result ≡ is_lt (slice_cmp nat_cmp list.now.name name.now) }
-{
-    list.name.as_str().as_bytes().cmp(name.as_str().as_bytes()) == Ordering::Less
-}
-
-// Where the list of a name comes in.
-fn place_for(lists: &[PackageList], name: &Text) -> usize
-    requires { Contains (names_of lists.now) name.now → ⊥ }
-    ensures { IsPlaceFor lists.now name.now result }
-{
-    for at in 0..lists.len() {
-        if !is_before(&lists[at], name) {
-            return at;
-        }
-    }
-    lists.len()
 }
 
 /// Adds the places of a package's paths.
@@ -138,7 +97,7 @@ impl Table {
         ensures ok { OnOk result (self.new ≡ with_list name paths self.old) }
         ensures err { OnErr result (self.new ≡ self.old) }
     {
-        let at = place_for(self.lists.as_slice(), &name);
+        let at = place_of(self.lists.as_slice(), &name);
         self.lists.insert(at, PackageList { name, paths })?;
         Ok(())
     }

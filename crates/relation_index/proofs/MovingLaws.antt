@@ -10,10 +10,13 @@ use Rattle.std.proofs.lemmas.List.Edits.{get_or-insert_at, get_or-insert_below, 
 use Rattle.dependency_sets.specs.Sets.{row_at}
 use Rattle.relation_index.specs.Bearing.{bears, IsEntered, Grows, IsIndex, AreIndexed}
 use Rattle.relation_index.specs.Moves.{moved_up, moved_down, Moves}
-use Rattle.relation_index.specs.Order.{IsPlaceOf, IsThere}
+use Rattle.name_tables.specs.Order.{IsPlaceOf, IsThere}
+use Rattle.name_tables.proofs.Ordered.{dropped_order, put_order}
+use Rattle.name_tables.proofs.Placed.{dropped_there, put_there, put_between}
+use Rattle.relation_index.specs.Order.{name_of}
 use Rattle.relation_index.specs.Packages.{AreInNameOrder, drop_package, put_package}
 use Rattle.relation_index.specs.declared.package.Package.{Package}
-use Rattle.relation_index.proofs.Ordered.{dropped_there, dropped_order, put_there, put_between, put_order, in_order, in_name_order}
+use Rattle.relation_index.proofs.Ordered.{in_order, in_name_order}
 
 -- numbers
 
@@ -98,15 +101,15 @@ module _ (ps new : List Package) (slots slots' : List ℕ → Option ℕ) (rows 
         (cases_lt x at);
   })
 
-  pub indexed_replaced : (p : Package) → new ≡ set ps at p → IsPlaceOf ps p.name at → IsThere ps p.name at → AreIndexed ps slots rows → Grows slots rows slots' rows' → Bears slots' rows' p at → AreIndexed new slots' rows'
+  pub indexed_replaced : (p : Package) → new ≡ set ps at p → IsPlaceOf name_of ps p.name at → IsThere name_of ps p.name at → AreIndexed ps slots rows → Grows slots rows slots' rows' → Bears slots' rows' p at → AreIndexed new slots' rows'
   indexed_replaced p e place there i g here = record {
-    ordered = let order = in_order ps i.ordered in subst AreInNameOrder (sym (e ∙ put_there p ps at order place there.0 there.1)) (in_name_order (put_package p ps) (put_order p ps order));
+    ordered = let order = in_order ps i.ordered in subst AreInNameOrder (sym (e ∙ put_there name_of p ps at order place there.0 there.1)) (in_name_order (put_package p ps) (put_order name_of p ps order));
     index = index_replaced p there.0 e i.index g here;
   }
 
-  pub indexed_removed : (name : List ℕ) → new ≡ remove ps at → IsPlaceOf ps name at → IsThere ps name at → AreIndexed ps slots rows → Moves (moved_down at) slots rows slots' rows' → AreIndexed new slots' rows'
+  pub indexed_removed : (name : List ℕ) → new ≡ remove ps at → IsPlaceOf name_of ps name at → IsThere name_of ps name at → AreIndexed ps slots rows → Moves (moved_down at) slots rows slots' rows' → AreIndexed new slots' rows'
   indexed_removed name e place there i m = record {
-    ordered = let order = in_order ps i.ordered in subst AreInNameOrder (sym (e ∙ dropped_there name ps at order place there.0 there.1)) (in_name_order (drop_package name ps) (dropped_order name ps order));
+    ordered = let order = in_order ps i.ordered in subst AreInNameOrder (sym (e ∙ dropped_there name_of name ps at order place there.0 there.1)) (in_name_order (drop_package name ps) (dropped_order name_of name ps order));
     index = index_removed there.0 e i.index m;
   }
 
@@ -130,9 +133,9 @@ module _ (ps new : List Package) (slots slots' slots'' : List ℕ → Option ℕ
         (cases_lt x at);
   })
 
-  pub indexed_inserted : (p : Package) → new ≡ insert ps at p → IsPlaceOf ps p.name at → (IsThere ps p.name at → ⊥) → AreIndexed ps slots rows → Moves (moved_up at (length ps)) slots rows slots' rows' → Grows slots' rows' slots'' rows'' → Bears slots'' rows'' p at → AreIndexed new slots'' rows''
+  pub indexed_inserted : (p : Package) → new ≡ insert ps at p → IsPlaceOf name_of ps p.name at → (IsThere name_of ps p.name at → ⊥) → AreIndexed ps slots rows → Moves (moved_up at (length ps)) slots rows slots' rows' → Grows slots' rows' slots'' rows'' → Bears slots'' rows'' p at → AreIndexed new slots'' rows''
   indexed_inserted p e place absent i m g here = record {
-    ordered = let order = in_order ps i.ordered in subst AreInNameOrder (sym (e ∙ put_between p ps at order place (λ lt named. absent (lt, named)))) (in_name_order (put_package p ps) (put_order p ps order));
+    ordered = let order = in_order ps i.ordered in subst AreInNameOrder (sym (e ∙ put_between name_of p ps at order place (λ lt named. absent (lt, named)))) (in_name_order (put_package p ps) (put_order name_of p ps order));
     index = index_inserted p place.within e i.index m g here;
   }
 

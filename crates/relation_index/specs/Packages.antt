@@ -1,14 +1,15 @@
 -- Packages in name order, the clauses that they state and what meets these (Policy 7.1, 7.2, 7.5).
-use Rattle.std.specs.Prelude.{◌≡◌, ℕ, ◌+◌, ◌<◌, Bool, true, false, cond, not, filter, List, [], ◌∷◌, ◌++◌, length, map, slice_index_or, IsTrue, ◌↔◌}
+use Rattle.std.specs.Prelude.{◌≡◌, ℕ, ◌+◌, ◌<◌, Bool, true, false, List, ◌++◌, length, map, slice_index_or, IsTrue, ◌↔◌}
 use Rattle.std.specs.List.{Contains}
 use Rattle.std.specs.Cmp.Lexicographic.{slice_cmp}
-use Rattle.std.specs.Ordering.{nat_cmp, is_lt}
-use Rattle.std.specs.Str.{bytes_eq}
+use Rattle.std.specs.Ordering.{nat_cmp}
 use Rattle.std.specs.declared.cmp.Ordering.TheVariants.{Less}
+use Rattle.name_tables.specs.Tables.{drop_value, place_value, put_value}
 use Rattle.dependency_sets.specs.Sets.{has}
 use Rattle.dependency_sets.specs.declared.clause.Clause.{Clause}
 use Rattle.relation_fields.specs.Admission.{clause_admits}
 use Rattle.relation_fields.specs.declared.alternative.Alternative.{Alternative}
+use Rattle.relation_index.specs.Order.{name_of}
 use Rattle.relation_index.specs.declared.package.Package.{Package}
 use Rattle.relation_index.specs.declared.package.PackageState.{PackageState}
 use Rattle.relation_index.specs.declared.package.PackageState.TheVariants.{NotInstalled, ConfigFiles, HalfInstalled, Unpacked, HalfConfigured, Installed}
@@ -19,16 +20,15 @@ AreInNameOrder packages = (k : ℕ) (p : Package) → k + 1 < length packages �
 
 -- all packages but that of a name
 abbrev pub drop_package : List ℕ → List Package → List Package
-drop_package name packages = filter (λ p. not (bytes_eq p.name name)) packages
+drop_package = drop_value name_of
 
 -- a package before the first of a greater name
 abbrev pub place_package : Package → List Package → List Package
-place_package p [] = p ∷ []
-place_package p (q ∷ qs) = cond (is_lt (slice_cmp nat_cmp q.name p.name)) (q ∷ place_package p qs) (p ∷ q ∷ qs)
+place_package = place_value name_of
 
 -- the package of its name is this one
 abbrev pub put_package : Package → List Package → List Package
-put_package p packages = place_package p (drop_package p.name packages)
+put_package = put_value name_of
 
 -- the package meets the clause by its name and version, or by what it provides
 abbrev pub meets : List Alternative → Package → Bool

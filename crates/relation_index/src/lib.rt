@@ -12,7 +12,6 @@ mod clauses;
 mod index;
 mod package;
 mod packages;
-mod places;
 mod row;
 
 pub use package::{Package, PackageState};

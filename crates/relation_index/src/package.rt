@@ -3,6 +3,7 @@ ghost use Rattle.std.specs.Prelude.{◌≡◌};
 ghost use Rattle.relation_fields.specs.Admission.{admits};
 ghost use Rattle.relation_index.specs.Packages.{meets, is_installed, is_present, is_unpacked};
 
+use name_tables::Named;
 use relation_fields::{Alternative, Clause, Offer, Provides, Relations};
 use texts::Text;
 use version_order::Version;
@@ -37,6 +38,14 @@ pub struct Package {
     pub breaks: Relations,
     pub conflicts: Relations,
     pub replaces: Relations,
+}
+
+impl Named for Package {
+    ghost called = { λ p. p.name };
+
+    fn name(&self) -> &Text {
+        &self.name
+    }
 }
 
 impl Package {

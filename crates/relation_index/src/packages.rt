@@ -1,15 +1,16 @@
 // Packages in name order.
 ghost use Rattle.std.specs.Prelude.{◌≡◌, [], IfOk, OnOk, OnErr, IsTrue, ◌↔◌, MatchOption};
 ghost use Rattle.std.specs.BTreeMap.{get_by_text};
+ghost use Rattle.name_tables.specs.Order.{IsPlaceOf, IsThere};
 ghost use Rattle.relation_index.specs.Bearing.{AreIndexed};
-ghost use Rattle.relation_index.specs.Order.{IsPlaceOf, IsThere};
+ghost use Rattle.relation_index.specs.Order.{name_of};
 ghost use Rattle.relation_index.specs.Packages.{AreInNameOrder, AreMeeters, AreClauses, drop_package, put_package};
 
 use crate::clauses::clauses_of;
 use crate::index::Index;
 use crate::package::Package;
-use crate::places::{is_before, is_there, place_of};
 use dependency_sets::Numbers;
+use name_tables::{are_in_order, is_there, place_of};
 use relation_fields::Clause;
 use std::alloc::{AllocError, Global};
 use std::marker::Model;
@@ -38,12 +39,7 @@ impl Model for Packages {
 fn are_in_name_order(packages: &[Package]) -> bool
     ensures { IsTrue result ↔ AreInNameOrder packages.now }
 {
-    for number in 1..packages.len() {
-        if !is_before(&packages[number - 1], &packages[number].name) {
-            return false;
-        }
-    }
-    true
+    are_in_order(packages)
 }
 
 // A package in the place of the one of its name.
@@ -54,8 +50,8 @@ fn replace(
     at: usize,
     entry: Package,
 ) -> Result<(), AllocError>
-    requires place { IsPlaceOf packages.old.items entry.name at }
-    requires there { IsThere packages.old.items entry.name at }
+    requires place { IsPlaceOf name_of packages.old.items entry.name at }
+    requires there { IsThere name_of packages.old.items entry.name at }
     requires indexed { AreIndexed packages.old.items (get_by_text index.old.slots)
         index.old.rows.items }
     ensures packages { OnOk result (packages.new.items ≡ put_package entry packages.old.items) }
@@ -75,8 +71,8 @@ fn insert(
     at: usize,
     entry: Package,
 ) -> Result<(), AllocError>
-    requires place { IsPlaceOf packages.old.items entry.name at }
-    requires absent { IsThere packages.old.items entry.name at → ⊥ }
+    requires place { IsPlaceOf name_of packages.old.items entry.name at }
+    requires absent { IsThere name_of packages.old.items entry.name at → ⊥ }
     requires indexed { AreIndexed packages.old.items (get_by_text index.old.slots)
         index.old.rows.items }
     ensures packages { OnOk result (packages.new.items ≡ put_package entry packages.old.items) }

@@ -8,7 +8,7 @@ use Rattle.file_lists.proofs.writing.put.Goals as goal
 pub returns-in-Some-clause-indexed : goal.returns-in-Some-clause-indexed
 returns-in-Some-clause-indexed c =
     subst (IsIndexed c.enter.new.index) (sym c.set.ensures.value)
-    (indexed_with c.args.table.now c.in-Some.at c.args.paths c.args.index.now c.enter.new.index c.in-Some.ensures.some.within c.requires.indexed
+    (indexed_with c.args.table.now c.in-Some.at c.args.paths c.args.index.now c.enter.new.index c.in-Some.ensures.some.0 c.requires.indexed
     (subst (λ (l : List Path). IsEntered c.args.index.now l c.in-Some.at c.enter.new.index) c.as_slice.ensures c.enter.ensures))
 
 pub returns-in-Some-clause-table : goal.returns-in-Some-clause-table

@@ -2,13 +2,15 @@ use Rattle.std.proofs.Common.{◌≡◌, ◌∙◌, ℕ, length, subst, arith}
 use Rattle.std.specs.BTreeMap.{get_by_text}
 use Rattle.relation_index.specs.Moves.{Moves, moved_up}
 use Rattle.relation_index.proofs.MovingLaws.{indexed_inserted}
-use Rattle.relation_index.proofs.Ordered.{in_order, put_between}
+use Rattle.name_tables.proofs.Placed.{put_between}
+use Rattle.relation_index.specs.Order.{name_of}
+use Rattle.relation_index.proofs.Ordered.{in_order}
 use Rattle.relation_index.proofs.packages.insert.Goals as goal
 
 pub returns-clause-packages : goal.returns-clause-packages
 returns-clause-packages c =
     let ps = c.args.packages.now.items in
-    c.in_ok-insert.ensures.items ∙ put_between c.args.entry ps c.args.at (in_order ps c.requires.indexed.ordered) c.requires.place (λ lt named. c.requires.absent (lt, named))
+    c.in_ok-insert.ensures.items ∙ put_between name_of c.args.entry ps c.args.at (in_order ps c.requires.indexed.ordered) c.requires.place (λ lt named. c.requires.absent (lt, named))
 
 pub returns-clause-indexed : goal.returns-clause-indexed
 returns-clause-indexed c =

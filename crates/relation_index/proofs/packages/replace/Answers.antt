@@ -2,13 +2,15 @@ use Rattle.std.proofs.Common.{refl}
 use Rattle.std.proofs.Math.ListN.{set}
 use Rattle.std.specs.BTreeMap.{get_by_text}
 use Rattle.relation_index.proofs.MovingLaws.{indexed_replaced}
-use Rattle.relation_index.proofs.Ordered.{in_order, put_there}
+use Rattle.name_tables.proofs.Placed.{put_there}
+use Rattle.relation_index.specs.Order.{name_of}
+use Rattle.relation_index.proofs.Ordered.{in_order}
 use Rattle.relation_index.proofs.packages.replace.Goals as goal
 
 pub returns-clause-packages : goal.returns-clause-packages
 returns-clause-packages c =
     let ps = c.args.packages.now.items in
-    put_there c.args.entry ps c.args.at (in_order ps c.requires.indexed.ordered) c.requires.place c.requires.there.0 c.requires.there.1
+    put_there name_of c.args.entry ps c.args.at (in_order ps c.requires.indexed.ordered) c.requires.place c.requires.there.0 c.requires.there.1
 
 pub returns-clause-indexed : goal.returns-clause-indexed
 returns-clause-indexed c =

@@ -1,19 +1,28 @@
-use Rattle.std.proofs.Common.{◌∙◌, sym, ap, subst, List}
+use Rattle.std.proofs.Common.{◌∙◌, sym, ap, subst, List, Contains}
+use Rattle.name_tables.specs.Order.{AreInOrder, IsPlaceOf}
+use Rattle.name_tables.proofs.Ordered.{values_in_order}
 use Rattle.file_lists.specs.declared.paths.PackageList.{PackageList}
-use Rattle.file_lists.specs.Owners.{AreLists}
-use Rattle.file_lists.specs.Table.{IsPlaceFor}
+use Rattle.file_lists.specs.Owners.{AreLists, name_of, names_of}
 use Rattle.file_lists.specs.Writing.{with_list}
 use Rattle.file_lists.proofs.Changed.{with_inserted, with_lists}
+use Rattle.file_lists.proofs.Entries.{at_contains}
 use Rattle.file_lists.proofs.table.Table.insert.Goals as goal
+
+pub place_of-at-requires : goal.place_of-at-requires
+place_of-at-requires c = subst (λ (l : List PackageList). AreInOrder name_of l) (sym c.as_slice.ensures.value) (values_in_order name_of c.self.inside.lists.items c.self.invariant.names)
 
 pub invariant_of-self-2 : goal.invariant_of-self-2
 invariant_of-self-2 c =
     let lists = c.self.inside.lists.items in
-    let place = subst (λ (l : List PackageList). IsPlaceFor l c.args.name c.place_for-at.result) c.as_slice.ensures.value c.place_for-at.ensures in
-    subst AreLists (sym (c.in_ok-insert.ensures.items ∙ with_inserted lists c.args.name c.args.paths c.place_for-at.result place)) (with_lists lists c.args.name c.args.paths c.self.invariant c.requires.paths)
+    let place = subst (λ (l : List PackageList). IsPlaceOf name_of l c.args.name c.place_of-at.result) c.as_slice.ensures.value c.place_of-at.ensures in
+    let other = subst (λ (l : List PackageList). Contains (names_of l) c.args.name → ⊥) (sym c.self.view_is) c.requires.other in
+    let same = with_inserted lists c.args.name c.args.paths c.place_of-at.result place (λ there. other (at_contains lists c.args.name c.place_of-at.result there)) in
+    subst AreLists (sym (c.in_ok-insert.ensures.items ∙ same)) (with_lists lists c.args.name c.args.paths c.self.invariant c.requires.paths)
 
 pub returns-clause-ok : goal.returns-clause-ok
 returns-clause-ok c =
     let lists = c.self.inside.lists.items in
-    let place = subst (λ (l : List PackageList). IsPlaceFor l c.args.name c.place_for-at.result) c.as_slice.ensures.value c.place_for-at.ensures in
-    c.in_ok-insert.ensures.items ∙ with_inserted lists c.args.name c.args.paths c.place_for-at.result place ∙ ap (with_list c.args.name c.args.paths) c.self.view_is
+    let place = subst (λ (l : List PackageList). IsPlaceOf name_of l c.args.name c.place_of-at.result) c.as_slice.ensures.value c.place_of-at.ensures in
+    let other = subst (λ (l : List PackageList). Contains (names_of l) c.args.name → ⊥) (sym c.self.view_is) c.requires.other in
+    let same = with_inserted lists c.args.name c.args.paths c.place_of-at.result place (λ there. other (at_contains lists c.args.name c.place_of-at.result there)) in
+    c.in_ok-insert.ensures.items ∙ same ∙ ap (with_list c.args.name c.args.paths) c.self.view_is

@@ -1,0 +1,5 @@
+pub mod Lookups
+pub mod Names
+pub mod Ordered
+pub mod Placed
+pub mod Searching
