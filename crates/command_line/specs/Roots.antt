@@ -1,7 +1,8 @@
 -- How the root of a command is opened, and what is known of its hosts.
-use Rattle.std.specs.Prelude.{◌≡◌, ◌⊎◌, ℕ, false, List, [], ◌++◌, Some, None, codes}
+use Rattle.std.specs.Prelude.{◌≡◌, ◌<◌, ◌⊎◌, ℕ, false, List, [], ◌++◌, Some, None, codes}
 use Rattle.host_core.specs.Host.{AtEachMoment, Needs, Silent, State}
 use Rattle.administration.specs.declared.fault.AdministrationFault.{AdministrationFault}
+use Rattle.command_line.specs.declared.hosts.Hosts.{Ghosts}
 use Rattle.command_line.specs.declared.fault.NotOpened.{NotOpened}
 use Rattle.command_line.specs.declared.fault.NotOpened.TheVariants.{Locked, Opening}
 use Rattle.administration.specs.declared.fault.AdministrationFault.TheVariants as opening_faults
@@ -36,8 +37,17 @@ pub record Around : Type 1 where
   pub unopened : Type 0
   pub locked : List ℕ → Type 0
 
-abbrev pub around : Behind → Behind → Given → Given → Type 0 → Type 0 → (List ℕ → Type 0) → Around
-around root tree left seen failed unopened locked = record { root = root; tree = tree; left = left; seen = seen; failed = failed; unopened = unopened; locked = locked }
+-- the same of hosts between two moments
+abbrev pub around : {Hosts Opened : Type 0} → Ghosts Hosts Opened → Hosts → Hosts → Around
+around of old new = record {
+  root = of.root old;
+  tree = of.tree old;
+  left = of.left new;
+  seen = of.seen new;
+  failed = of.faults old < of.faults new;
+  unopened = of.unopened old new;
+  locked = of.locked old;
+}
 
 -- The administration on a host was opened: no script was called, and nothing but what opening changes has changed. These are
 -- its records, the lists of their packages, and its diversions.

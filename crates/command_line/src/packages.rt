@@ -1,5 +1,5 @@
 // Packages are configured, removed or purged by their names: the root is opened to do it.
-ghost use Rattle.std.specs.Prelude.{◌≡◌, ◌<◌, ◌≤◌, ◌⊎◌, false, IfErr, IfOk, OnErr, option_map};
+ghost use Rattle.std.specs.Prelude.{◌≡◌, ◌≤◌, ◌⊎◌, false, IfErr, IfOk, OnErr, option_map};
 ghost use Rattle.administration.specs.declared.fault.AdministrationFault.TheVariants.{NoMemory};
 ghost use Rattle.unit_reports.specs.Held.{held_by};
 ghost use Rattle.unit_reports.specs.Watching.{IsTold};
@@ -135,12 +135,9 @@ pub(crate) fn work_under<S: Hosts, W: Watcher>(
     asked: &Work,
     watcher: &mut W,
 ) -> Result<Report, NotOpened>
-    ensures done { IfOk result (HasWorkedUnder (around (S.root hosts.old) (S.tree hosts.old)
-        (S.left hosts.new) (S.seen hosts.new) (S.faults hosts.old < S.faults hosts.new)
-        (S.unopened hosts.old hosts.new) (S.locked hosts.old)) root.now asked.now) }
-    ensures refused { IfErr result (IsRootFault (around (S.root hosts.old) (S.tree hosts.old)
-        (S.left hosts.new) (S.seen hosts.new) (S.faults hosts.old < S.faults hosts.new)
-        (S.unopened hosts.old hosts.new) (S.locked hosts.old)) root.now) }
+    ensures done { IfOk result (HasWorkedUnder (around S.Hosts hosts.old hosts.new) root.now
+        asked.now) }
+    ensures refused { IfErr result (IsRootFault (around S.Hosts hosts.old hosts.new) root.now) }
     ensures watched { IfOk result (λ done. IsTold W.tells watcher.old done.units.items
         watcher.new) }
     ensures unwatched { OnErr result (watcher.new ≡ watcher.old) }

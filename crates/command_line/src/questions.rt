@@ -1,5 +1,5 @@
 // Questions about an administration: their paths are read, and the root is opened to answer them.
-ghost use Rattle.std.specs.Prelude.{◌≡◌, ◌<◌, ◌≤◌, ◌⊎◌, false, ℕ, List, IfOk, IfErr, Option, Result};
+ghost use Rattle.std.specs.Prelude.{◌≡◌, ◌≤◌, ◌⊎◌, false, ℕ, List, IfOk, IfErr, Option, Result};
 ghost use Rattle.host_core.specs.Paths.{Path as APath};
 ghost use Rattle.administration.specs.declared.fault.AdministrationFault.TheVariants.{NoMemory};
 ghost use Rattle.dpkg_session.specs.Queries.{IsAnswer, IsAnswerAbout};
@@ -181,12 +181,9 @@ pub(crate) fn inquire_under<S: Hosts>(
     root: &Text,
     asked: &Inquiry,
 ) -> Result<Answer, NotOpened>
-    ensures answer { IfOk result (HasInquired (around (S.root hosts.old) (S.tree hosts.old)
-        (S.left hosts.new) (S.seen hosts.new) (S.faults hosts.old < S.faults hosts.new)
-        (S.unopened hosts.old hosts.new) (S.locked hosts.old)) root.now asked.now) }
-    ensures refused { IfErr result (IsRootFault (around (S.root hosts.old) (S.tree hosts.old)
-        (S.left hosts.new) (S.seen hosts.new) (S.faults hosts.old < S.faults hosts.new)
-        (S.unopened hosts.old hosts.new) (S.locked hosts.old)) root.now) }
+    ensures answer { IfOk result (HasInquired (around S.Hosts hosts.old hosts.new) root.now
+        asked.now) }
+    ensures refused { IfErr result (IsRootFault (around S.Hosts hosts.old hosts.new) root.now) }
 {
     match hosts.open_root(root.as_str(), ScriptStreams::Own) {
         Ok(host) => match inquire_on(alloc, hosts, host, asked) {
