@@ -4,6 +4,7 @@ ghost use Rattle.administration.specs.declared.fault.AdministrationFault.TheVari
 ghost use Rattle.unit_reports.specs.Held.{held_by};
 ghost use Rattle.unit_reports.specs.Watching.{IsTold};
 ghost use Rattle.command_line.specs.Packages.{HasWorked, HasWorkedUnder, IsWorkedOn, changed_of, policy_of};
+ghost use Rattle.command_line.specs.Printing.{AreTold};
 ghost use Rattle.command_line.specs.Roots.{IsRefusedOn, IsRootFault, IsStoppedOn, around};
 
 use crate::fault::{NotOpened, RootFault};
@@ -76,8 +77,8 @@ fn carry_out<H: Host, W: Watcher>(
         (held_by session.old.administration session.old.diversions) (H.state session.old.host)
         (H.state session.new.host)) }
     ensures unmoved { OnErr result (H.state session.new.host ≡ H.state session.old.host) }
-    ensures watched { IfOk result (λ done. IsTold W.tells watcher.old done.units.items
-        watcher.new) }
+    ensures watched { IfOk result (λ done. IsTold W.tells (H.state session.old.host) watcher.old
+        done.units.items watcher.new) }
     ensures unwatched { OnErr result (watcher.new ≡ watcher.old) }
 {
     match asked {
@@ -108,7 +109,7 @@ fn work_on<S: Hosts, W: Watcher>(
     ensures refused { IfErr result (λ fault. IsRefusedOn (S.left hosts.new) (S.Opened.state host)
         fault ⊎ ((fault ≡ NoMemory) × IsStoppedOn (S.left hosts.new) (S.Opened.state host))) }
     ensures faults { S.faults hosts.old ≤ S.faults hosts.new }
-    ensures watched { IfOk result (λ done. IsTold W.tells watcher.old done.units.items
+    ensures watched { IfOk result (λ done. AreTold W.tells watcher.old done.units.items
         watcher.new) }
     ensures unwatched { OnErr result (watcher.new ≡ watcher.old) }
 {
@@ -138,7 +139,7 @@ pub(crate) fn work_under<S: Hosts, W: Watcher>(
     ensures done { IfOk result (HasWorkedUnder (around S.Hosts hosts.old hosts.new) root.now
         asked.now) }
     ensures refused { IfErr result (IsRootFault (around S.Hosts hosts.old hosts.new) root.now) }
-    ensures watched { IfOk result (λ done. IsTold W.tells watcher.old done.units.items
+    ensures watched { IfOk result (λ done. AreTold W.tells watcher.old done.units.items
         watcher.new) }
     ensures unwatched { OnErr result (watcher.new ≡ watcher.old) }
 {

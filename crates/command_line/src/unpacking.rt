@@ -4,7 +4,7 @@ ghost use Rattle.std.specs.Vec.Iter.{into_iter_items};
 ghost use Rattle.administration.specs.declared.fault.AdministrationFault.TheVariants.{NoMemory};
 ghost use Rattle.unit_reports.specs.Held.{held_by};
 ghost use Rattle.unit_reports.specs.Watching.{IsTold};
-ghost use Rattle.command_line.specs.Printing.{last_in, units_of};
+ghost use Rattle.command_line.specs.Printing.{AreTold, last_in, units_of};
 ghost use Rattle.command_line.specs.Reading.{HaveGoneOn};
 ghost use Rattle.command_line.specs.Roots.{around, IsRefusedOn, IsRootFault, IsStoppedOn};
 ghost use Rattle.command_line.specs.Unpacks.{HasRunTrees, HasUnpacked, IsUnpackedOn};
@@ -55,7 +55,8 @@ fn run_session<S: Hosts, W: Watcher>(
         trees.old.asked.now result (held_by session.old.administration session.old.diversions)
         (S.Opened.state session.old.host) (S.Opened.state session.new.host) }
     ensures on { HaveGoneOn S.Hosts trees.old.hosts.now trees.new.hosts.now }
-    ensures watched { IsTold W.tells watcher.old (units_of result) watcher.new }
+    ensures watched { IsTold W.tells (S.Opened.state session.old.host) watcher.old (units_of result)
+        watcher.new }
 {
     let auto_deconfigure = trees.asked.auto_deconfigure;
     match policy {
@@ -82,7 +83,8 @@ fn run_trees<S: Hosts, W: Watcher>(
     ensures unread { OnErr result (S.Opened.state session.new.host ≡ S.Opened.state
         session.old.host) }
     ensures on { HaveGoneOn S.Hosts hosts.old hosts.new }
-    ensures watched { IfOk result (λ done. IsTold W.tells watcher.old (units_of done) watcher.new) }
+    ensures watched { IfOk result (λ done. IsTold W.tells (S.Opened.state session.old.host)
+        watcher.old (units_of done) watcher.new) }
     ensures unwatched { OnErr result (watcher.new ≡ watcher.old) }
 {
     let mut left = listed(alloc, unpacking.trees.as_slice())?.into_iter();
@@ -109,7 +111,8 @@ fn unpack_on<S: Hosts, W: Watcher>(
     ensures refused { IfErr result (λ fault. IsRefusedOn (S.left hosts.new) (S.Opened.state host)
         fault ⊎ ((fault ≡ NoMemory) × IsStoppedOn (S.left hosts.new) (S.Opened.state host))) }
     ensures faults { S.faults hosts.old ≤ S.faults hosts.new }
-    ensures watched { IfOk result (λ done. IsTold W.tells watcher.old (units_of done) watcher.new) }
+    ensures watched { IfOk result (λ done. AreTold W.tells watcher.old (units_of done)
+        watcher.new) }
     ensures unwatched { OnErr result (watcher.new ≡ watcher.old) }
 {
     match Session::open(alloc, host) {
@@ -139,7 +142,8 @@ pub(crate) fn unpack<S: Hosts, W: Watcher>(
     ensures refused { IfErr result (IsRootFault (around S.Hosts hosts.old hosts.new)
         unpacking.now.root) }
     ensures faults { S.faults hosts.old ≤ S.faults hosts.new }
-    ensures watched { IfOk result (λ done. IsTold W.tells watcher.old (units_of done) watcher.new) }
+    ensures watched { IfOk result (λ done. AreTold W.tells watcher.old (units_of done)
+        watcher.new) }
     ensures unwatched { OnErr result (watcher.new ≡ watcher.old) }
 {
     match hosts.open_root(unpacking.root.as_str(), unpacking.streams) {
