@@ -74,12 +74,17 @@ pub record IsStoppedOn (left : Given) (begun : State) : Type 0 where
   pub opens : OpensAll None begun end
   pub opening : AtEachMoment IsOpeningOrMerging begun end
 
+-- a host was given back with this fault before anything was done for the command: its administration couldn't be opened, or memory
+-- was wanting behind that
+abbrev pub IsGivenUpOn : Given → State → AdministrationFault → Type 0
+IsGivenUpOn left begun fault = IsRefusedOn left begun fault ⊎ ((fault ≡ opening_faults.NoMemory) × IsStoppedOn left begun)
+
 -- so it went on a host behind the root's word, unless none was opened: another program held the root, the device failed, or
 -- memory was wanting
 abbrev pub IsRootFault : Around → List ℕ → NotOpened → Type 0
 IsRootFault a word Locked = a.unopened × a.locked word
 IsRootFault a word (Opening fault) =
-    ((begun : State) × a.root word begun × (IsRefusedOn a.left begun fault ⊎ ((fault ≡ opening_faults.NoMemory) × IsStoppedOn a.left begun)))
+    ((begun : State) × a.root word begun × IsGivenUpOn a.left begun fault)
     ⊎ (a.unopened × (((fault ≡ opening_faults.Device) × a.failed) ⊎ (fault ≡ opening_faults.NoMemory)))
 
 -- the line that tells that another program holds the root

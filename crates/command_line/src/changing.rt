@@ -1,9 +1,8 @@
 // Changes of the diversions: their paths are read, and the root is opened to carry them out.
-ghost use Rattle.std.specs.Prelude.{◌≡◌, ◌≤◌, ◌⊎◌, false, true, IfOk, IfErr};
-ghost use Rattle.administration.specs.declared.fault.AdministrationFault.TheVariants.{NoMemory};
+ghost use Rattle.std.specs.Prelude.{◌≡◌, ◌≤◌, false, true, IfOk, IfErr};
 ghost use Rattle.diversions.specs.Entries.{is_owner};
 ghost use Rattle.command_line.specs.Changes.{HasChanged, HasChangedUnder, IsChangedOn, IsDivertOf, IsRead, IsUndivertOf, bad_of_divert, bad_of_undivert, owner_in, target_in};
-ghost use Rattle.command_line.specs.Roots.{IsRefusedOn, IsRootFault, IsStoppedOn, around};
+ghost use Rattle.command_line.specs.Roots.{IsGivenUpOn, IsRootFault, around};
 
 use crate::fault::{NotOpened, RootFault};
 use crate::hosts::Hosts;
@@ -106,8 +105,7 @@ fn change_on<S: Hosts>(
     asked: &Change,
 ) -> Result<Report, AdministrationFault>
     ensures done { IfOk result (IsChangedOn (S.left hosts.new) (S.Opened.state host) asked.now) }
-    ensures refused { IfErr result (λ fault. IsRefusedOn (S.left hosts.new) (S.Opened.state host)
-        fault ⊎ ((fault ≡ NoMemory) × IsStoppedOn (S.left hosts.new) (S.Opened.state host))) }
+    ensures refused { IfErr result (IsGivenUpOn (S.left hosts.new) (S.Opened.state host)) }
     ensures faults { S.faults hosts.old ≤ S.faults hosts.new }
 {
     match Session::open(alloc, host) {

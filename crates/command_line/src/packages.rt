@@ -1,11 +1,10 @@
 // Packages are configured, removed or purged by their names: the root is opened to do it.
-ghost use Rattle.std.specs.Prelude.{◌≡◌, ◌≤◌, ◌⊎◌, false, IfErr, IfOk, OnErr, option_map};
-ghost use Rattle.administration.specs.declared.fault.AdministrationFault.TheVariants.{NoMemory};
+ghost use Rattle.std.specs.Prelude.{◌≡◌, ◌≤◌, false, IfErr, IfOk, OnErr, option_map};
 ghost use Rattle.unit_reports.specs.Held.{held_by};
 ghost use Rattle.unit_reports.specs.Watching.{IsTold};
 ghost use Rattle.command_line.specs.Packages.{HasWorked, HasWorkedUnder, IsWorkedOn, changed_of, policy_of};
 ghost use Rattle.command_line.specs.Printing.{AreTold};
-ghost use Rattle.command_line.specs.Roots.{IsRefusedOn, IsRootFault, IsStoppedOn, around};
+ghost use Rattle.command_line.specs.Roots.{IsGivenUpOn, IsRootFault, around};
 
 use crate::fault::{NotOpened, RootFault};
 use crate::hosts::Hosts;
@@ -106,8 +105,7 @@ fn work_on<S: Hosts, W: Watcher>(
     watcher: &mut W,
 ) -> Result<Report, AdministrationFault>
     ensures done { IfOk result (IsWorkedOn (S.left hosts.new) (S.Opened.state host) asked.now) }
-    ensures refused { IfErr result (λ fault. IsRefusedOn (S.left hosts.new) (S.Opened.state host)
-        fault ⊎ ((fault ≡ NoMemory) × IsStoppedOn (S.left hosts.new) (S.Opened.state host))) }
+    ensures refused { IfErr result (IsGivenUpOn (S.left hosts.new) (S.Opened.state host)) }
     ensures faults { S.faults hosts.old ≤ S.faults hosts.new }
     ensures watched { IfOk result (λ done. AreTold W.tells watcher.old done.units.items
         watcher.new) }

@@ -1,12 +1,11 @@
 // Trees: the root is opened, they are read one after another, and their packages are unpacked or installed.
-ghost use Rattle.std.specs.Prelude.{◌≡◌, ◌≤◌, ◌⊎◌, IfErr, IfOk, OnErr, false};
+ghost use Rattle.std.specs.Prelude.{◌≡◌, ◌≤◌, IfErr, IfOk, OnErr, false};
 ghost use Rattle.std.specs.Vec.Iter.{into_iter_items};
-ghost use Rattle.administration.specs.declared.fault.AdministrationFault.TheVariants.{NoMemory};
 ghost use Rattle.unit_reports.specs.Held.{held_by};
 ghost use Rattle.unit_reports.specs.Watching.{IsTold};
 ghost use Rattle.command_line.specs.Printing.{AreTold, last_in, units_of};
 ghost use Rattle.command_line.specs.Reading.{HaveGoneOn};
-ghost use Rattle.command_line.specs.Roots.{around, IsRefusedOn, IsRootFault, IsStoppedOn};
+ghost use Rattle.command_line.specs.Roots.{around, IsGivenUpOn, IsRootFault};
 ghost use Rattle.command_line.specs.Unpacks.{HasRunTrees, HasUnpacked, IsUnpackedOn};
 
 use crate::fault::{NotOpened, RootFault};
@@ -108,8 +107,7 @@ fn unpack_on<S: Hosts, W: Watcher>(
 ) -> Result<Done, AdministrationFault>
     ensures done { IfOk result (IsUnpackedOn (around S.Hosts hosts.old hosts.new)
         (S.Opened.state host) policy unpacking.now) }
-    ensures refused { IfErr result (λ fault. IsRefusedOn (S.left hosts.new) (S.Opened.state host)
-        fault ⊎ ((fault ≡ NoMemory) × IsStoppedOn (S.left hosts.new) (S.Opened.state host))) }
+    ensures refused { IfErr result (IsGivenUpOn (S.left hosts.new) (S.Opened.state host)) }
     ensures faults { S.faults hosts.old ≤ S.faults hosts.new }
     ensures watched { IfOk result (λ done. AreTold W.tells watcher.old (units_of done)
         watcher.new) }
