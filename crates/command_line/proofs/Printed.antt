@@ -15,10 +15,11 @@ use Rattle.command_words.specs.declared.unpacking.Unpacking.{Unpacking}
 use Rattle.dpkg_session.specs.Installs.{HasInstalled, last_of}
 use Rattle.dpkg_session.specs.declared.report.Candidate.{Candidate}
 use Rattle.unit_reports.specs.Held.{Held}
-use Rattle.unit_reports.specs.Watching.{IsTold}
+use Rattle.undo_rows.specs.declared.rows.Called.{Called}
+use Rattle.unit_reports.specs.Watching.{IsToldBehind}
 use Rattle.unit_reports.specs.declared.report.Report.{Report}
 use Rattle.unit_reports.specs.declared.report.Unit.{Unit as AUnit}
-use Rattle.command_line.specs.Printing.{AppendsFront, AppendsPart, HasPrinted, Prints, last_in, output_left, units_answer, units_of}
+use Rattle.command_line.specs.Printing.{AppendsFront, AppendsPart, AreTold, HasPrinted, Prints, last_in, output_left, units_answer, units_of}
 use Rattle.command_line.specs.Reports.{IsGiven, IsGivenInPart, bad_answer, comparison_answer, done_answer, memory_answer, wanting_answer}
 use Rattle.command_line.specs.Roots.{Around}
 use Rattle.command_line.specs.Unpacks.{HasUnpacked}
@@ -55,19 +56,19 @@ printed_more done lines flow.Cut after a b c so_far more = subst (λ f. HasPrint
 printed_more done lines flow.Wanting after a b c so_far more = subst (λ f. HasPrinted (done ++ lines) f a c) (sym more.0) (front_more a b c done lines so_far more.1)
 
 -- those of all units that were told
-module _ {W : Type 0} (tells : W → AUnit → W → Type 0) (flow_of : W → Flow) (held : W → Option (List ℕ)) (one : (old : W) (u : AUnit) (new : W) → tells old u new → Prints (unit_lines u) (flow_of old) (flow_of new) (held old) (held new)) where
-  printed_on : (us : List AUnit) (done : List ℕ) (first : Option (List ℕ)) (old new : W) → HasPrinted done (flow_of old) first (held old) → IsTold tells old us new → HasPrinted (done ++ flat_map unit_lines us) (flow_of new) first (held new)
-  printed_on [] done first old new so_far same =
+module _ {W : Type 0} (tells : W → AUnit → State → W → Type 0) (flow_of : W → Flow) (held : W → Option (List ℕ)) (one : (old : W) (u : AUnit) (at : State) (new : W) → tells old u at new → Prints (unit_lines u) (flow_of old) (flow_of new) (held old) (held new)) where
+  printed_on : (s : State) (calls : List Called) (us : List AUnit) (done : List ℕ) (first : Option (List ℕ)) (old new : W) → HasPrinted done (flow_of old) first (held old) → IsToldBehind tells s calls old us new → HasPrinted (done ++ flat_map unit_lines us) (flow_of new) first (held new)
+  printed_on s calls [] done first old new so_far same =
       subst (λ (l : List ℕ). HasPrinted l (flow_of new) first (held new)) (sym (append-nil done)) (subst (λ w. HasPrinted done (flow_of w) first (held w)) (sym same) so_far)
-  printed_on (u ∷ us) done first old new so_far told =
+  printed_on s calls (u ∷ us) done first old new so_far told =
       subst (λ (l : List ℕ). HasPrinted l (flow_of new) first (held new)) (append_assoc done (unit_lines u) (flat_map unit_lines us))
-      (printed_on us (done ++ unit_lines u) first told.0 new (printed_more done (unit_lines u) (flow_of old) (flow_of told.0) first (held old) (held told.0) so_far (one old u told.0 told.1)) told.2)
+      (printed_on s (calls ++ u.calls.items) us (done ++ unit_lines u) first told.0 new (printed_more done (unit_lines u) (flow_of old) (flow_of told.0) first (held old) (held told.0) so_far (one old u told.1 told.0 told.2)) told.5)
 
-  pub printed_all : (us : List AUnit) (old new : W) → flow_of old ≡ flow.Whole → IsTold tells old us new → HasPrinted (flat_map unit_lines us) (flow_of new) (held old) (held new)
-  printed_all us old new whole told = printed_on us [] (held old) old new (subst (λ f. HasPrinted [] f (held old) (held old)) (sym whole) (appends_nothing (held old))) told
+  pub printed_all : (us : List AUnit) (old new : W) → flow_of old ≡ flow.Whole → AreTold tells old us new → HasPrinted (flat_map unit_lines us) (flow_of new) (held old) (held new)
+  printed_all us old new whole told = printed_on told.0 [] us [] (held old) old new (subst (λ f. HasPrinted [] f (held old) (held old)) (sym whole) (appends_nothing (held old))) told.1
 
   -- where there is a result
-  pub printed_result : {T E : Type 0} (result : Result T E) (units : T → List AUnit) (old new : W) → flow_of old ≡ flow.Whole → IfOk result (λ done. IsTold tells old (units done) new)
+  pub printed_result : {T E : Type 0} (result : Result T E) (units : T → List AUnit) (old new : W) → flow_of old ≡ flow.Whole → IfOk result (λ done. AreTold tells old (units done) new)
       → IfOk result (λ done. HasPrinted (flat_map unit_lines (units done)) (flow_of new) (held old) (held new))
   printed_result (Ok done) units old new whole told = printed_all (units done) old new whole told
   printed_result (Err e) units old new whole told = tt

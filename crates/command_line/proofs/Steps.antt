@@ -1,23 +1,26 @@
 -- What each step keeps, all steps keep.
-use Rattle.std.proofs.Common.{◌≡◌, ◌∙◌, List, [], ◌∷◌, Result, Ok, Err, ap, refl, sym, subst}
+use Rattle.std.proofs.Common.{◌≡◌, ◌∙◌, List, [], ◌∷◌, ◌++◌, Result, Ok, Err, ap, refl, sym, subst}
 use Rattle.std.specs.Prelude.{IfOk, OnErr}
-use Rattle.unit_reports.specs.Watching.{IsTold}
+use Rattle.host_core.specs.Host.{State}
+use Rattle.undo_rows.specs.declared.rows.Called.{Called}
+use Rattle.unit_reports.specs.Watching.{IsToldBehind}
 use Rattle.unit_reports.specs.declared.report.Unit.{Unit as AUnit}
 use Rattle.dpkg_session.specs.Trees.{AreRead}
 use Rattle.dpkg_session.specs.declared.report.Candidate.{Candidate}
+use Rattle.command_line.specs.Printing.{AreTold}
 
 pub reads_keep : {T X : Type 0} (reads : T → Candidate → T → Type 0) (name : T → X) → ((a b : T) (c : Candidate) → reads a c b → name b ≡ name a)
     → (cs : List Candidate) (old new : T) → AreRead reads old cs new → name new ≡ name old
 reads_keep reads name one [] old new read = subst (λ t. name t ≡ name old) (sym read) refl
 reads_keep reads name one (c ∷ cs) old new read = reads_keep reads name one cs read.0 new read.2 ∙ one old read.0 c read.1
 
-pub tells_keep : {W X : Type 0} (tells : W → AUnit → W → Type 0) (name : W → X) → ((a b : W) (u : AUnit) → tells a u b → name b ≡ name a)
-    → (us : List AUnit) (old new : W) → IsTold tells old us new → name new ≡ name old
-tells_keep tells name one [] old new told = subst (λ t. name t ≡ name old) (sym told) refl
-tells_keep tells name one (u ∷ us) old new told = tells_keep tells name one us told.0 new told.2 ∙ one old told.0 u told.1
+tells_keep : {W X : Type 0} (tells : W → AUnit → State → W → Type 0) (name : W → X) → ((a b : W) (u : AUnit) (at : State) → tells a u at b → name b ≡ name a)
+    → (s : State) (so_far : List Called) (us : List AUnit) (old new : W) → IsToldBehind tells s so_far old us new → name new ≡ name old
+tells_keep tells name one s so_far [] old new told = subst (λ t. name t ≡ name old) (sym told) refl
+tells_keep tells name one s so_far (u ∷ us) old new told = tells_keep tells name one s (so_far ++ u.calls.items) us told.0 new told.5 ∙ one old told.0 u told.1 told.2
 
 -- the same of what was told where there is a result, and of a watcher that else was told nothing
-pub told_keep : {T E W X : Type 0} (result : Result T E) (units : T → List AUnit) (tells : W → AUnit → W → Type 0) (name : W → X) → ((a b : W) (u : AUnit) → tells a u b → name b ≡ name a)
-    → (old new : W) → IfOk result (λ done. IsTold tells old (units done) new) → OnErr result (new ≡ old) → name new ≡ name old
-told_keep (Ok done) units tells name one old new told untold = tells_keep tells name one (units done) old new told
+pub told_keep : {T E W X : Type 0} (result : Result T E) (units : T → List AUnit) (tells : W → AUnit → State → W → Type 0) (name : W → X) → ((a b : W) (u : AUnit) (at : State) → tells a u at b → name b ≡ name a)
+    → (old new : W) → IfOk result (λ done. AreTold tells old (units done) new) → OnErr result (new ≡ old) → name new ≡ name old
+told_keep (Ok done) units tells name one old new told untold = tells_keep tells name one told.0 [] (units done) old new told.1
 told_keep (Err e) units tells name one old new told untold = ap name untold

@@ -20,7 +20,8 @@ use Rattle.command_words.specs.declared.owners.TreeOwners.{TreeOwners}
 use Rattle.command_words.specs.declared.unpacking.Unpacking.{Unpacking}
 use Rattle.command_line.specs.Reports.{HasEndedAs}
 use Rattle.command_line.specs.Reading.{AreReadFor, AreReadOnce, HaveGoneOn, IsReadFor, IsReadOnce, is_among, words_before}
-use Rattle.command_line.specs.Roots.{Around, Behind, Given, around, held_anew}
+use Rattle.command_line.specs.Roots.{Around, around, held_anew}
+use Rattle.command_line.specs.declared.hosts.Hosts.{Ghosts}
 use Rattle.command_line.specs.Unpacks.{HasRunTrees, IsUnpackedOn}
 
 -- what is known of trees between two moments is known between an earlier one and a later one
@@ -71,12 +72,12 @@ before_left earlier left =
     rw count (take-append_seam earlier left)
 
 -- trees that are read one after another
-module _ {T : Type 0} (reads : T → Candidate → T → Type 0) (root tree : T → Behind) (left seen : T → Given) (faults : T → ℕ) (unopened : T → T → Type 0) (locked : T → List ℕ → Type 0) (words : T → List (List ℕ)) (asked : T → Unpacking) where
+module _ {T Hosts Opened : Type 0} (reads : T → Candidate → T → Type 0) (of : Ghosts Hosts Opened) (hosts : T → Hosts) (words : T → List (List ℕ)) (asked : T → Unpacking) where
   abbrev between : T → T → Around
-  between old new = around (root old) (tree old) (left new) (seen new) (faults old < faults new) (unopened old new) (locked old)
+  between old new = around of (hosts old) (hosts new)
 
   abbrev Goes : T → T → Type 0
-  Goes old new = HaveGoneOn (tree old) (tree new) (seen old) (seen new) (faults old) (faults new)
+  Goes old new = HaveGoneOn of (hosts old) (hosts new)
 
   abbrev Step : T → Candidate → T → Type 0
   Step old c new = (asked new ≡ asked old) × IsReadOnce (between old new) (asked old).owners (words_before (asked old).trees (length (words old))) c.label c.tree

@@ -2,7 +2,9 @@
 use Rattle.std.specs.Prelude.{◌≡◌, ◌++◌, ◌≢◌, ℕ, List, [], Option, Result, Ok, Err, option_to_list}
 use Rattle.std.specs.Io.KnownBytes.{Appends, Keeps}
 use Rattle.std.specs.List.{flat_map}
+use Rattle.host_core.specs.Host.{State}
 use Rattle.report_lines.specs.Reports.{unit_lines}
+use Rattle.unit_reports.specs.Watching.{IsTold}
 use Rattle.unit_reports.specs.declared.report.Unit.{Unit as AUnit}
 use Rattle.dpkg_session.specs.Installs.{last_of}
 use Rattle.command_line.specs.declared.answer.Answer.{Answer}
@@ -39,6 +41,10 @@ abbrev pub HasPrinted : List ℕ → Flow → Option (List ℕ) → Option (List
 HasPrinted lines flow.Whole old new = Appends old new lines
 HasPrinted lines flow.Cut old new = AppendsPart old new lines
 HasPrinted lines flow.Wanting old new = AppendsFront old new lines
+
+-- these units were told one after another, each as it was finished since some state of the host
+abbrev pub AreTold : {W : Type 0} → (W → AUnit → State → W → Type 0) → W → List AUnit → W → Type 0
+AreTold tells old us new = (s : State) × IsTold tells s old us new
 
 -- the units that were finished, in order
 abbrev pub units_of : Done → List AUnit

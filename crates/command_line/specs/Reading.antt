@@ -13,7 +13,8 @@ use Rattle.package_tree.specs.declared.fault.TreeFault.{TreeFault}
 use Rattle.package_tree.specs.declared.fault.TreeFault.TheVariants as tree_faults
 use Rattle.package_tree.specs.declared.package.Package.{Package}
 use Rattle.dpkg_session.specs.declared.report.Candidate.{Candidate}
-use Rattle.command_line.specs.Roots.{Around, Behind, Given}
+use Rattle.command_line.specs.declared.hosts.Hosts.{Ghosts}
+use Rattle.command_line.specs.Roots.{Around}
 
 -- a tree's package, whose shipped paths keep their owners or become root's
 abbrev pub owned_as : TreeOwners → Package → Package
@@ -70,10 +71,10 @@ words_before all left = take (length all - left) all
 
 -- Hosts between two moments: what stands behind words for trees later stood there before, hosts that were given back stay so,
 -- and no fault is forgotten.
-pub record HaveGoneOn (tree_old tree_new : Behind) (seen_old seen_new : Given) (faults_old faults_new : ℕ) : Type 0 where
-  pub trees : (word : List ℕ) (s : State) → tree_new word s → tree_old word s
-  pub seen : (s : State) → seen_old s → seen_new s
-  pub faults : faults_old ≤ faults_new
+pub record HaveGoneOn {Hosts Opened : Type 0} (of : Ghosts Hosts Opened) (old new : Hosts) : Type 0 where
+  pub trees : (word : List ℕ) (s : State) → of.tree new word s → of.tree old word s
+  pub seen : (s : State) → of.seen old s → of.seen new s
+  pub faults : of.faults old ≤ of.faults new
 
 -- these trees were read for the first of some words, each word once, and the others are left
 pub record AreReadFor (a : Around) (owners : TreeOwners) (words : List (List ℕ)) (cs : List Candidate) (left : List (List ℕ)) : Type 0 where

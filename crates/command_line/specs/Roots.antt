@@ -1,7 +1,8 @@
 -- How the root of a command is opened, and what is known of its hosts.
-use Rattle.std.specs.Prelude.{◌≡◌, ◌⊎◌, ℕ, false, List, [], ◌++◌, Some, None, codes}
+use Rattle.std.specs.Prelude.{◌≡◌, ◌<◌, ◌⊎◌, ℕ, false, List, [], ◌++◌, Some, None, codes}
 use Rattle.host_core.specs.Host.{AtEachMoment, Needs, Silent, State}
 use Rattle.administration.specs.declared.fault.AdministrationFault.{AdministrationFault}
+use Rattle.command_line.specs.declared.hosts.Hosts.{Ghosts}
 use Rattle.command_line.specs.declared.fault.NotOpened.{NotOpened}
 use Rattle.command_line.specs.declared.fault.NotOpened.TheVariants.{Locked, Opening}
 use Rattle.administration.specs.declared.fault.AdministrationFault.TheVariants as opening_faults
@@ -36,8 +37,17 @@ pub record Around : Type 1 where
   pub unopened : Type 0
   pub locked : List ℕ → Type 0
 
-abbrev pub around : Behind → Behind → Given → Given → Type 0 → Type 0 → (List ℕ → Type 0) → Around
-around root tree left seen failed unopened locked = record { root = root; tree = tree; left = left; seen = seen; failed = failed; unopened = unopened; locked = locked }
+-- the same of hosts between two moments
+abbrev pub around : {Hosts Opened : Type 0} → Ghosts Hosts Opened → Hosts → Hosts → Around
+around of old new = record {
+  root = of.root old;
+  tree = of.tree old;
+  left = of.left new;
+  seen = of.seen new;
+  failed = of.faults old < of.faults new;
+  unopened = of.unopened old new;
+  locked = of.locked old;
+}
 
 -- The administration on a host was opened: no script was called, and nothing but what opening changes has changed. These are
 -- its records, the lists of their packages, and its diversions.
@@ -64,12 +74,17 @@ pub record IsStoppedOn (left : Given) (begun : State) : Type 0 where
   pub opens : OpensAll None begun end
   pub opening : AtEachMoment IsOpeningOrMerging begun end
 
+-- a host was given back with this fault before anything was done for the command: its administration couldn't be opened, or memory
+-- was wanting behind that
+abbrev pub IsGivenUpOn : Given → State → AdministrationFault → Type 0
+IsGivenUpOn left begun fault = IsRefusedOn left begun fault ⊎ ((fault ≡ opening_faults.NoMemory) × IsStoppedOn left begun)
+
 -- so it went on a host behind the root's word, unless none was opened: another program held the root, the device failed, or
 -- memory was wanting
 abbrev pub IsRootFault : Around → List ℕ → NotOpened → Type 0
 IsRootFault a word Locked = a.unopened × a.locked word
 IsRootFault a word (Opening fault) =
-    ((begun : State) × a.root word begun × (IsRefusedOn a.left begun fault ⊎ ((fault ≡ opening_faults.NoMemory) × IsStoppedOn a.left begun)))
+    ((begun : State) × a.root word begun × IsGivenUpOn a.left begun fault)
     ⊎ (a.unopened × (((fault ≡ opening_faults.Device) × a.failed) ⊎ (fault ≡ opening_faults.NoMemory)))
 
 -- the line that tells that another program holds the root

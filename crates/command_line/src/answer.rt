@@ -1,5 +1,5 @@
 // What the words ask for, carried out, and what is to be written for it.
-ghost use Rattle.std.specs.Prelude.{◌≡◌, ◌<◌, ◌≤◌, ◌⊎◌, ℕ, List, Option, IfErr, IfOk, Ok, OnErr, Result, is_ok, map, option_to_list, string_bytes, true, []};
+ghost use Rattle.std.specs.Prelude.{◌≡◌, ◌≤◌, ◌⊎◌, ℕ, List, Option, IfErr, IfOk, Ok, OnErr, Result, is_ok, map, option_to_list, string_bytes, true, []};
 ghost use Rattle.std.specs.List.{flat_map};
 ghost use Rattle.diversions.specs.Entries.{is_owner};
 ghost use Rattle.unit_reports.specs.declared.report.Report.{Report as AReport};
@@ -225,12 +225,10 @@ fn unpack_telling<S: Hosts, O: Write>(
     printer: &mut Printer<'_, O>,
 ) -> Result<Done, NotOpened>
     ensures same_output { printer.new.out.ghost_name ≡ printer.old.out.ghost_name }
-    ensures done { IfOk result (HasUnpacked (around (S.root hosts.old) (S.tree hosts.old)
-        (S.left hosts.new) (S.seen hosts.new) (S.faults hosts.old < S.faults hosts.new)
-        (S.unopened hosts.old hosts.new) (S.locked hosts.old)) policy unpacking.now) }
-    ensures refused { IfErr result (IsRootFault (around (S.root hosts.old) (S.tree hosts.old)
-        (S.left hosts.new) (S.seen hosts.new) (S.faults hosts.old < S.faults hosts.new)
-        (S.unopened hosts.old hosts.new) (S.locked hosts.old)) unpacking.now.root) }
+    ensures done { IfOk result (HasUnpacked (around S.Hosts hosts.old hosts.new) policy
+        unpacking.now) }
+    ensures refused { IfErr result (IsRootFault (around S.Hosts hosts.old hosts.new)
+        unpacking.now.root) }
     ensures told { printer.old.flow ≡ Whole → IfOk
         result (λ done. HasPrinted (flat_map unit_lines (units_of done)) printer.new.flow
         (O.contents printer.old.out.now) (O.contents printer.new.out.now)) }
@@ -247,9 +245,7 @@ fn unpacked<S: Hosts, O: Write>(
     out: &mut O,
 ) -> Result<Left, AllocError>
     ensures ended { (ended : Result ADone ANotOpened)
-        × HasEndedAs (around (S.root hosts.old) (S.tree hosts.old) (S.left hosts.new)
-        (S.seen hosts.new) (S.faults hosts.old < S.faults hosts.new)
-        (S.unopened hosts.old hosts.new) (S.locked hosts.old)) policy unpacking.now ended
+        × HasEndedAs (around S.Hosts hosts.old hosts.new) policy unpacking.now ended
         × IsLeft (trees_answer unpacking.now.root ended) (O.contents out.old) (O.contents out.new)
         result }
     ensures bound { IfOk result (λ left. status_left left ≤ 2) }
@@ -274,10 +270,8 @@ fn changed<S: Hosts>(
     asked: &Change,
 ) -> Result<Answer, AllocError>
     ensures ended { (ended : Result AReport ANotOpened)
-        × HasEndedChange (around (S.root hosts.old) (S.tree hosts.old) (S.left hosts.new)
-        (S.seen hosts.new) (S.faults hosts.old < S.faults hosts.new)
-        (S.unopened hosts.old hosts.new) (S.locked hosts.old)) root.now asked.now ended × IfOk
-        result (λ answer. answer ≡ ended_answer root.now ended) }
+        × HasEndedChange (around S.Hosts hosts.old hosts.new) root.now asked.now ended
+        × IfOk result (λ answer. answer ≡ ended_answer root.now ended) }
     ensures bound { IfOk result (λ answer. answer.status ≤ 2) }
 {
     match change_under(alloc, hosts, root, asked) {
@@ -296,12 +290,9 @@ fn work_telling<S: Hosts, O: Write>(
     printer: &mut Printer<'_, O>,
 ) -> Result<Report, NotOpened>
     ensures same_output { printer.new.out.ghost_name ≡ printer.old.out.ghost_name }
-    ensures done { IfOk result (HasWorkedUnder (around (S.root hosts.old) (S.tree hosts.old)
-        (S.left hosts.new) (S.seen hosts.new) (S.faults hosts.old < S.faults hosts.new)
-        (S.unopened hosts.old hosts.new) (S.locked hosts.old)) root.now asked.now) }
-    ensures refused { IfErr result (IsRootFault (around (S.root hosts.old) (S.tree hosts.old)
-        (S.left hosts.new) (S.seen hosts.new) (S.faults hosts.old < S.faults hosts.new)
-        (S.unopened hosts.old hosts.new) (S.locked hosts.old)) root.now) }
+    ensures done { IfOk result (HasWorkedUnder (around S.Hosts hosts.old hosts.new) root.now
+        asked.now) }
+    ensures refused { IfErr result (IsRootFault (around S.Hosts hosts.old hosts.new) root.now) }
     ensures told { printer.old.flow ≡ Whole → IfOk
         result (λ done. HasPrinted (flat_map unit_lines done.units.items) printer.new.flow
         (O.contents printer.old.out.now) (O.contents printer.new.out.now)) }
@@ -319,9 +310,7 @@ fn worked<S: Hosts, O: Write>(
     out: &mut O,
 ) -> Result<Left, AllocError>
     ensures ended { (ended : Result AReport ANotOpened)
-        × HasEndedWork (around (S.root hosts.old) (S.tree hosts.old) (S.left hosts.new)
-        (S.seen hosts.new) (S.faults hosts.old < S.faults hosts.new)
-        (S.unopened hosts.old hosts.new) (S.locked hosts.old)) root.now asked.now ended
+        × HasEndedWork (around S.Hosts hosts.old hosts.new) root.now asked.now ended
         × IsLeft (ended_answer root.now ended) (O.contents out.old) (O.contents out.new) result }
     ensures bound { IfOk result (λ left. status_left left ≤ 2) }
 {
@@ -345,9 +334,7 @@ fn configured<S: Hosts, O: Write>(
     out: &mut O,
 ) -> Result<Left, AllocError>
     ensures ended { (ended : Result AReport ANotOpened)
-        × HasEndedWork (around (S.root hosts.old) (S.tree hosts.old) (S.left hosts.new)
-        (S.seen hosts.new) (S.faults hosts.old < S.faults hosts.new)
-        (S.unopened hosts.old hosts.new) (S.locked hosts.old)) asked.root (work_of asked) ended
+        × HasEndedWork (around S.Hosts hosts.old hosts.new) asked.root (work_of asked) ended
         × IsLeft (ended_answer asked.root ended) (O.contents out.old) (O.contents out.new) result }
     ensures bound { IfOk result (λ left. status_left left ≤ 2) }
 {
@@ -368,9 +355,7 @@ fn removed<S: Hosts, O: Write>(
     out: &mut O,
 ) -> Result<Left, AllocError>
     ensures ended { (ended : Result AReport ANotOpened)
-        × HasEndedWork (around (S.root hosts.old) (S.tree hosts.old) (S.left hosts.new)
-        (S.seen hosts.new) (S.faults hosts.old < S.faults hosts.new)
-        (S.unopened hosts.old hosts.new) (S.locked hosts.old)) asked.root (Work.Remove asked.names)
+        × HasEndedWork (around S.Hosts hosts.old hosts.new) asked.root (Work.Remove asked.names)
         ended × IsLeft (ended_answer asked.root ended) (O.contents out.old) (O.contents out.new)
         result }
     ensures bound { IfOk result (λ left. status_left left ≤ 2) }
@@ -391,9 +376,7 @@ fn purged<S: Hosts, O: Write>(
     out: &mut O,
 ) -> Result<Left, AllocError>
     ensures ended { (ended : Result AReport ANotOpened)
-        × HasEndedWork (around (S.root hosts.old) (S.tree hosts.old) (S.left hosts.new)
-        (S.seen hosts.new) (S.faults hosts.old < S.faults hosts.new)
-        (S.unopened hosts.old hosts.new) (S.locked hosts.old)) asked.root (Work.Purge asked.names)
+        × HasEndedWork (around S.Hosts hosts.old hosts.new) asked.root (Work.Purge asked.names)
         ended × IsLeft (ended_answer asked.root ended) (O.contents out.old) (O.contents out.new)
         result }
     ensures bound { IfOk result (λ left. status_left left ≤ 2) }
@@ -410,11 +393,10 @@ fn purged<S: Hosts, O: Write>(
 fn diverted<S: Hosts>(alloc: Global, hosts: &mut S, asked: &Diverting) -> Result<Answer, AllocError>
     requires { is_owner (owner_in asked.now.owner) ≡ true }
     ensures answered { (answer : AnAnswer)
-        × (IsReadChange (around (S.root hosts.old) (S.tree hosts.old) (S.left hosts.new)
-        (S.seen hosts.new) (S.faults hosts.old < S.faults hosts.new)
-        (S.unopened hosts.old hosts.new) (S.locked hosts.old)) asked.now.root
-        (bad_of_divert asked.now) (IsDivertOf asked.now) answer ⊎ ((answer ≡ memory_answer)
-        × (hosts.new ≡ hosts.old))) × IfOk result (λ told. told ≡ answer) }
+        × (IsReadChange (around S.Hosts hosts.old hosts.new) asked.now.root
+        (bad_of_divert asked.now) (IsDivertOf asked.now) answer
+        ⊎ ((answer ≡ memory_answer) × (hosts.new ≡ hosts.old)))
+        × IfOk result (λ told. told ≡ answer) }
     ensures bound { IfOk result (λ answer. answer.status ≤ 2) }
     ensures quiet { IfOk result (λ answer. (answer.output ≡ [])
         ⊎ (is_good (bad_of_divert asked.now) ≡ true)) }
@@ -433,11 +415,10 @@ fn undiverted<S: Hosts>(
     asked: &Undiverting,
 ) -> Result<Answer, AllocError>
     ensures answered { (answer : AnAnswer)
-        × (IsReadChange (around (S.root hosts.old) (S.tree hosts.old) (S.left hosts.new)
-        (S.seen hosts.new) (S.faults hosts.old < S.faults hosts.new)
-        (S.unopened hosts.old hosts.new) (S.locked hosts.old)) asked.now.root
-        (bad_of_undivert asked.now) (IsUndivertOf asked.now) answer ⊎ ((answer ≡ memory_answer)
-        × (hosts.new ≡ hosts.old))) × IfOk result (λ told. told ≡ answer) }
+        × (IsReadChange (around S.Hosts hosts.old hosts.new) asked.now.root
+        (bad_of_undivert asked.now) (IsUndivertOf asked.now) answer
+        ⊎ ((answer ≡ memory_answer) × (hosts.new ≡ hosts.old)))
+        × IfOk result (λ told. told ≡ answer) }
     ensures bound { IfOk result (λ answer. answer.status ≤ 2) }
     ensures quiet { IfOk result (λ answer. (answer.output ≡ [])
         ⊎ (is_good (bad_of_undivert asked.now) ≡ true)) }
@@ -457,10 +438,8 @@ fn inquired<S: Hosts>(
     asked: &Inquiry,
 ) -> Result<Answer, AllocError>
     ensures answered { (answer : AnAnswer)
-        × IsInquired (around (S.root hosts.old) (S.tree hosts.old) (S.left hosts.new)
-        (S.seen hosts.new) (S.faults hosts.old < S.faults hosts.new)
-        (S.unopened hosts.old hosts.new) (S.locked hosts.old)) root.now asked.now answer × IfOk
-        result (λ told. told ≡ answer) }
+        × IsInquired (around S.Hosts hosts.old hosts.new) root.now asked.now answer
+        × IfOk result (λ told. told ≡ answer) }
     ensures bound { IfOk result (λ answer. answer.status ≤ 2) }
 {
     match inquire_under(alloc, hosts, root, asked) {
@@ -471,11 +450,9 @@ fn inquired<S: Hosts>(
 
 fn queried<S: Hosts>(alloc: Global, hosts: &mut S, query: Query) -> Result<Answer, AllocError>
     ensures answered { (answer : AnAnswer)
-        × (IsQueryAnswer (around (S.root hosts.old) (S.tree hosts.old) (S.left hosts.new)
-        (S.seen hosts.new) (S.faults hosts.old < S.faults hosts.new)
-        (S.unopened hosts.old hosts.new) (S.locked hosts.old)) query answer
-        ⊎ ((answer ≡ memory_answer) × (hosts.new ≡ hosts.old))) × IfOk
-        result (λ told. told ≡ answer) }
+        × (IsQueryAnswer (around S.Hosts hosts.old hosts.new) query answer
+        ⊎ ((answer ≡ memory_answer) × (hosts.new ≡ hosts.old)))
+        × IfOk result (λ told. told ≡ answer) }
     ensures bound { IfOk result (λ answer. answer.status ≤ 2) }
     ensures quiet { IfOk result (λ answer. (answer.output ≡ [])
         ⊎ (is_ok (inquiry_of query.question) ≡ true)) }
@@ -498,12 +475,10 @@ pub(crate) fn answer_to<S: Hosts, O: Write>(
     out: &mut O,
 ) -> Result<Left, AllocError>
     ensures answered { (answer : AnAnswer)
-        × (IsAnswerOf (around (S.root hosts.old) (S.tree hosts.old) (S.left hosts.new)
-        (S.seen hosts.new) (S.faults hosts.old < S.faults hosts.new)
-        (S.unopened hosts.old hosts.new) (S.locked hosts.old))
-        (named_in (map string_bytes words.now)) (asked_of (map string_bytes words.now)) answer
-        ⊎ ((answer ≡ memory_answer) × (hosts.new ≡ hosts.old))) × IsLeft answer (O.contents out.old)
-        (O.contents out.new) result }
+        × (IsAnswerOf (around S.Hosts hosts.old hosts.new) (named_in (map string_bytes words.now))
+        (asked_of (map string_bytes words.now)) answer
+        ⊎ ((answer ≡ memory_answer) × (hosts.new ≡ hosts.old)))
+        × IsLeft answer (O.contents out.old) (O.contents out.new) result }
     ensures bound { IfOk result (λ left. status_left left ≤ 2) }
     ensures quiet { IfOk result (λ left. (output_left left ≡ [])
         ⊎ (prints (asked_of (map string_bytes words.now)) ≡ true)) }

@@ -1,9 +1,8 @@
 // Changes of the diversions: their paths are read, and the root is opened to carry them out.
-ghost use Rattle.std.specs.Prelude.{◌≡◌, ◌<◌, ◌≤◌, ◌⊎◌, false, true, IfOk, IfErr};
-ghost use Rattle.administration.specs.declared.fault.AdministrationFault.TheVariants.{NoMemory};
+ghost use Rattle.std.specs.Prelude.{◌≡◌, ◌≤◌, false, true, IfOk, IfErr};
 ghost use Rattle.diversions.specs.Entries.{is_owner};
 ghost use Rattle.command_line.specs.Changes.{HasChanged, HasChangedUnder, IsChangedOn, IsDivertOf, IsRead, IsUndivertOf, bad_of_divert, bad_of_undivert, owner_in, target_in};
-ghost use Rattle.command_line.specs.Roots.{IsRefusedOn, IsRootFault, IsStoppedOn, around};
+ghost use Rattle.command_line.specs.Roots.{IsGivenUpOn, IsRootFault, around};
 
 use crate::fault::{NotOpened, RootFault};
 use crate::hosts::Hosts;
@@ -106,8 +105,7 @@ fn change_on<S: Hosts>(
     asked: &Change,
 ) -> Result<Report, AdministrationFault>
     ensures done { IfOk result (IsChangedOn (S.left hosts.new) (S.Opened.state host) asked.now) }
-    ensures refused { IfErr result (λ fault. IsRefusedOn (S.left hosts.new) (S.Opened.state host)
-        fault ⊎ ((fault ≡ NoMemory) × IsStoppedOn (S.left hosts.new) (S.Opened.state host))) }
+    ensures refused { IfErr result (IsGivenUpOn (S.left hosts.new) (S.Opened.state host)) }
     ensures faults { S.faults hosts.old ≤ S.faults hosts.new }
 {
     match Session::open(alloc, host) {
@@ -130,12 +128,9 @@ pub(crate) fn change_under<S: Hosts>(
     root: &Text,
     asked: &Change,
 ) -> Result<Report, NotOpened>
-    ensures done { IfOk result (HasChangedUnder (around (S.root hosts.old) (S.tree hosts.old)
-        (S.left hosts.new) (S.seen hosts.new) (S.faults hosts.old < S.faults hosts.new)
-        (S.unopened hosts.old hosts.new) (S.locked hosts.old)) root.now asked.now) }
-    ensures refused { IfErr result (IsRootFault (around (S.root hosts.old) (S.tree hosts.old)
-        (S.left hosts.new) (S.seen hosts.new) (S.faults hosts.old < S.faults hosts.new)
-        (S.unopened hosts.old hosts.new) (S.locked hosts.old)) root.now) }
+    ensures done { IfOk result (HasChangedUnder (around S.Hosts hosts.old hosts.new) root.now
+        asked.now) }
+    ensures refused { IfErr result (IsRootFault (around S.Hosts hosts.old hosts.new) root.now) }
 {
     match hosts.open_root(root.as_str(), ScriptStreams::Own) {
         Ok(host) => match change_on(alloc, hosts, host, asked) {

@@ -1,5 +1,5 @@
 // A command: the answer to words, written.
-ghost use Rattle.std.specs.Prelude.{◌≡◌, ◌<◌, ◌≤◌, ◌⊎◌, map, string_bytes, true};
+ghost use Rattle.std.specs.Prelude.{◌≡◌, ◌≤◌, ◌⊎◌, map, string_bytes, true};
 ghost use Rattle.command_words.specs.Commands.{asked_of};
 ghost use Rattle.command_words.specs.Topics.{named_in};
 ghost use Rattle.command_line.specs.declared.answer.Answer.{Answer};
@@ -22,15 +22,13 @@ pub fn run_words<S: Hosts, O: Write, E: Write>(
 ) -> u8
     ensures bound { result ≤ 2 }
     ensures answered { (answer : Answer)
-        × (IsAnswerOf (around (S.root hosts.old) (S.tree hosts.old) (S.left hosts.new)
-        (S.seen hosts.new) (S.faults hosts.old < S.faults hosts.new)
-        (S.unopened hosts.old hosts.new) (S.locked hosts.old))
-        (named_in (map string_bytes words.now)) (asked_of (map string_bytes words.now)) answer
+        × (IsAnswerOf (around S.Hosts hosts.old hosts.new) (named_in (map string_bytes words.now))
+        (asked_of (map string_bytes words.now)) answer
         ⊎ ((answer ≡ memory_answer) × (hosts.new ≡ hosts.old)))
         × (IsGiven answer (O.contents out.old) (O.contents out.new) (E.contents err.old)
-        (E.contents err.new) result
-        ⊎ (IsGiven memory_answer (O.contents out.old) (O.contents out.new) (E.contents err.old)
-        (E.contents err.new) result ⊎ ((has_units (asked_of (map string_bytes words.now)) ≡ true)
+        (E.contents err.new) result ⊎ (IsGiven memory_answer (O.contents out.old)
+        (O.contents out.new) (E.contents err.old) (E.contents err.new) result
+        ⊎ ((has_units (asked_of (map string_bytes words.now)) ≡ true)
         × IsGivenInPart answer (O.contents out.old) (O.contents out.new) (E.contents err.old)
         (E.contents err.new) result))) }
     ensures quiet { (out.new ≡ out.old) ⊎ (prints (asked_of (map string_bytes words.now)) ≡ true) }

@@ -1,10 +1,10 @@
 // Packages are configured, removed or purged by their names: the root is opened to do it.
-ghost use Rattle.std.specs.Prelude.{◌≡◌, ◌<◌, ◌≤◌, ◌⊎◌, false, IfErr, IfOk, OnErr, option_map};
-ghost use Rattle.administration.specs.declared.fault.AdministrationFault.TheVariants.{NoMemory};
+ghost use Rattle.std.specs.Prelude.{◌≡◌, ◌≤◌, false, IfErr, IfOk, OnErr, option_map};
 ghost use Rattle.unit_reports.specs.Held.{held_by};
 ghost use Rattle.unit_reports.specs.Watching.{IsTold};
 ghost use Rattle.command_line.specs.Packages.{HasWorked, HasWorkedUnder, IsWorkedOn, changed_of, policy_of};
-ghost use Rattle.command_line.specs.Roots.{IsRefusedOn, IsRootFault, IsStoppedOn, around};
+ghost use Rattle.command_line.specs.Printing.{AreTold};
+ghost use Rattle.command_line.specs.Roots.{IsGivenUpOn, IsRootFault, around};
 
 use crate::fault::{NotOpened, RootFault};
 use crate::hosts::Hosts;
@@ -76,8 +76,8 @@ fn carry_out<H: Host, W: Watcher>(
         (held_by session.old.administration session.old.diversions) (H.state session.old.host)
         (H.state session.new.host)) }
     ensures unmoved { OnErr result (H.state session.new.host ≡ H.state session.old.host) }
-    ensures watched { IfOk result (λ done. IsTold W.tells watcher.old done.units.items
-        watcher.new) }
+    ensures watched { IfOk result (λ done. IsTold W.tells (H.state session.old.host) watcher.old
+        done.units.items watcher.new) }
     ensures unwatched { OnErr result (watcher.new ≡ watcher.old) }
 {
     match asked {
@@ -105,10 +105,9 @@ fn work_on<S: Hosts, W: Watcher>(
     watcher: &mut W,
 ) -> Result<Report, AdministrationFault>
     ensures done { IfOk result (IsWorkedOn (S.left hosts.new) (S.Opened.state host) asked.now) }
-    ensures refused { IfErr result (λ fault. IsRefusedOn (S.left hosts.new) (S.Opened.state host)
-        fault ⊎ ((fault ≡ NoMemory) × IsStoppedOn (S.left hosts.new) (S.Opened.state host))) }
+    ensures refused { IfErr result (IsGivenUpOn (S.left hosts.new) (S.Opened.state host)) }
     ensures faults { S.faults hosts.old ≤ S.faults hosts.new }
-    ensures watched { IfOk result (λ done. IsTold W.tells watcher.old done.units.items
+    ensures watched { IfOk result (λ done. AreTold W.tells watcher.old done.units.items
         watcher.new) }
     ensures unwatched { OnErr result (watcher.new ≡ watcher.old) }
 {
@@ -135,13 +134,10 @@ pub(crate) fn work_under<S: Hosts, W: Watcher>(
     asked: &Work,
     watcher: &mut W,
 ) -> Result<Report, NotOpened>
-    ensures done { IfOk result (HasWorkedUnder (around (S.root hosts.old) (S.tree hosts.old)
-        (S.left hosts.new) (S.seen hosts.new) (S.faults hosts.old < S.faults hosts.new)
-        (S.unopened hosts.old hosts.new) (S.locked hosts.old)) root.now asked.now) }
-    ensures refused { IfErr result (IsRootFault (around (S.root hosts.old) (S.tree hosts.old)
-        (S.left hosts.new) (S.seen hosts.new) (S.faults hosts.old < S.faults hosts.new)
-        (S.unopened hosts.old hosts.new) (S.locked hosts.old)) root.now) }
-    ensures watched { IfOk result (λ done. IsTold W.tells watcher.old done.units.items
+    ensures done { IfOk result (HasWorkedUnder (around S.Hosts hosts.old hosts.new) root.now
+        asked.now) }
+    ensures refused { IfErr result (IsRootFault (around S.Hosts hosts.old hosts.new) root.now) }
+    ensures watched { IfOk result (λ done. AreTold W.tells watcher.old done.units.items
         watcher.new) }
     ensures unwatched { OnErr result (watcher.new ≡ watcher.old) }
 {

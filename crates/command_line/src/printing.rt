@@ -5,6 +5,7 @@ ghost use Rattle.command_line.specs.Printing.{IsPrinted, Prints};
 
 use crate::writing::write_whole;
 use dpkg_session::{Unit, Watcher};
+use host_core::Host;
 use report_lines::unit_text;
 use std::alloc::Global;
 use std::io::Write;
@@ -26,9 +27,12 @@ pub(crate) struct Printer<'a, O: Write> {
 }
 
 impl<'a, O: Write> Watcher for Printer<'a, O> {
-    ghost tells = { λ old unit new. (new.out.ghost_name ≡ old.out.ghost_name) × Prints (unit_lines unit) old.flow new.flow (O.contents old.out.now) (O.contents new.out.now) };
+    ghost tells = { λ old unit at new. (new.out.ghost_name ≡ old.out.ghost_name)
+        × Prints (unit_lines unit) old.flow new.flow (O.contents old.out.now)
+        (O.contents new.out.now) };
 
-    fn finished(&mut self, unit: &Unit) {
+    fn finished<H: Host>(&mut self, host: &H, unit: &Unit) {
+        let _ = host;
         if let Flow::Whole = self.flow {
             self.flow = print_unit(self.alloc, self.out, unit);
         }

@@ -1,10 +1,9 @@
 // Questions about an administration: their paths are read, and the root is opened to answer them.
-ghost use Rattle.std.specs.Prelude.{◌≡◌, ◌<◌, ◌≤◌, ◌⊎◌, false, ℕ, List, IfOk, IfErr, Option, Result};
+ghost use Rattle.std.specs.Prelude.{◌≡◌, ◌≤◌, false, ℕ, List, IfOk, IfErr, Option, Result};
 ghost use Rattle.host_core.specs.Paths.{Path as APath};
-ghost use Rattle.administration.specs.declared.fault.AdministrationFault.TheVariants.{NoMemory};
 ghost use Rattle.dpkg_session.specs.Queries.{IsAnswer, IsAnswerAbout};
 ghost use Rattle.command_line.specs.Queries.{HasInquired, IsInquiredOn, bad_path_answer, inquiry_answer, inquiry_of, on_path, package_answer, search_answer, text_answer};
-ghost use Rattle.command_line.specs.Roots.{IsRefusedOn, IsRootFault, IsStoppedOn, around};
+ghost use Rattle.command_line.specs.Roots.{IsGivenUpOn, IsRootFault, around};
 ghost use Rattle.command_line.specs.declared.questions.Inquiry.TheVariants.{Search, Truename};
 
 use crate::answer::{Answer, complained, printed, told};
@@ -156,8 +155,7 @@ fn inquire_on<S: Hosts>(
     asked: &Inquiry,
 ) -> Result<Answer, AdministrationFault>
     ensures answer { IfOk result (IsInquiredOn (S.left hosts.new) (S.Opened.state host) asked.now) }
-    ensures refused { IfErr result (λ fault. IsRefusedOn (S.left hosts.new) (S.Opened.state host)
-        fault ⊎ ((fault ≡ NoMemory) × IsStoppedOn (S.left hosts.new) (S.Opened.state host))) }
+    ensures refused { IfErr result (IsGivenUpOn (S.left hosts.new) (S.Opened.state host)) }
     ensures faults { S.faults hosts.old ≤ S.faults hosts.new }
 {
     match Session::open(alloc, host) {
@@ -181,12 +179,9 @@ pub(crate) fn inquire_under<S: Hosts>(
     root: &Text,
     asked: &Inquiry,
 ) -> Result<Answer, NotOpened>
-    ensures answer { IfOk result (HasInquired (around (S.root hosts.old) (S.tree hosts.old)
-        (S.left hosts.new) (S.seen hosts.new) (S.faults hosts.old < S.faults hosts.new)
-        (S.unopened hosts.old hosts.new) (S.locked hosts.old)) root.now asked.now) }
-    ensures refused { IfErr result (IsRootFault (around (S.root hosts.old) (S.tree hosts.old)
-        (S.left hosts.new) (S.seen hosts.new) (S.faults hosts.old < S.faults hosts.new)
-        (S.unopened hosts.old hosts.new) (S.locked hosts.old)) root.now) }
+    ensures answer { IfOk result (HasInquired (around S.Hosts hosts.old hosts.new) root.now
+        asked.now) }
+    ensures refused { IfErr result (IsRootFault (around S.Hosts hosts.old hosts.new) root.now) }
 {
     match hosts.open_root(root.as_str(), ScriptStreams::Own) {
         Ok(host) => match inquire_on(alloc, hosts, host, asked) {

@@ -1,5 +1,5 @@
 // The trees behind words, of which one is open at a time.
-ghost use Rattle.std.specs.Prelude.{◌≡◌, ◌<◌, ◌∷◌, IsTrue, List, ℕ, length};
+ghost use Rattle.std.specs.Prelude.{◌≡◌, ◌∷◌, IsTrue, List, ℕ, length};
 ghost use Rattle.std.specs.Vec.Iter.{into_iter_items};
 ghost use Rattle.host_core.specs.Host.{Reads, Silent, State};
 ghost use Rattle.package_tree.specs.Fault.{CountsTree};
@@ -29,15 +29,10 @@ impl<'a, S: Hosts> Trees for TreeWords<'a, S> {
 
     ghost reads = { λ old c new. (new.hosts.ghost_name ≡ old.hosts.ghost_name)
         × (new.asked.now ≡ old.asked.now)
-        × IsReadOnce
-        (around (S.root old.hosts.now) (S.tree old.hosts.now) (S.left new.hosts.now)
-        (S.seen new.hosts.now) (S.faults old.hosts.now < S.faults new.hosts.now)
-        (S.unopened old.hosts.now new.hosts.now) (S.locked old.hosts.now))
-        old.asked.now.owners
+        × IsReadOnce (around S.Hosts old.hosts.now new.hosts.now) old.asked.now.owners
         (words_before old.asked.now.trees (length (into_iter_items old.left.now)))
         c.label c.tree
-        × HaveGoneOn (S.tree old.hosts.now) (S.tree new.hosts.now) (S.seen old.hosts.now)
-        (S.seen new.hosts.now) (S.faults old.hosts.now) (S.faults new.hosts.now)
+        × HaveGoneOn S.Hosts old.hosts.now new.hosts.now
         × (into_iter_items old.left.now ≡ c.label ∷ into_iter_items new.left.now) };
 
     fn next(&mut self) -> Option<Candidate> {
@@ -100,11 +95,9 @@ fn read_once<S: Hosts>(
     earlier: &[Text],
     tree: &str,
 ) -> Result<Package, TreeFault>
-    ensures read { IsReadOnce (around (S.root hosts.old) (S.tree hosts.old) (S.left hosts.new)
-        (S.seen hosts.new) (S.faults hosts.old < S.faults hosts.new)
-        (S.unopened hosts.old hosts.new) (S.locked hosts.old)) owners earlier.now tree.now result }
-    ensures on { HaveGoneOn (S.tree hosts.old) (S.tree hosts.new) (S.seen hosts.old)
-        (S.seen hosts.new) (S.faults hosts.old) (S.faults hosts.new) }
+    ensures read { IsReadOnce (around S.Hosts hosts.old hosts.new) owners earlier.now tree.now
+        result }
+    ensures on { HaveGoneOn S.Hosts hosts.old hosts.new }
 {
     if is_among(earlier, tree) {
         return Err(TreeFault::Twice);
@@ -119,11 +112,8 @@ fn read_package<S: Hosts>(
     owners: TreeOwners,
     tree: &str,
 ) -> Result<Package, TreeFault>
-    ensures read { IsReadFor (around (S.root hosts.old) (S.tree hosts.old) (S.left hosts.new)
-        (S.seen hosts.new) (S.faults hosts.old < S.faults hosts.new)
-        (S.unopened hosts.old hosts.new) (S.locked hosts.old)) owners tree.now result }
-    ensures on { HaveGoneOn (S.tree hosts.old) (S.tree hosts.new) (S.seen hosts.old)
-        (S.seen hosts.new) (S.faults hosts.old) (S.faults hosts.new) }
+    ensures read { IsReadFor (around S.Hosts hosts.old hosts.new) owners tree.now result }
+    ensures on { HaveGoneOn S.Hosts hosts.old hosts.new }
 {
     match hosts.open_tree(tree, owners) {
         Ok(mut host) => {

@@ -1,12 +1,11 @@
 // Trees: the root is opened, they are read one after another, and their packages are unpacked or installed.
-ghost use Rattle.std.specs.Prelude.{◌≡◌, ◌<◌, ◌≤◌, ◌⊎◌, IfErr, IfOk, OnErr, false};
+ghost use Rattle.std.specs.Prelude.{◌≡◌, ◌≤◌, IfErr, IfOk, OnErr, false};
 ghost use Rattle.std.specs.Vec.Iter.{into_iter_items};
-ghost use Rattle.administration.specs.declared.fault.AdministrationFault.TheVariants.{NoMemory};
 ghost use Rattle.unit_reports.specs.Held.{held_by};
 ghost use Rattle.unit_reports.specs.Watching.{IsTold};
-ghost use Rattle.command_line.specs.Printing.{last_in, units_of};
+ghost use Rattle.command_line.specs.Printing.{AreTold, last_in, units_of};
 ghost use Rattle.command_line.specs.Reading.{HaveGoneOn};
-ghost use Rattle.command_line.specs.Roots.{around, IsRefusedOn, IsRootFault, IsStoppedOn};
+ghost use Rattle.command_line.specs.Roots.{around, IsGivenUpOn, IsRootFault};
 ghost use Rattle.command_line.specs.Unpacks.{HasRunTrees, HasUnpacked, IsUnpackedOn};
 
 use crate::fault::{NotOpened, RootFault};
@@ -51,16 +50,12 @@ fn run_session<S: Hosts, W: Watcher>(
     requires open { session.old.closed ≡ false }
     requires unread { into_iter_items trees.old.left.now ≡ trees.old.asked.now.trees }
     ensures same_hosts { trees.new.hosts.ghost_name ≡ trees.old.hosts.ghost_name }
-    ensures done { HasRunTrees (around (S.root trees.old.hosts.now) (S.tree trees.old.hosts.now)
-        (S.left trees.new.hosts.now) (S.seen trees.new.hosts.now) (S.faults trees.old.hosts.now
-        < S.faults trees.new.hosts.now) (S.unopened trees.old.hosts.now trees.new.hosts.now)
-        (S.locked trees.old.hosts.now)) policy trees.old.asked.now result
-        (held_by session.old.administration session.old.diversions)
+    ensures done { HasRunTrees (around S.Hosts trees.old.hosts.now trees.new.hosts.now) policy
+        trees.old.asked.now result (held_by session.old.administration session.old.diversions)
         (S.Opened.state session.old.host) (S.Opened.state session.new.host) }
-    ensures on { HaveGoneOn (S.tree trees.old.hosts.now) (S.tree trees.new.hosts.now)
-        (S.seen trees.old.hosts.now) (S.seen trees.new.hosts.now) (S.faults trees.old.hosts.now)
-        (S.faults trees.new.hosts.now) }
-    ensures watched { IsTold W.tells watcher.old (units_of result) watcher.new }
+    ensures on { HaveGoneOn S.Hosts trees.old.hosts.now trees.new.hosts.now }
+    ensures watched { IsTold W.tells (S.Opened.state session.old.host) watcher.old (units_of result)
+        watcher.new }
 {
     let auto_deconfigure = trees.asked.auto_deconfigure;
     match policy {
@@ -81,16 +76,14 @@ fn run_trees<S: Hosts, W: Watcher>(
     watcher: &mut W,
 ) -> Result<Done, AllocError>
     requires { session.old.closed ≡ false }
-    ensures done { IfOk result (λ done. HasRunTrees (around (S.root hosts.old) (S.tree hosts.old)
-        (S.left hosts.new) (S.seen hosts.new) (S.faults hosts.old < S.faults hosts.new)
-        (S.unopened hosts.old hosts.new) (S.locked hosts.old)) policy unpacking.now done
-        (held_by session.old.administration session.old.diversions)
+    ensures done { IfOk result (λ done. HasRunTrees (around S.Hosts hosts.old hosts.new) policy
+        unpacking.now done (held_by session.old.administration session.old.diversions)
         (S.Opened.state session.old.host) (S.Opened.state session.new.host)) }
     ensures unread { OnErr result (S.Opened.state session.new.host ≡ S.Opened.state
         session.old.host) }
-    ensures on { HaveGoneOn (S.tree hosts.old) (S.tree hosts.new) (S.seen hosts.old)
-        (S.seen hosts.new) (S.faults hosts.old) (S.faults hosts.new) }
-    ensures watched { IfOk result (λ done. IsTold W.tells watcher.old (units_of done) watcher.new) }
+    ensures on { HaveGoneOn S.Hosts hosts.old hosts.new }
+    ensures watched { IfOk result (λ done. IsTold W.tells (S.Opened.state session.old.host)
+        watcher.old (units_of done) watcher.new) }
     ensures unwatched { OnErr result (watcher.new ≡ watcher.old) }
 {
     let mut left = listed(alloc, unpacking.trees.as_slice())?.into_iter();
@@ -112,14 +105,12 @@ fn unpack_on<S: Hosts, W: Watcher>(
     policy: Option<ConfPolicy>,
     watcher: &mut W,
 ) -> Result<Done, AdministrationFault>
-    ensures done { IfOk result (IsUnpackedOn (around (S.root hosts.old) (S.tree hosts.old)
-        (S.left hosts.new) (S.seen hosts.new) (S.faults hosts.old < S.faults hosts.new)
-        (S.unopened hosts.old hosts.new) (S.locked hosts.old)) (S.Opened.state host) policy
-        unpacking.now) }
-    ensures refused { IfErr result (λ fault. IsRefusedOn (S.left hosts.new) (S.Opened.state host)
-        fault ⊎ ((fault ≡ NoMemory) × IsStoppedOn (S.left hosts.new) (S.Opened.state host))) }
+    ensures done { IfOk result (IsUnpackedOn (around S.Hosts hosts.old hosts.new)
+        (S.Opened.state host) policy unpacking.now) }
+    ensures refused { IfErr result (IsGivenUpOn (S.left hosts.new) (S.Opened.state host)) }
     ensures faults { S.faults hosts.old ≤ S.faults hosts.new }
-    ensures watched { IfOk result (λ done. IsTold W.tells watcher.old (units_of done) watcher.new) }
+    ensures watched { IfOk result (λ done. AreTold W.tells watcher.old (units_of done)
+        watcher.new) }
     ensures unwatched { OnErr result (watcher.new ≡ watcher.old) }
 {
     match Session::open(alloc, host) {
@@ -144,14 +135,13 @@ pub(crate) fn unpack<S: Hosts, W: Watcher>(
     policy: Option<ConfPolicy>,
     watcher: &mut W,
 ) -> Result<Done, NotOpened>
-    ensures done { IfOk result (HasUnpacked (around (S.root hosts.old) (S.tree hosts.old)
-        (S.left hosts.new) (S.seen hosts.new) (S.faults hosts.old < S.faults hosts.new)
-        (S.unopened hosts.old hosts.new) (S.locked hosts.old)) policy unpacking.now) }
-    ensures refused { IfErr result (IsRootFault (around (S.root hosts.old) (S.tree hosts.old)
-        (S.left hosts.new) (S.seen hosts.new) (S.faults hosts.old < S.faults hosts.new)
-        (S.unopened hosts.old hosts.new) (S.locked hosts.old)) unpacking.now.root) }
+    ensures done { IfOk result (HasUnpacked (around S.Hosts hosts.old hosts.new) policy
+        unpacking.now) }
+    ensures refused { IfErr result (IsRootFault (around S.Hosts hosts.old hosts.new)
+        unpacking.now.root) }
     ensures faults { S.faults hosts.old ≤ S.faults hosts.new }
-    ensures watched { IfOk result (λ done. IsTold W.tells watcher.old (units_of done) watcher.new) }
+    ensures watched { IfOk result (λ done. AreTold W.tells watcher.old (units_of done)
+        watcher.new) }
     ensures unwatched { OnErr result (watcher.new ≡ watcher.old) }
 {
     match hosts.open_root(unpacking.root.as_str(), unpacking.streams) {

@@ -4,13 +4,20 @@ use Rattle.host_files.specs.Replay.{Model, replay}
 use Rattle.command_words.specs.Commands.{asked_of}
 use Rattle.command_words.specs.Topics.{named_in}
 use Rattle.command_line.specs.Reports.{IsEndOf}
-use Rattle.command_line.specs.Roots.{Around, around}
+use Rattle.command_line.specs.Roots.{Around}
 
 -- Of real directories: a root is as an account has it when it is opened, and a host for a tree has done nothing by then. Of what
 -- they hold when they are given back, of openings and of other programs nothing is claimed.
 abbrev pub around_real : Model → Type 0 → Around
-around_real model failed =
-    around (λ word state. state ≡ replay model []) (λ word state. state.events ≡ []) (λ state. ⊤) (λ state. ⊤) failed ⊤ (λ word. ⊤)
+around_real model failed = record {
+  root = λ word state. state ≡ replay model [];
+  tree = λ word state. state.events ≡ [];
+  left = λ state. ⊤;
+  seen = λ state. ⊤;
+  failed = failed;
+  unopened = ⊤;
+  locked = λ word. ⊤;
+}
 
 -- The status that a program ends with is that of the answer to its words, or of want of memory; it is 2 where not all of that
 -- could be written. So often had the device failed on opening before and after it.

@@ -1,4 +1,4 @@
-use Rattle.std.proofs.Common.{rules, ◌≡◌, ◌<◌, ◌∙◌, [], ap, map, string_bytes, true, None, Some, refl, inl, inr, subst, sym}
+use Rattle.std.proofs.Common.{rules, ◌≡◌, ◌∙◌, [], ap, map, string_bytes, true, None, Some, refl, inl, inr, subst, sym}
 use Rattle.command_words.specs.Commands.{asked_of}
 use Rattle.command_words.specs.Topics.{HasScreen, named_in}
 use Rattle.command_words.specs.declared.words.Asked.TheVariants.{CompareVersions, Configure, Divert, Help, Install, Names, Purge, Query, Remove, Undivert, Unpack, Version}
@@ -69,7 +69,7 @@ returns-in-Ok-Install-clause-answered g c =
     let asked : asked_of (map string_bytes c.args.words.now) ≡ Some (Install unpacking) = search rules in
     let old = c.args.hosts.now in
     let new = c.unpacked-in-Ok-Install.new.hosts in
-    let a : Around = around (g.S.Hosts.root old) (g.S.Hosts.tree old) (g.S.Hosts.left new) (g.S.Hosts.seen new) (g.S.Hosts.faults old < g.S.Hosts.faults new) (g.S.Hosts.unopened old new) (g.S.Hosts.locked old) in
+    let a : Around = around g.S.Hosts old new in
     let ended = c.unpacked-in-Ok-Install.ensures.ended in
     let as_forced = with_policy a c.policy_of-policy.result (policy_of unpacking.forced) unpacking ended.0 c.policy_of-policy.ensures ended.1 in
     (trees_answer unpacking.root ended.0, rw asked (inl (ended.0, as_forced, refl)), ended.2)

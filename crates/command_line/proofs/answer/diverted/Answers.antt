@@ -1,4 +1,4 @@
-use Rattle.std.proofs.Common.{◌<◌, Ok, Err, inl, inr, refl, subst}
+use Rattle.std.proofs.Common.{Ok, Err, inl, inr, refl, subst}
 use Rattle.command_line.specs.Changes.{IsDivertOf, IsRead, bad_of_divert}
 use Rattle.command_line.specs.Queries.{bad_path_answer}
 use Rattle.command_line.specs.Reports.{memory_answer, ended_answer}
@@ -11,7 +11,7 @@ returns-in-Ok-Ok-clause-answered g c =
     let asked = c.args.asked.now in
     let old = c.args.hosts.now in
     let new = c.changed.new.hosts in
-    let a : Around = around (g.S.Hosts.root old) (g.S.Hosts.tree old) (g.S.Hosts.left new) (g.S.Hosts.seen new) (g.S.Hosts.faults old < g.S.Hosts.faults new) (g.S.Hosts.unopened old new) (g.S.Hosts.locked old) in
+    let a : Around = around g.S.Hosts old new in
     let ended = c.changed.ensures.ended in
     let read : IsRead (bad_of_divert asked) (IsDivertOf asked) (Ok c.in-Ok-Ok.change) = subst (IsRead (bad_of_divert asked) (IsDivertOf asked)) c.in-Ok-Ok.field-0-is c.in-Ok-Ok.ensures in
     (ended_answer asked.root ended.0, inl (read_change a asked.root (bad_of_divert asked) (IsDivertOf asked) c.in-Ok-Ok.change (ended_answer asked.root ended.0) read (ended.0, ended.1, refl)), ended.2)
@@ -20,7 +20,7 @@ pub returns-in-Ok-Err-clause-answered : goal.returns-in-Ok-Err-clause-answered
 returns-in-Ok-Err-clause-answered g c =
     let asked = c.args.asked.now in
     let old = c.args.hosts.now in
-    let a : Around = around (g.S.Hosts.root old) (g.S.Hosts.tree old) (g.S.Hosts.left old) (g.S.Hosts.seen old) (g.S.Hosts.faults old < g.S.Hosts.faults old) (g.S.Hosts.unopened old old) (g.S.Hosts.locked old) in
+    let a : Around = around g.S.Hosts old old in
     let read : IsRead (bad_of_divert asked) (IsDivertOf asked) (Err c.in-Ok-Err.bad) = subst (IsRead (bad_of_divert asked) (IsDivertOf asked)) c.in-Ok-Err.field-0-is c.in-Ok-Err.ensures in
     (bad_path_answer c.in-Ok-Err.bad, inl (read_bad a asked.root (bad_of_divert asked) (IsDivertOf asked) c.in-Ok-Err.bad read), c.bad_path.ensures)
 

@@ -1,4 +1,4 @@
-use Rattle.std.proofs.Common.{◌<◌, arith, subst}
+use Rattle.std.proofs.Common.{arith, subst}
 use Rattle.command_line.specs.Roots.{Around, around}
 use Rattle.command_line.proofs.Trees.{unpacked_within}
 use Rattle.command_line.proofs.unpacking.unpack.Goals as goal
@@ -10,8 +10,8 @@ returns-in-Ok-unpack_on-clause-done g c =
     let old = c.args.hosts.now in
     let mid = c.open_root.new.self in
     let new = c.unpack_on.new.hosts in
-    let outer : Around = around (g.S.Hosts.root old) (g.S.Hosts.tree old) (g.S.Hosts.left new) (g.S.Hosts.seen new) (g.S.Hosts.faults old < g.S.Hosts.faults new) (g.S.Hosts.unopened old new) (g.S.Hosts.locked old) in
-    let inner : Around = around (g.S.Hosts.root mid) (g.S.Hosts.tree mid) (g.S.Hosts.left new) (g.S.Hosts.seen new) (g.S.Hosts.faults mid < g.S.Hosts.faults new) (g.S.Hosts.unopened mid new) (g.S.Hosts.locked mid) in (
+    let outer : Around = around g.S.Hosts old new in
+    let inner : Around = around g.S.Hosts mid new in (
       begun,
       behind,
       unpacked_within outer inner (record { tree = c.open_root.ensures.trees; seen = λ s h. h; failed = λ h. omega arith }) (λ s h. h) begun c.args.policy c.args.unpacking.now c.in-Ok-unpack_on.done c.in-Ok-unpack_on.ensures.done,

@@ -1,4 +1,4 @@
-use Rattle.std.proofs.Common.{◌≡◌, ◌<◌, arith, subst, sym}
+use Rattle.std.proofs.Common.{◌≡◌, arith, subst, sym}
 use Rattle.command_line.specs.Roots.{Around, around, held_anew}
 use Rattle.unit_reports.specs.Held.{Held, held_by}
 use Rattle.command_line.specs.Unpacks.{HasRunTrees}
@@ -10,8 +10,8 @@ returns-in_ok-done-in-Ok-clause-done g c =
     let old = c.args.hosts.now in
     let mid = c.run_trees-done.new.hosts in
     let new = c.close_root.new.self in
-    let inner : Around = around (g.S.Hosts.root old) (g.S.Hosts.tree old) (g.S.Hosts.left mid) (g.S.Hosts.seen mid) (g.S.Hosts.faults old < g.S.Hosts.faults mid) (g.S.Hosts.unopened old mid) (g.S.Hosts.locked old) in
-    let outer : Around = around (g.S.Hosts.root old) (g.S.Hosts.tree old) (g.S.Hosts.left new) (g.S.Hosts.seen new) (g.S.Hosts.faults old < g.S.Hosts.faults new) (g.S.Hosts.unopened old new) (g.S.Hosts.locked old) in
+    let inner : Around = around g.S.Hosts old mid in
+    let outer : Around = around g.S.Hosts old new in
     let session = c.in-Ok.session in
     let begun = g.S.Opened.Host.state session.host in
     let done = c.in_ok-done-in-Ok.field-0 in
