@@ -42,6 +42,9 @@ sound_held h w sound = record { all = of_own h.records.records sound.standing; b
 pub sound_opens : (h : Held) (w : World) → IsSound h w → CanBeOpened w
 sound_opens h w sound = held_opens (record_names h.records.records) h.entries h.records.records w (sound_held h w sound) (kept_opens h.records w sound.order.kept) sound.order.loose
 
+pub still_opens : (h : Held) (old now : World) → IsSound h old → now ≡ old → CanBeOpened now
+still_opens h old now sound same = subst CanBeOpened (sym same) (sound_opens h old sound)
+
 pub held_sound : (names : List (List ℕ)) (h : Held) (w : World) → IsHeld names h.entries h.records.records w → IsInOrder h.records h.lists w → IsSound h w
 held_sound names h w held order = record {
   order = order;
