@@ -2,7 +2,7 @@
 use Rattle.std.specs.Prelude.{◌≡◌, ◌⊎◌, ℕ, Bool, true, false, IsTrue, List, [], ◌∷◌, ◌++◌, Option, Some, None, IfSome}
 use Rattle.conffiles.specs.declared.decisions.ConfPolicy.{ConfPolicy}
 use Rattle.dependency_check.specs.Deconfigured.{of_role}
-use Rattle.dependency_check.specs.Waiting.{Waiting, IsNextOfConfigurable, with_configured, without_failed}
+use Rattle.dependency_check.specs.Waiting.{Waiting, IsConfigurableNow, IsNextOfConfigurable, with_configured, without_failed}
 use Rattle.dependency_check.specs.declared.roles.Role.TheVariants.{Breaking}
 use Rattle.dependency_sets.specs.Choices.{IsFirst}
 use Rattle.host_core.specs.Events.{Event, Did, scripts_of}
@@ -144,6 +144,7 @@ pub record IsTurn (policy : ConfPolicy) (silent : ℕ → Bool) (q : Waiting) (b
   pub x : ℕ
   pub p : Package
   pub next : IsNext silent q x p
+  pub can : IsConfigurableNow q x
   pub is : IsUnit policy q.packages p before after u s t
   pub later_is : later ≡ after_turn (is_done u.reply) x q
   pub moments : AtEachMomentOf (IsAmidUnit policy p.name before) s t
@@ -165,9 +166,9 @@ pub record EndTurns (policy : ConfPolicy) (silent : ℕ → Bool) (start : Waiti
   pub ended : IsNextOfConfigurable q silent None
   pub left_over : HaveRefusedLeft q front now
 
--- the calls of the unit that was broken off: the first of those of the package whose turn it was
+-- the calls of the unit that was broken off: none, or the first of those of the package whose turn it was
 abbrev pub HasCalledNext : ConfPolicy → (ℕ → Bool) → Waiting → Held → State → State → AUnit → Type 0
-HasCalledNext policy silent q before s t u = (x : ℕ) × (p : Package) × IsNext silent q x p × HasCalledFor policy p.name before u s t
+HasCalledNext policy silent q before s t u = HasNoCalls u s t ⊎ ((x : ℕ) × (p : Package) × IsNext silent q x p × HasCalledFor policy p.name before u s t)
 
 -- The unit that was broken off: it tells no package. It made no call, or the first of those of the package whose turn it was.
 abbrev pub IsBrokenOff : ConfPolicy → (ℕ → Bool) → Waiting → Held → State → State → AUnit → Type 0
