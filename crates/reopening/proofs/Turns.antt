@@ -135,8 +135,8 @@ module _ (purge : Bool) where
   module _ (packages : List Package) where
     removal_runs : (q : List (List ℕ)) (before : Held) (u : AUnit) (left : List (List ℕ)) (after : Held) (s t : State) → IsRemovalTurn purge packages q before u left after s t → Runs before after s t
     removal_runs q before u left after s t turn = record {
-      goes = removal_goes turn.name before after u s t turn.runs.is;
-      opened = λ sound. since_weaker_if _ _ s t (λ h so_far now amid. removal_opens turn.name before s.world so_far now (sound (turn.runs.moments.honest h)) amid) turn.runs.moments;
+      goes = removal_goes turn.name before after u s t turn.is.is;
+      opened = λ sound. since_weaker_if _ _ s t (λ h so_far now amid. removal_opens turn.name before s.world so_far now (sound (turn.is.moments.honest h)) amid) turn.is.moments;
     }
 
     next_removal_opens : (q left : List (List ℕ)) (before : Held) (old : World) (so_far : List Event) (now : World) → IsSound before old → IsAmidRemovalTurn purge packages q before old so_far now → CanBeOpened now
