@@ -38,7 +38,7 @@ use Rattle.dpkg_session.specs.Units.{HasDisplaced, HasUnpackedBeside, IsUnitBy, 
 use Rattle.dpkg_session.specs.declared.report.Candidate.{Candidate}
 use Rattle.reopening.proofs.Behind.{displaced_lead, displacing_open}
 use Rattle.reopening.proofs.Parts.{AreOf}
-use Rattle.reopening.proofs.Sounds.{Goes, IsSound, goes_refused, held_sound, sound_lists, sound_opens}
+use Rattle.reopening.proofs.Sounds.{Goes, IsSound, goes_refused, held_sound, sound_lists, still_opens}
 use Rattle.reopening.proofs.Turns.{Ends, Runs, configure_ends, ends_then, runs_same, runs_then}
 use Rattle.reopening.proofs.Units.{IsHeld, held_same, of_from}
 use Rattle.reopening.proofs.Unpacks.{From, IsUnitTable, ShipsText, amid_names, amid_standing, carried_from, ended_table, found_among, left_records, under_way_opens, went_on}
@@ -157,9 +157,6 @@ unit_goes auto label (Err fault) before after u s t texts falls is = goes_refuse
 unit_goes auto label (Ok p) before after u s t texts falls is = by_goes p is.0 before after u s t (ships_text p texts) falls is.2
 
 -- at each moment
-
-still_opens : (before : Held) (old now : World) → IsSound before old → now ≡ old → CanBeOpened now
-still_opens before old now sound same = subst CanBeOpened (sym same) (sound_opens before old sound)
 
 module _ (p : Package) (texts : ShipsText p) (beside : Beside) (before : Held) (old : World) (sound : IsSound before old) where
   beside_opens : (so_far : List Event) (now : World) → IsAmidBeside p beside before (places_of before) old so_far now → CanBeOpened now

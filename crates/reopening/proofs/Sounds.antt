@@ -13,7 +13,6 @@ use Rattle.removal_run.specs.Units.{holding_of}
 use Rattle.status_db.specs.Held.{HasRecords}
 use Rattle.status_records.specs.Records.{AreStanding, record_in}
 use Rattle.status_records.specs.declared.record.Record.{Record}
-use Rattle.held_administration.specs.Order.{IsInOrder as IsInOrderHere}
 use Rattle.unit_reports.specs.Held.{Held}
 use Rattle.unit_reports.specs.Units.{IsRefused}
 use Rattle.unit_reports.specs.declared.refusal.Rule.{Rule}
@@ -43,6 +42,9 @@ sound_held h w sound = record { all = of_own h.records.records sound.standing; b
 pub sound_opens : (h : Held) (w : World) → IsSound h w → CanBeOpened w
 sound_opens h w sound = held_opens (record_names h.records.records) h.entries h.records.records w (sound_held h w sound) (kept_opens h.records w sound.order.kept) sound.order.loose
 
+pub still_opens : (h : Held) (old now : World) → IsSound h old → now ≡ old → CanBeOpened now
+still_opens h old now sound same = subst CanBeOpened (sym same) (sound_opens h old sound)
+
 pub held_sound : (names : List (List ℕ)) (h : Held) (w : World) → IsHeld names h.entries h.records.records w → IsInOrder h.records h.lists w → IsSound h w
 held_sound names h w held order = record {
   order = order;
@@ -54,9 +56,6 @@ held_sound names h w held order = record {
 -- what is listed is read back
 pub sound_lists : (h : Held) (w : World) → IsSound h w → (name : List ℕ) → AreGood (paths_of h.lists name)
 sound_lists h w sound name = good_had (paths_of h.lists name) (∥∥₁_map sound.order.listed (λ has. good_listed w (record_names h.records.records) h.lists has name))
-
-pub engine_order : (h : Held) (w : World) → IsInOrderHere h.records h.lists w → IsInOrder h.records h.lists w
-engine_order h w order = record { home = order.home; info = order.info; loose = order.loose; tmp = order.tmp; kept = order.kept; listed = order.listed }
 
 -- from one state of the host to a later one: sound where it was, and opened at each moment
 pub record Goes (before after : Held) (s t : State) : Type 0 where
@@ -84,7 +83,7 @@ goes_refused rule name before after u s t is = goes_still before after s t is.he
 -- the stages of a package that is recorded, and all of it brought to the disk
 pub goes_stages : (name : List ℕ) (stages : List Stage) (failed : Option Call) (before after : Held) (s left t : State) (told now : List Called) → ((r : Record) → record_in before.records.records name ≡ Some r → AreSafeStages name stages)
     → (r : Record) → record_in before.records.records name ≡ Some r → HaveRun name before.entries stages failed (holding_of before) (holding_of after) s left told now → Happens (Did Barrier ∷ []) left t
-    → Needs t (IsInOrderHere after.records after.lists) → after.entries ≡ before.entries → Goes before after s t
+    → Needs t (IsInOrder after.records after.lists) → after.entries ≡ before.entries → Goes before after s t
 goes_stages name stages failed before after s left t told now safe r found run behind order entries =
     let named = found_is_named before.records.records name r found in
     let falls = run_falls name named before.entries stages failed (holding_of before) (holding_of after) s left told now run in
@@ -96,7 +95,7 @@ goes_stages name stages failed before after s left t told now safe r found run b
           let ends = stages_held names before.entries name named (found_has names before.records.records held.all name r found) before.entries stages failed (holding_of before) (holding_of after) s left told now (safe r found) held run (behind.honest h)
           (subst (λ (w : World). HasRecords w after.records.records) (sym same) there.kept.holds) in
           held_sound names after t.world
-          (subst (λ (l : List Diversion). IsHeld names l after.records.records t.world) (sym entries) (subst (IsHeld names before.entries after.records.records) same ends)) (engine_order after t.world there));
+          (subst (λ (l : List Diversion). IsHeld names l after.records.records t.world) (sym entries) (subst (IsHeld names before.entries after.records.records) same ends)) there);
     }
 
 -- what holds at each moment from one state to a later one

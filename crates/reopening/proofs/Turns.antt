@@ -1,26 +1,25 @@
--- Packages that are configured, removed or purged one after another: the next opening can read all at each moment.
-use Rattle.std.proofs.Common.{◌≡◌, inl, inr, ℕ, IsTrue, Bool, List, [], ◌∷◌, Option, refl, sym, subst}
+-- Units one after another, of packages that are configured, removed or purged: the next opening can read all at each moment.
+use Rattle.std.proofs.Common.{◌≡◌, inl, inr, ℕ, IsTrue, Bool, List, [], Option, refl, sym, subst}
 use Rattle.conffiles.specs.declared.decisions.ConfPolicy.{ConfPolicy}
 use Rattle.configure_run.specs.Run.{HasRun as HasConfigureRun}
-use Rattle.configure_run.specs.Turns.{ConfiguresTo, IsAmidNext as IsAmidTurn, IsAmidUnit as IsAmidConfigure, IsConfigured, IsTurn, IsUnit, IsUnitFor, StopTurns, given_by as configure_given}
+use Rattle.configure_run.specs.Turns.{IsAmidTurn as IsAmidConfigureTurn, IsAmidUnit as IsAmidConfigure, IsConfigured, IsTurn as IsConfigureTurn, IsUnit, IsUnitFor, StopTurns, given_by as configure_given}
 use Rattle.dependency_check.specs.Waiting.{Waiting}
 use Rattle.file_lists.specs.Owners.{paths_of}
 use Rattle.host_core.specs.Events.{Event}
-use Rattle.host_core.specs.Host.{State}
+use Rattle.host_core.specs.Host.{AtEachMomentOf, State}
 use Rattle.host_core.proofs.Moments.{since_weaker_if}
 use Rattle.host_core.specs.World.{World}
 use Rattle.relation_index.specs.declared.package.Package.{Package}
 use Rattle.removal_engine.proofs.Tables.{is_named}
-use Rattle.removal_run.specs.Names.{without}
 use Rattle.removal_run.specs.Run.{HasRun as HasRemovalRun}
-use Rattle.status_records.specs.declared.record.Record.{Record}
-use Rattle.removal_run.specs.Turns.{IsAmidNext as IsAmidRemovals, RemovesTo}
+use Rattle.removal_run.specs.Turns.{IsAmidTurn as IsAmidRemovalTurn, IsTurn as IsRemovalTurn}
 use Rattle.removal_run.specs.Units.{IsAmidRemoval, IsRemoval, extent_of, given_by as removal_given}
 use Rattle.unit_reports.specs.Held.{Held}
 use Rattle.unit_reports.specs.declared.report.Unit.{Unit as AUnit}
+use Rattle.unit_runs.specs.Turns.{IsAmidNext, TurnsTo}
 use Rattle.held_administration.specs.Order.{record_names}
 use Rattle.reopening.proofs.Removals.{configure_plan_safe, removal_plan_safe}
-use Rattle.reopening.proofs.Sounds.{Goes, IsSound, Opened, goes_here, goes_reads, goes_refused, goes_stages, goes_then, opened_here, opened_reads, opened_then, sound_held, sound_lists, sound_opens}
+use Rattle.reopening.proofs.Sounds.{Goes, IsSound, Opened, goes_here, goes_reads, goes_refused, goes_stages, goes_then, opened_here, opened_reads, opened_then, sound_held, sound_lists, sound_opens, still_opens}
 use Rattle.reopening.proofs.Units.{configuring_opens, removing_opens}
 use Rattle.reopening.specs.Opens.{CanBeOpened}
 
@@ -45,6 +44,27 @@ Ends before s t = (IsTrue s.honest → IsSound before s.world) → Opened s t
 
 pub ends_then : (before mid : Held) (s m t : State) → Runs before mid s m → Ends mid m t → Ends before s t
 ends_then before mid s m t first second sound = opened_then s m t (first.opened sound) (second (λ h. first.goes.sound h (sound (first.goes.falls h))))
+
+-- one unit after another, where what is known of each turn is this
+
+module _ {L : Type 0} (turn : L → Held → AUnit → L → Held → State → State → Type 0)
+    (one : (q : L) (before : Held) (u : AUnit) (later : L) (after : Held) (s t : State) → turn q before u later after s t → Runs before after s t) where
+  pub turns_run : (start : L) (before : Held) (s : State) (us : List AUnit) (q : L) (after : Held) (t : State) → TurnsTo turn start before s us q after t → Runs before after s t
+  turns_run start before s us q after t TurnsTo.begun = runs_same before before s s refl refl
+  turns_run start before s us q after t (TurnsTo.turned done u mid_q later mid ends m end come turned) =
+      runs_then before mid after s m t (turns_run start before s done mid_q mid m come) (one mid_q mid u later after m t turned)
+
+  -- and since then nothing was done, or the next unit was under way
+  module _ (amid : L → L → Held → World → List Event → World → Type 0)
+      (opens : (q later : L) (before : Held) (old : World) (so_far : List Event) (now : World) → IsSound before old → amid q later before old so_far now → CanBeOpened now) where
+    next_opens : (q later : L) (before : Held) (old : World) (so_far : List Event) (now : World) → IsSound before old → IsAmidNext amid q later before old so_far now → CanBeOpened now
+    next_opens q later before old so_far now sound (inl still) = still_opens before old now sound still.same
+    next_opens q later before old so_far now sound (inr next) = opens q later before old so_far now sound next
+
+    pub turns_end : (start q later : L) (before after : Held) (s m t : State) (us : List AUnit) → TurnsTo turn start before s us q after m → AtEachMomentOf (IsAmidNext amid q later after) m t → Ends before s t
+    turns_end start q later before after s m t us come since =
+        ends_then before after s m t (turns_run start before s us q after m come)
+        (λ sound. since_weaker_if _ _ m t (λ h so_far w next. next_opens q later after m.world so_far w (sound (since.honest h)) next) since)
 
 -- a configure
 
@@ -71,30 +91,25 @@ module _ (policy : ConfPolicy) where
   unit_goes packages p before after u s t falls (IsUnit.unbroken none is) = for_goes p.name before after u s t falls is
 
   configure_opens : (name : List ℕ) (before : Held) (old : World) (so_far : List Event) (now : World) → IsSound before old → IsAmidConfigure policy name before old so_far now → CanBeOpened now
-  configure_opens name before old so_far now sound (inl still) = subst CanBeOpened (sym still.same) (sound_opens before old sound)
+  configure_opens name before old so_far now sound (inl still) = still_opens before old now sound still.same
   configure_opens name before old so_far now sound (inr amid) =
       configuring_opens (record_names before.records.records) before.entries (configure_given policy name before) old amid.during now (sound_held before old sound) (sound_opens before old sound) (sound_lists before old sound name) amid.holds
 
-  turn_runs : (silent : ℕ → Bool) (q later : Waiting) (before after : Held) (u : AUnit) (s t : State) → IsTurn policy silent q later before after u s t → Runs before after s t
-  turn_runs silent q later before after u s t turn = record {
-    goes = unit_goes q.packages turn.p before after u s t turn.moments.honest turn.is;
-    opened = λ sound. since_weaker_if _ _ s t (λ h so_far now amid. configure_opens turn.p.name before s.world so_far now (sound (turn.moments.honest h)) amid) turn.moments;
-  }
+  module _ (silent : ℕ → Bool) where
+    turn_runs : (q : Waiting) (before : Held) (u : AUnit) (later : Waiting) (after : Held) (s t : State) → IsConfigureTurn policy silent q before u later after s t → Runs before after s t
+    turn_runs q before u later after s t turn = record {
+      goes = unit_goes q.packages turn.p before after u s t turn.moments.honest turn.is;
+      opened = λ sound. since_weaker_if _ _ s t (λ h so_far now amid. configure_opens turn.p.name before s.world so_far now (sound (turn.moments.honest h)) amid) turn.moments;
+    }
 
-  turns_run : (silent : ℕ → Bool) (start : Waiting) (before : Held) (s : State) (us : List AUnit) (q : Waiting) (after : Held) (t : State) → ConfiguresTo policy silent start before s us q after t → Runs before after s t
-  turns_run silent start before s us q after t ConfiguresTo.begun = runs_same before before s s refl refl
-  turns_run silent start before s us q after t (ConfiguresTo.turned done u mid_q later mid ends m end come turn) =
-      runs_then before mid after s m t (turns_run silent start before s done mid_q mid m come) (turn_runs silent mid_q q mid after u m t turn)
+    turn_opens : (q later : Waiting) (before : Held) (old : World) (so_far : List Event) (now : World) → IsSound before old → IsAmidConfigureTurn policy silent q before old so_far now → CanBeOpened now
+    turn_opens q later before old so_far now sound next = configure_opens next.1.name before old so_far now sound next.3
 
-  next_opens : (silent : ℕ → Bool) (q : Waiting) (before : Held) (old : World) (so_far : List Event) (now : World) → IsSound before old → IsAmidTurn policy silent q before old so_far now → CanBeOpened now
-  next_opens silent q before old so_far now sound (inl still) = subst CanBeOpened (sym still.same) (sound_opens before old sound)
-  next_opens silent q before old so_far now sound (inr next) = configure_opens next.1.name before old so_far now sound next.3
-
-  stop_ends : (silent : ℕ → Bool) (start : Waiting) (before : Held) (s : State) (first now : List AUnit) (last : Option AUnit) (t : State) → StopTurns policy silent start before s first now last t → Ends before s t
-  stop_ends silent start before s first now last t (StopTurns.turning q after m turned since broken) =
-      ends_then before after s m t (turns_run silent start before s turned.turned q after m turned.come)
-      (λ sound. since_weaker_if _ _ m t (λ h so_far w amid. next_opens silent q after m.world so_far w (sound (since.honest h)) amid) since)
-  stop_ends silent start before s first now last t (StopTurns.leaving q after front turned none refused broken) = (turns_run silent start before s turned.turned q after t turned.come).opened
+    stop_ends : (start : Waiting) (before : Held) (s : State) (first now : List AUnit) (last : Option AUnit) (t : State) → StopTurns policy silent start before s first now last t → Ends before s t
+    stop_ends start before s first now last t (StopTurns.turning q after m turned since broken) =
+        turns_end (IsConfigureTurn policy silent) turn_runs (λ left later. IsAmidConfigureTurn policy silent left) turn_opens start q q before after s m t turned.turned turned.come since
+    stop_ends start before s first now last t (StopTurns.leaving q after front turned none refused broken) =
+        (turns_run (IsConfigureTurn policy silent) turn_runs start before s turned.turned q after t turned.come).opened
 
   pub configure_ends : (names : List (List ℕ)) (us : List AUnit) (last : Option AUnit) (before : Held) (s t : State) → HasConfigureRun names policy us last before s t → Ends before s t
   configure_ends names us last before s t (HasConfigureRun.refusing refused reads broken) sound = opened_reads before s t sound reads
@@ -115,25 +130,21 @@ module _ (purge : Bool) where
 
   removal_opens : (name : List ℕ) (before : Held) (old : World) (so_far : List Event) (now : World) → IsSound before old → IsAmidRemoval purge name before old so_far now → CanBeOpened now
   removal_opens name before old so_far now sound amid =
-      removing_opens (record_names before.records.records) before.entries (removal_given purge name before) old amid.front now (sound_held before old sound) (λ same. subst CanBeOpened (sym same) (sound_opens before old sound)) amid.amid
+      removing_opens (record_names before.records.records) before.entries (removal_given purge name before) old amid.front now (sound_held before old sound) (still_opens before old now sound) amid.amid
 
-  removals_run : (start : List Record) (waiting : List (List ℕ)) (before : Held) (s : State) (us : List AUnit) (left : List (List ℕ)) (after : Held) (t : State) → RemovesTo purge start waiting before s us left after t → Runs before after s t
-  removals_run start waiting before s [] left after t turns = runs_same before after s t turns.1 turns.2
-  removals_run start waiting before s (u ∷ us) left after t turns =
-      runs_then before turns.1 after s turns.2 t
-      (record {
-        goes = removal_goes turns.0 before turns.1 u s turns.2 turns.4.is;
-        opened = λ sound. since_weaker_if _ _ s turns.2 (λ h so_far now amid. removal_opens turns.0 before s.world so_far now (sound (turns.4.moments.honest h)) amid) turns.4.moments;
-      })
-      (removals_run start (without turns.0 waiting) turns.1 turns.2 us left after t turns.5)
+  module _ (packages : List Package) where
+    removal_runs : (q : List (List ℕ)) (before : Held) (u : AUnit) (left : List (List ℕ)) (after : Held) (s t : State) → IsRemovalTurn purge packages q before u left after s t → Runs before after s t
+    removal_runs q before u left after s t turn = record {
+      goes = removal_goes turn.name before after u s t turn.is.is;
+      opened = λ sound. since_weaker_if _ _ s t (λ h so_far now amid. removal_opens turn.name before s.world so_far now (sound (turn.is.moments.honest h)) amid) turn.is.moments;
+    }
 
-  next_removal_opens : (start : List Record) (waiting : List (List ℕ)) (before : Held) (old : World) (so_far : List Event) (now : World) → IsSound before old → IsAmidRemovals purge start waiting before old so_far now → CanBeOpened now
-  next_removal_opens start waiting before old so_far now sound (inl same) = subst CanBeOpened (sym same) (sound_opens before old sound)
-  next_removal_opens start waiting before old so_far now sound (inr next) = removal_opens next.0 before old so_far now sound next.2
+    next_removal_opens : (q left : List (List ℕ)) (before : Held) (old : World) (so_far : List Event) (now : World) → IsSound before old → IsAmidRemovalTurn purge packages q before old so_far now → CanBeOpened now
+    next_removal_opens q left before old so_far now sound next = removal_opens next.0 before old so_far now sound next.2
 
   pub removal_ends : (names : List (List ℕ)) (us : List AUnit) (last : Option AUnit) (before : Held) (s t : State) → HasRemovalRun names purge us last before s t → Ends before s t
-  removal_ends names us last before s t (inl none) sound = subst (Opened s) (sym none.here) (opened_here before s sound)
-  removal_ends names us last before s t (inr begun) sound =
+  removal_ends names us last before s t (inl none) = λ sound. subst (Opened s) (sym none.here) (opened_here before s sound)
+  removal_ends names us last before s t (inr begun) =
       let runs = begun.runs in
-      ends_then before runs.after s runs.end t (removals_run before.records.records _ before s runs.removed runs.waiting runs.after runs.end runs.turns)
-      (λ there. since_weaker_if _ _ runs.end t (λ h so_far w amid. next_removal_opens before.records.records runs.waiting runs.after runs.end.world so_far w (there (runs.since.honest h)) amid) runs.since) sound
+      turns_end (IsRemovalTurn purge runs.packages) (removal_runs runs.packages) (λ q left. IsAmidRemovalTurn purge runs.packages q) (next_removal_opens runs.packages) _ runs.waiting runs.waiting before runs.after s runs.end t
+      runs.removed runs.turns runs.since

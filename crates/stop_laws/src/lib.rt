@@ -4,10 +4,12 @@
 //!
 //! # What is proved
 //!
-//! What `any_moment` of configuring, a removal, a purge and a disappearance says path by path, as
-//! the tables above list it; laws alone, nothing runs. Each script that configuring, a removal or a
-//! purge calls was stored with the package when the unit began, and its file is as it was then as
-//! long as the unit is to call it.
+//! Of each path what may stand there at a moment of configuring, of a removal or a purge, and of a
+//! disappearance, as it follows from the clause `any_moment` of the engines: the records that the
+//! next opening finds, the package's own list and control files, those of other packages, and what
+//! stands anywhere else. Each script that configuring, a removal or a purge calls was stored with
+//! the package when the unit began, and its file is as it was then as long as the unit is to call
+//! it.
 #![tactic(auto)]
 
 mod called;

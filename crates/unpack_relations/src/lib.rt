@@ -10,12 +10,7 @@
 //! `IsChecked`).
 //!
 //! Those that it would deconfigure or remove are recorded, none of them is the package of the tree,
-//! and none plays two parts (`apart`). **in_favour_rows** (Policy 6.6, 7.3, 7.4): `rows_beside`, the
-//! rows that an unpack has for those packages, by the scripts that are stored (`rows`), and where
-//! the host isn't honest still with the row of its role, whichever scripts are stored (`shaped`):
-//! prerm `deconfigure` or `remove` with its arguments, undone by postinst `abort-deconfigure` or
-//! `abort-remove`, each row its own package's (`own`, `apart`); `yields_beside`, the packages with
-//! which no path clashes.
+//! and none plays two parts (`apart`).
 #![tactic(auto)]
 
 mod beside;
