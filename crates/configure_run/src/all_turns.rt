@@ -77,10 +77,18 @@ fn take_turns<H: Host, W: Watcher>(
         policy,
     };
     match run_units(host, administration, diversions, &mut turns, units, watcher) {
-        Ok(()) => match turns.queue {
-            Some(left) => Ok(left),
-            None => unreachable!(),
-        },
+        Ok(()) => {
+            let Configuring {
+                queue,
+                taken: _,
+                silent: _,
+                policy: _,
+            } = turns;
+            match queue {
+                Some(left) => Ok(left),
+                None => unreachable!(),
+            }
+        }
         Err(unit) => Err(unit),
     }
 }

@@ -236,10 +236,18 @@ pub(crate) fn run_turns<H: Host, W: Watcher>(
         purge,
     };
     match run_units(host, administration, diversions, &mut turns, units, watcher) {
-        Ok(()) => match turns.queue {
-            Some(queue) => Ok((queue, turns.waiting)),
-            None => unreachable!(),
-        },
+        Ok(()) => {
+            let Removing {
+                queue,
+                removed: _,
+                waiting,
+                purge: _,
+            } = turns;
+            match queue {
+                Some(queue) => Ok((queue, waiting)),
+                None => unreachable!(),
+            }
+        }
         Err(unit) => Err(unit),
     }
 }

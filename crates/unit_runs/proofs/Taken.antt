@@ -1,5 +1,5 @@
 -- What the answer of a turn says.
-use Rattle.std.proofs.Common.{◌≡◌, ℕ, List, [], ◌∷◌, ◌++◌, Option, Some, None, Result, Ok, Err, ap, subst, ◌∙◌}
+use Rattle.std.proofs.Common.{◌≡◌, ℕ, ◌+◌, List, [], ◌∷◌, ◌++◌, Option, Some, None, Result, Ok, Err, ap, subst, ◌∙◌}
 use Rattle.host_core.specs.Host.{State, HasFailed, faults}
 use Rattle.undo_rows.proofs.Makes.{tells_then}
 use Rattle.undo_rows.specs.Transcript.{TellsAll}

@@ -10,8 +10,8 @@ use Rattle.unit_reports.specs.Watching.{AddsTold}
 use Rattle.unit_runs.specs.Turns.{GoesTo, HaveTurned, IsAmidTurns}
 use Rattle.unit_runs.proofs.run.run_units.Given as goal
 
-abbrev pub invariant-loop : goal.invariant-loop
-invariant-loop g l =
+abbrev pub invariant-loop-unit : goal.invariant-loop-unit
+invariant-loop-unit g l =
     let old = g.H.Host.state l.fn.host in
     let now = g.H.Host.state l.host in
     let before = held_by l.fn.administration l.diversions in
@@ -28,10 +28,10 @@ invariant-loop g l =
       told : TellsAll old now (calls_of l.fn.units.items) (calls_of l.units.items);
       moments : Since (IsAmidTurns (g.T.Turns.turn task) (g.T.Turns.amid task) (λ later. GoesTo (g.T.Turns.goes task) later left) start before old) old now;
       no_fault : faults now ≡ faults old;
-      task : g.T.Turns.task l.turns ≡ task;
+      same_task : g.T.Turns.task l.turns ≡ task;
       goes : GoesTo (g.T.Turns.goes task) start left;
       watched : AddsTold g.W.Watcher.tells old l.fn.units.items l.units.items l.fn.watcher l.watcher;
     }
 
-abbrev pub decreases-loop : goal.decreases-loop
-decreases-loop g l = g.T.Turns.size (g.T.Turns.left l.turns)
+abbrev pub decreases-loop-unit : goal.decreases-loop-unit
+decreases-loop-unit g l = g.T.Turns.size (g.T.Turns.left l.turns)
