@@ -83,6 +83,7 @@ mod unchanged;
 mod undiverting;
 mod units;
 mod unpacking;
+mod unpacks;
 
 pub use asked::{Diverting, Undiverting};
 pub use installing::Installed;
