@@ -1,6 +1,5 @@
 pub mod Ordered
 pub mod Filling
-pub mod ControlValues
 pub mod NotePaths
 pub mod Readings
 pub mod NoteRounds

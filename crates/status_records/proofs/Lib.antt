@@ -20,3 +20,4 @@ pub mod Rounds
 pub mod Missing
 pub mod Entering
 pub mod WholeText
+pub mod ControlValues

@@ -11,11 +11,8 @@ use Rattle.undo_rows.specs.declared.rows.Owner.{Owner}
 use Rattle.undo_rows.specs.declared.rows.Row.{Row}
 use Rattle.diversions.specs.declared.entry.Diversion.{Diversion}
 use Rattle.file_lists.specs.Owners.{places_in}
-use Rattle.file_lists.specs.declared.paths.PackageList.{PackageList}
-use Rattle.status_records.specs.declared.record.Record.{Record}
-use Rattle.unit_stages.specs.Doing.{AreDoing}
+use Rattle.unit_stages.specs.Aside.{IsAside}
 use Rattle.unit_stages.specs.PartFitting.{AreFit}
-use Rattle.unit_stages.specs.Parts.{HaveDone}
 use Rattle.unit_stages.specs.declared.part.Part.{Part}
 use Rattle.unit_stages.specs.Fitting.{AreStagesFit, IsStageFit}
 use Rattle.unit_stages.specs.Holding.{Holding, after_parts, after_stages}
@@ -23,17 +20,14 @@ use Rattle.unit_stages.specs.Running.{ArePast, AreRunning, IsCalling, IsInNext, 
 use Rattle.unit_stages.specs.Runs.{HasFallen, HasPassed, HasRestored, HasUndone, HaveRun, kept_by}
 use Rattle.unit_stages.specs.declared.stage.Stage.{Stage}
 use Rattle.unit_stages.proofs.Keeping.{kept_own}
+use Rattle.unit_stages.proofs.PartKeeping.{parts_keep, parts_keep_amid}
 use Rattle.unit_stages.proofs.RunLaws.{follow_finished, run_later, undone_later}
 use Rattle.unit_stages.proofs.RunMoments.{stage_fits}
 
 calls_aside : (kept : Path → Bool) (ts : List Ran) (a b : State) (q : Path) → Calls kept ts a b → IsTrue b.honest → kept q ≡ true → b.world q ≡ a.world q
 calls_aside kept ts a b q made honest is = ap (λ (w : World). w q) (made.goes.world ∙ follow_finished ts a.world) ∙ changed_kept kept (changes_of (finished ts)) a.world (made.avoids honest) q is
 
--- where parts leave a place alone, in the end and while they are under way
-module _ (name : List ℕ) (q : Path) (own : is_own q ≡ true)
-    (done_law : (parts : List Part) (records : List Record) (lists : List PackageList) (old new : World) → AreFit name parts records lists → HaveDone name parts records old new → new q ≡ old q)
-    (doing_law : (parts : List Part) (records : List Record) (lists : List PackageList) (old now : World) → AreFit name parts records lists → AreDoing name parts records old now → now q ≡ old q)
-    (entries : List Diversion) where
+module _ (name : List ℕ) (q : Path) (own : is_own q ≡ true) (aside : IsAside name q) (entries : List Diversion) where
   kept_at : (h : Holding) → kept_by entries h q ≡ true
   kept_at h = kept_own (places_in entries h.lists) q own
 
@@ -41,10 +35,10 @@ module _ (name : List ℕ) (q : Path) (own : is_own q ≡ true)
   passed_aside stage h s t told now passed fit honest =
       let made = passed.calls.1 in
       calls_aside (kept_by entries (after_parts name stage.parts.items h)) passed.calls.0 passed.ready t q made honest (kept_at (after_parts name stage.parts.items h))
-      ∙ done_law stage.parts.items h.records h.lists s.world passed.ready.world fit.parts (passed.parts.done (made.goes.honest honest))
+      ∙ parts_keep name q aside stage.parts.items h.records h.lists s.world passed.ready.world fit.parts (passed.parts.done (made.goes.honest honest))
 
   restored_aside : (owners : List Owner) (restore : List Part) (before after : Holding) (s t : State) → HasRestored name entries owners restore before after s t → AreFit name restore before.records before.lists → IsTrue t.honest → t.world q ≡ s.world q
-  restored_aside owners restore before after s t (HasRestored.restored none does is) fit honest = done_law restore before.records before.lists s.world t.world fit (does.done honest)
+  restored_aside owners restore before after s t (HasRestored.restored none does is) fit honest = parts_keep name q aside restore before.records before.lists s.world t.world fit (does.done honest)
   restored_aside owners restore before after s t (HasRestored.left some same is) fit honest = ap (λ (x : State). x.world q) same
 
   restored_falls : (owners : List Owner) (restore : List Part) (before after : Holding) (s t : State) → HasRestored name entries owners restore before after s t → IsTrue t.honest → IsTrue s.honest
@@ -75,7 +69,7 @@ module _ (name : List ℕ) (q : Path) (own : is_own q ≡ true)
       let g = after_parts name stage.parts.items before in
       let tried = (undone_later name entries stage.row stage.restore.items g after fell.tried t fell.so_far now fell.undo).honest honest in
       fallen_aside stage.row stage.restore.items failed g after failing.ready t told now fell fit.0.restore honest
-      ∙ done_law stage.parts.items before.records before.lists s.world failing.ready.world fit.0.parts (failing.parts.done (fell.calls.1.goes.honest tried))
+      ∙ parts_keep name q aside stage.parts.items before.records before.lists s.world failing.ready.world fit.0.parts (failing.parts.done (fell.calls.1.goes.honest tried))
 
   -- at each moment
 
@@ -88,18 +82,18 @@ module _ (name : List ℕ) (q : Path) (own : is_own q ≡ true)
       let one = past.past in
       past_aside stages (after_parts name stage.parts.items h) past.mid past.more now past.further fit.1
       ∙ scripts_aside (after_parts name stage.parts.items h) one.ready past.mid one.calls one.scripts
-      ∙ done_law stage.parts.items h.records h.lists old one.ready fit.0.parts one.done
+      ∙ parts_keep name q aside stage.parts.items h.records h.lists old one.ready fit.0.parts one.done
 
   calling_aside : (restore : List Part) (h : Holding) (old : World) (so_far : List Event) (now : World) (table : List Record) → IsCalling name entries restore h old so_far now table → AreFit name restore h.records h.lists → now q ≡ old q
   calling_aside restore h old so_far now table (IsCalling.calling scripts is) fit = scripts_aside h old now so_far scripts
   calling_aside restore h old so_far now table (IsCalling.restoring calls after called are scripts quiet doing noted) fit =
-      doing_law restore h.records h.lists called now fit doing ∙ scripts_aside h old called calls scripts
+      parts_keep_amid name q aside restore h.records h.lists called now fit doing ∙ scripts_aside h old called calls scripts
 
   stage_aside : (stage : Stage) (h : Holding) (old : World) (so_far : List Event) (now : World) (table : List Record) → IsInStage name entries stage h old so_far now table → IsStageFit name stage h.records h.lists → now q ≡ old q
-  stage_aside stage h old so_far now table (IsInStage.doing quiet doing noted) fit = doing_law stage.parts.items h.records h.lists old now fit.parts doing
+  stage_aside stage h old so_far now table (IsInStage.doing quiet doing noted) fit = parts_keep_amid name q aside stage.parts.items h.records h.lists old now fit.parts doing
   stage_aside stage h old so_far now table (IsInStage.behind before since ready are quiet done called) fit =
       calling_aside stage.restore.items (after_parts name stage.parts.items h) ready since now table called fit.restore
-      ∙ done_law stage.parts.items h.records h.lists old ready fit.parts done
+      ∙ parts_keep name q aside stage.parts.items h.records h.lists old ready fit.parts done
 
   next_aside : (front back : List Stage) (h : Holding) (old : World) (so_far : List Event) (now : World) (table : List Record) → IsInNext name entries back (after_stages name front h) old so_far now table
       → AreStagesFit name (front ++ back) h.records h.lists → now q ≡ old q

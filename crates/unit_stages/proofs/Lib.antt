@@ -7,7 +7,7 @@ pub mod Order
 pub mod PartMoments
 pub mod Settling
 pub mod Discarding
-pub mod Parts
+pub mod PartsInTurn
 pub mod PartKeeping
 pub mod Keeping
 pub mod Callings

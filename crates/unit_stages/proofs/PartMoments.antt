@@ -89,3 +89,8 @@ since_settled name part list d ls a b order can may since =
 pub on_both : {T E : Type 0} (result : Result T E) (P Q R : Type 0) → (P → Q → R) → OnOk result P → OnOk result Q → OnOk result R
 on_both (Ok x) P Q R so first second = so first second
 on_both (Err e) P Q R so first second = tt
+
+-- the same by three
+pub on_three : {T E : Type 0} (result : Result T E) (P Q R S : Type 0) → (P → Q → R → S) → OnOk result P → OnOk result Q → OnOk result R → OnOk result S
+on_three (Ok x) P Q R S so first second third = so first second third
+on_three (Err e) P Q R S so first second third = tt

@@ -1,6 +1,5 @@
 -- What stages need at their turn, and what holds at each moment of a run.
 use Rattle.std.proofs.Common.{◌≡◌, IsTrue, ℕ, List, [], ◌∷◌, ◌++◌, None, refl, sym, ap, subst, ◌∙◌}
-use Rattle.std.proofs.lemmas.Bool.{true≢false}
 use Rattle.std.proofs.lemmas.List.{append-nil}
 use Rattle.std.specs.List.{AllByRecursion}
 use Rattle.host_core.specs.World.{World}
@@ -14,7 +13,6 @@ use Rattle.status_db.specs.Recorded.{Recorded}
 use Rattle.unit_stages.specs.PartFitting.{AreSettleable, HaveNoSettle}
 use Rattle.held_administration.specs.Order.{IsInOrder}
 use Rattle.unit_stages.specs.declared.part.Part.{Part}
-use Rattle.unit_stages.specs.declared.part.Part.TheVariants.{Note, Forget, Settle, Remove, RemoveDirectories, Clear, List as Listing, DropList, DropMembers}
 use Rattle.unit_stages.specs.Fitting.{AreStagesFit, AreStagesSettleable, IsStageFit, SettlesNothing}
 use Rattle.unit_stages.specs.Holding.{Holding, after_parts, after_stages, holding}
 use Rattle.unit_stages.specs.Running.{ArePast, AreRunning, IsAmidStage, IsInNext, IsInStage}
@@ -22,19 +20,7 @@ use Rattle.unit_stages.specs.Runs.{HaveRun}
 use Rattle.unit_stages.specs.declared.stage.Stage.{Stage}
 use Rattle.unit_stages.proofs.Keeping.{order_opens}
 use Rattle.unit_stages.proofs.RunLaws.{run_left, run_past}
-
--- parts that settle nothing can be done in any world
-pub none_settleable : (parts : List Part) (w : World) → HaveNoSettle parts → AreSettleable parts w
-none_settleable [] w none = tt
-none_settleable (Note r ∷ parts) w none = none_settleable parts w none.1
-none_settleable (Forget ∷ parts) w none = none_settleable parts w none.1
-none_settleable (Settle settled ∷ parts) w none = absurd (true≢false none.0)
-none_settleable (Remove leaving ∷ parts) w none = none.1
-none_settleable (RemoveDirectories leaving ∷ parts) w none = none.1
-none_settleable (Clear names ∷ parts) w none = none.1
-none_settleable (Listing paths ∷ parts) w none = none_settleable parts w none.1
-none_settleable (DropList ∷ parts) w none = none_settleable parts w none.1
-none_settleable (DropMembers keep_postrm ∷ parts) w none = none_settleable parts w none.1
+use Rattle.unit_stages.proofs.Settling.{no_settle}
 
 -- each stage fits at its turn
 pub stage_fits : (name : List ℕ) (front back : List Stage) (stage : Stage) (h : Holding) → AreStagesFit name (front ++ stage ∷ back) h.records h.lists → IsStageFit name stage (after_stages name front h).records (after_stages name front h).lists
@@ -49,7 +35,7 @@ settles_nothing (x ∷ front) back stage all = settles_nothing front back stage 
 module _ (back : List Stage) (stage : Stage) (old now : World) where
   pub stage_settleable : (front : List Stage) → (front ≡ [] → now ≡ old) → AreStagesSettleable (front ++ stage ∷ back) old → AreSettleable stage.parts.items now
   stage_settleable [] same all = subst (AreSettleable stage.parts.items) (sym (same refl)) all.0
-  stage_settleable (x ∷ front) same all = none_settleable stage.parts.items now (settles_nothing front back stage all.2).parts
+  stage_settleable (x ∷ front) same all = no_settle stage.parts.items now (settles_nothing front back stage all.2).parts
 
   pub stage_settled : (front : List Stage) → AreStagesSettleable (front ++ stage ∷ back) old → HaveNoSettle stage.restore.items
   stage_settled [] all = all.1

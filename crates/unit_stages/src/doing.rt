@@ -16,7 +16,7 @@ use std::alloc::Global;
 use texts::Text;
 
 /// Does these parts of a unit of a package, the first first.
-pub fn do_each<H: Host>(
+pub(crate) fn do_parts<H: Host>(
     alloc: Global,
     host: &mut H,
     database: &mut NotedDatabase,
@@ -48,37 +48,4 @@ pub fn do_each<H: Host>(
         do_part(alloc, host, database, lists, name, part)?;
     }
     Ok(())
-}
-
-/// The same of parts that are given away.
-pub fn do_parts<H: Host>(
-    alloc: Global,
-    host: &mut H,
-    database: &mut NotedDatabase,
-    lists: &mut FileLists,
-    name: &Text,
-    parts: Vec<Part>,
-) -> Result<(), HostFault>
-    requires noting { database.old.closed ≡ false }
-    requires listing { lists.old.closed ≡ false }
-    requires named { is_package_name name.now ≡ true }
-    requires fit { AreFit name.now parts.items database.old.records lists.old.lists }
-    requires order { Needs (H.state host.old) (IsInOrder database.old lists.old.lists) }
-    requires settleable { Needs (H.state host.old) (AreSettleable parts.items) }
-    ensures records { OnOk result
-        (database.new.records ≡ parts_records name.now parts.items database.old.records) }
-    ensures lists { OnOk result
-        (lists.new.lists ≡ parts_lists name.now parts.items lists.old.lists) }
-    ensures noting { OnOk result (database.new.closed ≡ false) }
-    ensures listing { OnOk result (lists.new.closed ≡ false) }
-    ensures done { Leaves result (HaveDone name.now parts.items database.old.records)
-        (H.state host.old) (H.state host.new) }
-    ensures order { Leaves result (λ old new. IsInOrder database.new lists.new.lists new)
-        (H.state host.old) (H.state host.new) }
-    ensures any_moment { AtEachMoment (AreDoing name.now parts.items database.old.records)
-        (H.state host.old) (H.state host.new) }
-    ensures silent { Silent (H.state host.old) (H.state host.new) }
-    ensures counts { Counts (H.state host.old) (H.state host.new) result }
-{
-    do_each(alloc, host, database, lists, name, parts.as_slice())
 }

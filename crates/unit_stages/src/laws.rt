@@ -19,8 +19,6 @@ ghost use Rattle.unit_stages.specs.Running.{AreRunning};
 ghost use Rattle.unit_stages.specs.Runs.{HaveRun};
 ghost use Rattle.unit_stages.specs.declared.stage.Stage.{Stage as AStage};
 
-use crate::part_laws::what_parts_leave;
-
 /// A run of stages leaves the records and the lists that the notes of its stages give: of all where none failed, else of those up to
 /// the one that failed, with what was done then. Its calls are those that are legal for the stages, each was told, and the host's own
 /// list of calls has grown by them.
@@ -73,6 +71,4 @@ pub fn what_stages_leave()
         → AreStagesFit name stages h.records h.lists
         → AreRunning name entries stages h old so_far now
         → now q ≡ old q }
-{
-    what_parts_leave();
-}
+{}

@@ -15,28 +15,22 @@ use host_core::{Host, HostFault, RootPath};
 use std::alloc::{AllocError, Global};
 use texts::Text;
 
-// What holds of a path, beside what makes it one.
-fn is_text(path: &RootPath)
-    ensures { IsUtf8 path.now }
+// A copy of a path, whose bytes are those of a text.
+fn copy_of_path(path: &RootPath) -> Result<RootPath, AllocError>
+    ensures same { IfOk result (λ p. p ≡ path.now) }
+    ensures text { IsUtf8 path.now }
 {
     let _ = path.as_str().as_bytes();
-}
-
-/// The bytes of each path are those of a text.
-pub(crate) fn are_texts(paths: &[RootPath])
-    ensures { AllByRecursion IsUtf8 paths.now }
-{
-    for path in paths {
-        is_text(path);
-    }
+    path.copy()
 }
 
 fn copy_of(alloc: Global, paths: &Paths) -> Result<Paths, AllocError>
-    ensures { IfOk result (λ p. p ≡ paths.now) }
+    ensures same { IfOk result (λ p. p ≡ paths.now) }
+    ensures texts { OnOk result (AllByRecursion IsUtf8 paths.now) }
 {
     let mut items = Vec::new(alloc);
     for path in &paths.items {
-        items.push(path.copy()?)?;
+        items.push(copy_of_path(path)?)?;
     }
     Ok(Paths { items })
 }
@@ -84,6 +78,7 @@ pub(crate) fn write_list<H: Host>(
     requires ready { Needs (H.state host.old) (IsListReady name.now) }
     ensures lists { OnOk result
         (lists.new ≡ record lists.old { lists = with_list name.now paths.now lists.old.lists }) }
+    ensures texts { OnOk result (AllByRecursion IsUtf8 paths.now) }
     ensures replaced { Leaves result (IsReplaced (list_place name.now) (list_file paths.now))
         (H.state host.old) (H.state host.new) }
     ensures any_moment { AtEachMoment (IsReplacing (list_place name.now) (list_file paths.now))

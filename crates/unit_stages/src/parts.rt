@@ -91,14 +91,15 @@ pub(crate) fn do_and_keep<H: Host>(
 {
     let alloc = administration.alloc;
     administration.lists.law();
-    let written = have_listing(parts.as_slice());
+    let items = parts.as_slice();
+    let written = have_listing(items);
     do_parts(
         alloc,
         host,
         &mut administration.database,
         &mut administration.lists,
         name,
-        parts,
+        items,
     )?;
     keep_places(
         alloc,

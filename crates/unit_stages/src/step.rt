@@ -7,7 +7,7 @@ ghost use Rattle.unit_stages.specs.PartFitting.{AreSettleable, IsFit};
 ghost use Rattle.held_administration.specs.Order.{IsInOrder};
 ghost use Rattle.unit_stages.specs.Parts.{HasDone, part_lists, part_records};
 
-use crate::listing::{are_texts, drop_list, write_list};
+use crate::listing::{drop_list, write_list};
 use crate::members::drop_members;
 use crate::noting::note_copy;
 use crate::part::Part;
@@ -68,7 +68,6 @@ pub(crate) fn do_part<H: Host>(
             return clear_names(host, names.as_slice());
         }
         Part::List(paths) => {
-            are_texts(paths.as_slice());
             return write_list(alloc, host, lists, name, paths);
         }
         Part::DropList => {

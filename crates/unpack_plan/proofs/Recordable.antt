@@ -13,7 +13,7 @@ use Rattle.package_tree.specs.declared.fault.FieldName.{FieldName}
 use Rattle.package_tree.specs.declared.fault.FieldName.TheVariants.{Essential, Relation}
 use Rattle.package_tree.proofs.FieldsOnce.{same_field, uncalled}
 use Rattle.status_records.specs.Values.{IsReadableControl}
-use Rattle.status_db.proofs.ControlValues.{control_readable}
+use Rattle.status_records.proofs.ControlValues.{control_readable}
 use Rattle.status_records.proofs.Kept.{new_among}
 
 -- the field that stands here is the one of its name

@@ -3,7 +3,7 @@ use Rattle.host_core.specs.World.{is_kept}
 use Rattle.host_core.specs.Host.{OnlyScripts, Since}
 use Rattle.unit_stages.proofs.Keeping.{order_after}
 use Rattle.unit_stages.proofs.Moments.{since_called, since_restored}
-use Rattle.unit_stages.proofs.RunMoments.{none_settleable}
+use Rattle.unit_stages.proofs.Settling.{no_settle}
 use Rattle.unit_stages.proofs.Tellings.{nothing_done, undo_told}
 use Rattle.unit_stages.proofs.calls.undo_stage.Goals as goal
 
@@ -11,7 +11,7 @@ pub do_and_keep-requires-clause-order : goal.do_and_keep-requires-clause-order
 do_and_keep-requires-clause-order g c = order_after c.args.administration.now.places c.args.administration.now.database c.args.administration.now.lists.lists (g.H.Host.state c.args.host.now) (g.H.Host.state c.undo_call.new.host) c.requires.order c.undo_call.ensures.any_moment
 
 pub do_and_keep-requires-clause-settleable : goal.do_and_keep-requires-clause-settleable
-do_and_keep-requires-clause-settleable g c = λ h. none_settleable c.args.restore.items (g.H.Host.state c.undo_call.new.host).world (c.requires.settled (c.undo_call.ensures.any_moment.honest h))
+do_and_keep-requires-clause-settleable g c = λ h. no_settle c.args.restore.items (g.H.Host.state c.undo_call.new.host).world (c.requires.settled (c.undo_call.ensures.any_moment.honest h))
 
 pub returns-in-Ok-true-clause-order : goal.returns-in-Ok-true-clause-order
 returns-in-Ok-true-clause-order g c = order_after c.args.administration.now.places c.args.administration.now.database c.args.administration.now.lists.lists (g.H.Host.state c.args.host.now) (g.H.Host.state c.undo_call.new.host) c.requires.order c.undo_call.ensures.any_moment

@@ -3,10 +3,8 @@ use Rattle.unit_stages.proofs.laws.what_stages_leave.Goals as goal
 
 pub returns-clause-run : goal.returns-clause-run
 returns-clause-run c = λ name entries stages failed before after s t told now q aside own fit run honest.
-    run_aside name q own (λ parts records lists old new. c.what_parts_leave.ensures.done name parts records lists old new q aside) (λ parts records lists old amid. c.what_parts_leave.ensures.doing name parts records lists old amid q aside) entries
-    stages failed before after s t told now run fit honest
+    run_aside name q own aside entries stages failed before after s t told now run fit honest
 
 pub returns-clause-running : goal.returns-clause-running
 returns-clause-running c = λ name entries stages h old now so_far q aside own fit running.
-    running_aside name q own (λ parts records lists old new. c.what_parts_leave.ensures.done name parts records lists old new q aside) (λ parts records lists old amid. c.what_parts_leave.ensures.doing name parts records lists old amid q aside) entries
-    stages h old so_far now running fit
+    running_aside name q own aside entries stages h old so_far now running fit

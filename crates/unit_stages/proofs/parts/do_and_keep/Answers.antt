@@ -3,6 +3,7 @@ use Rattle.std.specs.List.{list_any}
 use Rattle.file_lists.specs.Beside.{AreSameBeside}
 use Rattle.file_lists.specs.Owners.{places_in}
 use Rattle.unit_stages.specs.Holding.{is_listing}
+use Rattle.unit_stages.specs.Parts.{HaveDone}
 use Rattle.unit_stages.proofs.Keeping.{parts_beside, unlisted}
 use Rattle.unit_stages.proofs.RunLaws.{later}
 use Rattle.unit_stages.proofs.parts.do_and_keep.Goals as goal
@@ -14,20 +15,21 @@ keep_places-requires-clause-had g c =
     record {
       before = had;
       sound = c.law.ensures;
-      same = subst (AreSameBeside name had) (sym c.in_ok-do_parts.ensures.lists) (parts_beside name c.args.parts.items had);
+      same = subst (AreSameBeside name had) (sym c.in_ok-do_parts.ensures.lists) (parts_beside name c.as_slice-items.result.now had);
       is = c.requires.open.kept;
     }
 
 pub keep_places-requires-clause-unwritten : goal.keep_places-requires-clause-unwritten
 keep_places-requires-clause-unwritten g c = λ written.
-    let none : list_any is_listing c.args.parts.items ≡ false = ap (list_any is_listing) (sym c.as_slice.ensures.value) ∙ sym c.have_listing-written.ensures ∙ written in
+    let items = c.as_slice-items.result.now in
+    let none : list_any is_listing items ≡ false = sym c.have_listing-written.ensures ∙ written in
     c.requires.open.kept
-    ∙ ap (places_in c.args.diversions.now.entries) (sym (unlisted c.args.name.now c.args.parts.items c.args.administration.now.lists.lists none))
+    ∙ ap (places_in c.args.diversions.now.entries) (sym (unlisted c.args.name.now items c.args.administration.now.lists.lists none))
     ∙ ap (places_in c.args.diversions.now.entries) (sym c.in_ok-do_parts.ensures.lists)
 
 pub returns-clause-done : goal.returns-clause-done
 returns-clause-done g c = record {
   silent = c.do_parts.ensures.silent;
   later = later _ _ _ c.do_parts.ensures.any_moment;
-  done = λ h. c.in_ok-do_parts.ensures.done h;
+  done = λ h. subst (λ ps. HaveDone c.args.name.now ps c.args.administration.now.database.records (g.H.Host.state c.args.host.now).world (g.H.Host.state c.do_parts.new.host).world) c.as_slice-items.ensures.value (c.in_ok-do_parts.ensures.done h);
 }

@@ -1,6 +1,4 @@
 use Rattle.std.proofs.Common.{false, true, [], ◌∷◌, sym, subst}
-use Rattle.std.specs.Str.{IsUtf8}
-use Rattle.std.specs.List.{AllByRecursion}
 use Rattle.host_core.specs.Host.{AtEachMoment}
 use Rattle.administration.specs.Files.{IsDropping, IsReplacing}
 use Rattle.administration.specs.Places.{list_path}
@@ -16,7 +14,7 @@ use Rattle.unit_stages.specs.Doing.{IsDoing, MayDrop}
 use Rattle.unit_stages.specs.PartFitting.{AreSettleable, IsFit}
 use Rattle.held_administration.specs.Order.{IsInOrder}
 use Rattle.unit_stages.specs.declared.part.Part.TheVariants.{Note, Forget, Settle, Remove, RemoveDirectories, Clear, List as Listing, DropList, DropMembers}
-use Rattle.unit_stages.proofs.PartMoments.{kept_doing, members_doing, on_both, outside_doing, since_doing, since_settled}
+use Rattle.unit_stages.proofs.PartMoments.{kept_doing, members_doing, on_both, on_three, outside_doing, since_doing, since_settled}
 use Rattle.unit_stages.proofs.Order.{dropped_order, dropping_kept, dropping_loose, forget_order, home_there, listing_order, note_order, noting_loose, outside_order, own_list, own_members, replacing_kept, replacing_loose, taken_order}
 use Rattle.unit_stages.proofs.Outside.{cleared_outside, clearing_outside, removed_outside, removing_outside, settled_outside}
 use Rattle.unit_stages.proofs.step.do_part.Goals as goal
@@ -97,10 +95,10 @@ write_list-requires-clause-ready g c =
 
 pub returns-in-List-clause-order : goal.returns-in-List-clause-order
 returns-in-List-clause-order g c =
-    λ h. on_both c.write_list.result _ _ _
-    (λ lists replaced. subst (λ (f : Filed). IsInOrder c.args.database.now f.lists (g.H.Host.state c.write_list.new.host).world) (sym lists)
-    (listing_order c.args.database.now c.args.lists.now.lists _ (c.requires.order (c.write_list.ensures.silent.honest h)) c.args.name.now c.in-List.paths (g.H.Host.state c.write_list.new.host).world (subst (λ p. IsFit c.args.name.now p c.args.database.now.records c.args.lists.now.lists) c.in-List.is c.requires.fit) (subst (AllByRecursion IsUtf8) c.as_slice-in-List.ensures c.are_texts.ensures) replaced))
-    c.write_list.ensures.lists (c.write_list.ensures.replaced h)
+    λ h. on_three c.write_list.result _ _ _ _
+    (λ lists texts replaced. subst (λ (f : Filed). IsInOrder c.args.database.now f.lists (g.H.Host.state c.write_list.new.host).world) (sym lists)
+    (listing_order c.args.database.now c.args.lists.now.lists _ (c.requires.order (c.write_list.ensures.silent.honest h)) c.args.name.now c.in-List.paths (g.H.Host.state c.write_list.new.host).world (subst (λ p. IsFit c.args.name.now p c.args.database.now.records c.args.lists.now.lists) c.in-List.is c.requires.fit) texts replaced))
+    c.write_list.ensures.lists c.write_list.ensures.texts (c.write_list.ensures.replaced h)
 
 pub returns-in-List-clause-any_moment : goal.returns-in-List-clause-any_moment
 returns-in-List-clause-any_moment g c =

@@ -2,9 +2,9 @@ use Rattle.std.proofs.Common.{refl, sym, ap, subst, rules, ◌∙◌}
 use Rattle.std.proofs.lemmas.List.{take_all}
 use Rattle.unit_stages.specs.Parts.{HaveDone, part_lists, part_records, parts_lists, parts_records}
 use Rattle.unit_stages.proofs.PartMoments.{settle_first}
-use Rattle.unit_stages.proofs.Parts.{doing_start, done_more, fit_after, fit_here, lists_more, records_more, settle_here, since_more}
+use Rattle.unit_stages.proofs.PartsInTurn.{doing_start, done_more, fit_after, fit_here, lists_more, records_more, settle_here, since_more}
 use Rattle.unit_stages.proofs.Settling.{settle_rest}
-use Rattle.unit_stages.proofs.doing.do_each.Goals as goal
+use Rattle.unit_stages.proofs.doing.do_parts.Goals as goal
 
 pub loop-part-init : goal.loop-part-init
 loop-part-init g c = record {

@@ -4,7 +4,7 @@ use Rattle.unit_stages.specs.Doing.{AreDoing}
 use Rattle.unit_stages.specs.PartFitting.{AreFit, AreSettleable}
 use Rattle.held_administration.specs.Order.{IsInOrder}
 use Rattle.unit_stages.specs.Parts.{HaveDone, parts_lists, parts_records}
-use Rattle.unit_stages.proofs.doing.do_each.Given as goal
+use Rattle.unit_stages.proofs.doing.do_parts.Given as goal
 
 abbrev pub invariant-loop-part : goal.invariant-loop-part
 invariant-loop-part g l = record {
