@@ -1,9 +1,8 @@
 -- What units leave as it is: the diversions, and the file that holds them.
-use Rattle.std.proofs.Common.{◌≡◌, ◌≢◌, ℕ, Bool, true, false, cond, List, [], ◌∷◌, ◌++◌, Option, Some, None, Result, Ok, Err, IsTrue, codes, get_or, length, nat_le, arith, refl, ap, ◌∙◌}
+use Rattle.std.proofs.Common.{◌≡◌, ◌≢◌, ℕ, Bool, true, false, cond, List, [], ◌∷◌, ◌++◌, Result, Ok, Err, IsTrue, codes, get_or, length, nat_le, arith, refl, ap, ◌∙◌}
 use Rattle.administration.specs.Places.{diversions_path, info_path, list_name, list_path, tmp_path, temporary, is_within}
 use Rattle.undo_rows.specs.Transcripts.{Ended, Committed, Unwound}
 use Rattle.control_members.specs.Stored.{stored_member_path}
-use Rattle.control_members.specs.declared.member.Member.{Member}
 use Rattle.displaced_packages.specs.Losing.{losing_beside}
 use Rattle.file_lists.specs.declared.paths.PackageList.{PackageList}
 use Rattle.file_removal.specs.Clearing.{cleared}

@@ -4,7 +4,7 @@ use Rattle.std.specs.Prelude.{is_some, true}
 use Rattle.std.proofs.Math.Logic.{∥∥₁_map}
 use Rattle.host_core.specs.Events.{Did}
 use Rattle.host_core.specs.Host.{State, Happens, Needs, Reads}
-use Rattle.host_core.specs.World.{World, Barrier}
+use Rattle.host_core.specs.World.{Barrier}
 use Rattle.host_core.specs.declared.call.Call.{Call}
 use Rattle.administration.specs.Places.{diversions_path, info_path, temporary}
 use Rattle.administration.proofs.WholeFiles.{no_directory_at}
@@ -14,7 +14,6 @@ use Rattle.opening.specs.Parts.{names_of}
 use Rattle.removal_run.specs.Units.{holding_of}
 use Rattle.status_db.proofs.Ordered.{same_standing, standing_same}
 use Rattle.held_administration.specs.Order.{IsInOrder}
-use Rattle.held_administration.specs.Order.{IsInOrder as IsInOrderHere}
 use Rattle.unit_reports.specs.Held.{Held}
 use Rattle.unit_reports.specs.Units.{IsRefused}
 use Rattle.unit_reports.specs.declared.refusal.Rule.{Rule}
@@ -105,19 +104,8 @@ carries_stages name stages failed before after s left t told now recorded_there 
 
 -- what a session knows, and what a further command can open
 
--- the order of a unit of stages, and of an unpack
-
-pub as_parts : (h : Held) (w : World) → IsInOrderHere h.records h.lists w → IsInOrder h.records h.lists w
-as_parts h w order = record { home = order.home; info = order.info; loose = order.loose; tmp = order.tmp; kept = order.kept; listed = order.listed }
-
-pub as_engine : (h : Held) (w : World) → IsInOrder h.records h.lists w → IsInOrderHere h.records h.lists w
-as_engine h w order = record { home = order.home; info = order.info; loose = order.loose; tmp = order.tmp; kept = order.kept; listed = order.listed }
-
-pub parts_standing : (h : Held) (w : World) → IsStanding h w → IsInOrder h.records h.lists w
-parts_standing h w standing = as_parts h w (order_standing h w standing)
-
 parts_order : (h : Held) (s : State) → IsStanding h s.world → InOrder h s
-parts_order h s standing = λ honest. parts_standing h s.world standing
+parts_order h s standing = λ honest. order_standing h s.world standing
 
 pub carries_standing : (before after : Held) (s t : State) → Carries before after s t → IsTrue t.honest → IsStanding before s.world → IsStanding after t.world
 carries_standing before after s t carries h standing =

@@ -1,5 +1,5 @@
 -- What a session keeps of the packages of the records has one proof at most; so it is what the units ask for.
-use Rattle.std.proofs.Common.{◌≡◌, List, Option, Some, None, ap, refl, subst}
+use Rattle.std.proofs.Common.{List, Option, Some, None, ap, refl, subst}
 use Rattle.std.proofs.Math.Logic.{∥∥₁_elim}
 use Rattle.std.specs.Option.{ForSome}
 use Rattle.std.specs.Prelude.{IfSome}

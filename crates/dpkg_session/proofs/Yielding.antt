@@ -1,5 +1,5 @@
 -- What an unpack displaces are packages that let it take paths of theirs.
-use Rattle.std.proofs.Common.{◌≡◌, inl, inr, ℕ, Bool, true, false, cond, List, [], ◌∷◌, ◌++◌, Option, Contains, filter, map, subst, arith}
+use Rattle.std.proofs.Common.{◌≡◌, inl, inr, ℕ, Bool, true, false, cond, List, [], ◌∷◌, Option, Contains, filter, map, subst, arith}
 use Rattle.std.proofs.lemmas.List.Elements.{Contains-append_cases, Contains-append_left, Contains-append_right}
 use Rattle.disappearance.specs.Runs.{HaveDisappeared}
 use Rattle.disappearance.specs.Units.{IsDecided}

@@ -1,6 +1,5 @@
 -- Which packages the unit of an unpack tells, and which of them it deconfigured.
 use Rattle.std.specs.Prelude.{◌≡◌, ◌≢◌, ◌⊎◌, ◌||◌, ◌&&◌, ◌↔◌, true, false, not, ℕ, Bool, List, Option, Some, None, Contains, filter, map}
-use Rattle.std.specs.List.{list_any}
 use Rattle.std.specs.Str.{bytes_eq}
 use Rattle.file_lists.specs.Increasing.{AreIncreasing}
 use Rattle.removal_run.specs.Names.{is_among}

@@ -1,5 +1,5 @@
 -- Units of an unpack: what each did, and what it answers.
-use Rattle.std.specs.Prelude.{◌≡◌, ◌⊎◌, ◌↔◌, ℕ, Bool, IsTrue, List, [], ◌++◌, Option, Some, None, Result, Ok, Err, Contains, map}
+use Rattle.std.specs.Prelude.{◌≡◌, ◌⊎◌, ℕ, Bool, IsTrue, List, [], ◌++◌, Option, Some, None, Result, Ok, Err, map}
 use Rattle.displaced_packages.specs.Displacing.{HasCalled as HasCalledDisplacing, HaveBeenDisplaced}
 use Rattle.displaced_packages.specs.Losing.{losing_beside}
 use Rattle.disappearance.specs.declared.losing.Losing.{Losing}

@@ -3,7 +3,6 @@ use Rattle.unit_reports.specs.Held.{held_by}
 use Rattle.unpack_engine.specs.Units.{IsTouched}
 use Rattle.unpack_engine.specs.declared.finishing.Unpacked.{Unpacked}
 use Rattle.dpkg_session.proofs.Amid.{since_under_way}
-use Rattle.dpkg_session.proofs.Carries.{as_engine, as_parts}
 use Rattle.dpkg_session.proofs.Outlasting.{answered_disk}
 use Rattle.dpkg_session.proofs.Touching.{touched_beside}
 use Rattle.dpkg_session.proofs.Yielding.{displaced_yield, none_among}
@@ -17,7 +16,7 @@ pub unpack_refreshed-requires-clause-open : goal.unpack_refreshed-requires-claus
 unpack_refreshed-requires-clause-open g c = record { noting = c.requires.open.noting; listing = c.requires.open.listing }
 
 pub displace-requires-clause-order : goal.displace-requires-clause-order
-displace-requires-clause-order g c = λ h. as_parts (held_by c.unpack_refreshed.new.administration c.args.diversions.now) _ (c.in-Ok.ensures.order h)
+displace-requires-clause-order g c = c.in-Ok.ensures.order
 
 -- the rows were unwound
 
@@ -59,7 +58,7 @@ returns-in-Ok-displace-clause-touched g c = λ names unchanged both known.
     (displaced_yield _ _ _ c.args.administration.now.lists.lists c.args.beside.now _ _ _ _ _ _ _ _ _ _ (c.as_slice.ensures.value ∙ c.requires.behind.losing) c.as_slice-in-Ok.ensures c.in-Ok-displace.ensures.displaced)
 
 pub returns-in-Ok-displace-clause-order : goal.returns-in-Ok-displace-clause-order
-returns-in-Ok-displace-clause-order g c = λ h. as_engine (held_by c.displace.new.administration c.args.diversions.now) _ (c.in-Ok-displace.ensures.order h)
+returns-in-Ok-displace-clause-order g c = c.in-Ok-displace.ensures.order
 
 pub returns-in-Ok-displace-clause-on_disk : goal.returns-in-Ok-displace-clause-on_disk
 returns-in-Ok-displace-clause-on_disk g c = answered_disk (g.H.Host.state c.unpack_refreshed.new.host) (g.H.Host.state c.displace.new.host) c.in-Ok-displace.ensures.answered c.in-Ok.ensures.on_disk

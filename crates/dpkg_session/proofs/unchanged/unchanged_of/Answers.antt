@@ -1,4 +1,4 @@
-use Rattle.std.proofs.Common.{[], ℕ, List, take, length, subst, sym, ap, ◌∙◌, ◌≤◌, arith}
+use Rattle.std.proofs.Common.{[], ℕ, List, length, subst, sym, ap, ◌≤◌, arith}
 use Rattle.std.proofs.lemmas.List.{length-map, take_all}
 use Rattle.unit_reports.specs.Units.{touched_at}
 use Rattle.dpkg_session.specs.Touched.{AreUnchanged}
