@@ -7,10 +7,11 @@ use Rattle.host_core.specs.Host.{State, Reads, Silent}
 use Rattle.host_core.specs.World.{World}
 use Rattle.unit_reports.specs.Held.{Held}
 use Rattle.unit_reports.specs.declared.report.Unit.{Unit as AUnit}
+use Rattle.unit_runs.specs.Turns.{IsStill}
 use Rattle.configure_run.specs.Asked.{each_once}
 use Rattle.configure_run.specs.Early.{AreRefused, AreSomeRefused, early_refusals}
 use Rattle.configure_run.specs.Starting.{AreSilent, IsBegun}
-use Rattle.configure_run.specs.Turns.{EndTurns, IsAmidTurns, IsBrokenStill, IsStill, StopTurns}
+use Rattle.configure_run.specs.Turns.{EndTurns, IsAmidTurns, IsBrokenStill, StopTurns}
 
 -- Those refused at once are the first units, and it was looked which of the packages that wait have no postinst: so the turns begin.
 pub record Begins (names : List (List ℕ)) (before : Held) (silent : ℕ → Bool) (start : Waiting) (s looked : State) : Type 0 where

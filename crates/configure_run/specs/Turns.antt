@@ -27,6 +27,8 @@ use Rattle.configure_engine.specs.Obstacles.{IsObstacle, names_of_all}
 use Rattle.configure_engine.specs.Units.{Given, HasCalled, HasConfigured, HasEnded, given}
 use Rattle.configure_engine.specs.Units.{IsAmidUnit as IsAmidConfiguring}
 use Rattle.configure_engine.specs.Waiting.{settling_paths}
+use Rattle.unit_runs.specs.Turns as runs
+use Rattle.unit_runs.specs.Turns.{IsBrokenNext, IsStill, TurnsTo}
 use Rattle.configure_run.specs.LeftOver.{HaveRefusedLeft, HaveRefusedSomeLeft, IsNumbered}
 use Rattle.configure_run.specs.Starting.{name_at}
 
@@ -102,11 +104,6 @@ pub record IsBeside (P : List Event → World → Type 0) (so_far : List Event) 
   pub quiet_behind : scripts_of behind ≡ []
   pub holds : P during now
 
--- nothing was done yet
-pub record IsStill (old : World) (so_far : List Event) (now : World) : Type 0 where
-  pub same : now ≡ old
-  pub quiet : scripts_of so_far ≡ []
-
 -- at each moment of the unit of a package: nothing has changed yet, or it is being configured
 abbrev pub IsAmidUnit : ConfPolicy → List ℕ → Held → World → List Event → World → Type 0
 IsAmidUnit policy name before old so_far now = IsStill old so_far now ⊎ IsBeside (IsAmidConfiguring (given_by policy name before) old) so_far now
@@ -123,10 +120,13 @@ pub record IsNext (silent : ℕ → Bool) (q : Waiting) (x : ℕ) (p : Package) 
   pub next : IsNextOfConfigurable q silent (Some x)
   pub numbered : IsNumbered q.packages x p
 
--- at each moment behind some turns: nothing has changed yet, or the next is under way
+-- the next unit is under way
+abbrev pub IsAmidTurn : ConfPolicy → (ℕ → Bool) → Waiting → Held → World → List Event → World → Type 0
+IsAmidTurn policy silent q before old so_far now = (x : ℕ) × (p : Package) × IsNext silent q x p × IsAmidUnit policy p.name before old so_far now
+
+-- at each moment behind some turns: nothing has changed yet, or the next unit is under way
 abbrev pub IsAmidNext : ConfPolicy → (ℕ → Bool) → Waiting → Held → World → List Event → World → Type 0
-IsAmidNext policy silent q before old so_far now = IsStill old so_far now
-    ⊎ ((x : ℕ) × (p : Package) × IsNext silent q x p × IsAmidUnit policy p.name before old so_far now)
+IsAmidNext policy silent q before old so_far now = runs.IsAmidNext (λ left later. IsAmidTurn policy silent left) q q before old so_far now
 
 abbrev pub is_done : Reply → Bool
 is_done Done = true
@@ -140,7 +140,7 @@ after_turn true x q = with_configured x q
 after_turn false x q = without_failed x q
 
 -- One turn: that of the next package. At each moment its unit is under way, and in the end all of it is on the disk.
-pub record IsTurn (policy : ConfPolicy) (silent : ℕ → Bool) (q later : Waiting) (before after : Held) (u : AUnit) (s t : State) : Type 0 where
+pub record IsTurn (policy : ConfPolicy) (silent : ℕ → Bool) (q : Waiting) (before : Held) (u : AUnit) (later : Waiting) (after : Held) (s t : State) : Type 0 where
   pub x : ℕ
   pub p : Package
   pub next : IsNext silent q x p
@@ -150,16 +150,12 @@ pub record IsTurn (policy : ConfPolicy) (silent : ℕ → Bool) (q later : Waiti
   pub answered : IsAnswered s t
 
 -- one turn after another
-pub data ConfiguresTo (policy : ConfPolicy) (silent : ℕ → Bool) (start : Waiting) (before : Held) (s : State) : List AUnit → Waiting → Held → State → Type 0 where
-  begun : ConfiguresTo policy silent start before s [] start before s
-  turned : (us : List AUnit) (u : AUnit) (q later : Waiting) (mid after : Held) (m t : State) → ConfiguresTo policy silent start before s us q mid m
-      → IsTurn policy silent q later mid after u m t → ConfiguresTo policy silent start before s (us ++ u ∷ []) later after t
+abbrev pub ConfiguresTo : ConfPolicy → (ℕ → Bool) → Waiting → Held → State → List AUnit → Waiting → Held → State → Type 0
+ConfiguresTo policy silent start before s us q after t = TurnsTo (IsTurn policy silent) start before s us q after t
 
 -- the units of some turns behind others
-pub record HaveTurned (policy : ConfPolicy) (silent : ℕ → Bool) (start : Waiting) (before : Held) (s : State) (first now : List AUnit) (q : Waiting) (after : Held) (t : State) : Type 0 where
-  pub turned : List AUnit
-  pub are : now ≡ first ++ turned
-  pub come : ConfiguresTo policy silent start before s turned q after t
+abbrev pub HaveTurned : ConfPolicy → (ℕ → Bool) → Waiting → Held → State → List AUnit → List AUnit → Waiting → Held → State → Type 0
+HaveTurned policy silent start before s first now q after t = runs.HaveTurned (IsTurn policy silent) start before s first now q after t
 
 -- all turns were taken, and those left over are refused
 pub record EndTurns (policy : ConfPolicy) (silent : ℕ → Bool) (start : Waiting) (before : Held) (s : State) (first now : List AUnit) (after : Held) (t : State) : Type 0 where
@@ -169,11 +165,13 @@ pub record EndTurns (policy : ConfPolicy) (silent : ℕ → Bool) (start : Waiti
   pub ended : IsNextOfConfigurable q silent None
   pub left_over : HaveRefusedLeft q front now
 
+-- the calls of the unit that was broken off: the first of those of the package whose turn it was
+abbrev pub HasCalledNext : ConfPolicy → (ℕ → Bool) → Waiting → Held → State → State → AUnit → Type 0
+HasCalledNext policy silent q before s t u = (x : ℕ) × (p : Package) × IsNext silent q x p × HasCalledFor policy p.name before u s t
+
 -- The unit that was broken off: it tells no package. It made no call, or the first of those of the package whose turn it was.
-pub record IsBrokenOff (policy : ConfPolicy) (silent : ℕ → Bool) (q : Waiting) (before : Held) (s t : State) (u : AUnit) : Type 0 where
-  pub broken : IsBroken u.reply
-  pub untouched : TellsNoPackage u
-  pub called : HasNoCalls u s t ⊎ ((x : ℕ) × (p : Package) × IsNext silent q x p × HasCalledFor policy p.name before u s t)
+abbrev pub IsBrokenOff : ConfPolicy → (ℕ → Bool) → Waiting → Held → State → State → AUnit → Type 0
+IsBrokenOff policy silent q before s t u = IsBrokenNext (λ left later. HasCalledNext policy silent left) q q before s t u
 
 -- the same of one that was broken off before it began
 pub record IsBrokenStill (s t : State) (u : AUnit) : Type 0 where
@@ -189,15 +187,6 @@ pub data StopTurns (policy : ConfPolicy) (silent : ℕ → Bool) (start : Waitin
       → HaveRefusedSomeLeft q front now → IfSome last (IsBrokenStill t t) → StopTurns policy silent start before s first now last t
 
 -- at each moment of turns: some were taken on a host that was honest so far, and the next is under way
-pub record IsAmidTurns (policy : ConfPolicy) (silent : ℕ → Bool) (start : Waiting) (before : Held) (s : State) (so_far : List Event) (now : World) : Type 0 where
-  pub us : List AUnit
-  pub q : Waiting
-  pub after : Held
-  pub m : State
-  pub honest : IsTrue m.honest
-  pub come : ConfiguresTo policy silent start before s us q after m
-  pub front : List Event
-  pub rest : List Event
-  pub events : m.events ≡ s.events ++ front
-  pub are : so_far ≡ front ++ rest
-  pub next : IsAmidNext policy silent q after m.world rest now
+abbrev pub IsAmidTurns : ConfPolicy → (ℕ → Bool) → Waiting → Held → State → List Event → World → Type 0
+IsAmidTurns policy silent start before s so_far now =
+    runs.IsAmidTurns (IsTurn policy silent) (λ left later. IsAmidTurn policy silent left) (λ later. Unit {0}) start before s so_far now

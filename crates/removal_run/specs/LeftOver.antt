@@ -36,8 +36,8 @@ abbrev pub AreAllTold : Waiting → List AUnit → Type 0
 AreAllTold q us = AreTold q.packages (has q.installed) (has q.waiting) us
 
 -- none of those whose names are left can be removed, and each is told
-pub record AreLeftOver (start now : List Record) (names : List (List ℕ)) (us : List AUnit) : Type 0 where
+pub record AreLeftOver (packages : List Package) (now : List Record) (names : List (List ℕ)) (us : List AUnit) : Type 0 where
   pub queue : Waiting
-  pub is : IsQueueNow start now names queue
+  pub is : IsQueueNow packages now names queue
   pub none : (x : ℕ) → IsRemovableNow queue x → ⊥
   pub told : AreAllTold queue us

@@ -14,6 +14,7 @@ use Rattle.unit_reports.specs.Units.{IsBrokenBy, TellsNoPackage}
 use Rattle.unit_reports.specs.declared.report.Breakage.TheVariants.{NoMemory}
 use Rattle.unit_reports.specs.declared.report.Report.{Report}
 use Rattle.unit_reports.specs.declared.report.Unit.{Unit as AUnit}
+use Rattle.unit_runs.specs.Turns.{IsStill}
 use Rattle.removal_run.specs.LeftOver.{AreAllTold, AreLeftOver}
 use Rattle.removal_run.specs.Names.{once}
 use Rattle.removal_run.specs.Refusals.{AreRefused, accepted, refusals}
@@ -29,12 +30,14 @@ IsRefusedFirst purge names before us = AreRefused (refusals purge before.records
 
 -- Behind the units that are told already packages are removed in turn, and then those that are left over are told.
 pub record RunsThrough (purge : Bool) (names : List (List ℕ)) (refused us : List AUnit) (before after : Held) (s t : State) : Type 0 where
+  pub packages : List Package
+  pub stated : ArePackagesOf before.records.records packages
   pub removed : List AUnit
   pub left : List AUnit
   pub units : us ≡ refused ++ (removed ++ left)
   pub waiting : List (List ℕ)
-  pub turns : RemovesTo purge before.records.records names before s removed waiting after t
-  pub last : AreLeftOver before.records.records after.records.records waiting left
+  pub turns : RemovesTo purge packages names before s removed waiting after t
+  pub last : AreLeftOver packages after.records.records waiting left
 
 -- The whole command: those that a rule refuses come first.
 pub record IsRemovalRun (names : List (List ℕ)) (purge : Bool) (us : List AUnit) (before after : Held) (s t : State) : Type 0 where
@@ -58,16 +61,18 @@ pub record HasNotBegun (us : List AUnit) (last : Option AUnit) (s t : State) : T
 -- can be removed. Since that moment only the next removal was under way: so what the units left stands, also where that one was
 -- broken off.
 pub record RunsUpTo (purge : Bool) (names : List (List ℕ)) (refused us : List AUnit) (last : Option AUnit) (before : Held) (s t : State) : Type 0 where
+  pub packages : List Package
+  pub stated : ArePackagesOf before.records.records packages
   pub removed : List AUnit
   pub left : List AUnit
   pub units : us ≡ refused ++ (removed ++ left)
   pub waiting : List (List ℕ)
   pub after : Held
   pub end : State
-  pub turns : RemovesTo purge before.records.records names before s removed waiting after end
-  pub rest : (left ≡ []) ⊎ AreLeftOver before.records.records after.records.records waiting left
-  pub since : AtEachMomentOf (IsAmidNext purge before.records.records waiting after) end t
-  pub broken : IfSome last (IsBrokenNext purge before.records.records waiting after end t)
+  pub turns : RemovesTo purge packages names before s removed waiting after end
+  pub rest : (left ≡ []) ⊎ AreLeftOver packages after.records.records waiting left
+  pub since : AtEachMomentOf (IsAmidNext purge packages waiting after) end t
+  pub broken : IfSome last (IsBrokenNext purge packages waiting after end t)
 
 pub record HasBegun (names : List (List ℕ)) (purge : Bool) (us : List AUnit) (last : Option AUnit) (before : Held) (s t : State) : Type 0 where
   pub refused : List AUnit
@@ -77,9 +82,15 @@ pub record HasBegun (names : List (List ℕ)) (purge : Bool) (us : List AUnit) (
 abbrev pub HasRun : List (List ℕ) → Bool → List AUnit → Option AUnit → Held → State → State → Type 0
 HasRun names purge us last before s t = HasNotBegun us last s t ⊎ HasBegun names purge us last before s t
 
--- at each moment of a removal or a purge
+-- some removals are done, and the next is under way
+pub record IsAmidRemovals (names : List (List ℕ)) (purge : Bool) (before : Held) (s : State) (so_far : List Event) (now : World) : Type 0 where
+  pub packages : List Package
+  pub stated : ArePackagesOf before.records.records packages
+  pub turns : IsAmidTurns purge packages (waiting_for purge names before) before s so_far now
+
+-- at each moment of a removal or a purge: nothing is done yet, or removals are
 abbrev pub IsAmidRun : List (List ℕ) → Bool → Held → State → List Event → World → Type 0
-IsAmidRun names purge before s so_far now = IsAmidTurns purge (waiting_for purge names before) before s so_far now
+IsAmidRun names purge before s so_far now = IsStill s.world so_far now ⊎ IsAmidRemovals names purge before s so_far now
 
 -- the units of those that are left over of a queue, behind others
 pub record AddsLeft (q : Waiting) (old new : List AUnit) : Type 0 where

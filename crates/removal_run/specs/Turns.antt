@@ -1,69 +1,52 @@
 -- The removals of a command, one after another (Policy 6.8).
-use Rattle.std.specs.Prelude.{◌≡◌, ◌⊎◌, ℕ, Bool, List, [], ◌∷◌, ◌++◌, IsTrue, None}
+use Rattle.std.specs.Prelude.{◌≡◌, ℕ, Bool, List, IsTrue, None}
 use Rattle.host_core.specs.Events.{Event}
-use Rattle.host_core.specs.Host.{State, AtEachMomentOf}
+use Rattle.host_core.specs.Host.{State}
 use Rattle.host_core.specs.World.{World}
+use Rattle.relation_index.specs.declared.package.Package.{Package}
 use Rattle.status_records.specs.declared.record.Record.{Record}
 use Rattle.unit_reports.specs.Held.{Held}
-use Rattle.unit_reports.specs.Units.{HasNoCalls, IsBroken, TellsNoPackage}
 use Rattle.unit_reports.specs.declared.report.Unit.{Unit as AUnit}
+use Rattle.unit_runs.specs.Turns as runs
+use Rattle.unit_runs.specs.Turns.{IsBrokenNext as IsBroken, TurnsTo}
 use Rattle.removal_run.specs.Names.{is_among, without}
 use Rattle.removal_run.specs.Refusals.{rule_for}
-use Rattle.removal_run.specs.Units.{HasCalledRemoving, IsAmidRemoval, RunsRemoval}
+use Rattle.removal_run.specs.Units.{AreOthersKept, HasCalledRemoving, IsAmidRemoval, RunsRemoval}
 use Rattle.removal_run.specs.Waiting.{IsRemovedNext}
 
--- Removal after removal, each of the next by what the one before it left, where the packages stated this when the command
--- began. The package of a removal waits no longer, whatever its end. In the end these names still wait.
-abbrev pub RemovesTo : Bool → List Record → List (List ℕ) → Held → State → List AUnit → List (List ℕ) → Held → State → Type 0
-RemovesTo purge start waiting before s [] left after t = (left ≡ waiting) × (after ≡ before) × (t ≡ s)
-RemovesTo purge start waiting before s (u ∷ us) left after t =
-    (name : List ℕ) × (mid : Held) × (m : State) × IsRemovedNext start before.records.records waiting name × RunsRemoval purge name before mid u s m
-    × RemovesTo purge start (without name waiting) mid m us left after t
+-- `packages` are all packages, with what they stated when the command began
+
+-- The removal of the next package, by what the one before it left: it waits no longer, whatever its end.
+pub record IsTurn (purge : Bool) (packages : List Package) (waiting : List (List ℕ)) (before : Held) (u : AUnit) (left : List (List ℕ)) (after : Held) (s t : State) : Type 0 where
+  pub name : List ℕ
+  pub next : IsRemovedNext packages before.records.records waiting name
+  pub runs : RunsRemoval purge name before after u s t
+  pub others : AreOthersKept name before.records.records after.records.records
+  pub left : left ≡ without name waiting
+
+-- removal after removal; in the end these names still wait
+abbrev pub RemovesTo : Bool → List Package → List (List ℕ) → Held → State → List AUnit → List (List ℕ) → Held → State → Type 0
+RemovesTo purge packages waiting before s us left after t = TurnsTo (IsTurn purge packages) waiting before s us left after t
+
+-- the next removal is under way
+abbrev pub IsAmidTurn : Bool → List Package → List (List ℕ) → Held → World → List Event → World → Type 0
+IsAmidTurn purge packages waiting before old so_far now = (name : List ℕ) × IsRemovedNext packages before.records.records waiting name × IsAmidRemoval purge name before old so_far now
 
 -- at each moment after the removals that are done: nothing more is done, or the next is under way
-abbrev pub IsAmidNext : Bool → List Record → List (List ℕ) → Held → World → List Event → World → Type 0
-IsAmidNext purge start waiting before old so_far now =
-    (now ≡ old) ⊎ ((name : List ℕ) × IsRemovedNext start before.records.records waiting name × IsAmidRemoval purge name before old so_far now)
+abbrev pub IsAmidNext : Bool → List Package → List (List ℕ) → Held → World → List Event → World → Type 0
+IsAmidNext purge packages waiting before old so_far now = runs.IsAmidNext (λ left later. IsAmidTurn purge packages left) waiting waiting before old so_far now
 
 -- some removals are done on a host that was honest so far, and the next is under way
-pub record IsAmidTurns (purge : Bool) (waiting : List (List ℕ)) (before : Held) (s : State) (so_far : List Event) (now : World) : Type 0 where
-  pub done : List AUnit
-  pub left : List (List ℕ)
-  pub mid : Held
-  pub m : State
-  pub honest : IsTrue m.honest
-  pub removed : RemovesTo purge before.records.records waiting before s done left mid m
-  pub front : List Event
-  pub rest : List Event
-  pub split : so_far ≡ front ++ rest
-  pub events : m.events ≡ s.events ++ front
-  pub next : IsAmidNext purge before.records.records left mid m.world rest now
+abbrev pub IsAmidTurns : Bool → List Package → List (List ℕ) → Held → State → List Event → World → Type 0
+IsAmidTurns purge packages waiting before s so_far now = runs.IsAmidTurns (IsTurn purge packages) (λ left later. IsAmidTurn purge packages left) (λ later. Unit {0}) waiting before s so_far now
 
--- the calls of a unit that was broken off: none, or the first of those of the next removal
-abbrev pub HasCalledNext : Bool → List Record → List (List ℕ) → Held → AUnit → State → State → Type 0
-HasCalledNext purge start waiting before u s t =
-    HasNoCalls u s t ⊎ ((name : List ℕ) × IsRemovedNext start before.records.records waiting name × HasCalledRemoving purge name before s t [] u.calls.items)
+-- the calls of a unit that was broken off: the first of those of the next removal
+abbrev pub HasCalledNext : Bool → List Package → List (List ℕ) → Held → State → State → AUnit → Type 0
+HasCalledNext purge packages waiting before s t u = (name : List ℕ) × IsRemovedNext packages before.records.records waiting name × HasCalledRemoving purge name before s t [] u.calls.items
 
--- a unit that was broken off: it tells no package
-pub record IsBrokenNext (purge : Bool) (start : List Record) (waiting : List (List ℕ)) (before : Held) (s t : State) (u : AUnit) : Type 0 where
-  pub broken : IsBroken u.reply
-  pub untouched : TellsNoPackage u
-  pub called : HasCalledNext purge start waiting before u s t
-
--- removals were carried out, and their units are told behind others
-pub record HasTurned (purge : Bool) (waiting left : List (List ℕ)) (before after : Held) (s t : State) (old new : List AUnit) : Type 0 where
-  pub done : List AUnit
-  pub grown : new ≡ old ++ done
-  pub turns : RemovesTo purge before.records.records waiting before s done left after t
-
--- the same up to a moment of the host; since that moment only the next removal was under way, which was broken off
-pub record HasStopped (purge : Bool) (waiting : List (List ℕ)) (before : Held) (s t : State) (old new : List AUnit) (u : AUnit) : Type 0 where
-  pub left : List (List ℕ)
-  pub after : Held
-  pub end : State
-  pub turned : HasTurned purge waiting left before after s end old new
-  pub since : AtEachMomentOf (IsAmidNext purge before.records.records left after) end t
-  pub broken : IsBrokenNext purge before.records.records left after end t u
+-- a unit that was broken off: it tells no package, and made no call or the first of those of the next removal
+abbrev pub IsBrokenNext : Bool → List Package → List (List ℕ) → Held → State → State → AUnit → Type 0
+IsBrokenNext purge packages waiting before s t u = IsBroken (λ left later. HasCalledNext purge packages left) waiting waiting before s t u
 
 -- no rule refuses one of these names
 abbrev pub AreAccepted : Bool → List Record → List (List ℕ) → Type 0

@@ -1,7 +1,6 @@
 -- The packages that wait to be removed, among all that are recorded, and the next of them (Policy 6.8, 7.2).
 use Rattle.std.specs.Prelude.{◌≡◌, ℕ, Bool, false, List, [], Option, Some, None, map, length, slice_index_or}
 use Rattle.dependency_check.specs.Waiting.{Waiting, IsNextOfRemovable}
-use Rattle.recorded_packages.specs.Packages.{ArePackagesOf}
 use Rattle.relation_index.specs.declared.package.Package.{Package}
 use Rattle.status_records.specs.Records.{record_in}
 use Rattle.status_records.specs.Words.{is_installed}
@@ -28,8 +27,8 @@ is_named names p = is_among names p.name
 -- The queue at a moment: the packages with what they stated when the command began, of which those are installed that are
 -- recorded so now, and those wait whose names are left. Only packages that are installed or wait count in a queue, and none of
 -- these states anything else meanwhile: so it is the queue of the packages as they are recorded now.
-pub record IsQueueNow (start now : List Record) (names : List (List ℕ)) (q : Waiting) : Type 0 where
-  pub stated : ArePackagesOf start q.packages
+pub record IsQueueNow (packages : List Package) (now : List Record) (names : List (List ℕ)) (q : Waiting) : Type 0 where
+  pub stated : q.packages ≡ packages
   pub installed : q.installed ≡ map (is_installed_now now) q.packages
   pub waiting : q.waiting ≡ map (is_named names) q.packages
 
@@ -43,9 +42,9 @@ abbrev pub name_at : List Package → ℕ → List ℕ
 name_at packages x = slice_index_or (map (λ p. p.name) packages) x []
 
 -- of the names that are left, the one whose package is removed next
-pub record IsRemovedNext (start now : List Record) (names : List (List ℕ)) (name : List ℕ) : Type 0 where
+pub record IsRemovedNext (packages : List Package) (now : List Record) (names : List (List ℕ)) (name : List ℕ) : Type 0 where
   pub queue : Waiting
-  pub is : IsQueueNow start now names queue
+  pub is : IsQueueNow packages now names queue
   pub number : ℕ
   pub next : IsNextOfRemovable queue (Some number)
   pub named : name ≡ name_at queue.packages number

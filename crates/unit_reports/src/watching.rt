@@ -1,18 +1,23 @@
-// Who is told the units of a command as they are finished.
+// Who is told the units of a command as they are finished, and when.
 ghost use Rattle.std.specs.Prelude.{◌≡◌, ◌++◌, [], ◌∷◌, List};
+ghost use Rattle.host_core.specs.Host.{State};
+ghost use Rattle.host_core.specs.Loss.{IsAnswered};
+ghost use Rattle.undo_rows.specs.Transcript.{TellsAll};
+ghost use Rattle.unit_reports.specs.Units.{calls_of};
 ghost use Rattle.unit_reports.specs.Watching.{AddsTold, IsTold};
 ghost use Rattle.unit_reports.specs.declared.report.Unit.{Unit as AUnit};
 
 use crate::report::Unit;
+use host_core::Host;
 
-/// Is told each unit of a command once it is finished, and before the next one begins.
+/// Is told each unit of a command once it is finished and all of it is on the disk, and before the next one makes a call.
 pub trait Watcher {
-    /// How it comes from one state to another by being told a unit.
-    ghost tells: { Self → AUnit → Self → Type 0 };
+    /// How it comes from one state to another by being told a unit, at this state of the host.
+    ghost tells: { Self → AUnit → State → Self → Type 0 };
 
     /// A unit is finished.
-    fn finished(&mut self, unit: &Unit)
-        ensures { tells self.old unit.now self.new };
+    fn finished<H: Host>(&mut self, host: &H, unit: &Unit)
+        ensures { tells self.old unit.now (H.state host.now) self.new };
 }
 
 /// Does nothing with what it is told.
@@ -20,20 +25,28 @@ pub trait Watcher {
 pub struct Unwatched;
 
 impl Watcher for Unwatched {
-    ghost tells = { λ old unit new. new ≡ old };
+    ghost tells = { λ old unit at new. new ≡ old };
 
-    fn finished(&mut self, unit: &Unit) {
+    fn finished<H: Host>(&mut self, host: &H, unit: &Unit) {
+        let _ = host;
         let _ = unit;
     }
 }
 
-/// What was told in turn was told as a whole.
+/// What was told in turn was told as a whole; of two runs of units the second may be counted from the state behind the first.
 pub fn what_is_told_in_turn<W: Watcher>()
-    ensures none { (w : W) → IsTold W.tells w [] w }
-    ensures one { (old new : W) (u : AUnit) → W.tells old u new → IsTold W.tells old (u ∷ []) new }
-    ensures more { (old mid new : W) (us vs : List AUnit) → IsTold W.tells old us mid
-        → IsTold W.tells mid vs new → IsTold W.tells old (us ++ vs) new }
-    ensures added { (old mid new : W) (first second third : List AUnit)
-        → AddsTold W.tells first second old mid → AddsTold W.tells second third mid new
-        → AddsTold W.tells first third old new }
+    ensures none { (s : State) (w : W) → IsTold W.tells s w [] w }
+    ensures one { (s at : State) (old new : W) (u : AUnit) → W.tells old u at new
+        → TellsAll s at [] u.calls.items → IsAnswered s at → IsTold W.tells s old (u ∷ []) new }
+    ensures more { (s at : State) (old mid new : W) (us vs : List AUnit)
+        → IsTold W.tells s old us mid → TellsAll s at [] (calls_of us) → IsAnswered s at
+        → IsTold W.tells at mid vs new → IsTold W.tells s old (us ++ vs) new }
+    ensures none_added { (s : State) (w : W) (us : List AUnit) → AddsTold W.tells s us us w w }
+    ensures one_added { (s at : State) (old new : W) (us : List AUnit) (u : AUnit)
+        → W.tells old u at new → TellsAll s at [] u.calls.items → IsAnswered s at
+        → AddsTold W.tells s us (us ++ u ∷ []) old new }
+    ensures added { (s at : State) (old mid new : W) (first second third : List AUnit)
+        → AddsTold W.tells s first second old mid → TellsAll s at (calls_of first) (calls_of second)
+        → IsAnswered s at → AddsTold W.tells at second third mid new
+        → AddsTold W.tells s first third old new }
 {}

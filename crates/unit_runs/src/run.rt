@@ -1,0 +1,135 @@
+// Units, one after another.
+ghost use Rattle.std.specs.Prelude.{◌≡◌, ◌++◌, ◌<◌, [], true, IfErr, IfOk, OnErr, OnOk};
+ghost use Rattle.host_core.specs.Host.{AtEachMomentOf, Needs, Since, faults};
+ghost use Rattle.host_core.specs.Loss.{IsAnswered};
+ghost use Rattle.held_administration.specs.Open.{IsOpen};
+ghost use Rattle.held_administration.specs.Order.{IsInOrder};
+ghost use Rattle.undo_rows.specs.Transcript.{TellsAll};
+ghost use Rattle.unit_reports.specs.Held.{held_by};
+ghost use Rattle.unit_reports.specs.Units.{CountsReply, IsBrokenBy, calls_of};
+ghost use Rattle.unit_reports.specs.Watching.{AddsTold};
+ghost use Rattle.unit_reports.specs.declared.report.Breakage.TheVariants.{Closed};
+ghost use Rattle.unit_runs.specs.Taking.{GoesOn};
+ghost use Rattle.unit_runs.specs.Turns.{GoesTo, HasStopped, HaveAllTurned, IsAmidNext, IsAmidTurns, IsBrokenNext};
+
+use crate::turns::Turns;
+use diversions::Diversions;
+use held_administration::Administration;
+use host_core::Host;
+use unit_reports::{Breakage, Unit, Watcher, broken, what_is_told_in_turn};
+
+// The unit of the next turn more, or the unit that was broken off. The answer is whether a turn was left.
+fn run_one<H: Host, T: Turns<H>, W: Watcher>(
+    host: &mut H,
+    administration: &mut Administration,
+    diversions: &Diversions,
+    turns: &mut T,
+    units: &mut Vec<Unit>,
+    watcher: &mut W,
+) -> Result<bool, Unit>
+    requires between { T.between turns.old (held_by administration.old diversions.now) }
+    requires open { IsOpen diversions.now.entries administration.old }
+    requires order { Needs (H.state host.old)
+        (IsInOrder administration.old.database administration.old.lists.lists) }
+    ensures ok { IfOk result (GoesOn (T.turn (T.task turns.old)) (T.over turns.new)
+        (T.left turns.old) (T.left turns.new) (held_by administration.old diversions.now)
+        (held_by administration.new diversions.now) (H.state host.old) (H.state host.new)
+        units.old.items units.new.items) }
+    ensures between { OnOk result (T.between turns.new
+        (held_by administration.new diversions.now)) }
+    ensures open { OnOk result (IsOpen diversions.now.entries administration.new) }
+    ensures order { OnOk result (Needs (H.state host.new)
+        (IsInOrder administration.new.database administration.new.lists.lists)) }
+    ensures answered { OnOk result (IsAnswered (H.state host.old) (H.state host.new)) }
+    ensures err { OnErr result (units.new.items ≡ units.old.items) }
+    ensures broken_off { IfErr result (IsBrokenNext (T.called (T.task turns.old)) (T.left turns.old)
+        (T.left turns.new) (held_by administration.old diversions.now) (H.state host.old)
+        (H.state host.new)) }
+    ensures told { OnOk result (TellsAll (H.state host.old) (H.state host.new)
+        (calls_of units.old.items) (calls_of units.new.items)) }
+    ensures told_broken { IfErr result (λ unit. TellsAll (H.state host.old) (H.state host.new) []
+        unit.calls.items) }
+    ensures any_moment { AtEachMomentOf (IsAmidNext (T.amid (T.task turns.old)) (T.left turns.old)
+        (T.left turns.new) (held_by administration.old diversions.now)) (H.state host.old)
+        (H.state host.new) }
+    ensures no_fault { OnOk result (faults (H.state host.new) ≡ faults (H.state host.old)) }
+    ensures counts { IfErr result (λ unit. CountsReply (H.state host.old) (H.state host.new)
+        unit.reply) }
+    ensures not_closed { IfErr result (λ unit. IsBrokenBy Closed unit.reply → ⊥) }
+    ensures task { OnOk result (T.task turns.new ≡ T.task turns.old) }
+    ensures goes { GoesTo (T.goes (T.task turns.old)) (T.left turns.old) (T.left turns.new) }
+    ensures fewer { IfOk result (λ more. more ≡ true → T.size (T.left turns.new)
+        < T.size (T.left turns.old)) }
+    ensures watched { AddsTold W.tells (H.state host.old) units.old.items units.new.items
+        watcher.old watcher.new }
+{
+    if units.reserve(1).is_err() {
+        let alloc = administration.alloc;
+        return Err(broken(alloc, Vec::new(alloc), Breakage::NoMemory));
+    }
+    what_is_told_in_turn::<W>();
+    match turns.take(host, administration, diversions) {
+        Ok(Some(unit)) => {
+            watcher.finished(host, &unit);
+            units.push(unit).unwrap();
+            Ok(true)
+        }
+        Ok(None) => Ok(false),
+        Err(unit) => Err(unit),
+    }
+}
+
+/// The units of all turns, or those up to the one that was broken off. There is room for a unit before its turn is taken, and it
+/// is told as it is finished.
+pub fn run_units<H: Host, T: Turns<H>, W: Watcher>(
+    host: &mut H,
+    administration: &mut Administration,
+    diversions: &Diversions,
+    turns: &mut T,
+    units: &mut Vec<Unit>,
+    watcher: &mut W,
+) -> Result<(), Unit>
+    requires between { T.between turns.old (held_by administration.old diversions.now) }
+    requires open { IsOpen diversions.now.entries administration.old }
+    requires order { Needs (H.state host.old)
+        (IsInOrder administration.old.database administration.old.lists.lists) }
+    ensures turned { OnOk result (HaveAllTurned (T.turn (T.task turns.old)) (T.over turns.new)
+        (T.left turns.old) (held_by administration.old diversions.now) (H.state host.old)
+        units.old.items units.new.items (held_by administration.new diversions.now)
+        (H.state host.new)) }
+    ensures between { OnOk result (T.between turns.new
+        (held_by administration.new diversions.now)) }
+    ensures open { OnOk result (IsOpen diversions.now.entries administration.new) }
+    ensures order { OnOk result (Needs (H.state host.new)
+        (IsInOrder administration.new.database administration.new.lists.lists)) }
+    ensures answered { OnOk result (IsAnswered (H.state host.old) (H.state host.new)) }
+    ensures stopped { IfErr result (HasStopped (T.turn (T.task turns.old))
+        (T.amid (T.task turns.old)) (T.called (T.task turns.old)) (T.left turns.old)
+        (held_by administration.old diversions.now) (H.state host.old) units.old.items
+        units.new.items (T.left turns.new) (H.state host.new)) }
+    ensures told { OnOk result (TellsAll (H.state host.old) (H.state host.new)
+        (calls_of units.old.items) (calls_of units.new.items)) }
+    ensures told_stopped { IfErr result (λ unit. TellsAll (H.state host.old) (H.state host.new)
+        (calls_of units.old.items) (calls_of units.new.items ++ unit.calls.items)) }
+    ensures any_moment { Since (IsAmidTurns (T.turn (T.task turns.old)) (T.amid (T.task turns.old))
+        (λ later. GoesTo (T.goes (T.task turns.old)) later (T.left turns.new)) (T.left turns.old)
+        (held_by administration.old diversions.now) (H.state host.old)) (H.state host.old)
+        (H.state host.new) }
+    ensures no_fault { OnOk result (faults (H.state host.new) ≡ faults (H.state host.old)) }
+    ensures counts { IfErr result (λ unit. CountsReply (H.state host.old) (H.state host.new)
+        unit.reply) }
+    ensures not_closed { IfErr result (λ unit. IsBrokenBy Closed unit.reply → ⊥) }
+    ensures task { OnOk result (T.task turns.new ≡ T.task turns.old) }
+    ensures goes { GoesTo (T.goes (T.task turns.old)) (T.left turns.old) (T.left turns.new) }
+    ensures watched { AddsTold W.tells (H.state host.old) units.old.items units.new.items
+        watcher.old watcher.new }
+{
+    what_is_told_in_turn::<W>();
+    loop {
+        match run_one(host, administration, diversions, turns, units, watcher) {
+            Ok(true) => {}
+            Ok(false) => return Ok(()),
+            Err(unit) => return Err(unit),
+        }
+    }
+}
