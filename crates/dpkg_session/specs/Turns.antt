@@ -10,7 +10,7 @@ use Rattle.dpkg_session.specs.Run.{IsAmidUnitOf, RunsUnit}
 use Rattle.dpkg_session.specs.Units.{IsBrokenOff}
 use Rattle.dpkg_session.specs.declared.report.Candidate.{Candidate}
 
--- the trees that are still to be read, and the labels of those that were read
+-- the trees that are still to be read, and the labels of those that were unpacked
 pub record Unread (T : Type 0) : Type 0 where
   pub trees : T
   pub labels : List (List ℕ)
@@ -18,33 +18,37 @@ pub record Unread (T : Type 0) : Type 0 where
 -- What stays the same over all turns: whether other packages may be deconfigured, and the names under which trees and labels are lent.
 pub record Unpacking : Type 0 where
   pub auto_deconfigure : Bool
-  pub lent : List (List ℕ)
+  pub lent : List ℕ
 
 -- all trees were read
-abbrev pub AreAllRead : {T : Type 0} → (T → List (List ℕ)) → Unread T → Unread T → Type 0
-AreAllRead words left later = (words left.trees ≡ []) × (later ≡ left)
+abbrev pub AreAllRead : {T : Type 0} → (T → List (List ℕ)) → Unread T → Type 0
+AreAllRead words left = words left.trees ≡ []
 
-module _ {T : Type 0} (reads : T → Candidate → T → Type 0) (words : T → List (List ℕ)) (task : Unpacking) (left : Unread T) where
-  -- The next tree was read.
-  pub record ReadsTree (c : Candidate) (later : T) : Type 0 where
-    pub read : reads left.trees c later
-    pub word : words left.trees ≡ c.label ∷ words later
+-- by these words of the trees, and by what it is that reads the next one
+module _ {T : Type 0} (words : T → List (List ℕ)) (reads : T → Candidate → T → Type 0) (task : Unpacking) (left : Unread T) where
+  -- the next tree was read
+  pub record ReadsTree (later : Unread T) (c : Candidate) : Type 0 where
+    pub read : reads left.trees c later.trees
+    pub word : words left.trees ≡ c.label ∷ words later.trees
+
+  -- whatever the end of its unit; or none is left
+  abbrev pub GoesOn : Unread T → Type 0
+  GoesOn later = (later ≡ left) ⊎ ((c : Candidate) × ReadsTree later c)
 
   -- its unit was done, and its label is behind those of the others
   pub record UnpacksTree (before : Held) (u : AUnit) (later : Unread T) (after : Held) (s t : State) : Type 0 where
     pub c : Candidate
-    pub read : ReadsTree c later.trees
+    pub read : ReadsTree later c
     pub labelled : later.labels ≡ left.labels ++ label_of c ∷ []
     pub runs : RunsUnit task.auto_deconfigure c before after u s t
 
   -- its unit was broken off
   pub record BreaksTree (later : Unread T) (before : Held) (s t : State) (u : AUnit) : Type 0 where
     pub c : Candidate
-    pub read : ReadsTree c later.trees
+    pub read : ReadsTree later c
     pub broken : IsBrokenOff task.auto_deconfigure c before u s t
     pub moments : AtEachMomentOf (IsAmidUnitOf task.auto_deconfigure c.tree before) s t
 
-  -- at each moment: nothing has changed, or the unit of a tree that was read is under way
-  abbrev pub IsAmidTree : Held → World → List Event → World → Type 0
-  IsAmidTree before old so_far now =
-      (now ≡ old) ⊎ ((c : Candidate) × (later : T) × ReadsTree c later × IsAmidUnitOf task.auto_deconfigure c.tree before old so_far now)
+  -- its unit is under way
+  abbrev pub IsAmidTree : Unread T → Held → World → List Event → World → Type 0
+  IsAmidTree later before old so_far now = (c : Candidate) × ReadsTree later c × IsAmidUnitOf task.auto_deconfigure c.tree before old so_far now
