@@ -26,7 +26,7 @@ module _ {T : Type 0} (reads : T → Candidate → T → Type 0) (words : T → 
   IsReported left report after t = (cs : List Candidate) × AreRead reads start.trees cs left.trees × HasRunThrough task.auto_deconfigure cs (words left.trees) report before after s t × (IsNone report.last → left.labels ≡ map label_of cs)
 
   -- no tree is left
-  pub all_taken : (us : List AUnit) (left later : Unread T) (after : Held) (t : State) (report : Report) → TakesTo (UnpacksTree words reads) task start before s us left after t → AreAllRead words left → later ≡ left → (IsTrue t.honest → IsSettled t.events)
+  pub all_taken : (us : List AUnit) (left later : Unread T) (after : Held) (t : State) (report : Report) → TakesTo (UnpacksTree words reads) task start before s us left after t → AreAllRead words later left → (IsTrue t.honest → IsSettled t.events)
       → report.units.items ≡ us → report.last ≡ None → IsReported later report after t
   all_taken us left later after t report come over settled units last =
       subst (λ (x : Unread T). IsReported x report after t) (sym over.1)

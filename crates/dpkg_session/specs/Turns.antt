@@ -15,14 +15,18 @@ pub record Unread (T : Type 0) : Type 0 where
   pub trees : T
   pub labels : List (List ℕ)
 
--- What stays the same over all turns: whether other packages may be deconfigured, and the names under which trees and labels are lent.
+abbrev pub unread : {T : Type 0} → T → List (List ℕ) → Unread T
+unread trees labels = record { trees = trees; labels = labels }
+
+-- What stays the same over all turns: whether other packages may be deconfigured, and the names of what is lent.
 pub record Unpacking : Type 0 where
   pub auto_deconfigure : Bool
-  pub lent : List ℕ
+  pub trees : ℕ
+  pub labels : ℕ
 
--- all trees were read
-abbrev pub AreAllRead : {T : Type 0} → (T → List (List ℕ)) → Unread T → Type 0
-AreAllRead words left = words left.trees ≡ []
+-- all trees were read, and nothing has changed since then
+abbrev pub AreAllRead : {T : Type 0} → (T → List (List ℕ)) → Unread T → Unread T → Type 0
+AreAllRead words now left = (words left.trees ≡ []) × (now ≡ left)
 
 -- by these words of the trees, and by what it is that reads the next one
 module _ {T : Type 0} (words : T → List (List ℕ)) (reads : T → Candidate → T → Type 0) (task : Unpacking) (left : Unread T) where
@@ -32,8 +36,8 @@ module _ {T : Type 0} (words : T → List (List ℕ)) (reads : T → Candidate �
     pub word : words left.trees ≡ c.label ∷ words later.trees
 
   -- whatever the end of its unit; or none is left
-  abbrev pub GoesOn : Unread T → Type 0
-  GoesOn later = (later ≡ left) ⊎ ((c : Candidate) × ReadsTree later c)
+  abbrev pub MayRead : Unread T → Type 0
+  MayRead later = (later ≡ left) ⊎ ((c : Candidate) × ReadsTree later c)
 
   -- its unit was done, and its label is behind those of the others
   pub record UnpacksTree (before : Held) (u : AUnit) (later : Unread T) (after : Held) (s t : State) : Type 0 where
