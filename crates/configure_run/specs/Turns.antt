@@ -165,9 +165,9 @@ pub record EndTurns (policy : ConfPolicy) (silent : ℕ → Bool) (start : Waiti
   pub ended : IsNextOfConfigurable q silent None
   pub left_over : HaveRefusedLeft q front now
 
--- the calls of the unit that was broken off: the first of those of the package whose turn it was
+-- the calls of the unit that was broken off: none, or the first of those of the package whose turn it was
 abbrev pub HasCalledNext : ConfPolicy → (ℕ → Bool) → Waiting → Held → State → State → AUnit → Type 0
-HasCalledNext policy silent q before s t u = (x : ℕ) × (p : Package) × IsNext silent q x p × HasCalledFor policy p.name before u s t
+HasCalledNext policy silent q before s t u = HasNoCalls u s t ⊎ ((x : ℕ) × (p : Package) × IsNext silent q x p × HasCalledFor policy p.name before u s t)
 
 -- The unit that was broken off: it tells no package. It made no call, or the first of those of the package whose turn it was.
 abbrev pub IsBrokenOff : ConfPolicy → (ℕ → Bool) → Waiting → Held → State → State → AUnit → Type 0

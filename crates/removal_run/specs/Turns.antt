@@ -1,11 +1,12 @@
 -- The removals of a command, one after another (Policy 6.8).
-use Rattle.std.specs.Prelude.{◌≡◌, ℕ, Bool, List, IsTrue, None}
+use Rattle.std.specs.Prelude.{◌≡◌, ◌⊎◌, ℕ, Bool, List, [], IsTrue, None}
 use Rattle.host_core.specs.Events.{Event}
 use Rattle.host_core.specs.Host.{State}
 use Rattle.host_core.specs.World.{World}
 use Rattle.relation_index.specs.declared.package.Package.{Package}
 use Rattle.status_records.specs.declared.record.Record.{Record}
 use Rattle.unit_reports.specs.Held.{Held}
+use Rattle.unit_reports.specs.Units.{HasNoCalls}
 use Rattle.unit_reports.specs.declared.report.Unit.{Unit as AUnit}
 use Rattle.unit_runs.specs.Turns as runs
 use Rattle.unit_runs.specs.Turns.{IsBrokenNext as IsBroken, TurnsTo}
@@ -40,9 +41,10 @@ IsAmidNext purge packages waiting before old so_far now = runs.IsAmidNext (λ le
 abbrev pub IsAmidTurns : Bool → List Package → List (List ℕ) → Held → State → List Event → World → Type 0
 IsAmidTurns purge packages waiting before s so_far now = runs.IsAmidTurns (IsTurn purge packages) (λ left later. IsAmidTurn purge packages left) (λ later. Unit {0}) waiting before s so_far now
 
--- the calls of a unit that was broken off: the first of those of the next removal
+-- the calls of a unit that was broken off: none, or the first of those of the next removal
 abbrev pub HasCalledNext : Bool → List Package → List (List ℕ) → Held → State → State → AUnit → Type 0
-HasCalledNext purge packages waiting before s t u = (name : List ℕ) × IsRemovedNext packages before.records.records waiting name × HasCalledRemoving purge name before s t [] u.calls.items
+HasCalledNext purge packages waiting before s t u =
+    HasNoCalls u s t ⊎ ((name : List ℕ) × IsRemovedNext packages before.records.records waiting name × HasCalledRemoving purge name before s t [] u.calls.items)
 
 -- a unit that was broken off: it tells no package, and made no call or the first of those of the next removal
 abbrev pub IsBrokenNext : Bool → List Package → List (List ℕ) → Held → State → State → AUnit → Type 0

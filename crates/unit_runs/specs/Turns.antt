@@ -4,7 +4,7 @@ use Rattle.host_core.specs.Events.{Event, scripts_of}
 use Rattle.host_core.specs.Host.{State, AtEachMomentOf}
 use Rattle.host_core.specs.World.{World}
 use Rattle.unit_reports.specs.Held.{Held}
-use Rattle.unit_reports.specs.Units.{HasNoCalls, IsBroken, TellsNoPackage}
+use Rattle.unit_reports.specs.Units.{IsBroken, TellsNoPackage}
 use Rattle.unit_reports.specs.declared.report.Unit.{Unit as AUnit}
 
 -- What still waits for its turn is of a type L, which each command has of its own.
@@ -18,11 +18,11 @@ pub record IsStill (old : World) (so_far : List Event) (now : World) : Type 0 wh
 abbrev pub IsAmidNext : {L : Type 0} → (L → L → Held → World → List Event → World → Type 0) → L → L → Held → World → List Event → World → Type 0
 IsAmidNext amid q later before old so_far now = IsStill old so_far now ⊎ amid q later before old so_far now
 
--- The unit that was broken off: it tells no package. It made no call, or those that are `called` of the next unit.
+-- The unit that was broken off: it tells no package. Its calls are those that are `called` of the next unit.
 pub record IsBrokenNext {L : Type 0} (called : L → L → Held → State → State → AUnit → Type 0) (q later : L) (before : Held) (s t : State) (u : AUnit) : Type 0 where
   pub broken : IsBroken u.reply
   pub untouched : TellsNoPackage u
-  pub called : HasNoCalls u s t ⊎ called q later before s t u
+  pub called : called q later before s t u
 
 -- what waited may have come to this, turn by turn, of which each goes on so
 pub data GoesTo {L : Type 0} (goes : L → L → Type 0) (start : L) : L → Type 0 where

@@ -16,7 +16,7 @@ use crate::turns::Turns;
 use diversions::Diversions;
 use held_administration::Administration;
 use host_core::Host;
-use unit_reports::{Breakage, Unit, Watcher, broken, what_is_told_in_turn};
+use unit_reports::{Unit, Watcher, what_is_told_in_turn};
 
 // The unit of the next turn more, or the unit that was broken off. The answer is whether a turn was left.
 fn run_one<H: Host, T: Turns<H>, W: Watcher>(
@@ -27,7 +27,7 @@ fn run_one<H: Host, T: Turns<H>, W: Watcher>(
     units: &mut Vec<Unit>,
     watcher: &mut W,
 ) -> Result<bool, Unit>
-    requires between { T.between turns.old (held_by administration.old diversions.now) }
+    requires between { T.between turns.old administration.old }
     requires open { IsOpen diversions.now.entries administration.old }
     requires order { Needs (H.state host.old)
         (IsInOrder administration.old.database administration.old.lists.lists) }
@@ -35,8 +35,7 @@ fn run_one<H: Host, T: Turns<H>, W: Watcher>(
         (T.left turns.old) (T.left turns.new) (held_by administration.old diversions.now)
         (held_by administration.new diversions.now) (H.state host.old) (H.state host.new)
         units.old.items units.new.items) }
-    ensures between { OnOk result (T.between turns.new
-        (held_by administration.new diversions.now)) }
+    ensures between { OnOk result (T.between turns.new administration.new) }
     ensures open { OnOk result (IsOpen diversions.now.entries administration.new) }
     ensures order { OnOk result (Needs (H.state host.new)
         (IsInOrder administration.new.database administration.new.lists.lists)) }
@@ -57,18 +56,15 @@ fn run_one<H: Host, T: Turns<H>, W: Watcher>(
         unit.reply) }
     ensures not_closed { IfErr result (λ unit. IsBrokenBy Closed unit.reply → ⊥) }
     ensures task { OnOk result (T.task turns.new ≡ T.task turns.old) }
-    ensures goes { GoesTo (T.goes (T.task turns.old)) (T.left turns.old) (T.left turns.new) }
+    ensures goes { T.goes (T.task turns.old) (T.left turns.old) (T.left turns.new) }
     ensures fewer { IfOk result (λ more. more ≡ true → T.size (T.left turns.new)
         < T.size (T.left turns.old)) }
     ensures watched { AddsTold W.tells (H.state host.old) units.old.items units.new.items
         watcher.old watcher.new }
 {
-    if units.reserve(1).is_err() {
-        let alloc = administration.alloc;
-        return Err(broken(alloc, Vec::new(alloc), Breakage::NoMemory));
-    }
     what_is_told_in_turn::<W>();
-    match turns.take(host, administration, diversions) {
+    let room = units.reserve(1).is_ok();
+    match turns.take(host, administration, diversions, room) {
         Ok(Some(unit)) => {
             watcher.finished(host, &unit);
             units.push(unit).unwrap();
@@ -79,8 +75,8 @@ fn run_one<H: Host, T: Turns<H>, W: Watcher>(
     }
 }
 
-/// The units of all turns, or those up to the one that was broken off. There is room for a unit before its turn is taken, and it
-/// is told as it is finished.
+/// The units of all turns, or those up to the one that was broken off. There is room for a unit before its turn is taken, or it
+/// is broken off; it is told as it is finished.
 pub fn run_units<H: Host, T: Turns<H>, W: Watcher>(
     host: &mut H,
     administration: &mut Administration,
@@ -89,7 +85,7 @@ pub fn run_units<H: Host, T: Turns<H>, W: Watcher>(
     units: &mut Vec<Unit>,
     watcher: &mut W,
 ) -> Result<(), Unit>
-    requires between { T.between turns.old (held_by administration.old diversions.now) }
+    requires between { T.between turns.old administration.old }
     requires open { IsOpen diversions.now.entries administration.old }
     requires order { Needs (H.state host.old)
         (IsInOrder administration.old.database administration.old.lists.lists) }
@@ -97,8 +93,7 @@ pub fn run_units<H: Host, T: Turns<H>, W: Watcher>(
         (T.left turns.old) (held_by administration.old diversions.now) (H.state host.old)
         units.old.items units.new.items (held_by administration.new diversions.now)
         (H.state host.new)) }
-    ensures between { OnOk result (T.between turns.new
-        (held_by administration.new diversions.now)) }
+    ensures between { OnOk result (T.between turns.new administration.new) }
     ensures open { OnOk result (IsOpen diversions.now.entries administration.new) }
     ensures order { OnOk result (Needs (H.state host.new)
         (IsInOrder administration.new.database administration.new.lists.lists)) }

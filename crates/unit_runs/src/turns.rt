@@ -1,11 +1,12 @@
 // The turns of a command.
-ghost use Rattle.std.specs.Prelude.{◌≡◌, ◌<◌, [], ℕ, List, IfErr, IfOk, IfSome, OnOk};
+ghost use Rattle.std.specs.Prelude.{◌≡◌, ◌<◌, [], ℕ, false, List, None, IfErr, IfOk, IfSome, OnOk};
 ghost use Rattle.host_core.specs.Events.{Event};
 ghost use Rattle.host_core.specs.Host.{AtEachMomentOf, Needs, State};
 ghost use Rattle.host_core.specs.Loss.{IsAnswered};
 ghost use Rattle.host_core.specs.World.{World};
 ghost use Rattle.held_administration.specs.Open.{IsOpen};
 ghost use Rattle.held_administration.specs.Order.{IsInOrder};
+ghost use Rattle.held_administration.specs.declared.held.Administration.{Administration as AnAdministration};
 ghost use Rattle.undo_rows.specs.Transcript.{TellsAll};
 ghost use Rattle.unit_reports.specs.Held.{Held, held_by};
 ghost use Rattle.unit_reports.specs.Units.{IsBrokenBy};
@@ -48,19 +49,21 @@ pub trait Turns<H: Host> {
     ghost goes: { Self.Task → Self.Left → Self.Left → Type 0 };
 
     /// What holds between turns.
-    ghost between: { Self → Held → Type 0 };
+    ghost between: { Self → AnAdministration → Type 0 };
 
     /// No turn is left of what waits.
     ghost over: { Self → Self.Left → Held → Type 0 };
 
-    /// The unit of the next turn; none where no turn is left. An error is the unit that was broken off.
+    /// The unit of the next turn; none where no turn is left. An error is the unit that was broken off, as it is where there
+    /// is no room for it.
     fn take(
         &mut self,
         host: &mut H,
         administration: &mut Administration,
         diversions: &Diversions,
+        room: bool,
     ) -> Result<Option<Unit>, Unit>
-        requires between { between self.old (held_by administration.old diversions.now) }
+        requires between { between self.old administration.old }
         requires open { IsOpen diversions.now.entries administration.old }
         requires order { Needs (H.state host.old)
             (IsInOrder administration.old.database administration.old.lists.lists) }
@@ -68,8 +71,8 @@ pub trait Turns<H: Host> {
             (left self.old) (left self.new) (held_by administration.old diversions.now)
             (held_by administration.new diversions.now) (H.state host.old) (H.state host.new)
             result }
-        ensures between { OnOk result (between self.new
-            (held_by administration.new diversions.now)) }
+        ensures room { room ≡ false → IfOk result (λ found. found ≡ None) }
+        ensures between { OnOk result (between self.new administration.new) }
         ensures open { OnOk result (IsOpen diversions.now.entries administration.new) }
         ensures order { OnOk result (Needs (H.state host.new)
             (IsInOrder administration.new.database administration.new.lists.lists)) }
