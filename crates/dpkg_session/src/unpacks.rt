@@ -1,5 +1,5 @@
 // Unpacks as turns of a run: each tree is read once the unit of the one before it is told.
-ghost use Rattle.std.specs.Prelude.{◌≡◌, ◌∷◌, ◌++◌, List, [], None, Some, IfErr, IfOk, IfSome, IsNone, OnOk, length, map, true};
+ghost use Rattle.std.specs.Prelude.{◌≡◌, ◌∷◌, ◌++◌, Bool, List, [], IfErr, IfOk, IfSome, IsNone, OnOk, length, map, true};
 ghost use Rattle.host_core.specs.Host.{AtEachMomentOf, Needs, faults};
 ghost use Rattle.host_core.specs.Loss.{IsAnswered};
 ghost use Rattle.held_administration.specs.Open.{IsOpen};
@@ -13,7 +13,7 @@ ghost use Rattle.undo_rows.specs.Transcript.{TellsAll};
 ghost use Rattle.dpkg_session.specs.Installs.{label_of};
 ghost use Rattle.dpkg_session.specs.Run.{HasRunThrough, IsAmidUnitOf, RunsUnit};
 ghost use Rattle.dpkg_session.specs.Trees.{AreRead};
-ghost use Rattle.dpkg_session.specs.Turns.{AreAllRead, BreaksTree, IsAmidTree, MayRead, Unpacking, UnpacksTree, Unread, unread};
+ghost use Rattle.dpkg_session.specs.Turns.{AreAllRead, BreaksTree, IsAmidTree, StaysLent, UnpacksTree, Unread, unread};
 ghost use Rattle.dpkg_session.specs.Units.{IsBrokenOff};
 ghost use Rattle.dpkg_session.specs.declared.report.Candidate.{Candidate as ACandidate};
 
@@ -38,17 +38,14 @@ pub(crate) struct Unpacks<'a, 'l, T: Trees> {
 }
 
 impl<'a, 'l, H: Host, T: Trees> Turns<H> for Unpacks<'a, 'l, T> {
-    ghost Task = { Unpacking };
+    ghost Task = { Bool };
 
-    ghost task = { λ u. record {
-      auto_deconfigure = u.auto_deconfigure;
-      trees = u.trees.ghost_name;
-      labels = u.labels.ghost_name;
-    } };
+    ghost task = { λ u. u.auto_deconfigure };
 
     ghost Left = { Unread T };
 
-    ghost left = { λ u. unread u.trees.now u.labels.now };
+    ghost left = { λ u. unread u.trees.now u.labels.now
+        (u.trees.ghost_name, u.labels.ghost_name) };
 
     ghost size = { λ left. length (T.words left.trees) };
 
@@ -58,11 +55,12 @@ impl<'a, 'l, H: Host, T: Trees> Turns<H> for Unpacks<'a, 'l, T> {
 
     ghost called = { BreaksTree T.words T.reads };
 
-    ghost goes = { MayRead T.words T.reads };
+    ghost goes = { λ auto_deconfigure. StaysLent };
 
     ghost between = { λ u a. IfSome a.packages (ArePackagesOf a.database.records) };
 
-    ghost over = { λ u left held. AreAllRead T.words (unread u.trees.now u.labels.now) left };
+    ghost over = { λ u left held. AreAllRead T.words
+        (unread u.trees.now u.labels.now (u.trees.ghost_name, u.labels.ghost_name)) left };
 
     fn take(
         &mut self,

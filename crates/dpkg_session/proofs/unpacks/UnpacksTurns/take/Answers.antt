@@ -1,12 +1,8 @@
 use Rattle.std.proofs.Common.{◌≡◌, ◌∷◌, ◌<◌, [], inl, inr, ap, arith, length, refl, subst, sym, ◌∙◌}
 use Rattle.std.proofs.lemmas.Bool.{true≢false}
 use Rattle.std.proofs.lemmas.Option.{MatchOption-at_none, MatchOption-at_some}
-use Rattle.host_core.specs.Host.{State}
 use Rattle.host_core.proofs.Moments.{since_start, since_weaker}
-use Rattle.unit_reports.specs.Held.{held_by}
-use Rattle.unit_runs.specs.Turns.{IsAmidNext}
-use Rattle.dpkg_session.specs.Run.{IsAmidUnitOf}
-use Rattle.dpkg_session.specs.Turns.{IsAmidTree, ReadsTree, Unpacking, unread}
+use Rattle.dpkg_session.specs.Turns.{unread}
 use Rattle.dpkg_session.specs.declared.report.Candidate.{Candidate}
 use Rattle.dpkg_session.proofs.unpacks.UnpacksTurns.take.Goals as goal
 
@@ -40,7 +36,7 @@ returns-in-None-clause-taken g c =
     let old = c.args.self.now.trees.now in
     let new = c.next.new.self in
     let next = MatchOption-at_none ((words old ≡ []) × (new ≡ old)) (λ (x : Candidate). g.T.Trees.reads old x new × (words old ≡ x.label ∷ words new)) c.in-None.is c.next.ensures in
-    record { over = (next.0, ap (λ t. unread t c.args.self.now.labels.now) next.1); held = refl; here = refl }
+    record { over = (next.0, ap (λ t. unread t c.args.self.now.labels.now (c.args.self.now.trees.ghost_name, c.args.self.now.labels.ghost_name)) next.1); held = refl; here = refl }
 
 pub returns-in-Ok-clause-any_moment : goal.returns-in-Ok-clause-any_moment
 returns-in-Ok-clause-any_moment g c =
@@ -60,30 +56,6 @@ returns-in-Err-clause-any_moment g c =
 
 pub returns-in-None-clause-any_moment : goal.returns-in-None-clause-any_moment
 returns-in-None-clause-any_moment g c = since_start _ (g.H.Host.state c.args.host.now) (inl (record { same = refl; quiet = refl }))
-
-pub returns-in-Ok-clause-goes : goal.returns-in-Ok-clause-goes
-returns-in-Ok-clause-goes g c =
-    let words = g.T.Trees.words in
-    let old = c.args.self.now.trees.now in
-    let new = c.next.new.self in
-    let next = MatchOption-at_some ((words old ≡ []) × (new ≡ old)) (λ (x : Candidate). g.T.Trees.reads old x new × (words old ≡ x.label ∷ words new)) c.in-Some.candidate c.in-Some.is c.next.ensures in
-    inr (c.in-Some.candidate, record { read = next.0; word = next.1 })
-
-pub returns-in-Err-clause-goes : goal.returns-in-Err-clause-goes
-returns-in-Err-clause-goes g c =
-    let words = g.T.Trees.words in
-    let old = c.args.self.now.trees.now in
-    let new = c.next.new.self in
-    let next = MatchOption-at_some ((words old ≡ []) × (new ≡ old)) (λ (x : Candidate). g.T.Trees.reads old x new × (words old ≡ x.label ∷ words new)) c.in-Some.candidate c.in-Some.is c.next.ensures in
-    inr (c.in-Some.candidate, record { read = next.0; word = next.1 })
-
-pub returns-in-None-clause-goes : goal.returns-in-None-clause-goes
-returns-in-None-clause-goes g c =
-    let words = g.T.Trees.words in
-    let old = c.args.self.now.trees.now in
-    let new = c.next.new.self in
-    let next = MatchOption-at_none ((words old ≡ []) × (new ≡ old)) (λ (x : Candidate). g.T.Trees.reads old x new × (words old ≡ x.label ∷ words new)) c.in-None.is c.next.ensures in
-    inl (ap (λ t. unread t c.args.self.now.labels.now) next.1)
 
 pub returns-in-Ok-clause-fewer : goal.returns-in-Ok-clause-fewer
 returns-in-Ok-clause-fewer g c =
