@@ -21,7 +21,7 @@ removal_carries_one purge name before after u s t is =
 turns_carry : (purge : Bool) (packages : List Package) (waiting : List (List ℕ)) (before : Held) (s : State) (us : List AUnit) (left : List (List ℕ)) (after : Held) (t : State) → RemovesTo purge packages waiting before s us left after t → Carries before after s t
 turns_carry purge packages waiting before s us left after t TurnsTo.begun = carries_here before s
 turns_carry purge packages waiting before s us left after t (TurnsTo.turned done u mid_left later mid ends m end come turn) =
-    carries_then before mid after s m t (turns_carry purge packages waiting before s done mid_left mid m come) (removal_carries_one purge turn.name mid after u m t turn.runs.is)
+    carries_then before mid after s m t (turns_carry purge packages waiting before s done mid_left mid m come) (removal_carries_one purge turn.name mid after u m t turn.is.is)
 
 pub removal_carries : (names : List (List ℕ)) (purge : Bool) (us : List AUnit) (before after : Held) (s t : State) → IsRemovalRun names purge us before after s t → Carries before after s t
 removal_carries names purge us before after s t run = turns_carry purge run.runs.packages _ before s run.runs.removed run.runs.waiting after t run.runs.turns

@@ -18,7 +18,7 @@ returns-in-Ok-clause-run g c =
     let us = done.turned.turned in
     let new = c.run_units.new.turns in
     all_taken g.T.Trees.reads g.T.Trees.words _ _ (held_by c.args.administration.now c.args.diversions.now) (g.H.Host.state c.args.host.now) c.requires.none us done.q (unread new.trees.now new.labels.now (new.trees.ghost_name, new.labels.ghost_name)) (held_by c.run_units.new.administration c.args.diversions.now) (g.H.Host.state c.run_units.new.host) _
-    done.turned.come done.over (g.H.Host.settled c.run_units.new.host) (done.turned.are ∙ ap (λ (l : List AUnit). l ++ us) c.new-units.ensures.items) refl
+    done.turned.come done.ended (g.H.Host.settled c.run_units.new.host) (done.turned.are ∙ ap (λ (l : List AUnit). l ++ us) c.new-units.ensures.items) refl
 
 pub returns-in-Err-clause-run : goal.returns-in-Err-clause-run
 returns-in-Err-clause-run g c =

@@ -36,7 +36,7 @@ returns-in-None-clause-taken g c =
     let old = c.args.self.now.trees.now in
     let new = c.next.new.self in
     let next = MatchOption-at_none ((words old ≡ []) × (new ≡ old)) (λ (x : Candidate). g.T.Trees.reads old x new × (words old ≡ x.label ∷ words new)) c.in-None.is c.next.ensures in
-    record { over = (next.0, ap (λ t. unread t c.args.self.now.labels.now (c.args.self.now.trees.ghost_name, c.args.self.now.labels.ghost_name)) next.1); held = refl; here = refl }
+    record { ended = (next.0, ap (λ t. unread t c.args.self.now.labels.now (c.args.self.now.trees.ghost_name, c.args.self.now.labels.ghost_name)) next.1); held = refl; here = refl }
 
 pub returns-in-Ok-clause-any_moment : goal.returns-in-Ok-clause-any_moment
 returns-in-Ok-clause-any_moment g c =
