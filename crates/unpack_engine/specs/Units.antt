@@ -229,6 +229,17 @@ module _ (g : Ground) (p : Planned) where
   end_lists Committed works lists = committed_lists (changes works lists) g.entries lists
   end_lists (Unwound fall failed) works lists = lists
 
+  -- what follows rows that left these works, lists and records: the commit, or the end of what they brought
+  abbrev pub HasLeftFrom : Ended → List Work → List PackageList → List Record → World → World → Type 0
+  HasLeftFrom ended works lists table = HasLeft (changes works lists) (commit_records works lists table) g.entries lists table (length p.others) ended
+
+  abbrev pub MayLeaveFrom : Ended → List Work → List PackageList → List Record → World → World → Type 0
+  MayLeaveFrom ended works lists table = MayLeave (changes works lists) (commit_records works lists table) g.entries lists table (length p.others) ended
+
+  -- of the commit's records those that are noted so far
+  abbrev pub noted_from : (ended : Ended) (works : List Work) (lists : List PackageList) (table : List Record) (old now : World) → MayLeaveFrom ended works lists table old now → List Record
+  noted_from ended works lists table = noted_so_far (changes works lists) (commit_records works lists table) g.entries lists table (length p.others) ended
+
   -- where its rows end
   abbrev pub last_place : Ended → Place
   last_place ended = end_of (length p.rows) ended
@@ -255,7 +266,7 @@ module _ (g : Ground) (p : Planned) where
     leaving : (ended : Ended) (works : List Work) (begun : State) (last : World) → BeginsAt (last_place ended) old begun.world
         → AreWorksAt (task_from begun) (last_place ended) (stage_of (kinds_of p.found p.others) (last_place ended)) works
         → HasCome (task_from begun) (stage_of (kinds_of p.found p.others) (last_place ended)) works (changes_of so_far) last
-        → MayLeave (changes works (lists_after ended begun)) (commit_records works (lists_after ended begun) (table_after (last_place ended))) g.entries (lists_after ended begun) (table_after (last_place ended)) (length p.others) ended last now
+        → MayLeaveFrom ended works (lists_after ended begun) (table_after (last_place ended)) last now
         → IsStage old so_far now
 
   -- The records at a stage: while it begins those of before; while its rows run these with the notes up to their place; then those
@@ -264,9 +275,8 @@ module _ (g : Ground) (p : Planned) where
   stage_records old so_far now (IsStage.running (IsRunning.beginning none may)) = g.records
   stage_records old so_far now (IsStage.running (IsRunning.running begun before more is none begins stops)) = table_after stops.place
   stage_records old so_far now (IsStage.leaving ended works begun last begins are come may) =
-      let lists = lists_after ended begun in
       let table = table_after (last_place ended) in
-      put_records (noted_so_far (changes works lists) (commit_records works lists table) g.entries lists table (length p.others) ended last now may) table
+      put_records (noted_from ended works (lists_after ended begun) table last now may) table
 
   -- The unit once it is planned: it begins, calls its rows' scripts and none else, and commits or undoes. These records and lists
   -- are left.
@@ -276,7 +286,7 @@ module _ (g : Ground) (p : Planned) where
     pub ran : HasRunRows Begins task_from p.rows ended mid old last told now
     pub since : Silent last new
     pub later : IsLater last new
-    pub leaves : IsTrue new.honest → HasLeft (changes mid.works mid.lists) (commit_records mid.works mid.lists mid.database.records) g.entries mid.lists mid.database.records (length p.others) ended last.world new.world
+    pub leaves : IsTrue new.honest → HasLeftFrom ended mid.works mid.lists mid.database.records last.world new.world
     pub records : after.records ≡ end_table ended mid.works mid.lists mid.database.records
     pub lists_are : lists ≡ end_lists ended mid.works mid.lists
 

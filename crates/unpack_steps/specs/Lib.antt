@@ -6,3 +6,4 @@ pub mod Notable
 pub mod Follows
 pub mod Stays
 pub mod FileMoves
+pub mod Unpacking

@@ -1,47 +1,23 @@
 // What is done beside the calls of an unpack's rows.
-ghost use Rattle.std.specs.Prelude.{◌≡◌, ◌∷◌, []};
+ghost use Rattle.std.specs.Prelude.{◌∷◌, []};
 ghost use Rattle.unpack_rows.specs.ForwardRows.{Fits};
-ghost use Rattle.unpack_rows.specs.Kinds.{kinds_of};
-ghost use Rattle.unpack_steps.specs.At.{At, IsFileFault, Stops, holding_by};
+ghost use Rattle.unpack_steps.specs.At.{At, IsFileFault, Stops};
 ghost use Rattle.unpack_steps.specs.Stays.{holds_at, stays_at};
-ghost use Rattle.unpack_steps.specs.Task.{Task, kinds, name, task_by};
+ghost use Rattle.unpack_steps.specs.Task.{Task, kinds, name};
+ghost use Rattle.unpack_steps.specs.Unpacking.{held_in, task_in};
 
 use crate::clearing::clear_left;
-use crate::files::{restore_row, write_row};
+use crate::file_moves::{check_and_write, put_back};
 use crate::notes::write_note;
-use crate::plan::Rows;
-use diversions::Diversions;
-use held_administration::Administration;
+use crate::unpacking::Unpacking;
 use host_core::{Host, HostFault, Places};
-use package_files::Work;
-use std::snapshot::Snapshot;
 use undo_rows::{Around, Failed, Fall, Row, StepFault};
 use unpack_rows::{is_spared, note_before, note_undone};
-
-/// What was there where the rows began.
-#[derive(Drop)]
-pub(crate) struct Start<H: Host> {
-    pub(crate) host: Snapshot<H>,
-    pub(crate) administration: Snapshot<Administration>,
-    pub(crate) works: Snapshot<Vec<Work>>,
-}
-
-/// An unpack while its rows run: what they change, and what stays the same.
-#[derive(Drop)]
-pub(crate) struct Unpacking<'a, 's, H: Host> {
-    pub(crate) administration: &'a mut Administration,
-    pub(crate) works: &'a mut Vec<Work>,
-    pub(crate) diversions: &'a Diversions,
-    pub(crate) rows: &'a Rows,
-    pub(crate) start: &'s Start<H>,
-    pub(crate) ghost kinds_are: { rows.now.kinds.items ≡ kinds_of rows.now.found rows.now.others.items },
-}
 
 impl<'a, 's, H: Host> Around<H> for Unpacking<'a, 's, H> {
     ghost Task = { Task };
 
-    ghost task = { λ a. task_by (H.state a.start.now.host.value) a.start.now.administration.value
-        a.diversions.now.entries a.start.now.works.value.items a.rows.now };
+    ghost task = { task_in H.state };
 
     ghost reference = { λ a. a.administration.ghost_name ∷ a.works.ghost_name ∷ [] };
 
@@ -53,20 +29,11 @@ impl<'a, 's, H: Host> Around<H> for Unpacking<'a, 's, H> {
 
     ghost stops = { Stops };
 
-    ghost at = { λ a s p. At (task_by (H.state a.start.now.host.value)
-        a.start.now.administration.value a.diversions.now.entries
-        a.start.now.works.value.items a.rows.now)
-        (holding_by a.administration.now a.works.now.items) s p };
+    ghost at = { λ a. At (task_in H.state a) (held_in a) };
 
-    ghost stays = { λ a s u p ts. stays_at (task_by (H.state a.start.now.host.value)
-        a.start.now.administration.value a.diversions.now.entries
-        a.start.now.works.value.items a.rows.now)
-        (holding_by a.administration.now a.works.now.items) s u p ts };
+    ghost stays = { λ a. stays_at (task_in H.state a) (held_in a) };
 
-    ghost holds = { λ a s p more v. holds_at (task_by (H.state a.start.now.host.value)
-        a.start.now.administration.value a.diversions.now.entries
-        a.start.now.works.value.items a.rows.now)
-        (holding_by a.administration.now a.works.now.items) s p more v };
+    ghost holds = { λ a. holds_at (task_in H.state a) (held_in a) };
 
     fn places(&self) -> &Places {
         &self.administration.places
@@ -95,9 +62,18 @@ impl<'a, 's, H: Host> Around<H> for Unpacking<'a, 's, H> {
         &mut self,
         host: &mut H,
         _row: &Row,
-        index: usize,
+        _index: usize,
     ) -> Result<Option<StepFault>, HostFault> {
-        write_row(self, host, index)
+        let administration = &mut *self.administration;
+        check_and_write(
+            administration.alloc,
+            host,
+            &mut administration.lists,
+            &mut administration.places,
+            self.diversions,
+            self.rows,
+            self.works,
+        )
     }
 
     fn undone(
@@ -130,11 +106,19 @@ impl<'a, 's, H: Host> Around<H> for Unpacking<'a, 's, H> {
         _row: &Row,
         index: usize,
         fall: &Fall,
-        failed: &[Failed],
+        _failed: &[Failed],
     ) -> Result<(), HostFault> {
         if fall.row <= index {
             return Ok(());
         }
-        restore_row(self, host, index, fall, failed)
+        let administration = &mut *self.administration;
+        put_back(
+            administration.alloc,
+            host,
+            &mut administration.lists,
+            &mut administration.places,
+            self.rows,
+            self.works.as_slice(),
+        )
     }
 }

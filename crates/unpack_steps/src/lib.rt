@@ -18,10 +18,10 @@
 mod around;
 mod clearing;
 mod file_moves;
-mod files;
 mod notes;
 mod plan;
 mod run;
+mod unpacking;
 
 pub use plan::Rows;
 pub use run::run_unpack_rows;

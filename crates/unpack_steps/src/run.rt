@@ -10,9 +10,10 @@ ghost use Rattle.undo_rows.specs.Ended.{IsCauseOf, end_place, ended_as};
 ghost use Rattle.unpack_rows.specs.ForwardRows.{Fits};
 ghost use Rattle.unpack_steps.specs.At.{At, IsBegun, IsFileFault, Stops, holding_by};
 ghost use Rattle.unpack_steps.specs.Task.{IsSound, kinds, name, task_by};
+ghost use Rattle.unpack_steps.specs.Unpacking.{held_in, task_in};
 
-use crate::around::{Start, Unpacking};
 use crate::plan::Rows;
+use crate::unpacking::{Start, Unpacking};
 use diversions::Diversions;
 use held_administration::Administration;
 use host_core::{Host, HostFault};
@@ -27,33 +28,19 @@ fn run_all<H: Host>(
     calls: Vec<Row>,
     told: &mut Vec<Called>,
 ) -> Result<Option<Unwinding>, HostFault>
-    requires place { At (task_by (H.state unpacking.old.start.now.host.value)
-        unpacking.old.start.now.administration.value unpacking.old.diversions.now.entries
-        unpacking.old.start.now.works.value.items unpacking.old.rows.now)
-        (holding_by unpacking.old.administration.now unpacking.old.works.now.items)
+    requires place { At (task_in H.state unpacking.old) (held_in unpacking.old)
         (H.state host.old) (Forward 0) }
-    requires rows { Fit (Fits (name (task_by (H.state unpacking.old.start.now.host.value)
-        unpacking.old.start.now.administration.value unpacking.old.diversions.now.entries
-        unpacking.old.start.now.works.value.items unpacking.old.rows.now))
-        (kinds (task_by (H.state unpacking.old.start.now.host.value)
-        unpacking.old.start.now.administration.value unpacking.old.diversions.now.entries
-        unpacking.old.start.now.works.value.items unpacking.old.rows.now))) calls.items }
-    ensures calls { IfOk result
-        (λ u. HasRun (IsFileFault (task_by (H.state unpacking.old.start.now.host.value)
-        unpacking.old.start.now.administration.value unpacking.old.diversions.now.entries
-        unpacking.old.start.now.works.value.items unpacking.old.rows.now)) (ended_as u) calls.items
-        (H.state host.old) (H.state host.new) told.old.items told.new.items) }
+    requires rows { Fit (Fits (name (task_in H.state unpacking.old))
+        (kinds (task_in H.state unpacking.old))) calls.items }
+    ensures calls { IfOk result (λ u. HasRun (IsFileFault (task_in H.state unpacking.old))
+        (ended_as u) calls.items (H.state host.old) (H.state host.new) told.old.items
+        told.new.items) }
     ensures cause { IfOk result (IsCauseOf calls.items) }
     ensures told { Begun (MayRun calls.items) (H.state host.old) (H.state host.new) told.old.items
         told.new.items }
-    ensures there { IfOk result (λ u. At (task_by (H.state unpacking.old.start.now.host.value)
-        unpacking.old.start.now.administration.value unpacking.old.diversions.now.entries
-        unpacking.old.start.now.works.value.items unpacking.old.rows.now)
-        (holding_by unpacking.new.administration.now unpacking.new.works.now.items)
+    ensures there { IfOk result (λ u. At (task_in H.state unpacking.old) (held_in unpacking.new)
         (H.state host.new) (end_place (length calls.items) u)) }
-    ensures any_moment { AtEachStop (Stops (task_by (H.state unpacking.old.start.now.host.value)
-        unpacking.old.start.now.administration.value unpacking.old.diversions.now.entries
-        unpacking.old.start.now.works.value.items unpacking.old.rows.now)) (H.state host.old)
+    ensures any_moment { AtEachStop (Stops (task_in H.state unpacking.old)) (H.state host.old)
         (H.state host.new) }
     ensures administration_stay { unpacking.new.administration.ghost_name
         ≡ unpacking.old.administration.ghost_name }

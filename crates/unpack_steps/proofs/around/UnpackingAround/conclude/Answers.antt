@@ -2,15 +2,16 @@ use Rattle.undo_rows.specs.Place.{Ready}
 use Rattle.unpack_steps.proofs.Hooks.{stops_here}
 use Rattle.unpack_steps.proofs.HookRows.{concluded}
 use Rattle.unpack_steps.proofs.RowKinds.{kind_at, not_files}
-use Rattle.unpack_steps.specs.At.{Holding, holding_by}
-use Rattle.unpack_steps.specs.Task.{Task, kinds, name, task_by}
+use Rattle.unpack_steps.specs.At.{Holding}
+use Rattle.unpack_steps.specs.Task.{Task, kinds, name}
+use Rattle.unpack_steps.specs.Unpacking.{held_in, task_in}
 use Rattle.unpack_steps.proofs.around.UnpackingAround.conclude.Goals as goal
 
 pub returns-clause-place : goal.returns-clause-place
 returns-clause-place g c =
     let self = c.args.self.now in
-    let t : Task = task_by (g.H.Host.state self.start.now.host.value) self.start.now.administration.value self.diversions.now.entries self.start.now.works.value.items self.rows.now in
-    let h : Holding = holding_by self.administration.now self.works.now.items in
+    let t : Task = task_in g.H.Host.state self in
+    let h : Holding = held_in self in
     let s = g.H.Host.state c.args._host.now in
     let at = c.requires.place in
     let found = kind_at (kinds t) c.args._index c.requires.row.0 in
@@ -21,8 +22,8 @@ returns-clause-place g c =
 pub returns-clause-any_moment : goal.returns-clause-any_moment
 returns-clause-any_moment g c =
     let self = c.args.self.now in
-    let t : Task = task_by (g.H.Host.state self.start.now.host.value) self.start.now.administration.value self.diversions.now.entries self.start.now.works.value.items self.rows.now in
-    let h : Holding = holding_by self.administration.now self.works.now.items in
+    let t : Task = task_in g.H.Host.state self in
+    let h : Holding = held_in self in
     let s = g.H.Host.state c.args._host.now in
     let at = c.requires.place in
     stops_here t h s (Ready c.args._index) at

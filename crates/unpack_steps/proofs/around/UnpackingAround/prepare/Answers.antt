@@ -7,15 +7,16 @@ use Rattle.unpack_steps.specs.Notable.{IsNotable}
 use Rattle.unpack_steps.proofs.Clears.{clear_place, clear_stops, members_needed}
 use Rattle.unpack_steps.proofs.HookRows.{Leads, before_can, noted_moments, noted_place, prepared}
 use Rattle.unpack_rows.specs.declared.kinds.RowKind.{RowKind}
-use Rattle.unpack_steps.specs.At.{Holding, IsAt, Stops, holding_by}
-use Rattle.unpack_steps.specs.Task.{Task, has_gone, kinds, task_by}
+use Rattle.unpack_steps.specs.At.{Holding, IsAt, Stops}
+use Rattle.unpack_steps.specs.Task.{Task, has_gone, kinds}
+use Rattle.unpack_steps.specs.Unpacking.{held_in, task_in}
 use Rattle.unpack_steps.proofs.around.UnpackingAround.prepare.Goals as goal
 
 pub clear_left-requires-clause-named : goal.clear_left-requires-clause-named
 clear_left-requires-clause-named g c =
     let self = c.args.self.now in
-    let t : Task = task_by (g.H.Host.state self.start.now.host.value) self.start.now.administration.value self.diversions.now.entries self.start.now.works.value.items self.rows.now in
-    let h : Holding = holding_by self.administration.now self.works.now.items in
+    let t : Task = task_in g.H.Host.state self in
+    let h : Holding = held_in self in
     let s = g.H.Host.state c.args.host.now in
     let at = c.requires.place in
     let k = c.kind-kind.result.now in
@@ -25,8 +26,8 @@ clear_left-requires-clause-named g c =
 pub clear_left-requires-clause-members : goal.clear_left-requires-clause-members
 clear_left-requires-clause-members g c =
     let self = c.args.self.now in
-    let t : Task = task_by (g.H.Host.state self.start.now.host.value) self.start.now.administration.value self.diversions.now.entries self.start.now.works.value.items self.rows.now in
-    let h : Holding = holding_by self.administration.now self.works.now.items in
+    let t : Task = task_in g.H.Host.state self in
+    let h : Holding = held_in self in
     let s = g.H.Host.state c.args.host.now in
     let at = c.requires.place in
     let k = c.kind-kind.result.now in
@@ -36,8 +37,8 @@ clear_left-requires-clause-members g c =
 pub clear_left-requires-clause-list : goal.clear_left-requires-clause-list
 clear_left-requires-clause-list g c =
     let self = c.args.self.now in
-    let t : Task = task_by (g.H.Host.state self.start.now.host.value) self.start.now.administration.value self.diversions.now.entries self.start.now.works.value.items self.rows.now in
-    let h : Holding = holding_by self.administration.now self.works.now.items in
+    let t : Task = task_in g.H.Host.state self in
+    let h : Holding = held_in self in
     let s = g.H.Host.state c.args.host.now in
     let at = c.requires.place in
     let k = c.kind-kind.result.now in
@@ -47,8 +48,8 @@ clear_left-requires-clause-list g c =
 pub returns-in_err-clear_left-clause-any_moment : goal.returns-in_err-clear_left-clause-any_moment
 returns-in_err-clear_left-clause-any_moment g c =
     let self = c.args.self.now in
-    let t : Task = task_by (g.H.Host.state self.start.now.host.value) self.start.now.administration.value self.diversions.now.entries self.start.now.works.value.items self.rows.now in
-    let h : Holding = holding_by self.administration.now self.works.now.items in
+    let t : Task = task_in g.H.Host.state self in
+    let h : Holding = held_in self in
     let s = g.H.Host.state c.args.host.now in
     let at = c.requires.place in
     let k = c.kind-kind.result.now in
@@ -60,8 +61,8 @@ returns-in_err-clear_left-clause-any_moment g c =
 pub returns-in_err-entry-clause-any_moment : goal.returns-in_err-entry-clause-any_moment
 returns-in_err-entry-clause-any_moment g c =
     let self = c.args.self.now in
-    let t : Task = task_by (g.H.Host.state self.start.now.host.value) self.start.now.administration.value self.diversions.now.entries self.start.now.works.value.items self.rows.now in
-    let h : Holding = holding_by self.administration.now self.works.now.items in
+    let t : Task = task_in g.H.Host.state self in
+    let h : Holding = held_in self in
     let s = g.H.Host.state c.args.host.now in
     let at = c.requires.place in
     let k = c.kind-kind.result.now in
@@ -73,8 +74,8 @@ returns-in_err-entry-clause-any_moment g c =
 pub write_note-requires-clause-notable : goal.write_note-requires-clause-notable
 write_note-requires-clause-notable g c =
     let self = c.args.self.now in
-    let t : Task = task_by (g.H.Host.state self.start.now.host.value) self.start.now.administration.value self.diversions.now.entries self.start.now.works.value.items self.rows.now in
-    let h : Holding = holding_by self.administration.now self.works.now.items in
+    let t : Task = task_in g.H.Host.state self in
+    let h : Holding = held_in self in
     let s = g.H.Host.state c.args.host.now in
     let at = c.requires.place in
     let k = c.kind-kind.result.now in
@@ -85,8 +86,8 @@ write_note-requires-clause-notable g c =
 pub write_note-requires-clause-kept : goal.write_note-requires-clause-kept
 write_note-requires-clause-kept g c =
     let self = c.args.self.now in
-    let t : Task = task_by (g.H.Host.state self.start.now.host.value) self.start.now.administration.value self.diversions.now.entries self.start.now.works.value.items self.rows.now in
-    let h : Holding = holding_by self.administration.now self.works.now.items in
+    let t : Task = task_in g.H.Host.state self in
+    let h : Holding = held_in self in
     let s = g.H.Host.state c.args.host.now in
     let at = c.requires.place in
     let k = c.kind-kind.result.now in
@@ -98,8 +99,8 @@ write_note-requires-clause-kept g c =
 pub returns-clause-place : goal.returns-clause-place
 returns-clause-place g c =
     let self = c.args.self.now in
-    let t : Task = task_by (g.H.Host.state self.start.now.host.value) self.start.now.administration.value self.diversions.now.entries self.start.now.works.value.items self.rows.now in
-    let h : Holding = holding_by self.administration.now self.works.now.items in
+    let t : Task = task_in g.H.Host.state self in
+    let h : Holding = held_in self in
     let s = g.H.Host.state c.args.host.now in
     let at = c.requires.place in
     let k = c.kind-kind.result.now in
@@ -114,8 +115,8 @@ returns-clause-place g c =
 pub returns-clause-any_moment : goal.returns-clause-any_moment
 returns-clause-any_moment g c =
     let self = c.args.self.now in
-    let t : Task = task_by (g.H.Host.state self.start.now.host.value) self.start.now.administration.value self.diversions.now.entries self.start.now.works.value.items self.rows.now in
-    let h : Holding = holding_by self.administration.now self.works.now.items in
+    let t : Task = task_in g.H.Host.state self in
+    let h : Holding = held_in self in
     let s = g.H.Host.state c.args.host.now in
     let at = c.requires.place in
     let k = c.kind-kind.result.now in

@@ -7,15 +7,16 @@ use Rattle.unpack_steps.proofs.Hooks.{stops_here}
 use Rattle.unpack_steps.proofs.HookRows.{Leads, noted_moments, noted_place, spared, undone, undone_can}
 use Rattle.unpack_steps.proofs.RowKinds.{kind_at, not_files}
 use Rattle.unpack_rows.specs.declared.kinds.RowKind.{RowKind}
-use Rattle.unpack_steps.specs.At.{Holding, holding_by}
-use Rattle.unpack_steps.specs.Task.{Task, has_gone, kinds, name, task_by}
+use Rattle.unpack_steps.specs.At.{Holding}
+use Rattle.unpack_steps.specs.Task.{Task, has_gone, kinds, name}
+use Rattle.unpack_steps.specs.Unpacking.{held_in, task_in}
 use Rattle.unpack_steps.proofs.around.UnpackingAround.undone.Goals as goal
 
 pub returns-then-is_spared-clause-place : goal.returns-then-is_spared-clause-place
 returns-then-is_spared-clause-place g c =
     let self = c.args.self.now in
-    let t : Task = task_by (g.H.Host.state self.start.now.host.value) self.start.now.administration.value self.diversions.now.entries self.start.now.works.value.items self.rows.now in
-    let h : Holding = holding_by self.administration.now self.works.now.items in
+    let t : Task = task_in g.H.Host.state self in
+    let h : Holding = held_in self in
     let s = g.H.Host.state c.args.host.now in
     let at = c.requires.place in
     let found = kind_at (kinds t) c.args.index c.requires.row.0 in
@@ -29,8 +30,8 @@ returns-then-is_spared-clause-place g c =
 pub returns-then-is_spared-clause-any_moment : goal.returns-then-is_spared-clause-any_moment
 returns-then-is_spared-clause-any_moment g c =
     let self = c.args.self.now in
-    let t : Task = task_by (g.H.Host.state self.start.now.host.value) self.start.now.administration.value self.diversions.now.entries self.start.now.works.value.items self.rows.now in
-    let h : Holding = holding_by self.administration.now self.works.now.items in
+    let t : Task = task_in g.H.Host.state self in
+    let h : Holding = held_in self in
     let s = g.H.Host.state c.args.host.now in
     let at = c.requires.place in
     stops_here t h s (Back (c.args.index + 1) c.args._fall.now c.args.failed.now) at
@@ -38,8 +39,8 @@ returns-then-is_spared-clause-any_moment g c =
 pub returns-in_err-entry-clause-any_moment : goal.returns-in_err-entry-clause-any_moment
 returns-in_err-entry-clause-any_moment g c =
     let self = c.args.self.now in
-    let t : Task = task_by (g.H.Host.state self.start.now.host.value) self.start.now.administration.value self.diversions.now.entries self.start.now.works.value.items self.rows.now in
-    let h : Holding = holding_by self.administration.now self.works.now.items in
+    let t : Task = task_in g.H.Host.state self in
+    let h : Holding = held_in self in
     let s = g.H.Host.state c.args.host.now in
     let at = c.requires.place in
     stops_here t h s (Back (c.args.index + 1) c.args._fall.now c.args.failed.now) at
@@ -47,8 +48,8 @@ returns-in_err-entry-clause-any_moment g c =
 pub write_note-requires-clause-notable : goal.write_note-requires-clause-notable
 write_note-requires-clause-notable g c =
     let self = c.args.self.now in
-    let t : Task = task_by (g.H.Host.state self.start.now.host.value) self.start.now.administration.value self.diversions.now.entries self.start.now.works.value.items self.rows.now in
-    let h : Holding = holding_by self.administration.now self.works.now.items in
+    let t : Task = task_in g.H.Host.state self in
+    let h : Holding = held_in self in
     let s = g.H.Host.state c.args.host.now in
     let at = c.requires.place in
     let k = c.kind-kind.result.now in
@@ -59,8 +60,8 @@ write_note-requires-clause-notable g c =
 pub write_note-requires-clause-kept : goal.write_note-requires-clause-kept
 write_note-requires-clause-kept g c =
     let self = c.args.self.now in
-    let t : Task = task_by (g.H.Host.state self.start.now.host.value) self.start.now.administration.value self.diversions.now.entries self.start.now.works.value.items self.rows.now in
-    let h : Holding = holding_by self.administration.now self.works.now.items in
+    let t : Task = task_in g.H.Host.state self in
+    let h : Holding = held_in self in
     let s = g.H.Host.state c.args.host.now in
     let at = c.requires.place in
     λ honest. (at.world honest).kept
@@ -68,8 +69,8 @@ write_note-requires-clause-kept g c =
 pub returns-clause-place : goal.returns-clause-place
 returns-clause-place g c =
     let self = c.args.self.now in
-    let t : Task = task_by (g.H.Host.state self.start.now.host.value) self.start.now.administration.value self.diversions.now.entries self.start.now.works.value.items self.rows.now in
-    let h : Holding = holding_by self.administration.now self.works.now.items in
+    let t : Task = task_in g.H.Host.state self in
+    let h : Holding = held_in self in
     let s = g.H.Host.state c.args.host.now in
     let at = c.requires.place in
     let k = c.kind-kind.result.now in
@@ -87,8 +88,8 @@ returns-clause-place g c =
 pub returns-clause-any_moment : goal.returns-clause-any_moment
 returns-clause-any_moment g c =
     let self = c.args.self.now in
-    let t : Task = task_by (g.H.Host.state self.start.now.host.value) self.start.now.administration.value self.diversions.now.entries self.start.now.works.value.items self.rows.now in
-    let h : Holding = holding_by self.administration.now self.works.now.items in
+    let t : Task = task_in g.H.Host.state self in
+    let h : Holding = held_in self in
     let s = g.H.Host.state c.args.host.now in
     let at = c.requires.place in
     let k = c.kind-kind.result.now in

@@ -1,0 +1,29 @@
+// An unpack while its rows run.
+ghost use Rattle.std.specs.Prelude.{◌≡◌};
+ghost use Rattle.unpack_rows.specs.Kinds.{kinds_of};
+
+use crate::plan::Rows;
+use diversions::Diversions;
+use held_administration::Administration;
+use host_core::Host;
+use package_files::Work;
+use std::snapshot::Snapshot;
+
+/// What was there where the rows began.
+#[derive(Drop)]
+pub(crate) struct Start<H: Host> {
+    pub(crate) host: Snapshot<H>,
+    pub(crate) administration: Snapshot<Administration>,
+    pub(crate) works: Snapshot<Vec<Work>>,
+}
+
+/// What the rows change, and what stays the same.
+#[derive(Drop)]
+pub(crate) struct Unpacking<'a, 's, H: Host> {
+    pub(crate) administration: &'a mut Administration,
+    pub(crate) works: &'a mut Vec<Work>,
+    pub(crate) diversions: &'a Diversions,
+    pub(crate) rows: &'a Rows,
+    pub(crate) start: &'s Start<H>,
+    pub(crate) ghost kinds_are: { rows.now.kinds.items ≡ kinds_of rows.now.found rows.now.others.items },
+}
