@@ -3,7 +3,6 @@ use Rattle.std.proofs.Common.{◌≡◌, ◌≢◌, ℕ, Bool, true, false, cond
 use Rattle.administration.specs.Places.{diversions_path, info_path, list_name, list_path, tmp_path, temporary, is_within}
 use Rattle.undo_rows.specs.Transcripts.{Ended, Committed, Unwound}
 use Rattle.control_members.specs.Stored.{stored_member_path}
-use Rattle.displaced_packages.specs.Losing.{losing_beside}
 use Rattle.file_lists.specs.declared.paths.PackageList.{PackageList}
 use Rattle.file_removal.specs.Clearing.{cleared}
 use Rattle.host_core.specs.Paths.{Path, is_below_administration, is_own}
@@ -33,7 +32,7 @@ use Rattle.dpkg_session.specs.declared.report.Candidate.{Candidate}
 use Rattle.unit_reports.specs.declared.report.Unit.{Unit as AUnit}
 use Rattle.unit_reports.specs.Held.{Held}
 use Rattle.dpkg_session.specs.Run.{IsRun}
-use Rattle.dpkg_session.specs.Units.{IsUnitBy, IsUnitOf, held_with}
+use Rattle.dpkg_session.specs.Units.{IsUnitBy, IsUnitOf, displacing_by, held_with}
 use Rattle.dpkg_session.proofs.Displaced.{behind_leaves}
 use Rattle.dpkg_session.proofs.Keeping.{IsUnnamed}
 use Rattle.dpkg_session.proofs.Runs.{falls_run}
@@ -121,7 +120,7 @@ stays_by : (q : Path) → IsFar q → (p : Package) (decision : Checked) (before
 stays_by q far p (Refused rule) before after u s t is h = ap (λ w. w q) (is.world h)
 stays_by q far p (Planned beside) before after u s t is h =
     let whole = is.unpacked in
-    let leaves = behind_leaves [] is.unwinding p.name p.version (losing_beside before.lists beside) beside.conflicting is.displaced is.failed (held_with before whole.records whole.lists) after whole.m t whole.between u.calls.items whole.behind in
+    let leaves = behind_leaves [] is.unwinding (displacing_by p beside before.lists) is.displaced is.failed (held_with before whole.records whole.lists) after whole.m t whole.between u.calls.items whole.behind in
     (leaves.keeps h).stays q (far_unnamed q far) ∙ unpacked_stays q far _ _ _ _ _ s whole.m _ _ whole.unpacked.unpacked (leaves.falls h)
 
 stays_unit : (auto : Bool) (q : Path) → IsFar q → (label : List ℕ) (tree : Result Package TreeFault) (before after : Held) (u : AUnit) (s t : State) → IsUnitOf auto label tree before after u s t → IsTrue t.honest → t.world q ≡ s.world q

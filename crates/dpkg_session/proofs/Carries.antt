@@ -46,9 +46,6 @@ pub record Carries (before after : Held) (s t : State) : Type 0 where
 pub carries_here : (h : Held) (s : State) → Carries h h s s
 carries_here h s = record { falls = λ honest. honest; order = λ ready. ready; entries = refl; file = λ honest. refl; spare = λ honest. refl; info = λ honest ready info. info }
 
-pub carries_same : (before after : Held) (s t : State) → after ≡ before → t ≡ s → Carries before after s t
-carries_same before after s t held same = subst (λ (h : Held). Carries before h s t) (sym held) (subst (Carries before before s) (sym same) (carries_here before s))
-
 pub carries_then : (before mid after : Held) (s m t : State) → Carries before mid s m → Carries mid after m t → Carries before after s t
 carries_then before mid after s m t first second = record {
   falls = λ h. first.falls (second.falls h);

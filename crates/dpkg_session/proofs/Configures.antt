@@ -21,6 +21,7 @@ use Rattle.unit_stages.specs.declared.part.Part.TheVariants.{Note, Forget, Settl
 use Rattle.unit_reports.specs.Held.{Held}
 use Rattle.unit_reports.specs.declared.report.Report.{Report}
 use Rattle.unit_reports.specs.declared.report.Unit.{Unit as AUnit}
+use Rattle.unit_runs.specs.Turns.{TurnsTo}
 use Rattle.configure_run.specs.Asked.{each_once}
 use Rattle.configure_run.specs.Early.{AreRefused, AreSomeRefused, early_refusals}
 use Rattle.configure_run.specs.Run.{HasRun, IsAmidRun, IsConfigureRun}
@@ -96,8 +97,8 @@ unit_carries policy packages p before after u s t (IsUnit.broken y first refused
 unit_carries policy packages p before after u s t (IsUnit.unbroken none is) = for_carries policy p.name before after u s t is
 
 turns_carry : (policy : ConfPolicy) (silent : ℕ → Bool) (start : Waiting) (before : Held) (s : State) (us : List AUnit) (q : Waiting) (after : Held) (t : State) → ConfiguresTo policy silent start before s us q after t → Carries before after s t
-turns_carry policy silent start before s us q after t ConfiguresTo.begun = carries_here before s
-turns_carry policy silent start before s us q after t (ConfiguresTo.turned done u mid_q later mid ends m end come turn) =
+turns_carry policy silent start before s us q after t TurnsTo.begun = carries_here before s
+turns_carry policy silent start before s us q after t (TurnsTo.turned done u mid_q later mid ends m end come turn) =
     carries_then before mid after s m t (turns_carry policy silent start before s done mid_q mid m come) (unit_carries policy mid_q.packages turn.p mid after u m t turn.is)
 
 pub configure_carries : (names : List (List ℕ)) (policy : ConfPolicy) (us : List AUnit) (before after : Held) (s t : State) → IsConfigureRun names policy us before after s t → Carries before after s t

@@ -24,7 +24,7 @@ use Rattle.unit_stages.specs.declared.stage.Stage.{Stage}
 use Rattle.unpack_engine.proofs.EndRecords.{has_name}
 use Rattle.held_administration.specs.Order.{record_names}
 use Rattle.undo_rows.specs.declared.rows.Called.{Called}
-use Rattle.dpkg_session.specs.Units.{HasDisplaced}
+use Rattle.dpkg_session.specs.Units.{Displacing, HasDisplaced}
 use Rattle.dpkg_session.proofs.Keeping.{KeepsUnnamed, unnamed_here, unnamed_of, unnamed_then}
 use Rattle.dpkg_session.proofs.Known.{IsOneOf, name_among, stages_named}
 use Rattle.dpkg_session.proofs.Staying.{AreOwnStages, stages_fall, stages_keep, stages_own}
@@ -125,8 +125,8 @@ module _ (names : List (List ℕ)) where
           (disk_leaves losing conflicting after.records is.end t is.disk)
 
   -- what an unpack displaced, or that nothing was
-  pub behind_leaves : (unwinding : Option Unwinding) (name version : List ℕ) (losing : List Losing) (conflicting displaced : List (List ℕ)) (failed : Option Call) (mid after : Held) (m t : State) (told now : List Called)
-      → HasDisplaced unwinding name version losing conflicting displaced failed mid after m t told now → Leaves names mid.records.records after.records.records m t
-  behind_leaves (Some u) name version losing conflicting displaced failed mid after m t told now is = leaves_same mid.records.records after.records.records m t (ap (λ (h : Held). h.records.records) is.held) is.here
-  behind_leaves None name version losing conflicting displaced failed mid after m t told now is =
-      displaced_leave mid.entries name version losing conflicting displaced failed (holding_of mid) (holding_of after) m t told now is
+  pub behind_leaves : (unwinding : Option Unwinding) (d : Displacing) (displaced : List (List ℕ)) (failed : Option Call) (mid after : Held) (m t : State) (told now : List Called)
+      → HasDisplaced unwinding d displaced failed mid after m t told now → Leaves names mid.records.records after.records.records m t
+  behind_leaves (Some u) d displaced failed mid after m t told now is = leaves_same mid.records.records after.records.records m t (ap (λ (h : Held). h.records.records) is.held) is.here
+  behind_leaves None d displaced failed mid after m t told now is =
+      displaced_leave mid.entries d.name d.version d.losing d.conflicting displaced failed (holding_of mid) (holding_of after) m t told now is

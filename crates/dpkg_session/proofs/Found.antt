@@ -9,7 +9,6 @@ use Rattle.administration.specs.Places.{diversions_path, info_path, temporary}
 use Rattle.administration.proofs.WholeFiles.{no_directory_at}
 use Rattle.undo_rows.specs.Place.{Place}
 use Rattle.undo_rows.specs.Transcripts.{Ended, Committed, Unwound}
-use Rattle.displaced_packages.specs.Losing.{losing_beside}
 use Rattle.diversions.specs.declared.entry.Diversion.{Diversion}
 use Rattle.diversions.specs.Lines.{HasEntries}
 use Rattle.file_lists.specs.Info.{AreLoose, AreSound}
@@ -45,7 +44,7 @@ use Rattle.unit_reports.specs.declared.report.Unit.{Unit as AUnit}
 use Rattle.unit_reports.specs.Held.{Held, places_of}
 use Rattle.dpkg_session.specs.History.{Stands}
 use Rattle.dpkg_session.specs.Run.{IsRun}
-use Rattle.dpkg_session.specs.Units.{HasUnpackedBeside, IsUnitBy, IsUnitOf, IsUnpacked, given_by, held_with, yielding}
+use Rattle.dpkg_session.specs.Units.{HasUnpackedBeside, IsUnitBy, IsUnitOf, IsUnpacked, displacing_by, given_by, held_with, yielding}
 use Rattle.dpkg_session.proofs.Beside.{diverted_run, diverted_spare_run, entries_run}
 use Rattle.dpkg_session.proofs.Certain.{lists_had}
 use Rattle.dpkg_session.proofs.Displaced.{behind_leaves}
@@ -137,7 +136,7 @@ whole_info : (p : Package) (beside : Beside) (before after : Held) (u : AUnit) (
 whole_info p beside before after u s t is h info =
     let whole = is.unpacked in
     let mid = held_with before whole.records whole.lists in
-    let leaves = behind_leaves (names_of whole.records.records) is.unwinding p.name p.version (losing_beside before.lists beside) beside.conflicting is.displaced is.failed mid after whole.m t whole.between u.calls.items whole.behind in
+    let leaves = behind_leaves (names_of whole.records.records) is.unwinding (displacing_by p beside before.lists) is.displaced is.failed mid after whole.m t whole.between u.calls.items whole.behind in
     let honest = leaves.falls h in
     info_left mid after whole.m.world t.world (leaves.keeps h) leaves.named (is.order h).loose (is.order h).listed
     (unpacked_info p beside before is.unwinding whole.records whole.lists s whole.m [] whole.between whole.unpacked honest (whole.ready honest) info)

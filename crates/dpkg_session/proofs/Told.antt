@@ -1,5 +1,6 @@
 -- The calls that units tell are those of the host's own list.
-use Rattle.std.proofs.Common.{◌≡◌, inl, inr, Bool, List, [], ◌∷◌, ◌++◌, Option, None, Result, Ok, Err, append_assoc, ap, refl, subst, sym, ◌∙◌}
+use Rattle.std.proofs.Common.{◌≡◌, inl, inr, Bool, List, [], ◌∷◌, ◌++◌, Option, None, Some, Result, Ok, Err, append_assoc, ap, refl, subst, sym, ◌∙◌}
+use Rattle.std.specs.Prelude.{IsNone}
 use Rattle.std.proofs.lemmas.List.{append-nil}
 use Rattle.undo_rows.proofs.Tellings.{begun_calls, made_calls}
 use Rattle.displaced_packages.proofs.Calling.{displacing_tells}
@@ -23,7 +24,8 @@ use Rattle.unpack_relations.specs.declared.beside.Beside.{Beside}
 use Rattle.unpack_relations.specs.declared.checking.Checked.{Checked}
 use Rattle.unpack_relations.specs.declared.checking.Checked.TheVariants.{Planned, Refused}
 use Rattle.unit_reports.specs.declared.report.Unit.{Unit as AUnit}
-use Rattle.unit_reports.specs.Units.{HasNoCalls, calls_of}
+use Rattle.unit_reports.specs.Units.{HasNoCalls, TellsCalls, calls_of, last_calls}
+use Rattle.unit_reports.specs.declared.report.Report.{Report}
 use Rattle.dpkg_session.specs.Refusals.{IsDecisionFor}
 use Rattle.dpkg_session.specs.Units.{HasCalledBeside, HasCalledBy, HasCalledOf, HasCalledPackage, HasCalledWhole, HasUnpackedBeside, given_by, yielding}
 
@@ -50,6 +52,17 @@ tells_last a b c us u first second = tells_then a b c [] (calls_of us) (calls_of
 -- no unit was broken off
 pub tells_whole : (a b : State) (us : List AUnit) → TellsAll a b [] (calls_of us) → TellsAll a b [] (calls_of us ++ [])
 tells_whole a b us told = (told.0, told.1, append-nil (calls_of us) ∙ told.2)
+
+-- the calls of a report of which no unit was broken off
+pub tells_units : (a b : State) (report : Report) → IsNone report.last → TellsCalls a b report → TellsAll a b [] (calls_of report.units.items)
+tells_units a b report none told = by report.last none told
+  where
+    us : List Called
+    us = calls_of report.units.items
+
+    by : (last : Option AUnit) → IsNone last → TellsAll a b [] (us ++ last_calls last) → TellsAll a b [] us
+    by None is all = subst (TellsAll a b []) (append-nil us) all
+    by (Some u) is all = cc
 
 -- where no script was called no call is told
 pub tells_silent : (s t : State) (told : List Called) → Silent s t → told ≡ [] → TellsAll s t [] told

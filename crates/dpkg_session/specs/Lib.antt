@@ -4,6 +4,7 @@ pub mod Touched
 pub mod Units
 pub mod Run
 pub mod Trees
+pub mod Turns
 pub mod History
 pub mod PowerLoss
 pub mod Queries

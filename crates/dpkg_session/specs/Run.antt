@@ -26,12 +26,6 @@ use Rattle.dpkg_session.specs.declared.report.Candidate.{Candidate}
 use Rattle.unit_reports.specs.declared.report.Report.{Report}
 use Rattle.unit_reports.specs.declared.report.Unit.{Unit as AUnit}
 
--- one unit more
-pub record AddsUnit (auto_deconfigure : Bool) (c : Candidate) (before after : Held) (s t : State) (old new : List AUnit) : Type 0 where
-  pub unit : AUnit
-  pub grown : new ≡ old ++ unit ∷ []
-  pub is : IsUnit auto_deconfigure c before after unit s t
-
 -- nothing is done yet
 abbrev pub IsStill : World → List Event → World → Type 0
 IsStill old so_far now = (now ≡ old) × (scripts_of so_far ≡ [])

@@ -85,12 +85,21 @@ pub record HasDisplacedNone (displaced : List (List ℕ)) (failed : Option Call)
   pub here : t ≡ m
   pub calls : now ≡ told
 
--- What the unpack of this name and version displaced: where all rows succeeded, those of the losing packages that disappeared, and the
--- conflicting ones; where they were unwound nothing.
-abbrev pub HasDisplaced : Option Unwinding → List ℕ → List ℕ → List Losing → List (List ℕ) → List (List ℕ) → Option Call → Held → Held → State → State → List Called → List Called → Type 0
-HasDisplaced (Some u) name version losing conflicting displaced failed mid after m t told now = HasDisplacedNone displaced failed mid after m t told now
-HasDisplaced None name version losing conflicting displaced failed mid after m t told now =
-    HaveBeenDisplaced name version mid.entries losing conflicting displaced failed (holding_of mid) (holding_of after) m t told now
+-- What an unpack may displace behind its commit: of which package and version it is, which packages may disappear, and which conflict.
+pub record Displacing : Type 0 where
+  pub name : List ℕ
+  pub version : List ℕ
+  pub losing : List Losing
+  pub conflicting : List (List ℕ)
+
+abbrev pub displacing_by : Package → Beside → List PackageList → Displacing
+displacing_by p beside lists = record { name = p.name; version = p.version; losing = losing_beside lists beside; conflicting = beside.conflicting }
+
+-- What it displaced: where all rows succeeded, those of the losing packages that disappeared, and the conflicting ones; where they were
+-- unwound nothing.
+abbrev pub HasDisplaced : Option Unwinding → Displacing → List (List ℕ) → Option Call → Held → Held → State → State → List Called → List Called → Type 0
+HasDisplaced (Some u) d displaced failed mid after m t told now = HasDisplacedNone displaced failed mid after m t told now
+HasDisplaced None d displaced failed mid after m t told now = HaveBeenDisplaced d.name d.version mid.entries d.losing d.conflicting displaced failed (holding_of mid) (holding_of after) m t told now
 
 -- what is known of it before
 pub record IsBehind (p : Package) (beside : Beside) (lists : List PackageList) (b : Behind) : Type 0 where
@@ -116,7 +125,7 @@ pub record HasUnpackedWhole (p : Package) (beside : Beside) (before : Held) (unw
   pub between : List Called
   pub unpacked : HasUnpackedBeside p beside before (places_of before) unwinding records lists s m told between
   pub ready : Needs m (IsInOrder records lists)
-  pub behind : HasDisplaced unwinding p.name p.version (losing_beside before.lists beside) beside.conflicting displaced failed (held_with before records lists) after m t between now
+  pub behind : HasDisplaced unwinding (displacing_by p beside before.lists) displaced failed (held_with before records lists) after m t between now
 
 -- The unit was carried out, and the administration is in order: told are its packages, which of them it deconfigured, and for what
 -- the rows were unwound, or which call behind the commit failed.

@@ -72,7 +72,7 @@ pub(crate) fn configure_named<H: Host, W: Watcher>(
     ensures open { IsNone result.last → IsOpen diversions.now.entries administration.new }
     ensures indexed { IsNone result.last → IfSome administration.new.packages
         (ArePackagesOf administration.new.database.records) }
-    ensures watched { IsTold W.tells watcher.old result.units.items watcher.new }
+    ensures watched { IsTold W.tells (H.state host.old) watcher.old result.units.items watcher.new }
 {
     let alloc = administration.alloc;
     match take_packages(
@@ -131,7 +131,7 @@ fn configure_on<H: Host, W: Watcher>(
     ensures open { IsNone result.last → IsOpen diversions.now.entries administration.new }
     ensures indexed { IsNone result.last → IfSome administration.new.packages
         (ArePackagesOf administration.new.database.records) }
-    ensures watched { IsTold W.tells watcher.old result.units.items watcher.new }
+    ensures watched { IsTold W.tells (H.state host.old) watcher.old result.units.items watcher.new }
 {
     let alloc = administration.alloc;
     match names_asked(alloc, &administration.database, names) {
@@ -191,7 +191,8 @@ impl<H: Host> Session<H> {
             (H.state self.new.host) result.last }
         ensures not_closed { self.old.closed ≡ false
             → IfSome result.last (λ unit. IsBrokenBy Closed unit.reply → ⊥) }
-        ensures watched { IsTold W.tells watcher.old result.units.items watcher.new }
+        ensures watched { IsTold W.tells (H.state self.old.host) watcher.old result.units.items
+            watcher.new }
     {
         if self.closed {
             return closed_report(self.administration.alloc);

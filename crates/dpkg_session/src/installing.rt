@@ -20,7 +20,7 @@ use crate::done::names_done;
 use crate::session::{Session, closed_report};
 use crate::table_units::no_memory;
 use crate::trees::Trees;
-use crate::units::run_units;
+use crate::unpacks::unpack_trees;
 use conffiles::ConfPolicy;
 use diversions::Diversions;
 use held_administration::Administration;
@@ -87,7 +87,7 @@ fn configure_done<H: Host, W: Watcher>(
     ensures open { IsNone result.last → IsOpen diversions.now.entries administration.new }
     ensures indexed { IsNone result.last → IfSome administration.new.packages
         (ArePackagesOf administration.new.database.records) }
-    ensures watched { IsTold W.tells watcher.old result.units.items watcher.new }
+    ensures watched { IsTold W.tells (H.state host.old) watcher.old result.units.items watcher.new }
 {
     let alloc = administration.alloc;
     match names_done(alloc, labels, units) {
@@ -134,13 +134,13 @@ fn unpack_and_configure<H: Host, T: Trees, W: Watcher>(
         → IsOpen diversions.now.entries administration.new }
     ensures indexed { IsNone (last_of result.unpacked.last result.configured.last)
         → IfSome administration.new.packages (ArePackagesOf administration.new.database.records) }
-    ensures watched { IsTold W.tells watcher.old (result.unpacked.units.items
-        ++ result.configured.units.items) watcher.new }
+    ensures watched { IsTold W.tells (H.state host.old) watcher.old
+        (result.unpacked.units.items ++ result.configured.units.items) watcher.new }
 {
     what_is_told_in_turn::<W>();
     let alloc = administration.alloc;
     let mut labels = Texts::new(alloc);
-    let unpacked = run_units(
+    let unpacked = unpack_trees(
         host,
         administration,
         diversions,
@@ -188,8 +188,8 @@ impl<H: Host> Session<H> {
             (H.state self.new.host) }
         ensures told { TellsBoth (H.state self.old.host) (H.state self.new.host) result.unpacked
             result.configured }
-        ensures watched { IsTold W.tells watcher.old (result.unpacked.units.items
-            ++ result.configured.units.items) watcher.new }
+        ensures watched { IsTold W.tells (H.state self.old.host) watcher.old
+            (result.unpacked.units.items ++ result.configured.units.items) watcher.new }
         ensures stands { self.old.closed ≡ false
             → IsNone (last_of result.unpacked.last result.configured.last)
             → StandsOnceAnswered (H.state self.old.host) (H.state self.new.host) }

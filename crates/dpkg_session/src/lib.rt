@@ -17,18 +17,19 @@
 //! order (`run`: `HasRunThrough`, with `whole` and `part`), and these are all trees where no unit
 //! was broken off, else no more than those whose units are told and the one whose unit was broken
 //! off (`all`, `read`); a closed session reads none (`unread`); each unit of the report was told to
-//! the watcher, in order (`watched`); the run is from the records, lists and diversions of before
-//! to those of after; a tree that can't be read, a conffile that is diverted, and relations to the
-//! recorded packages are refused by the first of these that holds, without a call and without a
-//! change; the other trees are unpacked as unpack_engine says, with the rows that in_favour_rows gives
-//! for the packages that are deconfigured or conflict; behind one whose rows all succeeded packages
-//! disappear and are removed as displaced_packages says; the reply, the touched packages and those
-//! that were deconfigured are as defined; after a unit that was broken off, which is that of the
-//! next tree and touches no package, what the earlier ones left stands, and the calls of the broken
-//! unit are the first of those that its tables allow, made once all was ready for them, or none
-//! where it would have been refused, or memory was wanting before it was decided (`part`); no
-//! further one runs and the session is closed (`closes`, `refused`, `same`), and no other session
-//! answers that it is closed (`not_closed`).
+//! the watcher, in order: when it and those before it had made their calls and no other was made,
+//! and all that they did was on the disk (`watched`); the run is from the records, lists and
+//! diversions of before to those of after; a tree that can't be read, a conffile that is diverted,
+//! and relations to the recorded packages are refused by the first of these that holds, without a
+//! call and without a change; the other trees are unpacked as unpack_engine says, with the rows
+//! that in_favour_rows gives for the packages that are deconfigured or conflict; behind one whose
+//! rows all succeeded packages disappear and are removed as displaced_packages says; the reply, the
+//! touched packages and those that were deconfigured are as defined; after a unit that was broken
+//! off, which is that of the next tree and touches no package, what the earlier ones left stands,
+//! and the calls of the broken unit are the first of those that its tables allow, made once all was
+//! ready for them, or none where it would have been refused, or memory was wanting before it was
+//! decided (`part`); no further one runs and the session is closed (`closes`, `refused`, `same`),
+//! and no other session answers that it is closed (`not_closed`).
 //!
 //! A unit is broken off for a device fault exactly where the device failed, once and as the last
 //! thing done (`counts`). A unit that was carried out, and an opening, are brought to the disk
@@ -83,6 +84,7 @@ mod unchanged;
 mod undiverting;
 mod units;
 mod unpacking;
+mod unpacks;
 
 pub use asked::{Diverting, Undiverting};
 pub use installing::Installed;

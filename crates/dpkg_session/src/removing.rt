@@ -53,7 +53,7 @@ fn remove_named<H: Host, W: Watcher>(
     ensures indexed { IsNone result.last → IfSome administration.new.packages
         (ArePackagesOf administration.new.database.records) }
     ensures answered { IsNone result.last → IsAnswered (H.state host.old) (H.state host.new) }
-    ensures watched { IsTold W.tells watcher.old result.units.items watcher.new }
+    ensures watched { IsTold W.tells (H.state host.old) watcher.old result.units.items watcher.new }
 {
     let alloc = administration.alloc;
     match take_packages(
@@ -114,7 +114,8 @@ impl<H: Host> Session<H> {
             (H.state self.new.host) result.last }
         ensures not_closed { self.old.closed ≡ false
             → IfSome result.last (λ unit. IsBrokenBy Closed unit.reply → ⊥) }
-        ensures watched { IsTold W.tells watcher.old result.units.items watcher.new }
+        ensures watched { IsTold W.tells (H.state self.old.host) watcher.old result.units.items
+            watcher.new }
     {
         if self.closed {
             return closed_report(self.administration.alloc);
@@ -167,7 +168,8 @@ impl<H: Host> Session<H> {
             (H.state self.new.host) result.last }
         ensures not_closed { self.old.closed ≡ false
             → IfSome result.last (λ unit. IsBrokenBy Closed unit.reply → ⊥) }
-        ensures watched { IsTold W.tells watcher.old result.units.items watcher.new }
+        ensures watched { IsTold W.tells (H.state self.old.host) watcher.old result.units.items
+            watcher.new }
     {
         self.take(names, false, watcher)
     }
@@ -207,7 +209,8 @@ impl<H: Host> Session<H> {
             (H.state self.new.host) result.last }
         ensures not_closed { self.old.closed ≡ false
             → IfSome result.last (λ unit. IsBrokenBy Closed unit.reply → ⊥) }
-        ensures watched { IsTold W.tells watcher.old result.units.items watcher.new }
+        ensures watched { IsTold W.tells (H.state self.old.host) watcher.old result.units.items
+            watcher.new }
     {
         self.take(names, true, watcher)
     }

@@ -20,7 +20,7 @@ ghost use Rattle.unit_reports.specs.Units.{CountsLast, IsBrokenBy, IsClosedRepor
 ghost use Rattle.unit_reports.specs.Watching.{IsTold};
 
 use crate::trees::Trees;
-use crate::units::run_units;
+use crate::unpacks::unpack_trees;
 use administration::AdministrationFault;
 use diversions::Diversions;
 use held_administration::Administration;
@@ -145,7 +145,8 @@ impl<H: Host> Session<H> {
             (held_by self.new.administration self.new.diversions) (H.state self.old.host)
             (H.state self.new.host) }
         ensures told { TellsCalls (H.state self.old.host) (H.state self.new.host) result }
-        ensures watched { IsTold W.tells watcher.old result.units.items watcher.new }
+        ensures watched { IsTold W.tells (H.state self.old.host) watcher.old result.units.items
+            watcher.new }
         ensures stands { self.old.closed ≡ false → IsNone result.last
             → StandsOnceAnswered (H.state self.old.host) (H.state self.new.host) }
         ensures closes { self.new.closed ≡ is_some result.last }
@@ -168,7 +169,7 @@ impl<H: Host> Session<H> {
             return closed_report(self.administration.alloc);
         }
         let mut labels = Texts::new(self.administration.alloc);
-        let report = run_units(
+        let report = unpack_trees(
             &mut self.host,
             &mut self.administration,
             &self.diversions,

@@ -1,30 +1,22 @@
-// The units of a command, one after another.
-ghost use Rattle.std.specs.Prelude.{◌≡◌, ◌⊎◌, ◌++◌, ◌∷◌, ◌<◌, List, None, [], IfErr, OnOk, OnErr, IfSome, IsNone, map, vec_capacity, vec_len};
-ghost use Rattle.host_core.specs.Host.{AtEachMomentOf, Needs, faults};
+// The unit of one tree.
+ghost use Rattle.std.specs.Prelude.{◌≡◌, ◌⊎◌, None, [], IfSome};
+ghost use Rattle.host_core.specs.Host.{AtEachMomentOf, Needs};
 ghost use Rattle.host_core.specs.Loss.{IsAnswered, IsOnDisk};
 ghost use Rattle.held_administration.specs.Open.{IsOpen};
 ghost use Rattle.recorded_packages.specs.Packages.{ArePackagesOf};
-ghost use Rattle.undo_rows.specs.Transcript.{TellsAll};
 ghost use Rattle.held_administration.specs.Order.{IsInOrder};
 ghost use Rattle.unpack_relations.specs.Checks.{AreApart};
-ghost use Rattle.unit_reports.specs.declared.refusal.Rule.TheVariants.{Tree};
 ghost use Rattle.unit_reports.specs.declared.report.Breakage.TheVariants.{NoMemory, Closed};
-ghost use Rattle.dpkg_session.specs.declared.report.Candidate.{Candidate as ACandidate};
 ghost use Rattle.unit_reports.specs.Held.{held_by};
-ghost use Rattle.unit_reports.specs.Watching.{AddsTold, IsTold};
-ghost use Rattle.dpkg_session.specs.Installs.{label_of};
-ghost use Rattle.dpkg_session.specs.Run.{AddsUnit, HasRunThrough, IsAmidPackage, IsAmidUnitOf, IsAmidUnpack};
-ghost use Rattle.dpkg_session.specs.Trees.{AreRead};
-ghost use Rattle.unit_reports.specs.Units.{CountsLast, CountsReply, IsBroken, IsBrokenBy, TellsCalls, TellsNoPackage, breakage_of, calls_of};
-ghost use Rattle.dpkg_session.specs.Units.{AnswersBoth, HasCalledOf, HasCalledPackage, HasCalledWhole, IsBehind, IsBrokenOff, KnowsRecords, IsPackageUnit, IsUnit, IsUnpacked, reply_to};
+ghost use Rattle.dpkg_session.specs.Run.{IsAmidPackage, IsAmidUnitOf, IsAmidUnpack};
+ghost use Rattle.unit_reports.specs.Units.{CountsReply, IsBroken, IsBrokenBy, TellsNoPackage, breakage_of};
+ghost use Rattle.dpkg_session.specs.Units.{AnswersBoth, HasCalledOf, HasCalledPackage, HasCalledWhole, IsBehind, KnowsRecords, IsPackageUnit, IsUnit, IsUnpacked, reply_to};
 
 use crate::displacing::{Behind, UnpackEnd, behind_of, unpack_whole};
-use crate::done::label_of;
 use crate::recorded::take_packages;
 use crate::refusal::decision_of;
 use crate::report::Candidate;
 use crate::tellings::told_of;
-use crate::trees::Trees;
 use displaced_packages::Displaced;
 use diversions::Diversions;
 use held_administration::Administration;
@@ -32,13 +24,10 @@ use host_core::{Call, Host};
 use package_tree::Package;
 use relation_index::Packages;
 use status_db::NotedDatabase;
-use std::alloc::{AllocError, Global};
-use texts::{Text, Texts};
+use std::alloc::Global;
+use texts::Text;
 use undo_rows::{Called, Failure as Cause, Unwinding};
-use unit_reports::{
-    Breakage, Failure, Reply, Report, Rule, Unit, Watcher, breakage_of, broken, is_broken, refused,
-    what_is_told_in_turn,
-};
+use unit_reports::{Breakage, Failure, Reply, Rule, Unit, breakage_of, broken, refused};
 use unpack_engine::Unpacked;
 use unpack_relations::{Beside, Checked};
 
@@ -309,8 +298,8 @@ fn unit_of_package<H: Host>(
     }
 }
 
-// The unit of a candidate.
-fn unit_of<H: Host>(
+/// The unit of a candidate.
+pub(crate) fn unit_of<H: Host>(
     host: &mut H,
     administration: &mut Administration,
     diversions: &Diversions,
@@ -344,138 +333,6 @@ fn unit_of<H: Host>(
         }
         Err(fault) => {
             return refused(administration.alloc, Rule::Tree(fault), label);
-        }
-    }
-}
-
-// Room for the unit of a candidate, and its label.
-fn prepare(
-    units: &mut Vec<Unit>,
-    labels: &mut Texts,
-    candidate: &Candidate,
-) -> Result<(), AllocError>
-    ensures same { units.new.items ≡ units.old.items }
-    ensures room { OnOk result (vec_len units.new < vec_capacity units.new) }
-    ensures labels { OnOk result (labels.new ≡ labels.old ++ label_of candidate.now ∷ []) }
-{
-    units.reserve(1)?;
-    labels.push(label_of(candidate).copy()?)?;
-    Ok(())
-}
-
-// The unit of one candidate more, or the unit that was broken off.
-fn run_one<H: Host, W: Watcher>(
-    host: &mut H,
-    administration: &mut Administration,
-    diversions: &Diversions,
-    candidate: Candidate,
-    auto_deconfigure: bool,
-    labels: &mut Texts,
-    units: &mut Vec<Unit>,
-    watcher: &mut W,
-) -> Result<(), Unit>
-    requires order { Needs (H.state host.old)
-        (IsInOrder administration.old.database administration.old.lists.lists) }
-    requires open { IsOpen diversions.now.entries administration.old }
-    requires indexed { IfSome administration.old.packages
-        (ArePackagesOf administration.old.database.records) }
-    ensures ok { OnOk result (AddsUnit auto_deconfigure candidate
-        (held_by administration.old diversions.now) (held_by administration.new diversions.now)
-        (H.state host.old) (H.state host.new) units.old.items units.new.items) }
-    ensures open { OnOk result (IsOpen diversions.now.entries administration.new) }
-    ensures indexed { OnOk result (IfSome administration.new.packages
-        (ArePackagesOf administration.new.database.records)) }
-    ensures answered { OnOk result (IsAnswered (H.state host.old) (H.state host.new)) }
-    ensures err { OnErr result (units.new.items ≡ units.old.items) }
-    ensures broken_off { IfErr result (λ unit. IsBrokenOff auto_deconfigure candidate
-        (held_by administration.old diversions.now) unit (H.state host.old) (H.state host.new)) }
-    ensures told { OnOk result (TellsAll (H.state host.old) (H.state host.new)
-        (calls_of units.old.items) (calls_of units.new.items)) }
-    ensures any_moment { AtEachMomentOf (IsAmidUnitOf auto_deconfigure candidate.tree
-        (held_by administration.old diversions.now)) (H.state host.old) (H.state host.new) }
-    ensures no_fault { OnOk result (faults (H.state host.new) ≡ faults (H.state host.old)) }
-    ensures counts { IfErr result (λ unit. CountsReply (H.state host.old) (H.state host.new)
-        unit.reply) }
-    ensures not_closed { IfErr result (λ unit. IsBrokenBy Closed unit.reply → ⊥) }
-    ensures labels { OnOk result (labels.new ≡ labels.old ++ label_of candidate ∷ []) }
-    ensures watched { AddsTold W.tells units.old.items units.new.items watcher.old watcher.new }
-{
-    if prepare(units, labels, &candidate).is_err() {
-        let alloc = administration.alloc;
-        return Err(broken(alloc, Vec::new(alloc), Breakage::NoMemory));
-    }
-    let unit = unit_of(
-        host,
-        administration,
-        diversions,
-        candidate,
-        auto_deconfigure,
-    );
-    if is_broken(&unit) {
-        return Err(unit);
-    }
-    watcher.finished(&unit);
-    units.push(unit).unwrap();
-    Ok(())
-}
-
-/// The units of trees, each read once the unit of the one before it is told, up to one that is broken off. The labels are those
-/// of the trees whose units are told.
-pub(crate) fn run_units<H: Host, T: Trees, W: Watcher>(
-    host: &mut H,
-    administration: &mut Administration,
-    diversions: &Diversions,
-    trees: &mut T,
-    auto_deconfigure: bool,
-    labels: &mut Texts,
-    watcher: &mut W,
-) -> Report
-    requires none { labels.old ≡ [] }
-    requires order { Needs (H.state host.old)
-        (IsInOrder administration.old.database administration.old.lists.lists) }
-    requires open { IsOpen diversions.now.entries administration.old }
-    requires indexed { IfSome administration.old.packages
-        (ArePackagesOf administration.old.database.records) }
-    ensures run { (cs : List ACandidate) × AreRead T.reads trees.old cs trees.new
-        × HasRunThrough auto_deconfigure cs (T.words trees.new) result
-        (held_by administration.old diversions.now) (held_by administration.new diversions.now)
-        (H.state host.old) (H.state host.new) × (IsNone result.last
-        → labels.new ≡ map label_of cs) }
-    ensures told { TellsCalls (H.state host.old) (H.state host.new) result }
-    ensures counts { CountsLast (H.state host.old) (H.state host.new) result.last }
-    ensures not_closed { IfSome result.last (λ unit. IsBrokenBy Closed unit.reply → ⊥) }
-    ensures order { IsNone result.last → Needs (H.state host.new)
-        (IsInOrder administration.new.database administration.new.lists.lists) }
-    ensures open { IsNone result.last → IsOpen diversions.now.entries administration.new }
-    ensures indexed { IsNone result.last → IfSome administration.new.packages
-        (ArePackagesOf administration.new.database.records) }
-    ensures watched { IsTold W.tells watcher.old result.units.items watcher.new }
-{
-    what_is_told_in_turn::<W>();
-    let mut units = Vec::new(administration.alloc);
-    loop {
-        match trees.next() {
-            Some(candidate) => match run_one(
-                host,
-                administration,
-                diversions,
-                candidate,
-                auto_deconfigure,
-                labels,
-                &mut units,
-                watcher,
-            ) {
-                Ok(()) => {}
-                Err(unit) => {
-                    return Report {
-                        units,
-                        last: Some(unit),
-                    };
-                }
-            },
-            None => {
-                return Report { units, last: None };
-            }
         }
     }
 }

@@ -34,7 +34,7 @@ use Rattle.unpack_relations.specs.declared.checking.Checked.TheVariants.{Planned
 use Rattle.undo_rows.specs.declared.rows.Called.{Called}
 use Rattle.dpkg_session.specs.Installs.{HasGoneOn}
 use Rattle.dpkg_session.specs.Run.{HasRun, IsAmidBehind, IsAmidBeside, IsAmidBy, IsAmidNext, IsAmidPackage, IsAmidUnitOf, IsAmidUnpack, IsRun, RunsUnit}
-use Rattle.dpkg_session.specs.Units.{HasDisplaced, HasUnpackedBeside, IsUnitBy, IsUnitOf, IsUnpacked, given_by, held_with, yielding}
+use Rattle.dpkg_session.specs.Units.{HasDisplaced, HasUnpackedBeside, IsUnitBy, IsUnitOf, IsUnpacked, displacing_by, given_by, held_with, yielding}
 use Rattle.dpkg_session.specs.declared.report.Candidate.{Candidate}
 use Rattle.reopening.proofs.Behind.{displaced_lead, displacing_open}
 use Rattle.reopening.proofs.Parts.{AreOf}
@@ -126,7 +126,7 @@ held_names p beside before unwinding records lists s m told now is =
     (package_name (ground_of (given_by p before is.others (yielding beside)) (places_of before)) is.unpacked.plan ∷ record_names before.records.records) (record_names before.records.records)
 
 displaced_held : (names : List (List ℕ)) (unwinding : Option Unwinding) (p : Package) (beside : Beside) (before : Held) (displaced : List (List ℕ)) (failed : Option Call) (mid after : Held) (m t : State) (told now : List Called) → mid.entries ≡ before.entries
-    → (IsTrue m.honest → IsHeld names before.entries mid.records.records m.world) → HasDisplaced unwinding p.name p.version (losing_beside before.lists beside) beside.conflicting displaced failed mid after m t told now
+    → (IsTrue m.honest → IsHeld names before.entries mid.records.records m.world) → HasDisplaced unwinding (displacing_by p beside before.lists) displaced failed mid after m t told now
     → IsTrue t.honest → IsHeld names before.entries after.records.records t.world
 displaced_held names (Some u) p beside before displaced failed mid after m t told now same held is h =
     let here : m.honest ≡ t.honest = ap (λ (x : State). x.honest) (sym is.here) in

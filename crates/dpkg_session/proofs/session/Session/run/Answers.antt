@@ -5,18 +5,18 @@ use Rattle.dpkg_session.proofs.Runs.{falls_run}
 use Rattle.dpkg_session.proofs.KeptPackages.{packages_kept, packages_known}
 use Rattle.dpkg_session.proofs.session.Session.run.Goals as goal
 
-pub run_units-report-requires-clause-order : goal.run_units-report-requires-clause-order
-run_units-report-requires-clause-order g c = λ h. order_standing _ _ (c.args.self.now.ready c.if-self.false h)
+pub unpack_trees-report-requires-clause-order : goal.unpack_trees-report-requires-clause-order
+unpack_trees-report-requires-clause-order g c = λ h. order_standing _ _ (c.args.self.now.ready c.if-self.false h)
 
-pub run_units-report-requires-clause-open : goal.run_units-report-requires-clause-open
-run_units-report-requires-clause-open g c = c.args.self.now.opened c.if-self.false
+pub unpack_trees-report-requires-clause-open : goal.unpack_trees-report-requires-clause-open
+unpack_trees-report-requires-clause-open g c = c.args.self.now.opened c.if-self.false
 
-pub run_units-report-requires-clause-indexed : goal.run_units-report-requires-clause-indexed
-run_units-report-requires-clause-indexed g c = packages_known _ _ (c.args.self.now.indexed c.if-self.false)
+pub unpack_trees-report-requires-clause-indexed : goal.unpack_trees-report-requires-clause-indexed
+unpack_trees-report-requires-clause-indexed g c = packages_known _ _ (c.args.self.now.indexed c.if-self.false)
 
 pub invariant_of-self : goal.invariant_of-self
 invariant_of-self g c =
-    let report = c.run_units-report.ensures in
+    let report = c.unpack_trees-report.ensures in
     record {
       ready = λ open_still h.
           let left = sym c.is_some-self.ensures ∙ open_still in
@@ -29,13 +29,13 @@ invariant_of-self g c =
 
 pub returns-clause-run : goal.returns-clause-run
 returns-clause-run g c = λ open_before.
-    let run = c.run_units-report.ensures.run in
+    let run = c.unpack_trees-report.ensures.run in
     (run.0, run.1, run.2)
 
 pub returns-clause-stands : goal.returns-clause-stands
 returns-clause-stands g c = λ open_before whole.
-    let run = c.run_units-report.ensures.run.2 in
+    let run = c.unpack_trees-report.ensures.run.2 in
     run_stands _ _ _ _ _ _ _ _ run.any_moment (run.whole whole)
 
 pub returns-clause-answered : goal.returns-clause-answered
-returns-clause-answered g c = λ open_before whole. run_answered _ _ _ _ _ _ _ (c.run_units-report.ensures.run.2.whole whole)
+returns-clause-answered g c = λ open_before whole. run_answered _ _ _ _ _ _ _ (c.unpack_trees-report.ensures.run.2.whole whole)

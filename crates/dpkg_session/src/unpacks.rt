@@ -1,0 +1,242 @@
+// Unpacks as turns of a run: each tree is read once the unit of the one before it is told.
+ghost use Rattle.std.specs.Prelude.{◌≡◌, ◌∷◌, ◌++◌, Bool, List, [], IfErr, IfOk, IfSome, IsNone, OnOk, length, map, true};
+ghost use Rattle.host_core.specs.Host.{AtEachMomentOf, Needs, faults};
+ghost use Rattle.host_core.specs.Loss.{IsAnswered};
+ghost use Rattle.held_administration.specs.Open.{IsOpen};
+ghost use Rattle.held_administration.specs.Order.{IsInOrder};
+ghost use Rattle.recorded_packages.specs.Packages.{ArePackagesOf};
+ghost use Rattle.unit_reports.specs.Held.{held_by};
+ghost use Rattle.unit_reports.specs.Units.{CountsLast, CountsReply, IsBrokenBy, TellsCalls};
+ghost use Rattle.unit_reports.specs.Watching.{IsTold};
+ghost use Rattle.unit_reports.specs.declared.report.Breakage.TheVariants.{Closed};
+ghost use Rattle.undo_rows.specs.Transcript.{TellsAll};
+ghost use Rattle.dpkg_session.specs.Installs.{label_of};
+ghost use Rattle.dpkg_session.specs.Run.{HasRunThrough, IsAmidUnitOf, RunsUnit};
+ghost use Rattle.dpkg_session.specs.Trees.{AreRead};
+ghost use Rattle.dpkg_session.specs.Turns.{AreAllRead, BreaksTree, IsAmidTree, StaysLent, UnpacksTree, Unread, unread};
+ghost use Rattle.dpkg_session.specs.Units.{IsBrokenOff};
+ghost use Rattle.dpkg_session.specs.declared.report.Candidate.{Candidate as ACandidate};
+
+use crate::done::label_of;
+use crate::report::Candidate;
+use crate::trees::Trees;
+use crate::units::unit_of;
+use diversions::Diversions;
+use held_administration::Administration;
+use host_core::Host;
+use std::alloc::AllocError;
+use texts::Texts;
+use unit_reports::{Breakage, Report, Unit, Watcher, broken, is_broken};
+use unit_runs::{Turns, run_units};
+
+/// The trees that are unpacked in turn, and the labels of those whose units are done.
+#[derive(Drop)]
+pub(crate) struct Unpacks<'a, 'l, T: Trees> {
+    pub(crate) trees: &'a mut T,
+    pub(crate) labels: &'l mut Texts,
+    pub(crate) auto_deconfigure: bool,
+}
+
+impl<'a, 'l, H: Host, T: Trees> Turns<H> for Unpacks<'a, 'l, T> {
+    ghost Task = { Bool };
+
+    ghost task = { λ u. u.auto_deconfigure };
+
+    ghost Left = { Unread T };
+
+    ghost left = { λ u. unread u.trees.now u.labels.now
+        (u.trees.ghost_name, u.labels.ghost_name) };
+
+    ghost size = { λ left. length (T.words left.trees) };
+
+    ghost turn = { UnpacksTree T.words T.reads };
+
+    ghost amid = { IsAmidTree T.words T.reads };
+
+    ghost called = { BreaksTree T.words T.reads };
+
+    ghost goes = { λ auto_deconfigure. StaysLent };
+
+    ghost between = { λ u a. IfSome a.packages (ArePackagesOf a.database.records) };
+
+    ghost over = { λ u left held. AreAllRead T.words
+        (unread u.trees.now u.labels.now (u.trees.ghost_name, u.labels.ghost_name)) left };
+
+    fn take(
+        &mut self,
+        host: &mut H,
+        administration: &mut Administration,
+        diversions: &Diversions,
+        room: bool,
+    ) -> Result<Option<Unit>, Unit> {
+        match self.trees.next() {
+            Some(candidate) => match take_unit(
+                host,
+                administration,
+                diversions,
+                candidate,
+                self.auto_deconfigure,
+                self.labels,
+                room,
+            ) {
+                Ok(unit) => Ok(Some(unit)),
+                Err(unit) => Err(unit),
+            },
+            None => Ok(None),
+        }
+    }
+}
+
+// The label of a candidate, behind those of others, where there is room for its unit.
+fn prepare(labels: &mut Texts, candidate: &Candidate, room: bool) -> Result<(), AllocError>
+    ensures room { OnOk result (room ≡ true) }
+    ensures labels { OnOk result (labels.new ≡ labels.old ++ label_of candidate.now ∷ []) }
+{
+    if !room {
+        return Err(AllocError);
+    }
+    labels.push(label_of(candidate).copy()?)?;
+    Ok(())
+}
+
+// The unit of one candidate more, where there is room for it, or the unit that was broken off.
+fn take_unit<H: Host>(
+    host: &mut H,
+    administration: &mut Administration,
+    diversions: &Diversions,
+    candidate: Candidate,
+    auto_deconfigure: bool,
+    labels: &mut Texts,
+    room: bool,
+) -> Result<Unit, Unit>
+    requires order { Needs (H.state host.old)
+        (IsInOrder administration.old.database administration.old.lists.lists) }
+    requires open { IsOpen diversions.now.entries administration.old }
+    requires indexed { IfSome administration.old.packages
+        (ArePackagesOf administration.old.database.records) }
+    ensures ok { IfOk result (λ unit. RunsUnit auto_deconfigure candidate
+        (held_by administration.old diversions.now) (held_by administration.new diversions.now)
+        unit (H.state host.old) (H.state host.new)) }
+    ensures room { OnOk result (room ≡ true) }
+    ensures order { OnOk result (Needs (H.state host.new)
+        (IsInOrder administration.new.database administration.new.lists.lists)) }
+    ensures open { OnOk result (IsOpen diversions.now.entries administration.new) }
+    ensures indexed { OnOk result (IfSome administration.new.packages
+        (ArePackagesOf administration.new.database.records)) }
+    ensures broken_off { IfErr result (λ unit. IsBrokenOff auto_deconfigure candidate
+        (held_by administration.old diversions.now) unit (H.state host.old) (H.state host.new)) }
+    ensures told { IfOk result (λ unit. TellsAll (H.state host.old) (H.state host.new) []
+        unit.calls.items) }
+    ensures any_moment { AtEachMomentOf (IsAmidUnitOf auto_deconfigure candidate.tree
+        (held_by administration.old diversions.now)) (H.state host.old) (H.state host.new) }
+    ensures no_fault { OnOk result (faults (H.state host.new) ≡ faults (H.state host.old)) }
+    ensures counts { IfErr result (λ unit. CountsReply (H.state host.old) (H.state host.new)
+        unit.reply) }
+    ensures not_closed { IfErr result (λ unit. IsBrokenBy Closed unit.reply → ⊥) }
+    ensures labels { OnOk result (labels.new ≡ labels.old ++ label_of candidate ∷ []) }
+{
+    if prepare(labels, &candidate, room).is_err() {
+        let alloc = administration.alloc;
+        return Err(broken(alloc, Vec::new(alloc), Breakage::NoMemory));
+    }
+    let unit = unit_of(
+        host,
+        administration,
+        diversions,
+        candidate,
+        auto_deconfigure,
+    );
+    if is_broken(&unit) {
+        return Err(unit);
+    }
+    Ok(unit)
+}
+
+// The same of unpacks that are there. Its caller learns here that what it lent is still the same.
+fn take_trees<H: Host, T: Trees, W: Watcher>(
+    host: &mut H,
+    administration: &mut Administration,
+    diversions: &Diversions,
+    unpacks: &mut Unpacks<'_, '_, T>,
+    watcher: &mut W,
+) -> Report
+    requires none { unpacks.old.labels.now ≡ [] }
+    requires order { Needs (H.state host.old)
+        (IsInOrder administration.old.database administration.old.lists.lists) }
+    requires open { IsOpen diversions.now.entries administration.old }
+    requires indexed { IfSome administration.old.packages
+        (ArePackagesOf administration.old.database.records) }
+    ensures trees_stay { unpacks.new.trees.ghost_name ≡ unpacks.old.trees.ghost_name }
+    ensures labels_stay { unpacks.new.labels.ghost_name ≡ unpacks.old.labels.ghost_name }
+    ensures run { (cs : List ACandidate)
+        × AreRead T.reads unpacks.old.trees.now cs unpacks.new.trees.now
+        × HasRunThrough unpacks.old.auto_deconfigure cs (T.words unpacks.new.trees.now) result
+        (held_by administration.old diversions.now) (held_by administration.new diversions.now)
+        (H.state host.old) (H.state host.new) × (IsNone result.last
+        → unpacks.new.labels.now ≡ map label_of cs) }
+    ensures told { TellsCalls (H.state host.old) (H.state host.new) result }
+    ensures counts { CountsLast (H.state host.old) (H.state host.new) result.last }
+    ensures not_closed { IfSome result.last (λ unit. IsBrokenBy Closed unit.reply → ⊥) }
+    ensures order { IsNone result.last → Needs (H.state host.new)
+        (IsInOrder administration.new.database administration.new.lists.lists) }
+    ensures open { IsNone result.last → IsOpen diversions.now.entries administration.new }
+    ensures indexed { IsNone result.last → IfSome administration.new.packages
+        (ArePackagesOf administration.new.database.records) }
+    ensures watched { IsTold W.tells (H.state host.old) watcher.old result.units.items watcher.new }
+{
+    let mut units = Vec::new(administration.alloc);
+    match run_units(
+        host,
+        administration,
+        diversions,
+        unpacks,
+        &mut units,
+        watcher,
+    ) {
+        Ok(()) => Report { units, last: None },
+        Err(unit) => Report {
+            units,
+            last: Some(unit),
+        },
+    }
+}
+
+/// The units of trees, each read once the unit of the one before it is told, up to one that is broken off. The labels are those
+/// of the trees whose units are told.
+pub(crate) fn unpack_trees<H: Host, T: Trees, W: Watcher>(
+    host: &mut H,
+    administration: &mut Administration,
+    diversions: &Diversions,
+    trees: &mut T,
+    auto_deconfigure: bool,
+    labels: &mut Texts,
+    watcher: &mut W,
+) -> Report
+    requires none { labels.old ≡ [] }
+    requires order { Needs (H.state host.old)
+        (IsInOrder administration.old.database administration.old.lists.lists) }
+    requires open { IsOpen diversions.now.entries administration.old }
+    requires indexed { IfSome administration.old.packages
+        (ArePackagesOf administration.old.database.records) }
+    ensures run { (cs : List ACandidate) × AreRead T.reads trees.old cs trees.new
+        × HasRunThrough auto_deconfigure cs (T.words trees.new) result
+        (held_by administration.old diversions.now) (held_by administration.new diversions.now)
+        (H.state host.old) (H.state host.new) × (IsNone result.last
+        → labels.new ≡ map label_of cs) }
+    ensures told { TellsCalls (H.state host.old) (H.state host.new) result }
+    ensures counts { CountsLast (H.state host.old) (H.state host.new) result.last }
+    ensures not_closed { IfSome result.last (λ unit. IsBrokenBy Closed unit.reply → ⊥) }
+    ensures order { IsNone result.last → Needs (H.state host.new)
+        (IsInOrder administration.new.database administration.new.lists.lists) }
+    ensures open { IsNone result.last → IsOpen diversions.now.entries administration.new }
+    ensures indexed { IsNone result.last → IfSome administration.new.packages
+        (ArePackagesOf administration.new.database.records) }
+    ensures watched { IsTold W.tells (H.state host.old) watcher.old result.units.items watcher.new }
+{
+    let mut unpacks = Unpacks {
+        trees,
+        labels,
+        auto_deconfigure,
+    };
+    take_trees(host, administration, diversions, &mut unpacks, watcher)
+}
