@@ -1,13 +1,13 @@
 -- Lists of which one is another.
-use Rattle.std.proofs.Common.{◌≡◌, ◌<◌, ℕ, zero, suc, Bool, true, false, cond, List, [], ◌∷◌, map, length, get_or, Option, Some, None, refl, sym, ap, subst, ◌∙◌, arith, Contains}
+use Rattle.std.proofs.Common.{◌≡◌, ◌+◌, ◌<◌, inl, inr, ℕ, zero, suc, Bool, true, false, cond, List, [], ◌∷◌, map, length, get_or, Option, Some, None, refl, sym, ap, subst, ◌∙◌, arith, Contains}
 use Rattle.std.proofs.Math.ListN.{set}
 use Rattle.std.specs.List.{AllByRecursion, insert}
 use Rattle.std.specs.Prelude.{nat_eq}
-use Rattle.std.specs.Ordering.{nat_cmp, match_ordering, ordering_reverse}
+use Rattle.std.specs.Ordering.{nat_cmp, is_lt, match_ordering, ordering_reverse}
 use Rattle.std.specs.Cmp.Lexicographic.{slice_cmp}
 use Rattle.std.specs.declared.cmp.Ordering.{Ordering}
 use Rattle.std.specs.declared.cmp.Ordering.TheVariants.{Less, Equal, Greater}
-use Rattle.std.proofs.lemmas.Bool.{false≢true}
+use Rattle.std.proofs.lemmas.Bool.{cases_lt, true≢false, false≢true}
 use Rattle.std.proofs.lemmas.Bool.Decides.{Decides-eqb}
 use Rattle.std.proofs.lemmas.Cmp.{tied_itself, nat_list_cmp_total}
 use Rattle.std.proofs.lemmas.List.{map-set, get_or-set_same, get_or-set_other}
@@ -23,8 +23,8 @@ use Rattle.file_lists.specs.Owners.{AreListPaths, AreLists, name_of, names_of}
 use Rattle.file_lists.specs.Table.{IsAt}
 use Rattle.file_lists.specs.Writing.{package_list, with_list, with_paths_at, IsEntered}
 use Rattle.file_lists.proofs.Finding.{behind}
-use Rattle.file_lists.proofs.Increasing.{all_at}
-use Rattle.file_lists.proofs.Tables.{within_names}
+use Rattle.file_lists.proofs.Increasing.{all_at, get_or_any}
+use Rattle.file_lists.proofs.Tables.{name_at, within_names}
 
 -- a name that is behind another compares as greater
 greater : (name other : Path) → IsBefore other name → slice_cmp nat_cmp name other ≡ Greater

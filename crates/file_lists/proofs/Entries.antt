@@ -1,7 +1,7 @@
 -- What is judged of one entry.
 use Rattle.std.proofs.Common.{◌≡◌, ◌≢◌, ◌↔◌, inl, inr, ℕ, Bool, true, false, cond, List, [], ◌++◌, Option, Some, None, IsSome, IsTrue, is_some, get_or, refl, sym, ap, subst, ◌∙◌, Contains}
 use Rattle.std.specs.Prelude.{MatchOption, MatchBool, IfSome, IfNone, codes}
-use Rattle.std.specs.List.{list_any}
+use Rattle.std.specs.List.{list_any, AllByRecursion}
 use Rattle.std.specs.Str.{bytes_eq}
 use Rattle.std.proofs.lemmas.Bool.{true≢false, false≢true}
 use Rattle.std.proofs.lemmas.List.{append_cancel_right}
@@ -19,6 +19,7 @@ use Rattle.host_core.specs.declared.node.Node.TheVariants.{File, Dir, Link}
 use Rattle.administration.specs.Places.{list_name}
 use Rattle.administration.specs.declared.fault.AdministrationFault.{AdministrationFault}
 use Rattle.administration.specs.declared.fault.AdministrationFault.TheVariants.{Damaged, Device, NoMemory}
+use Rattle.diversions.specs.Lines.{lines_in}
 use Rattle.file_lists.specs.declared.paths.PackageList.{PackageList}
 use Rattle.file_lists.specs.Lists.{IsReadable, IsWhole, Lists}
 use Rattle.file_lists.specs.Info.{entry_path, is_foreign, IsOneOf, IsListOf, IsScriptOf, IsSound, IsFaultyWhole, HasFault}

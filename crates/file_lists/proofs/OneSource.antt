@@ -2,6 +2,7 @@
 use Rattle.std.proofs.Common.{◌≡◌, ◌<◌, ℕ, zero, suc, Bool, true, false, cond, List, [], ◌∷◌, map, filter, length, get_or, refl, sym, ap, subst, ◌∙◌, arith, Contains}
 use Rattle.std.specs.List.{AllByRecursion}
 use Rattle.std.specs.Str.{bytes_eq}
+use Rattle.std.proofs.lemmas.Bool.{true≢false}
 use Rattle.std.proofs.lemmas.Slice.Eq.{bytes_eq-Decides}
 use Rattle.host_core.specs.Paths.{Path}
 use Rattle.diversions.specs.declared.entry.Diversion.{Diversion}
@@ -9,6 +10,7 @@ use Rattle.diversions.specs.Places.{place}
 use Rattle.file_lists.specs.Increasing.{AreIncreasing, IsBefore}
 use Rattle.file_lists.specs.Index.{AreSources}
 use Rattle.file_lists.specs.Owners.{AreLists, AreListPaths, listed, owners_in}
+use Rattle.file_lists.specs.declared.paths.Listed.{Listed}
 use Rattle.file_lists.specs.declared.paths.PackageList.{PackageList}
 use Rattle.file_lists.proofs.Gathering.{none_passes}
 use Rattle.file_lists.proofs.Increasing.{all_at, get_or_any, not_before_itself}

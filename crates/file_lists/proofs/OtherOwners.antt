@@ -10,7 +10,7 @@ use Rattle.host_core.specs.Paths.{Path}
 use Rattle.diversions.specs.declared.entry.Diversion.{Diversion}
 use Rattle.diversions.specs.Places.{place}
 use Rattle.file_lists.specs.Index.{AreSources, IsComplete, row_of}
-use Rattle.file_lists.specs.Others.{HasOther, IsOther, IsNoOther, AreNoOthers}
+use Rattle.file_lists.specs.Others.{HasAt, HasOther, IsOther, IsNoOther, AreNoOthers}
 use Rattle.file_lists.specs.Owners.{has_other_owner, listed, owners_in, owners_of}
 use Rattle.file_lists.specs.declared.paths.Listed.{Listed}
 use Rattle.file_lists.specs.declared.paths.PackageList.{PackageList}

@@ -1,4 +1,4 @@
-use Rattle.std.proofs.Common.{List, sym, subst, arith, Contains}
+use Rattle.std.proofs.Common.{◌≡◌, List, sym, subst, arith, Contains}
 use Rattle.std.proofs.lemmas.Bool.{MatchBool-at_false}
 use Rattle.std.proofs.lemmas.List.{take_all}
 use Rattle.host_core.specs.Paths.{Path}

@@ -1,6 +1,6 @@
 use Rattle.std.specs.Ordering.{nat_cmp, is_lt}
 use Rattle.std.specs.Cmp.Lexicographic.{slice_cmp}
-use Rattle.std.proofs.Common.{◌∙◌, ◌+◌, Bool, ap, cond, length}
+use Rattle.std.proofs.Common.{◌∙◌, ◌+◌, ℕ, Bool, ap, cond, length}
 use Rattle.file_lists.proofs.SameBeside.{count_more}
 use Rattle.file_lists.proofs.renewing.counts_beside.Goals as goal
 
