@@ -30,11 +30,13 @@ returns-in-Some-clause-any_moment g c = ANY
 
 pub returns-in-Err-run_units-clause-stopped : goal.returns-in-Err-run_units-clause-stopped
 returns-in-Err-run_units-clause-stopped g c =
-    let later = names_of c.run_units.new.turns in
-    (later, subst (λ (ps : List Package). runs.HasStopped (IsTurn c.args.purge ps) (λ left behind. IsAmidTurn c.args.purge ps left) (λ left behind. HasCalledNext c.args.purge ps left) c.args.waiting.items (held_by c.args.administration.now c.args.diversions.now) (g.H.Host.state c.args.host.now) c.args.units.now.items c.run_units.new.units.items later (g.H.Host.state c.run_units.new.host) c.in-Err-run_units.unit)
-    c.in-Ok.ensures.stated c.in-Err-run_units.ensures.stopped)
+    let later = names_of c.run_units.new.turns in (
+      later,
+      subst (λ (ps : List Package). runs.HasStopped (IsTurn c.args.purge ps) (λ left behind. IsAmidTurn c.args.purge ps left) (λ left behind. HasCalledNext c.args.purge ps left) c.args.waiting.items (held_by c.args.administration.now c.args.diversions.now) (g.H.Host.state c.args.host.now) c.args.units.now.items c.run_units.new.units.items later (g.H.Host.state c.run_units.new.host) c.in-Err-run_units.unit)
+          c.in-Ok.ensures.stated c.in-Err-run_units.ensures.stopped,
+    )
 
 pub returns-in-Err-run_units-clause-any_moment : goal.returns-in-Err-run_units-clause-any_moment
-returns-in-Err-run_units-clause-any_moment g c = 
+returns-in-Err-run_units-clause-any_moment g c =
     since_any c.args.purge c.args.packages (λ later. GoesTo (λ left behind. Unit {0}) later (names_of c.run_units.new.turns)) c.args.waiting.items (held_by c.args.administration.now c.args.diversions.now) (g.H.Host.state c.args.host.now) (g.H.Host.state c.run_units.new.host)
     (subst (λ (ps : List Package). Since (runs.IsAmidTurns (IsTurn c.args.purge ps) (λ left behind. IsAmidTurn c.args.purge ps left) (λ later. GoesTo (λ left behind. Unit {0}) later (names_of c.run_units.new.turns)) c.args.waiting.items (held_by c.args.administration.now c.args.diversions.now) (g.H.Host.state c.args.host.now)) (g.H.Host.state c.args.host.now) (g.H.Host.state c.run_units.new.host)) c.in-Ok.ensures.stated c.run_units.ensures.any_moment)
