@@ -13,7 +13,7 @@ use Rattle.configure_run.specs.Taking.{IsAmidTurnOf, IsBrokenAt, IsTurnOf}
 use Rattle.configure_run.specs.Turns.{HasCalledNext, IsAmidTurn, IsTurn, after_turn, is_done}
 
 -- the left side of an equation
-pub lhs : {A : Type 0} {a b : A} → a ≡ b → A
+abbrev pub lhs : {A : Type 0} {a b : A} → a ≡ b → A
 lhs {a = a} same = a
 
 module _ (policy : ConfPolicy) (silent : ℕ → Bool) (q : Waiting) (x : ℕ) where

@@ -61,5 +61,5 @@ pub is_next : (q : Waiting) (o : Option Next) (n : Next) → o ≡ Some n → Is
 is_next q o n e is = subst (IsNext q) e is
 
 -- the left side of an equation
-pub lhs : {A : Type 0} {a b : A} → a ≡ b → A
+abbrev pub lhs : {A : Type 0} {a b : A} → a ≡ b → A
 lhs {a = a} same = a
