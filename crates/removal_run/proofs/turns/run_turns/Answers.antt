@@ -26,7 +26,9 @@ returns-in-Some-clause-others g c =
     turned_others c.args.purge c.args.packages c.args.waiting.items all.q (held_by c.args.administration.now c.args.diversions.now) after (g.H.Host.state c.args.host.now) new c.args.units.now.items c.run_units.new.units.items all.turned
 
 pub returns-in-Some-clause-any_moment : goal.returns-in-Some-clause-any_moment
-returns-in-Some-clause-any_moment g c = ANY
+returns-in-Some-clause-any_moment g c =
+    since_any c.args.purge c.args.packages (λ later. GoesTo (λ left behind. Unit {0}) later (names_of c.run_units.new.turns)) c.args.waiting.items (held_by c.args.administration.now c.args.diversions.now) (g.H.Host.state c.args.host.now) (g.H.Host.state c.run_units.new.host)
+    (subst (λ (ps : List Package). Since (runs.IsAmidTurns (IsTurn c.args.purge ps) (λ left behind. IsAmidTurn c.args.purge ps left) (λ later. GoesTo (λ left behind. Unit {0}) later (names_of c.run_units.new.turns)) c.args.waiting.items (held_by c.args.administration.now c.args.diversions.now) (g.H.Host.state c.args.host.now)) (g.H.Host.state c.args.host.now) (g.H.Host.state c.run_units.new.host)) c.in-Ok.ensures.stated c.run_units.ensures.any_moment)
 
 pub returns-in-Err-run_units-clause-stopped : goal.returns-in-Err-run_units-clause-stopped
 returns-in-Err-run_units-clause-stopped g c =
