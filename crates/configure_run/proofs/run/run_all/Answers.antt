@@ -78,7 +78,7 @@ pub returns-in-Err-clause-not_closed : goal.returns-in-Err-clause-not_closed
 returns-in-Err-clause-not_closed g c = not_closed_by c.no_memory.result.reply c.no_memory.ensures.reply
 
 pub returns-in-Ok-run_and_renew-clause-watched : goal.returns-in-Ok-run_and_renew-clause-watched
-returns-in-Ok-run_and_renew-clause-watched g c = 
+returns-in-Ok-run_and_renew-clause-watched g c =
     told_added g.W.Watcher.tells (g.H.Host.state c.args.host.now) (g.H.Host.state c.begun.new.host) c.args.watcher.now c.refuse_first.new.watcher c.run_and_renew.new.watcher c.args.units.now.items c.refuse_first.new.units.items c.run_and_renew.new.units.items
     c.refuse_first.ensures.watched
     (tells_silent (g.H.Host.state c.args.host.now) (g.H.Host.state c.begun.new.host) (calls_of c.args.units.now.items) (calls_of c.refuse_first.new.units.items) c.begun.ensures.silent
@@ -86,7 +86,7 @@ returns-in-Ok-run_and_renew-clause-watched g c =
     (inr c.begun.ensures.reads) c.run_and_renew.ensures.watched
 
 pub returns-in-Err-run_and_renew-clause-watched : goal.returns-in-Err-run_and_renew-clause-watched
-returns-in-Err-run_and_renew-clause-watched g c = 
+returns-in-Err-run_and_renew-clause-watched g c =
     told_added g.W.Watcher.tells (g.H.Host.state c.args.host.now) (g.H.Host.state c.begun.new.host) c.args.watcher.now c.refuse_first.new.watcher c.run_and_renew.new.watcher c.args.units.now.items c.refuse_first.new.units.items c.run_and_renew.new.units.items
     c.refuse_first.ensures.watched
     (tells_silent (g.H.Host.state c.args.host.now) (g.H.Host.state c.begun.new.host) (calls_of c.args.units.now.items) (calls_of c.refuse_first.new.units.items) c.begun.ensures.silent
