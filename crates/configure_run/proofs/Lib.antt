@@ -10,4 +10,5 @@ pub mod Silence
 pub mod Units
 pub mod Taking
 pub mod Others
+pub mod AllTurns
 pub mod Runs

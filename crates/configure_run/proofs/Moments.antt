@@ -13,7 +13,9 @@ use Rattle.host_core.specs.declared.fault.HostFault.{HostFault}
 use Rattle.host_core.specs.declared.fault.HostFault.TheVariants.{Device, NoMemory}
 use Rattle.held_administration.specs.Order.{IsInOrder}
 use Rattle.unit_reports.specs.Held.{Held}
-use Rattle.configure_run.specs.Turns.{IsAmidUnit, IsBeside, IsStill, given_by}
+use Rattle.unit_runs.specs.Turns.{IsStill}
+use Rattle.unit_runs.proofs.Going.{still_here}
+use Rattle.configure_run.specs.Turns.{IsAmidUnit, IsBeside, given_by}
 
 -- all is on the disk
 pub on_disk : (s t : State) → Happens (Did Barrier ∷ []) s t → IsOnDisk t.events
@@ -84,9 +86,6 @@ faults_quiet (Event.Finished ran ∷ es) all = absurd all
 faults_quiet (Event.Cut call change ∷ es) all = absurd all
 faults_quiet (Failed ∷ es) all = faults_quiet es all
 
-pub still_here : (w : World) → IsStill w [] w
-still_here w = record { same = refl; quiet = refl }
-
 -- only looked
 pub since_still : (s t : State) → Reads s t → Since (IsStill s.world) s t
 since_still s t reads = since_reads (IsStill s.world) s t reads (λ fs all. record { same = refl; quiet = faults_quiet fs all })
@@ -106,24 +105,6 @@ module _ (policy : ConfPolicy) (name : List ℕ) (before : Held) where
       (since_weaker (IsBeside (IsAmidConfiguring (given_by policy name before) m.world)) (λ x. IsAmidUnit policy name before s.world (first.added ++ x)) m t
       (λ x w beside. inr (beside_after (IsAmidConfiguring (given_by policy name before) s.world) first.added x w (silent_added s m first.added silent first.events)
       (subst (λ v. IsBeside (IsAmidConfiguring (given_by policy name before) v) x w) reads.world beside))) since)
-
--- answers, one behind the other
-
-disk_then : (b c : State) → IsOnDisk b.events → Reads b c → IsOnDisk c.events
-disk_then b c disk reads = (
-  disk.0,
-  disk.1 ++ reads.added,
-  reads.events ∙ ap (λ (l : List Event). l ++ reads.added) disk.2 ∙ append_assoc disk.0 (Did Barrier ∷ disk.1) reads.added,
-  faults_then disk.1 reads.added disk.3 reads.failed,
-)
-
-pub answered_here : (s : State) → IsAnswered s s
-answered_here s = inr (record { honest = λ h. h; world = refl; added = []; failed = tt; events = sym (append-nil s.events) })
-
-pub answered_then : (a b c : State) → IsAnswered a b → IsAnswered b c → IsAnswered a c
-answered_then a b c first (inl disk) = inl disk
-answered_then a b c (inl disk) (inr reads) = inl (disk_then b c disk reads)
-answered_then a b c (inr looks) (inr reads) = inr (reads_then a b c looks reads)
 
 pub silent_here : (s : State) → Silent s s
 silent_here s = record { honest = λ h. h; scripts = refl }

@@ -13,10 +13,11 @@ use Rattle.relation_index.specs.declared.package.Package.{Package}
 use Rattle.status_records.specs.declared.record.Record.{Record}
 use Rattle.unit_reports.specs.Held.{Held}
 use Rattle.unit_reports.specs.declared.report.Unit.{Unit as AUnit}
+use Rattle.unit_runs.specs.Turns.{TurnsTo}
 use Rattle.configure_run.specs.Asked.{can_wait}
 use Rattle.configure_run.specs.Starting.{AreSameButWaiting, IsBegun, NamesOneWaiting, is_named, name_at}
-use Rattle.configure_run.specs.Taking.{TakesTurn}
-use Rattle.configure_run.specs.Turns.{after_turn}
+use Rattle.configure_run.specs.Turns.{ConfiguresTo, IsTurn, after_turn, is_done}
+use Rattle.configure_run.proofs.Members.{member_waits}
 use Rattle.configure_run.proofs.Numbers.{at_number, both_hold, number_named, number_waits, number_within}
 use Rattle.configure_run.proofs.Progress.{packages_after, still_waits}
 use Rattle.configure_run.proofs.Units.{numbered_name, others}
@@ -50,11 +51,19 @@ leave_more start q x done before mid after so_far same = record {
 }
 
 -- a turn changes the record of its own package alone
-pub turn_leaves : (policy : ConfPolicy) (q : Waiting) (x : ℕ) (done : Bool) (before after : Held) (s t : State) (old new : List AUnit) → IsTrue (has q.waiting x) → TakesTurn policy q x done before after s t old new
-    → AreSameButWaiting q before.records.records after.records.records
-turn_leaves policy q x done before after s t old new wait one name none =
-    others policy q.packages one.p before after one.unit s t one.is name
-    (λ same. none (record { x = x; waiting = wait; named = numbered_name q.packages x one.p one.numbered ∙ sym same }))
+turn_leaves : (policy : ConfPolicy) (silent : ℕ → Bool) (q later : Waiting) (before after : Held) (u : AUnit) (s t : State) → IsTurn policy silent q before u later after s t → AreSameButWaiting q before.records.records after.records.records
+turn_leaves policy silent q later before after u s t turn name none =
+    others policy q.packages turn.p before after u s t turn.is name
+    (λ same. none (record { x = turn.x; waiting = member_waits q turn.x turn.can; named = numbered_name q.packages turn.x turn.p turn.next.numbered ∙ sym same }))
+
+-- turns change the records of those that waited alone
+pub turns_leave : (policy : ConfPolicy) (silent : ℕ → Bool) (start : Waiting) (before : Held) (s : State) (us : List AUnit) (q : Waiting) (after : Held) (t : State) → ConfiguresTo policy silent start before s us q after t
+    → Leave start q before.records.records after.records.records
+turns_leave policy silent start before s us q after t TurnsTo.begun = none_left_out start before.records.records
+turns_leave policy silent start before s us q after t (TurnsTo.turned first u mid_q later mid end m last come turn) =
+    subst (λ (w : Waiting). Leave start w before.records.records after.records.records) (sym turn.later_is)
+    (leave_more start mid_q turn.x (is_done u.reply) before.records.records mid.records.records after.records.records (turns_leave policy silent start before s first mid_q mid m come)
+    (turn_leaves policy silent mid_q q mid after u m t turn))
 
 -- those that wait are named
 

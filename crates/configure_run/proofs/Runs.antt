@@ -8,10 +8,12 @@ use Rattle.host_core.specs.Host.{State, Reads, Since}
 use Rattle.host_core.proofs.Moments.{since_start, since_then, since_weaker, since_weaker_if}
 use Rattle.unit_reports.specs.Held.{Held}
 use Rattle.unit_reports.specs.declared.report.Unit.{Unit as AUnit}
+use Rattle.unit_runs.proofs.Going.{still_here}
+use Rattle.unit_runs.specs.Turns.{IsStill}
 use Rattle.configure_run.specs.Run.{Begins, HasRun, IsAmidRun, IsConfigureRun}
-use Rattle.configure_run.specs.Turns.{EndTurns, IsAmidTurns, IsBrokenStill, IsStill, StopTurns}
+use Rattle.configure_run.specs.Turns.{EndTurns, IsAmidTurns, IsBrokenStill, StopTurns}
 use Rattle.configure_run.proofs.LeftLaws.{left_some}
-use Rattle.configure_run.proofs.Moments.{since_still, still_here}
+use Rattle.configure_run.proofs.Moments.{since_still}
 
 pub reads_here : (s : State) → Reads s s
 reads_here s = record { honest = λ h. h; world = refl; added = []; failed = tt; events = sym (append-nil s.events) }

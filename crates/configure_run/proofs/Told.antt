@@ -8,6 +8,7 @@ use Rattle.dependency_check.specs.Waiting.{Waiting}
 use Rattle.host_core.specs.Events.{calls_of as calls_in}
 use Rattle.host_core.specs.Host.{State, Silent, calls}
 use Rattle.host_core.proofs.Scripts.{calls_of-scripts}
+use Rattle.unit_reports.proofs.Telling.{calls_both}
 use Rattle.unit_reports.specs.Held.{Held}
 use Rattle.unit_reports.specs.Units.{HasNoCalls, calls_of}
 use Rattle.unit_reports.specs.declared.report.Unit.{Unit as AUnit}
@@ -27,27 +28,6 @@ silent_calls s t silent = sym (calls_of-scripts t.events) ∙ ap calls_in silent
 -- where no script was called no call is told
 pub tells_silent : (s t : State) (told now : List Called) → Silent s t → now ≡ told → TellsAll s t told now
 tells_silent s t told now silent same = tells_none s t told now (silent_calls s t silent) same
-
--- a unit more
-
-pub calls_more : (us : List AUnit) (u : AUnit) → calls_of (us ++ u ∷ []) ≡ calls_of us ++ u.calls.items
-calls_more [] u = append-nil u.calls.items
-calls_more (v ∷ us) u = ap (λ l. v.calls.items ++ l) (calls_more us u) ∙ sym (append_assoc v.calls.items (calls_of us) u.calls.items)
-
-pub calls_both : (us vs : List AUnit) → calls_of (us ++ vs) ≡ calls_of us ++ calls_of vs
-calls_both [] vs = refl
-calls_both (u ∷ us) vs = ap (λ l. u.calls.items ++ l) (calls_both us vs) ∙ sym (append_assoc u.calls.items (calls_of us) (calls_of vs))
-
-pub tells_unit : (b c : State) (us more : List AUnit) (u : AUnit) → more ≡ us ++ u ∷ [] → TellsAll b c [] u.calls.items → TellsAll b c (calls_of us) (calls_of more)
-tells_unit b c us more u grown told = (told.0, told.1, ap calls_of grown ∙ calls_more us u ∙ ap (λ l. calls_of us ++ l) told.2)
-
--- the calls of one, behind those of others
-pub tells_behind : (b c : State) (before own : List Called) → TellsAll b c [] own → TellsAll b c before (before ++ own)
-tells_behind b c before own told = (told.0, told.1, ap (λ l. before ++ l) told.2)
-
--- the unit that was broken off, after the others
-pub tells_last : (a b c : State) (old now own : List Called) → TellsAll a b old now → TellsAll b c [] own → TellsAll a c old (now ++ own)
-tells_last a b c old now own first second = tells_then a b c old now (now ++ own) first (tells_behind b c now own second)
 
 -- it made no call
 pub tells_no_more : (a b : State) (old now own : List Called) → TellsAll a b old now → own ≡ [] → TellsAll a b old (now ++ own)

@@ -1,7 +1,10 @@
--- One turn, by the number of the package whose turn it is.
-use Rattle.std.specs.Prelude.{◌≡◌, ◌⊎◌, ℕ, Bool, List, [], ◌∷◌, ◌++◌, Option, Some, None}
+-- The turns of a configure, while they are taken.
+use Rattle.std.specs.Prelude.{◌≡◌, ◌⊎◌, ◌+◌, ℕ, Bool, true, false, List, [], ◌∷◌, Option, Some, None, IfSome}
+use Rattle.std.specs.List.{sum_by}
 use Rattle.conffiles.specs.declared.decisions.ConfPolicy.{ConfPolicy}
-use Rattle.dependency_check.specs.Waiting.{Waiting, IsNextOfConfigurable}
+use Rattle.dependency_check.specs.Waiting.{Waiting, IsConfigurableNow, IsNextOfConfigurable}
+use Rattle.dependency_sets.specs.Sets.{has}
+use Rattle.held_administration.specs.declared.held.Administration.{Administration}
 use Rattle.host_core.specs.Events.{Event}
 use Rattle.host_core.specs.Host.{State, AtEachMomentOf}
 use Rattle.host_core.specs.Loss.{IsAnswered}
@@ -10,17 +13,17 @@ use Rattle.relation_index.specs.declared.package.Package.{Package}
 use Rattle.unit_reports.specs.Held.{Held}
 use Rattle.unit_reports.specs.Units.{HasNoCalls, IsBroken, TellsNoPackage}
 use Rattle.unit_reports.specs.declared.report.Unit.{Unit as AUnit}
+use Rattle.unit_runs.specs.Turns.{IsStill}
 use Rattle.configure_run.specs.LeftOver.{IsNumbered}
-use Rattle.configure_run.specs.Turns.{HasCalledFor, IsAmidUnit, IsStill, IsTurn, IsUnit, after_turn, is_done}
+use Rattle.configure_run.specs.Starting.{AreWaiting}
+use Rattle.configure_run.specs.Turns.{HasCalledFor, IsAmidUnit, IsUnit, after_turn}
+use Rattle.configure_run.specs.declared.turn.Configuring.{Configuring}
 
--- the unit of the package of this number more
-pub record TakesTurn (policy : ConfPolicy) (q : Waiting) (x : ℕ) (done : Bool) (before after : Held) (s t : State) (old new : List AUnit) : Type 0 where
+-- the unit of the package of this number
+pub record IsTurnOf (policy : ConfPolicy) (q : Waiting) (x : ℕ) (before after : Held) (s t : State) (u : AUnit) : Type 0 where
   pub p : Package
   pub numbered : IsNumbered q.packages x p
-  pub unit : AUnit
-  pub grown : new ≡ old ++ unit ∷ []
-  pub done_is : done ≡ is_done unit.reply
-  pub is : IsUnit policy q.packages p before after unit s t
+  pub is : IsUnit policy q.packages p before after u s t
   pub moments : AtEachMomentOf (IsAmidUnit policy p.name before) s t
   pub answered : IsAnswered s t
 
@@ -31,22 +34,52 @@ pub record IsBrokenAt (policy : ConfPolicy) (q : Waiting) (x : ℕ) (before : He
   pub called : HasNoCalls u s t ⊎ ((p : Package) × IsNumbered q.packages x p × HasCalledFor policy p.name before u s t)
 
 -- at each moment of its turn
-abbrev pub IsAmidTurn : ConfPolicy → Waiting → ℕ → Held → World → List Event → World → Type 0
-IsAmidTurn policy q x before old so_far now = IsStill old so_far now ⊎ ((p : Package) × IsNumbered q.packages x p × IsAmidUnit policy p.name before old so_far now)
+abbrev pub IsAmidTurnOf : ConfPolicy → Waiting → ℕ → Held → World → List Event → World → Type 0
+IsAmidTurnOf policy q x before old so_far now = IsStill old so_far now ⊎ ((p : Package) × IsNumbered q.packages x p × IsAmidUnit policy p.name before old so_far now)
 
--- one more turn, and what waits behind it
-pub record TakesOne (policy : ConfPolicy) (silent : ℕ → Bool) (q later : Waiting) (before after : Held) (s t : State) (old new : List AUnit) : Type 0 where
-  pub unit : AUnit
-  pub grown : new ≡ old ++ unit ∷ []
-  pub turn : IsTurn policy silent q later before after unit s t
+-- no turn is left, and none was taken
+pub record IsNoneLeft (silent : List Bool) (taken : Option (ℕ × Bool)) (q : Waiting) : Type 0 where
+  pub untaken : taken ≡ None
+  pub next : IsNextOfConfigurable q (has silent) None
+  pub none_left : (x : ℕ) → IsConfigurableNow q x → ⊥
 
--- no turn is left
-pub record TakesNone (silent : ℕ → Bool) (q : Waiting) (before after : Held) (s t : State) (old new : List AUnit) : Type 0 where
-  pub none : IsNextOfConfigurable q silent None
-  pub same_units : new ≡ old
-  pub same_held : after ≡ before
-  pub same : t ≡ s
+-- what stays the same over the turns
+pub record Task : Type 0 where
+  pub policy : ConfPolicy
+  pub silent : List Bool
 
-abbrev pub TakesNext : ConfPolicy → (ℕ → Bool) → Waiting → Option (ℕ × Bool) → Held → Held → State → State → List AUnit → List AUnit → Type 0
-TakesNext policy silent q None before after s t old new = TakesNone silent q before after s t old new
-TakesNext policy silent q (Some n) before after s t old new = TakesOne policy silent q (after_turn n.1 n.0 q) before after s t old new
+abbrev pub task_of : Configuring → Task
+task_of c = record { policy = c.policy; silent = c.silent.items }
+
+-- what waits behind the turn that was taken last
+abbrev pub left_behind : Waiting → Option (ℕ × Bool) → Waiting
+left_behind q None = q
+left_behind q (Some n) = after_turn n.1 n.0 q
+
+abbrev pub left_in : Option Waiting → Option (ℕ × Bool) → Waiting
+left_in None taken = record { packages = []; installed = []; waiting = [] }
+left_in (Some q) taken = left_behind q taken
+
+-- what waits; nothing where memory was wanting for the queue
+abbrev pub left_of : Configuring → Waiting
+left_of c = left_in c.queue c.taken
+
+abbrev pub weight : Bool → ℕ
+weight true = 1
+weight false = 0
+
+-- how many wait
+abbrev pub count : Waiting → ℕ
+count q = sum_by weight q.waiting
+
+-- between turns the queue is there, and what waits is recorded so
+pub record IsBetween (c : Configuring) (a : Administration) : Type 0 where
+  pub queue : Waiting
+  pub here : c.queue ≡ Some queue
+  pub member : IfSome c.taken (λ n. IsConfigurableNow queue n.0)
+  pub wait : AreWaiting (left_behind queue c.taken) a.database.records
+
+-- this is the queue, of which no turn is left
+pub record IsOver (c : Configuring) (q : Waiting) : Type 0 where
+  pub here : c.queue ≡ Some q
+  pub none : IsNoneLeft c.silent.items c.taken q

@@ -2,7 +2,7 @@
 use Rattle.std.specs.Prelude.{◌≡◌, ◌⊎◌, ℕ, Bool, true, false, IsTrue, List, [], ◌∷◌, ◌++◌, Option, Some, None, IfSome}
 use Rattle.conffiles.specs.declared.decisions.ConfPolicy.{ConfPolicy}
 use Rattle.dependency_check.specs.Deconfigured.{of_role}
-use Rattle.dependency_check.specs.Waiting.{Waiting, IsNextOfConfigurable, with_configured, without_failed}
+use Rattle.dependency_check.specs.Waiting.{Waiting, IsConfigurableNow, IsNextOfConfigurable, with_configured, without_failed}
 use Rattle.dependency_check.specs.declared.roles.Role.TheVariants.{Breaking}
 use Rattle.dependency_sets.specs.Choices.{IsFirst}
 use Rattle.host_core.specs.Events.{Event, Did, scripts_of}
@@ -144,6 +144,7 @@ pub record IsTurn (policy : ConfPolicy) (silent : ℕ → Bool) (q : Waiting) (b
   pub x : ℕ
   pub p : Package
   pub next : IsNext silent q x p
+  pub can : IsConfigurableNow q x
   pub is : IsUnit policy q.packages p before after u s t
   pub later_is : later ≡ after_turn (is_done u.reply) x q
   pub moments : AtEachMomentOf (IsAmidUnit policy p.name before) s t

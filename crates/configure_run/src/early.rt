@@ -6,11 +6,12 @@ ghost use Rattle.configure_run.specs.Early.{AreRefused, AreSomeRefused, HasRefus
 
 use crate::asked::is_unconfigured;
 use crate::telling::add_finished;
+use host_core::Host;
 use status_db::NotedDatabase;
 use status_records::{Flag, Record};
 use std::alloc::{AllocError, Global};
 use texts::Text;
-use unit_reports::{Rule, Unit, Watcher, refused, what_is_told_in_turn};
+use unit_reports::{Rule, Unit, Watcher, refused};
 
 fn rule_by_flag(flag: Flag) -> Option<Rule>
     ensures { result ≡ rule_by_flag flag }
@@ -38,8 +39,9 @@ fn early_rule(entry: Option<&Record>) -> Option<Rule>
 }
 
 // The refused unit of a package, where a rule refuses it.
-fn push_refusal<W: Watcher>(
+fn push_refusal<H: Host, W: Watcher>(
     alloc: Global,
+    host: &H,
     rule: Option<Rule>,
     name: &Text,
     units: &mut Vec<Unit>,
@@ -48,11 +50,12 @@ fn push_refusal<W: Watcher>(
     ensures ok { OnOk result (HasRefused (refusal_by name.now rule) units.old.items
         units.new.items) }
     ensures err { OnErr result (units.new.items ≡ units.old.items) }
-    ensures watched { AddsTold W.tells units.old.items units.new.items watcher.old watcher.new }
+    ensures watched { AddsTold W.tells (H.state host.now) units.old.items units.new.items
+        watcher.old watcher.new }
 {
     match rule {
         Some(rule) => {
-            add_finished(refused(alloc, rule, name.copy()?), units, watcher)?;
+            add_finished(host, refused(alloc, rule, name.copy()?), units, watcher)?;
             Ok(())
         }
         None => Ok(()),
@@ -60,8 +63,9 @@ fn push_refusal<W: Watcher>(
 }
 
 /// Refuses the packages that can't wait, in the order of these names; where memory is wanting the first of them are.
-pub(crate) fn refuse_early<W: Watcher>(
+pub(crate) fn refuse_early<H: Host, W: Watcher>(
     alloc: Global,
+    host: &H,
     database: &NotedDatabase,
     names: &[Text],
     units: &mut Vec<Unit>,
@@ -72,11 +76,11 @@ pub(crate) fn refuse_early<W: Watcher>(
         units.new.items) }
     ensures err { OnErr result (AreSomeRefused (early_refusals database.now.records names.now)
         units.new.items) }
-    ensures watched { AddsTold W.tells units.old.items units.new.items watcher.old watcher.new }
+    ensures watched { AddsTold W.tells (H.state host.now) units.old.items units.new.items
+        watcher.old watcher.new }
 {
-    what_is_told_in_turn::<W>();
     for name in names {
-        push_refusal(alloc, early_rule(database.get(name)), name, units, watcher)?;
+        push_refusal(alloc, host, early_rule(database.get(name)), name, units, watcher)?;
     }
     Ok(())
 }

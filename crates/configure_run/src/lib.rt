@@ -14,17 +14,19 @@
 //! units are done and the next is under way (`any_moment`). Both take the packages of the records
 //! from their caller and give them back as those of the records that they leave, unless a unit was
 //! broken off (`indexed`); so does displaced_packages. A `Watcher` (unit_reports) is told each unit
-//! of the report once, in order, and nothing of the one that was broken off (`watched`).
+//! of the report once, in order, when it is on the disk and no later one has made a call, and
+//! nothing of the one that was broken off (`watched`). The turns themselves are taken by unit_runs.
 #![tactic(auto)]
 
+mod all_turns;
 mod asked;
 mod early;
 mod left_over;
+mod queue;
 mod run;
 mod starting;
 mod telling;
 mod turn;
-mod turns;
 mod unit;
 
 pub use asked::waiting_names;

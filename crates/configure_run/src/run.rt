@@ -17,11 +17,11 @@ ghost use Rattle.configure_run.specs.Run.{HasRun, IsAmidRun, IsConfigureRun};
 ghost use Rattle.configure_run.specs.Starting.{AreSilent, IsBegun};
 ghost use Rattle.configure_run.specs.Turns.{EndTurns, IsAmidTurns, StopTurns};
 
+use crate::all_turns::run_turns;
 use crate::asked::each_once;
 use crate::early::refuse_early;
+use crate::queue::Queue;
 use crate::starting::silent_of;
-use crate::turn::run_turns;
-use crate::turns::Turns;
 use crate::unit::no_memory;
 use conffiles::ConfPolicy;
 use diversions::Diversions;
@@ -33,11 +33,12 @@ use status_db::NotedDatabase;
 use std::alloc::{AllocError, Global};
 use std::mem;
 use texts::Text;
-use unit_reports::{Report, Unit, Watcher, breakage_of, broken, what_is_told_in_turn};
+use unit_reports::{Report, Unit, Watcher, breakage_of, broken};
 
 // Refuses the packages that can't wait, each once.
-fn refuse_first<W: Watcher>(
+fn refuse_first<H: Host, W: Watcher>(
     alloc: Global,
+    host: &H,
     database: &NotedDatabase,
     names: &[Text],
     units: &mut Vec<Unit>,
@@ -48,21 +49,22 @@ fn refuse_first<W: Watcher>(
         units.new.items) }
     ensures err { OnErr result (AreSomeRefused (early_refusals database.now.records
         (each_once names.now)) units.new.items) }
-    ensures watched { AddsTold W.tells units.old.items units.new.items watcher.old watcher.new }
+    ensures watched { AddsTold W.tells (H.state host.now) units.old.items units.new.items
+        watcher.old watcher.new }
 {
     let list = each_once(alloc, names)?;
-    refuse_early(alloc, database, list.as_slice(), units, watcher)?;
+    refuse_early(alloc, host, database, list.as_slice(), units, watcher)?;
     Ok(())
 }
 
-// The turns of the packages that wait, for which the packages are taken, and which of these have no postinst.
+// The queue of the packages that wait, for which the packages are taken, and which of these have no postinst.
 fn begun<H: Host>(
     alloc: Global,
     host: &mut H,
     database: &NotedDatabase,
     packages: &mut Packages,
     names: &[Text],
-) -> Result<(Turns, Vec<bool>), HostFault>
+) -> Result<(Queue, Vec<bool>), HostFault>
     requires indexed { ArePackagesOf database.now.records packages.old }
     ensures begun { IfOk result (λ both. IsBegun names.now database.now.records both.0) }
     ensures seen { Tells result (λ both w. AreSilent w both.0 (has both.1.items)) (H.state host.old)
@@ -72,9 +74,9 @@ fn begun<H: Host>(
     ensures counts { Counts (H.state host.old) (H.state host.new) result }
 {
     let taken = mem::replace(packages, Packages::new(alloc));
-    let turns = Turns::of(alloc, database, taken, names)?;
+    let queue = Queue::of(alloc, database, taken, names)?;
     match silent_of(alloc, host, names, database.records()) {
-        Ok(silent) => Ok((turns, silent)),
+        Ok(silent) => Ok((queue, silent)),
         Err(fault) => Err(fault),
     }
 }
@@ -88,16 +90,16 @@ fn run_and_renew<H: Host, W: Watcher>(
     diversions: &Diversions,
     names: &[Text],
     policy: ConfPolicy,
-    turns: Turns,
-    silent: &[bool],
+    queue: Queue,
+    silent: Vec<bool>,
     units: &mut Vec<Unit>,
     watcher: &mut W,
 ) -> Result<(), Unit>
     requires open { IsOpen diversions.now.entries administration.old }
-    requires begun { IsBegun names.now administration.old.database.records turns }
+    requires begun { IsBegun names.now administration.old.database.records queue }
     requires order { Needs (H.state host.old)
         (IsInOrder administration.old.database administration.old.lists.lists) }
-    ensures ok { OnOk result (EndTurns policy (has silent.now) turns
+    ensures ok { OnOk result (EndTurns policy (has silent.items) queue
         (held_by administration.old diversions.now) (H.state host.old) units.old.items
         units.new.items (held_by administration.new diversions.now) (H.state host.new)) }
     ensures indexed { OnOk result (ArePackagesOf administration.new.database.records packages.new) }
@@ -105,21 +107,22 @@ fn run_and_renew<H: Host, W: Watcher>(
     ensures order { OnOk result (Needs (H.state host.new)
         (IsInOrder administration.new.database administration.new.lists.lists)) }
     ensures open { OnOk result (IsOpen diversions.now.entries administration.new) }
-    ensures err { IfErr result (λ unit. StopTurns policy (has silent.now) turns
+    ensures err { IfErr result (λ unit. StopTurns policy (has silent.items) queue
         (held_by administration.old diversions.now) (H.state host.old) units.old.items
         units.new.items (Some unit) (H.state host.new)) }
     ensures told { OnOk result (TellsAll (H.state host.old) (H.state host.new)
         (calls_of units.old.items) (calls_of units.new.items)) }
     ensures told_broken { IfErr result (λ unit. TellsAll (H.state host.old) (H.state host.new)
         (calls_of units.old.items) (calls_of units.new.items ++ unit.calls.items)) }
-    ensures any_moment { Since (IsAmidTurns policy (has silent.now) turns
+    ensures any_moment { Since (IsAmidTurns policy (has silent.items) queue
         (held_by administration.old diversions.now) (H.state host.old)) (H.state host.old)
         (H.state host.new) }
     ensures no_fault { OnOk result (faults (H.state host.new) ≡ faults (H.state host.old)) }
     ensures counts { IfErr result (λ unit. CountsReply (H.state host.old) (H.state host.new)
         unit.reply) }
     ensures not_closed { IfErr result (λ unit. IsBrokenBy Closed unit.reply → ⊥) }
-    ensures watched { AddsTold W.tells units.old.items units.new.items watcher.old watcher.new }
+    ensures watched { AddsTold W.tells (H.state host.old) units.old.items units.new.items
+        watcher.old watcher.new }
 {
     administration.database.law();
     let alloc = administration.alloc;
@@ -128,7 +131,7 @@ fn run_and_renew<H: Host, W: Watcher>(
         administration,
         diversions,
         policy,
-        turns,
+        queue,
         silent,
         units,
         watcher,
@@ -181,21 +184,21 @@ fn run_all<H: Host, W: Watcher>(
     ensures counts { IfErr result (λ unit. CountsReply (H.state host.old) (H.state host.new)
         unit.reply) }
     ensures not_closed { IfErr result (λ unit. IsBrokenBy Closed unit.reply → ⊥) }
-    ensures watched { AddsTold W.tells units.old.items units.new.items watcher.old watcher.new }
+    ensures watched { AddsTold W.tells (H.state host.old) units.old.items units.new.items
+        watcher.old watcher.new }
 {
-    what_is_told_in_turn::<W>();
     let alloc = administration.alloc;
-    match refuse_first(alloc, &administration.database, names, units, watcher) {
+    match refuse_first(alloc, host, &administration.database, names, units, watcher) {
         Ok(()) => match begun(alloc, host, &administration.database, packages, names) {
-            Ok((turns, silent)) => match run_and_renew(
+            Ok((queue, silent)) => match run_and_renew(
                 host,
                 administration,
                 packages,
                 diversions,
                 names,
                 policy,
-                turns,
-                silent.as_slice(),
+                queue,
+                silent,
                 units,
                 watcher,
             ) {
@@ -241,7 +244,7 @@ pub fn configure_packages<H: Host, W: Watcher>(
         packages.new }
     ensures counts { CountsLast (H.state host.old) (H.state host.new) result.last }
     ensures not_closed { IfSome result.last (λ unit. IsBrokenBy Closed unit.reply → ⊥) }
-    ensures watched { IsTold W.tells watcher.old result.units.items watcher.new }
+    ensures watched { IsTold W.tells (H.state host.old) watcher.old result.units.items watcher.new }
 {
     let mut units = Vec::new(administration.alloc);
     match run_all(

@@ -1,22 +1,26 @@
-// A finished unit more.
+// A refused unit more.
 ghost use Rattle.std.specs.Prelude.{◌≡◌, ◌++◌, ◌∷◌, [], OnErr, OnOk};
 ghost use Rattle.unit_reports.specs.Watching.{AddsTold};
 
+use host_core::Host;
 use std::alloc::AllocError;
 use unit_reports::{Unit, Watcher};
 
-/// A finished unit more, which is told once there is room for it.
-pub(crate) fn add_finished<W: Watcher>(
+/// A unit more that made no call, which is told once there is room for it.
+pub(crate) fn add_finished<H: Host, W: Watcher>(
+    host: &H,
     unit: Unit,
     units: &mut Vec<Unit>,
     watcher: &mut W,
 ) -> Result<(), AllocError>
+    requires quiet { unit.calls.items ≡ [] }
     ensures ok { OnOk result (units.new.items ≡ units.old.items ++ unit ∷ []) }
     ensures err { OnErr result (units.new.items ≡ units.old.items) }
-    ensures watched { AddsTold W.tells units.old.items units.new.items watcher.old watcher.new }
+    ensures watched { AddsTold W.tells (H.state host.now) units.old.items units.new.items
+        watcher.old watcher.new }
 {
     units.reserve(1)?;
-    watcher.finished(&unit);
+    watcher.finished(host, &unit);
     units.push(unit).unwrap();
     Ok(())
 }

@@ -16,10 +16,6 @@ use Rattle.held_administration.specs.Order.{IsInOrder}
 pub on_disk : (s t : State) → Happens (Did Barrier ∷ []) s t → IsOnDisk t.events
 on_disk s t goes = (s.events, [], goes.events, tt)
 
--- nothing was done
-pub answered_here : (s : State) → IsAnswered s s
-answered_here s = inr (record { honest = λ h. h; world = refl; added = []; failed = tt; events = sym (append-nil s.events) })
-
 pub order_behind : (d : Recorded) (lists : List PackageList) (m t : State) → Happens (Did Barrier ∷ []) m t → Needs m (IsInOrder d lists) → Needs t (IsInOrder d lists)
 order_behind d lists m t goes order = λ h. subst (IsInOrder d lists) (sym goes.world) (order (goes.honest h))
 
@@ -49,12 +45,3 @@ since_to_disk P result a b c still first does = since_then P a b c first (more r
     more (Err Device) (Stops.some u is goes) = since_fails Q (Did u) b c goes (λ h. elim (is h) [ inl same ↦ whole u (goes.honest h) same | inr part ↦ absurd part ])
         (λ h. elim (is h) [ inl same ↦ after u (goes.honest h) same | inr part ↦ absurd part ])
     more (Err NoMemory) does = record { added = []; events = does.events ∙ sym (append-nil b.events); honest = does.honest; world = does.world; each = λ h. here (does.honest h) [] refl }
-
-still_on_disk : (a b : State) → IsOnDisk a.events → Reads a b → IsOnDisk b.events
-still_on_disk a b disk reads = (disk.0, disk.1 ++ reads.added, reads.events ∙ ap (λ (l : List Event). l ++ reads.added) disk.2 ∙ append_assoc disk.0 (Did Barrier ∷ disk.1) reads.added, faults_then disk.1 reads.added disk.3 reads.failed)
-
--- what was answered before, and what is answered now
-pub answered_then : (a b c : State) → IsAnswered a b → IsAnswered b c → IsAnswered a c
-answered_then a b c first (inl disk) = inl disk
-answered_then a b c (inl disk) (inr reads) = inl (still_on_disk b c disk reads)
-answered_then a b c (inr first) (inr second) = inr (reads_then a b c first second)

@@ -4,8 +4,13 @@ use Rattle.std.proofs.lemmas.List.{append-nil}
 use Rattle.std.specs.Prelude.{IfSome, IsNone}
 use Rattle.std.proofs.lemmas.Bool.{true≢false}
 use Rattle.dependency_check.specs.Waiting.{Waiting}
-use Rattle.host_core.specs.Host.{State, faults}
+use Rattle.host_core.specs.Host.{State, Since, faults}
+use Rattle.host_core.proofs.Moments.{since_start, since_weaker}
+use Rattle.unit_runs.proofs.Going.{still_here}
 use Rattle.status_records.specs.declared.record.Record.{Record}
+use Rattle.recorded_packages.specs.Packages.{ArePackagesOf}
+use Rattle.relation_index.specs.declared.package.Package.{Package}
+use Rattle.unit_reports.proofs.Telling.{calls_both}
 use Rattle.unit_reports.specs.Held.{Held}
 use Rattle.unit_reports.specs.Units.{CountsLast, IsBrokenBy, calls_of, last_calls}
 use Rattle.unit_reports.specs.declared.report.Breakage.TheVariants.{Closed}
@@ -13,66 +18,68 @@ use Rattle.unit_reports.specs.declared.report.Unit.{Unit as AUnit}
 use Rattle.undo_rows.specs.Transcript.{TellsAll}
 use Rattle.removal_run.specs.LeftOver.{AreAllTold, AreLeftOver}
 use Rattle.removal_run.specs.Next.{IsNothing}
-use Rattle.removal_run.specs.Run.{EndsWith, IsIdle, RunsThrough, RunsUpTo}
-use Rattle.removal_run.specs.Turns.{HasStopped, HasTurned, IsBrokenNext}
+use Rattle.removal_run.specs.Run.{EndsWith, IsAmidRun, IsIdle, RunsThrough, RunsUpTo, waiting_for}
+use Rattle.removal_run.specs.Turns.{HasStopped, HasTurned, IsAmidTurns, IsBrokenNext}
 use Rattle.removal_run.proofs.Overleft.{depended_calls}
 use Rattle.removal_run.proofs.Removals.{silent_here}
 use Rattle.removal_run.proofs.Replies.{broken_by, counts_no_memory, no_memory_not_closed}
 use Rattle.removal_run.proofs.Turning.{since_next_start}
 
-calls_append : (us vs : List AUnit) → calls_of (us ++ vs) ≡ calls_of us ++ calls_of vs
-calls_append [] vs = refl
-calls_append (u ∷ us) vs = ap (λ l. u.calls.items ++ l) (calls_append us vs) ∙ sym (append_assoc u.calls.items (calls_of us) (calls_of vs))
+left_over : (packages : List Package) (now : List Record) (waiting : List (List ℕ)) (q : Waiting) (us : List AUnit) → IsNothing packages now waiting q → AreAllTold q us → AreLeftOver packages now waiting us
+left_over packages now waiting q us nothing told = record { queue = q; is = nothing.queue; none = nothing.none; told = told }
 
-left_over : (start now : List Record) (waiting : List (List ℕ)) (q : Waiting) (us : List AUnit) → IsNothing start now waiting q → AreAllTold q us → AreLeftOver start now waiting us
-left_over start now waiting q us nothing told = record { queue = q; is = nothing.queue; none = nothing.none; told = told }
+idle_next : (purge : Bool) (packages : List Package) (waiting : List (List ℕ)) (h : Held) (s : State) (u : AUnit) → IsIdle u → IsBrokenNext purge packages waiting h s s u
+idle_next purge packages waiting h s u idle = record { broken = broken_by _ u.reply idle.broken; untouched = idle.touched; called = inl (record { silent = silent_here s; told = idle.calls }) }
 
-idle_next : (purge : Bool) (start : List Record) (waiting : List (List ℕ)) (h : Held) (s : State) (u : AUnit) → IsIdle u → IsBrokenNext purge start waiting h s s u
-idle_next purge start waiting h s u idle = record { broken = broken_by _ u.reply idle.broken; untouched = idle.touched; called = inl (record { silent = silent_here s; told = idle.calls }) }
-
-module _ (purge : Bool) (names left : List (List ℕ)) (begun mid us : List AUnit) (before after : Held) (s t : State) (turned : HasTurned purge names left before after s t begun mid)
-    (q : Waiting) (nothing : IsNothing before.records.records after.records.records left q) where
+module _ (purge : Bool) (packages : List Package) (names left : List (List ℕ)) (begun mid us : List AUnit) (before after : Held) (s t : State) (stated : ArePackagesOf before.records.records packages)
+    (turned : HasTurned purge packages names left before after s t begun mid) (q : Waiting) (nothing : IsNothing packages after.records.records left q) where
   -- where all are told
   pub runs_through : EndsWith q mid us None → RunsThrough purge names begun us before after s t
   runs_through ends = record {
-    removed = turned.done;
+    packages = packages;
+    stated = stated;
+    removed = turned.turned;
     left = ends.left;
-    units = ends.grown ∙ ap (λ (l : List AUnit). l ++ ends.left) turned.grown ∙ append_assoc begun turned.done ends.left;
+    units = ends.grown ∙ ap (λ (l : List AUnit). l ++ ends.left) turned.are ∙ append_assoc begun turned.turned ends.left;
     waiting = left;
-    turns = turned.turns;
-    last = left_over before.records.records after.records.records left q ends.left nothing ends.told;
+    turns = turned.come;
+    last = left_over packages after.records.records left q ends.left nothing ends.told;
   }
 
   pub runs_up_to : (last : Option AUnit) → EndsWith q mid us last → RunsUpTo purge names begun us last before s t
   runs_up_to None ends = record {
-    removed = turned.done;
+    packages = packages;
+    stated = stated;
+    removed = turned.turned;
     left = ends.left;
-    units = ends.grown ∙ ap (λ (l : List AUnit). l ++ ends.left) turned.grown ∙ append_assoc begun turned.done ends.left;
+    units = ends.grown ∙ ap (λ (l : List AUnit). l ++ ends.left) turned.are ∙ append_assoc begun turned.turned ends.left;
     waiting = left;
     after = after;
     end = t;
-    turns = turned.turns;
-    rest = inr (left_over before.records.records after.records.records left q ends.left nothing ends.told);
-    since = since_next_start purge before.records.records left after t;
+    turns = turned.come;
+    rest = inr (left_over packages after.records.records left q ends.left nothing ends.told);
+    since = since_next_start purge packages left left after t;
     broken = tt;
   }
   runs_up_to (Some u) ends = record {
-    removed = turned.done;
+    packages = packages;
+    stated = stated;
+    removed = turned.turned;
     left = [];
-    units = ends.0 ∙ turned.grown ∙ ap (λ (l : List AUnit). begun ++ l) (sym (append-nil turned.done));
+    units = ends.0 ∙ turned.are ∙ ap (λ (l : List AUnit). begun ++ l) (sym (append-nil turned.turned));
     waiting = left;
     after = after;
     end = t;
-    turns = turned.turns;
+    turns = turned.come;
     rest = inl refl;
-    since = since_next_start purge before.records.records left after t;
-    broken = idle_next purge before.records.records left after t u ends.1;
+    since = since_next_start purge packages left left after t;
+    broken = idle_next purge packages left after t u ends.1;
   }
 
 -- the calls that are told
 pub told_calls : (q : Waiting) (mid us : List AUnit) (last : Option AUnit) → EndsWith q mid us last → calls_of us ++ last_calls last ≡ calls_of mid
 told_calls q mid us None ends =
-    append-nil (calls_of us) ∙ ap calls_of ends.grown ∙ calls_append mid ends.left ∙ ap (λ l. calls_of mid ++ l) (depended_calls q.packages _ _ ends.told.numbers ends.left ends.told.each) ∙ append-nil (calls_of mid)
+    append-nil (calls_of us) ∙ ap calls_of ends.grown ∙ calls_both mid ends.left ∙ ap (λ l. calls_of mid ++ l) (depended_calls q.packages _ _ ends.told.numbers ends.left ends.told.each) ∙ append-nil (calls_of mid)
 told_calls q mid us (Some u) ends = ap (λ l. calls_of us ++ l) ends.1.calls ∙ append-nil (calls_of us) ∙ ap calls_of ends.0
 
 pub ending_counts : (q : Waiting) (mid us : List AUnit) (last : Option AUnit) (s t : State) → faults t ≡ faults s → EndsWith q mid us last → CountsLast s t last
@@ -84,18 +91,21 @@ ending_not_closed q mid us None ends = tt
 ending_not_closed q mid us (Some u) ends = no_memory_not_closed u.reply ends.1.broken
 
 -- where one was broken off
-pub stopped_up_to : (purge : Bool) (names : List (List ℕ)) (begun us : List AUnit) (before : Held) (s t : State) (u : AUnit) → HasStopped purge names before s t begun us u → RunsUpTo purge names begun us (Some u) before s t
-stopped_up_to purge names begun us before s t u stopped = record {
-  removed = stopped.turned.done;
+pub stopped_up_to : (purge : Bool) (packages : List Package) (names : List (List ℕ)) (begun us : List AUnit) (before : Held) (s t : State) (u : AUnit) → ArePackagesOf before.records.records packages → HasStopped purge packages names before s t begun us u
+    → RunsUpTo purge names begun us (Some u) before s t
+stopped_up_to purge packages names begun us before s t u stated (later, stopped) = record {
+  packages = packages;
+  stated = stated;
+  removed = stopped.turned.turned;
   left = [];
-  units = stopped.turned.grown ∙ ap (λ (l : List AUnit). begun ++ l) (sym (append-nil stopped.turned.done));
-  waiting = stopped.left;
+  units = stopped.turned.are ∙ ap (λ (l : List AUnit). begun ++ l) (sym (append-nil stopped.turned.turned));
+  waiting = stopped.q;
   after = stopped.after;
-  end = stopped.end;
-  turns = stopped.turned.turns;
+  end = stopped.m;
+  turns = stopped.turned.come;
   rest = inl refl;
   since = stopped.since;
-  broken = stopped.broken;
+  broken = record { broken = stopped.broken.broken; untouched = stopped.broken.untouched; called = stopped.broken.called };
 }
 
 not_none : (u : AUnit) → IsNone (Some u) → ⊥
@@ -112,3 +122,12 @@ tells_ended q begun mid us last s t none ends told = subst (TellsAll s t []) (sy
 
 pub tells_stopped : (begun us : List AUnit) (u : AUnit) (s t : State) → calls_of begun ≡ [] → TellsAll s t (calls_of begun) (calls_of us ++ u.calls.items) → TellsAll s t [] (calls_of us ++ u.calls.items)
 tells_stopped begun us u s t none told = subst (λ l. TellsAll s t l (calls_of us ++ u.calls.items)) none told
+
+-- the moments of a whole removal
+
+pub since_removals : (names : List (List ℕ)) (purge : Bool) (packages : List Package) (before : Held) (s t : State) → ArePackagesOf before.records.records packages → Since (IsAmidTurns purge packages (waiting_for purge names before) before s) s t → Since (IsAmidRun names purge before s) s t
+since_removals names purge packages before s t stated since =
+    since_weaker (IsAmidTurns purge packages (waiting_for purge names before) before s) (IsAmidRun names purge before s) s t (λ x w amid. inr (record { packages = packages; stated = stated; turns = amid })) since
+
+pub since_none : (names : List (List ℕ)) (purge : Bool) (before : Held) (s : State) → Since (IsAmidRun names purge before s) s s
+since_none names purge before s = since_start (IsAmidRun names purge before s) s (inl (still_here s.world))

@@ -44,12 +44,18 @@ module _ (q : Waiting) (members : List Bool) (o : Option ℕ) (are : (y : ℕ) �
   next_nothing e = λ x can. (subst (IsNextOfRemovable q) e next) (has members) are x ((are x).1 can)
 
 -- what was found next, of the names that are left
-module _ (start now : List Record) (names : List (List ℕ)) (q : Waiting) (is : IsQueueNow start now names q) (n : Next) (found : IsNextIn q n) where
-  pub next_is : IsRemovedNext start now names n.name
+module _ (packages : List Package) (now : List Record) (names : List (List ℕ)) (q : Waiting) (is : IsQueueNow packages now names q) (n : Next) (found : IsNextIn q n) where
+  pub next_is : IsRemovedNext packages now names n.name
   next_is = record { queue = q; is = is; number = n.number; next = found.next; named = found.named }
 
   pub next_among : IsTrue (is_among names n.name)
   next_among = subst (λ (m : List ℕ). IsTrue (is_among names m)) (sym found.named) (waits_at names q.packages n.number (subst (λ (l : List Bool). IsTrue (has l n.number)) is.waiting (removable_waits q n.number found.member))).1
+
+-- one that is removed next waits
+pub removed_among : (packages : List Package) (now : List Record) (names : List (List ℕ)) (name : List ℕ) → (next : IsRemovedNext packages now names name) → IsRemovableNow next.queue next.number → IsTrue (is_among names name)
+removed_among packages now names name next can =
+    subst (λ (m : List ℕ). IsTrue (is_among names m)) (sym next.named)
+    (waits_at names next.queue.packages next.number (subst (λ (l : List Bool). IsTrue (has l next.number)) next.is.waiting (removable_waits next.queue next.number can))).1
 
 pub is_next : (q : Waiting) (o : Option Next) (n : Next) → o ≡ Some n → IsNext q o → IsNextIn q n
 is_next q o n e is = subst (IsNext q) e is

@@ -10,4 +10,5 @@ mod Overleft
 mod Accepting
 mod Removable
 mod Turning
+mod Tellings
 mod Ending

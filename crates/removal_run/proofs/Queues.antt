@@ -74,9 +74,9 @@ left_own name (n ∷ ns) = by (bytes_eq n name) refl (left_own name ns)
     by false e rest = ap (λ c. c || is_among (without name ns) name) (differs name n (λ same. true≢false (sym ((bytes_eq-Decides n name).1 (sym same)) ∙ e))) ∙ rest
 
 -- the package isn't installed any more
-pub queue_struck : (start before now : List Record) (names waiting : List (List ℕ)) (q later : Waiting) (x : ℕ) → AreInNameOrder q.packages → x < length q.packages → is_installed_in now (name_at q.packages x) ≡ false → later ≡ with_removed x q
-    → IsQueueNow start before names q → AreOthersKept (name_at q.packages x) before now → waiting ≡ without (name_at q.packages x) names → IsQueueNow start now waiting later
-queue_struck start before now names waiting q later x order within gone same is kept left = subst (IsQueueNow start now waiting) (sym same) (record {
+pub queue_struck : (packages : List Package) (before now : List Record) (names waiting : List (List ℕ)) (q later : Waiting) (x : ℕ) → AreInNameOrder q.packages → x < length q.packages → is_installed_in now (name_at q.packages x) ≡ false → later ≡ with_removed x q
+    → IsQueueNow packages before names q → AreOthersKept (name_at q.packages x) before now → waiting ≡ without (name_at q.packages x) names → IsQueueNow packages now waiting later
+queue_struck packages before now names waiting q later x order within gone same is kept left = subst (IsQueueNow packages now waiting) (sym same) (record {
   stated = is.stated;
   installed = ap (λ (l : List Bool). set l x false) is.installed
       ∙ marks_struck (is_installed_in before) (is_installed_in now) (name_at q.packages x) (λ n apart. ap is_installed_by (sym (kept n apart))) gone q.packages x within refl others;

@@ -71,19 +71,7 @@ module _ (purge : Bool) (name : List ℕ) (before : Held) where
   pub called_as : (s t : State) (old now told : List Called) → old ≡ [] → told ≡ now → HasCalledRemoving purge name before s t old now → HasCalledRemoving purge name before s t [] told
   called_as s t old now told empty is called = subst (λ l. HasCalledRemoving purge name before s t l told) empty (subst (HasCalledRemoving purge name before s t old) (sym is) called)
 
--- the units that are told
-
-pub calls_more : (us : List AUnit) (u : AUnit) → calls_of (us ++ u ∷ []) ≡ calls_of us ++ u.calls.items
-calls_more [] u = append-nil u.calls.items
-calls_more (v ∷ us) u = ap (λ l. v.calls.items ++ l) (calls_more us u) ∙ sym (append_assoc v.calls.items (calls_of us) u.calls.items)
-
--- the calls of one unit more, after those of others
-pub tells_unit : (b c : State) (us more : List AUnit) (u : AUnit) → more ≡ us ++ u ∷ [] → TellsAll b c [] u.calls.items → TellsAll b c (calls_of us) (calls_of more)
-tells_unit b c us more u grown told = (told.0, told.1, ap calls_of grown ∙ calls_more us u ∙ ap (λ l. calls_of us ++ l) told.2)
-
--- the calls of a unit that was broken off, after those of others
-pub tells_behind : (a b c : State) (start us : List AUnit) (u : AUnit) → TellsAll a b (calls_of start) (calls_of us) → TellsAll b c [] u.calls.items → TellsAll a c (calls_of start) (calls_of us ++ u.calls.items)
-tells_behind a b c start us u first second = tells_then a b c (calls_of start) (calls_of us) (calls_of us ++ u.calls.items) first (second.0, second.1, ap (λ l. calls_of us ++ l) second.2)
+-- its unit
 
 module _ (purge : Bool) (name : List ℕ) where
   -- a removal that wasn't broken off

@@ -76,11 +76,3 @@ counts_whole (Broken breakage) a b whole counts = absurd (whole tt)
 counts_whole Done a b whole counts = counts
 counts_whole (Refused refusal) a b whole counts = counts
 counts_whole (Failed failure) a b whole counts = counts
-
-pub counts_from : (reply : Reply) (a m b : State) → faults m ≡ faults a → CountsReply m b reply → CountsReply a b reply
-counts_from (Broken Device) a m b same counts = record { once = counts.once ∙ ap (λ n. n + 1) same; last = counts.last }
-counts_from (Broken NoMemory) a m b same counts = counts ∙ same
-counts_from (Broken Closed) a m b same counts = counts ∙ same
-counts_from Done a m b same counts = counts ∙ same
-counts_from (Refused refusal) a m b same counts = counts ∙ same
-counts_from (Failed failure) a m b same counts = counts ∙ same

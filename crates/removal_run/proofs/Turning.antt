@@ -1,118 +1,100 @@
 -- Removals, one after another.
-use Rattle.std.proofs.Common.{◌≡◌, inl, inr, ℕ, Bool, List, [], ◌∷◌, ◌++◌, refl, sym, ap, subst, ◌∙◌, append_assoc}
-use Rattle.std.proofs.lemmas.List.{append-nil}
-use Rattle.host_core.specs.Host.{State, Since}
-use Rattle.host_core.proofs.Moments.{since_start, since_then, since_weaker, since_weaker_if}
+use Rattle.std.proofs.Common.{◌≡◌, inl, inr, ℕ, Bool, List, Option, Some, None, [], ap, sym, subst, ◌∙◌}
+use Rattle.std.specs.Prelude.{IsTrue}
+use Rattle.dependency_check.specs.Waiting.{Waiting, IsRemovableNow}
+use Rattle.host_core.specs.Host.{State, AtEachMomentOf, Since}
+use Rattle.host_core.proofs.Moments.{since_start, since_weaker}
+use Rattle.recorded_packages.specs.Renewal.{AreSameBut}
+use Rattle.relation_index.specs.declared.package.Package.{Package}
 use Rattle.status_records.specs.declared.record.Record.{Record}
 use Rattle.unit_reports.specs.Held.{Held}
 use Rattle.unit_reports.specs.Units.{IsBroken, TellsNoPackage}
 use Rattle.unit_reports.specs.declared.report.Unit.{Unit as AUnit}
-use Rattle.removal_run.specs.Names.{without}
-use Rattle.removal_run.specs.Turns.{HasStopped, HasTurned, IsAmidNext, IsAmidTurns, RemovesTo}
-use Rattle.removal_run.specs.Units.{AddsRemoval, IsAmidRemoval, IsBrokenOff, RunsRemoval}
+use Rattle.unit_runs.specs.Turns as runs
+use Rattle.unit_runs.specs.Turns.{HaveAllTurned, IsBrokenNext as IsBrokenBehind, TurnsTo}
+use Rattle.unit_runs.proofs.Going.{no_turn, since_wider, still_here}
+use Rattle.removal_run.specs.Names.{is_among, without}
+use Rattle.removal_run.specs.Next.{IsNothing}
+use Rattle.removal_run.specs.Taking.{IsOver}
+use Rattle.removal_run.specs.Turns.{HasCalledNext, HasStopped, HasTurned, IsAmidNext, IsAmidTurn, IsAmidTurns, IsTurn, RemovesTo}
+use Rattle.removal_run.specs.Units.{IsAmidRemoval, IsBrokenOff}
 use Rattle.removal_run.specs.Waiting.{IsRemovedNext}
+use Rattle.removal_run.specs.declared.turns.Removing.{Removing}
+use Rattle.removal_run.proofs.Accepting.{waited}
+use Rattle.removal_run.proofs.Following.{removed_among}
+use Rattle.removal_run.proofs.Queues.{same_but_more, same_but_none}
 use Rattle.removal_run.proofs.Removals.{silent_here}
 
--- one more
-pub turns_more : (purge : Bool) (start : List Record) (waiting left : List (List ℕ)) (us : List AUnit) (name : List ℕ) (u : AUnit) (before mid after : Held) (s m t : State)
-    → RemovesTo purge start waiting before s us left mid m → IsRemovedNext start mid.records.records left name → RunsRemoval purge name mid after u m t → RemovesTo purge start waiting before s (us ++ u ∷ []) (without name left) after t
-turns_more purge start waiting left [] name u before mid after s m t so_far next runs = (
-  name,
-  after,
-  t,
-  subst (λ (l : List (List ℕ)). IsRemovedNext start before.records.records l name) so_far.0 (subst (λ (h : Held). IsRemovedNext start h.records.records left name) so_far.1 next),
-  subst (λ (h : Held). RunsRemoval purge name h after u s t) so_far.1 (subst (λ x. RunsRemoval purge name mid after u x t) so_far.2 runs),
-  (ap (without name) so_far.0, refl, refl),
-)
-turns_more purge start waiting left (v ∷ us) name u before mid after s m t so_far next runs =
-    (so_far.0, so_far.1, so_far.2, so_far.3, so_far.4, turns_more purge start (without so_far.0 waiting) left us name u so_far.1 mid after so_far.2 m t so_far.5 next runs)
+module _ (purge : Bool) (packages : List Package) where
+  -- at each moment of the next one
+  module _ (waiting later : List (List ℕ)) (before : Held) where
+    pub since_next_start : (s : State) → AtEachMomentOf (runs.IsAmidNext (λ left behind. IsAmidTurn purge packages left) waiting later before) s s
+    since_next_start s = since_start (runs.IsAmidNext (λ left behind. IsAmidTurn purge packages left) waiting later before s.world) s (inl (still_here s.world))
 
--- at each moment
+    pub since_next : (name : List ℕ) (s t : State) → IsRemovedNext packages before.records.records waiting name → AtEachMomentOf (IsAmidRemoval purge name before) s t
+        → AtEachMomentOf (runs.IsAmidNext (λ left behind. IsAmidTurn purge packages left) waiting later before) s t
+    since_next name s t next since =
+        since_weaker (IsAmidRemoval purge name before s.world) (runs.IsAmidNext (λ left behind. IsAmidTurn purge packages left) waiting later before s.world) s t (λ so_far w amid. inr (name, next, amid)) since
 
-module _ (purge : Bool) (start : List Record) (waiting : List (List ℕ)) (before : Held) where
-  pub since_next_start : (s : State) → Since (IsAmidNext purge start waiting before s.world) s s
-  since_next_start s = since_start (IsAmidNext purge start waiting before s.world) s (inl refl)
+    -- the next one was broken off
+    pub broken_one : (name : List ℕ) (s t : State) (u : AUnit) → IsRemovedNext packages before.records.records waiting name → IsBrokenOff purge name before u s t → IsBrokenBehind (λ left behind. HasCalledNext purge packages left) waiting later before s t u
+    broken_one name s t u next off = record { broken = off.broken; untouched = off.untouched; called = inr (name, next, off.called) }
 
-  pub since_next : (name : List ℕ) (s t : State) → IsRemovedNext start before.records.records waiting name → Since (IsAmidRemoval purge name before s.world) s t → Since (IsAmidNext purge start waiting before s.world) s t
-  since_next name s t next since = since_weaker (IsAmidRemoval purge name before s.world) (IsAmidNext purge start waiting before s.world) s t (λ so_far w amid. inr (name, next, amid)) since
+    -- memory was wanting to find it
+    pub broken_here : (s : State) (u : AUnit) → IsBroken u.reply → TellsNoPackage u → u.calls.items ≡ [] → IsBrokenBehind (λ left behind. HasCalledNext purge packages left) waiting later before s s u
+    broken_here s u broken untouched none = record { broken = broken; untouched = untouched; called = inl (record { silent = silent_here s; told = none }) }
 
-module _ (purge : Bool) (waiting : List (List ℕ)) (before : Held) where
-  pub since_turns_start : (s : State) → Since (IsAmidTurns purge waiting before s) s s
-  since_turns_start s = record {
-    added = [];
-    events = sym (append-nil s.events);
-    honest = λ h. h;
-    world = refl;
-    each = λ h. record {
-      done = [];
-      left = waiting;
-      mid = before;
-      m = s;
-      honest = h;
-      removed = (refl, refl, refl);
-      front = [];
-      rest = [];
-      split = refl;
-      events = sym (append-nil s.events);
-      next = inl refl;
-    };
+  -- each of those that were removed waited, and no other record has changed
+
+  record Leaves (start left : List (List ℕ)) (old new : List Record) : Type 0 where
+    pub waited : (name : List ℕ) → IsTrue (is_among left name) → IsTrue (is_among start name)
+    pub others : AreSameBut start old new
+
+  turn_leaves : (start q later : List (List ℕ)) (old : List Record) (mid after : Held) (u : AUnit) (m t : State) → Leaves start q old mid.records.records → IsTurn purge packages q mid u later after m t → Leaves start later old after.records.records
+  turn_leaves start q later old mid after u m t so_far turn = record {
+    waited = λ name there. so_far.waited name (waited turn.name name q (subst (λ (w : List (List ℕ)). IsTrue (is_among w name)) turn.left_is there));
+    others = same_but_more start turn.name old mid.records.records after.records.records (so_far.waited turn.name (removed_among packages mid.records.records q turn.name turn.next turn.can)) so_far.others turn.others;
   }
 
-  -- the next one behind others
-  pub since_turn : (left : List (List ℕ)) (us : List AUnit) (name : List ℕ) (mid : Held) (s m t : State) → RemovesTo purge before.records.records waiting before s us left mid m → IsRemovedNext before.records.records mid.records.records left name
-      → Since (IsAmidTurns purge waiting before s) s m → Since (IsAmidRemoval purge name mid m.world) m t → Since (IsAmidTurns purge waiting before s) s t
-  since_turn left us name mid s m t turns next first second =
-      since_then (IsAmidTurns purge waiting before s) s m t first
-      (since_weaker_if (IsAmidRemoval purge name mid m.world) (λ so_far. IsAmidTurns purge waiting before s (first.added ++ so_far)) m t
-      (λ h so_far w amid. record {
-        done = us;
-        left = left;
-        mid = mid;
-        m = m;
-        honest = second.honest h;
-        removed = turns;
-        front = first.added;
-        rest = so_far;
-        split = refl;
-        events = first.events;
-        next = inr (name, next, amid);
-      }) second)
+  turns_leave : (start : List (List ℕ)) (before : Held) (s : State) (us : List AUnit) (q : List (List ℕ)) (after : Held) (t : State) → RemovesTo purge packages start before s us q after t → Leaves start q before.records.records after.records.records
+  turns_leave start before s us q after t TurnsTo.begun = record { waited = λ name there. there; others = same_but_none start before.records.records }
+  turns_leave start before s us q after t (TurnsTo.turned first u mid_q later mid end m last come turn) =
+      turn_leaves start mid_q q before.records.records mid after u m t (turns_leave start before s first mid_q mid m come) turn
 
--- the units of removals, behind others
+  pub turned_others : (start left : List (List ℕ)) (before after : Held) (s t : State) (old new : List AUnit) → HasTurned purge packages start left before after s t old new → AreSameBut start before.records.records after.records.records
+  turned_others start left before after s t old new turned = (turns_leave start before s turned.turned left after t turned.come).others
 
-module _ (purge : Bool) (waiting left : List (List ℕ)) (before mid : Held) (s m : State) (old us : List AUnit) (turned : HasTurned purge waiting left before mid s m old us) where
-  pub turned_more : (name : List ℕ) (after : Held) (t : State) (more : List AUnit) → IsRemovedNext before.records.records mid.records.records left name → AddsRemoval purge name mid after m t us more → HasTurned purge waiting (without name left) before after s t old more
-  turned_more name after t more next adds = record {
-    done = turned.done ++ adds.unit ∷ [];
-    grown = adds.grown ∙ ap (λ (l : List AUnit). l ++ adds.unit ∷ []) turned.grown ∙ append_assoc old turned.done (adds.unit ∷ []);
-    turns = turns_more purge before.records.records waiting left turned.done name adds.unit before mid after s m t turned.turns next adds.runs;
-  }
+  -- a run that ended before it began
+  pub stopped_here : (waiting : List (List ℕ)) (before : Held) (s : State) (us : List AUnit) (u : AUnit) → IsBroken u.reply → TellsNoPackage u → u.calls.items ≡ [] → HasStopped purge packages waiting before s s us us u
+  stopped_here waiting before s us u broken untouched none = (waiting, record {
+    q = waiting;
+    after = before;
+    m = s;
+    turned = no_turn (IsTurn purge packages) waiting before s us;
+    since = since_next_start waiting waiting before s;
+    broken = broken_here waiting waiting before s u broken untouched none;
+  })
 
-  -- the next one was broken off
-  pub stopped_one : (name : List ℕ) (t : State) (more : List AUnit) (u : AUnit) → more ≡ us → IsRemovedNext before.records.records mid.records.records left name → Since (IsAmidRemoval purge name mid m.world) m t → IsBrokenOff purge name mid u m t → HasStopped purge waiting before s t old more u
-  stopped_one name t more u same next since broken = record {
-    left = left;
-    after = mid;
-    end = m;
-    turned = subst (HasTurned purge waiting left before mid s m old) (sym {A = List AUnit} same) turned;
-    since = since_next purge before.records.records left mid name m t next since;
-    broken = record { broken = broken.broken; untouched = broken.untouched; called = inr (name, next, broken.called) };
-  }
+  pub since_any : (may : List (List ℕ) → Type 0) (waiting : List (List ℕ)) (before : Held) (s t : State) → Since (runs.IsAmidTurns (IsTurn purge packages) (λ left behind. IsAmidTurn purge packages left) may waiting before s) s t
+      → Since (IsAmidTurns purge packages waiting before s) s t
+  since_any may waiting before s t since = since_wider (IsTurn purge packages) waiting before s (λ left behind. IsAmidTurn purge packages left) may (λ later. Unit {0}) (λ q so. tt) t since
 
-  -- memory was wanting to find it
-  pub stopped_here : (u : AUnit) → IsBroken u.reply → TellsNoPackage u → u.calls.items ≡ [] → HasStopped purge waiting before s m old us u
-  stopped_here u broken untouched none = record {
-    left = left;
-    after = mid;
-    end = m;
-    turned = turned;
-    since = since_next_start purge before.records.records left mid m;
-    broken = record { broken = broken; untouched = untouched; called = inl (record { silent = silent_here m; told = none }) };
-  }
+-- what all removals have come to
 
-  pub since_turned : (name : List ℕ) (t : State) → IsRemovedNext before.records.records mid.records.records left name → Since (IsAmidTurns purge waiting before s) s m → Since (IsAmidRemoval purge name mid m.world) m t → Since (IsAmidTurns purge waiting before s) s t
-  since_turned name t next first second = since_turn purge waiting before left turned.done name mid s m t turned.turns next first second
+abbrev or_queue : Waiting → Option Waiting → Waiting
+or_queue q None = q
+or_queue q (Some other) = other
 
--- nothing is turned yet
-pub turned_none : (purge : Bool) (waiting : List (List ℕ)) (before : Held) (s : State) (us : List AUnit) → HasTurned purge waiting waiting before before s s us us
-turned_none purge waiting before s us = record { done = []; grown = sym (append-nil us); turns = (refl, refl, refl) }
+pub record AreOver (purge : Bool) (packages : List Package) (waiting left : List (List ℕ)) (before after : Held) (s t : State) (old new : List AUnit) (q : Waiting) : Type 0 where
+  pub turned : HasTurned purge packages waiting left before after s t old new
+  pub nothing : IsNothing packages after.records.records left q
+
+pub are_over : (purge : Bool) (packages : List Package) (waiting : List (List ℕ)) (before after : Held) (s t : State) (old new : List AUnit) (r : Removing) (q : Waiting) → q.packages ≡ packages → r.queue ≡ Some q → HaveAllTurned (IsTurn purge packages) (IsOver r) waiting before s old new after t
+    → AreOver purge packages waiting r.waiting.items before after s t old new q
+are_over purge packages waiting before after s t old new r q same here all =
+    let over = all.ended in
+    let one : over.queue ≡ q = ap (or_queue q) (sym over.here ∙ here) in
+    subst (λ (names : List (List ℕ)). AreOver purge packages waiting names before after s t old new q) (sym over.same) (record {
+      turned = all.turned;
+      nothing = subst (λ (ps : List Package). IsNothing ps after.records.records all.q q) same (subst (λ (w : Waiting). IsNothing w.packages after.records.records all.q w) one over.nothing);
+    })

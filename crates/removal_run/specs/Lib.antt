@@ -5,4 +5,5 @@ pub mod Next
 pub mod LeftOver
 pub mod Units
 pub mod Turns
+pub mod Taking
 pub mod Run

@@ -1,5 +1,6 @@
 -- The removals of a command, one after another (Policy 6.8).
 use Rattle.std.specs.Prelude.{◌≡◌, ◌⊎◌, ℕ, Bool, List, [], IsTrue, None}
+use Rattle.dependency_check.specs.Waiting.{IsRemovableNow}
 use Rattle.host_core.specs.Events.{Event}
 use Rattle.host_core.specs.Host.{State}
 use Rattle.host_core.specs.World.{World}
@@ -9,7 +10,7 @@ use Rattle.unit_reports.specs.Held.{Held}
 use Rattle.unit_reports.specs.Units.{HasNoCalls}
 use Rattle.unit_reports.specs.declared.report.Unit.{Unit as AUnit}
 use Rattle.unit_runs.specs.Turns as runs
-use Rattle.unit_runs.specs.Turns.{IsBrokenNext as IsBroken, TurnsTo}
+use Rattle.unit_runs.specs.Turns.{HaveTurned, IsBrokenNext as IsBroken, TurnsTo}
 use Rattle.removal_run.specs.Names.{is_among, without}
 use Rattle.removal_run.specs.Refusals.{rule_for}
 use Rattle.removal_run.specs.Units.{AreOthersKept, HasCalledRemoving, IsAmidRemoval, RunsRemoval}
@@ -21,9 +22,10 @@ use Rattle.removal_run.specs.Waiting.{IsRemovedNext}
 pub record IsTurn (purge : Bool) (packages : List Package) (waiting : List (List ℕ)) (before : Held) (u : AUnit) (left : List (List ℕ)) (after : Held) (s t : State) : Type 0 where
   pub name : List ℕ
   pub next : IsRemovedNext packages before.records.records waiting name
-  pub runs : RunsRemoval purge name before after u s t
+  pub can : IsRemovableNow next.queue next.number
+  pub is : RunsRemoval purge name before after u s t
   pub others : AreOthersKept name before.records.records after.records.records
-  pub left : left ≡ without name waiting
+  pub left_is : left ≡ without name waiting
 
 -- removal after removal; in the end these names still wait
 abbrev pub RemovesTo : Bool → List Package → List (List ℕ) → Held → State → List AUnit → List (List ℕ) → Held → State → Type 0
@@ -49,6 +51,15 @@ HasCalledNext purge packages waiting before s t u =
 -- a unit that was broken off: it tells no package, and made no call or the first of those of the next removal
 abbrev pub IsBrokenNext : Bool → List Package → List (List ℕ) → Held → State → State → AUnit → Type 0
 IsBrokenNext purge packages waiting before s t u = IsBroken (λ left later. HasCalledNext purge packages left) waiting waiting before s t u
+
+-- their units, behind others
+abbrev pub HasTurned : Bool → List Package → List (List ℕ) → List (List ℕ) → Held → Held → State → State → List AUnit → List AUnit → Type 0
+HasTurned purge packages waiting left before after s t old new = HaveTurned (IsTurn purge packages) waiting before s old new left after t
+
+-- the same up to a moment of the host; since that moment only the next removal was under way, which was broken off
+abbrev pub HasStopped : Bool → List Package → List (List ℕ) → Held → State → State → List AUnit → List AUnit → AUnit → Type 0
+HasStopped purge packages waiting before s t old new u = (later : List (List ℕ))
+    × runs.HasStopped (IsTurn purge packages) (λ left later. IsAmidTurn purge packages left) (λ left later. HasCalledNext purge packages left) waiting before s old new later t u
 
 -- no rule refuses one of these names
 abbrev pub AreAccepted : Bool → List Record → List (List ℕ) → Type 0

@@ -83,12 +83,6 @@ pub record RunsRemoval (purge : Bool) (name : List ℕ) (before after : Held) (u
   pub moments : AtEachMomentOf (IsAmidRemoval purge name before) s t
   pub answered : IsAnswered s t
 
--- its unit more
-pub record AddsRemoval (purge : Bool) (name : List ℕ) (before after : Held) (s t : State) (old new : List AUnit) : Type 0 where
-  pub unit : AUnit
-  pub grown : new ≡ old ++ unit ∷ []
-  pub runs : RunsRemoval purge name before after unit s t
-
 -- its unit where it was broken off: it tells no package
 pub record IsBrokenOff (purge : Bool) (name : List ℕ) (before : Held) (u : AUnit) (s t : State) : Type 0 where
   pub broken : IsBroken u.reply

@@ -7,7 +7,7 @@ ghost use Rattle.held_administration.specs.Open.{IsOpen};
 ghost use Rattle.removal_run.specs.Names.{once};
 ghost use Rattle.removal_run.specs.Refusals.{AreRefused, accepted, refusals};
 ghost use Rattle.recorded_packages.specs.Packages.{ArePackagesOf};
-ghost use Rattle.removal_run.specs.Run.{AddsLeft, AreRenewed, EndsAs, HasRun, IsRemovalRun, RunsThrough, RunsUpTo, waiting_for};
+ghost use Rattle.removal_run.specs.Run.{AddsLeft, AreRenewed, EndsAs, HasRun, IsAmidRun, IsRemovalRun, RunsThrough, RunsUpTo};
 ghost use Rattle.removal_run.specs.Waiting.{is_named};
 ghost use Rattle.removal_run.specs.Turns.{AreAccepted, IsAmidTurns};
 ghost use Rattle.held_administration.specs.Order.{IsInOrder};
@@ -30,7 +30,7 @@ use relation_index::Packages;
 use status_db::NotedDatabase;
 use std::alloc::{AllocError, Global};
 use texts::Text;
-use unit_reports::{Breakage, Report, Unit, Watcher, broken, what_is_told_in_turn};
+use unit_reports::{Breakage, Report, Unit, Watcher, broken};
 
 // The names once each, by whether a rule refuses them.
 fn sorted(
@@ -50,18 +50,21 @@ fn sorted(
 }
 
 // Units behind others, all of them or none: they are told once there is room for them.
-fn append<W: Watcher>(
+fn append<H: Host, W: Watcher>(
+    host: &H,
     units: &mut Vec<Unit>,
     more: Vec<Unit>,
     watcher: &mut W,
 ) -> Result<(), AllocError>
+    requires quiet { calls_of more.items ≡ [] }
     ensures ok { OnOk result (units.new.items ≡ units.old.items ++ more.items) }
     ensures err { OnErr result (units.new.items ≡ units.old.items) }
-    ensures watched { AddsTold W.tells units.old.items units.new.items watcher.old watcher.new }
+    ensures watched { AddsTold W.tells (H.state host.now) units.old.items units.new.items
+        watcher.old watcher.new }
 {
     let mut more = more;
     units.reserve(more.len())?;
-    tell_all(more.as_slice(), watcher);
+    tell_all(host, more.as_slice(), watcher);
     units.append(&mut more).unwrap();
     Ok(())
 }
@@ -82,8 +85,9 @@ fn give_back(
 }
 
 // The units of those that are left over, behind the others, once the packages are given back.
-fn tell_left<W: Watcher>(
+fn tell_left<H: Host, W: Watcher>(
     alloc: Global,
+    host: &H,
     queue: RemoveQueue,
     waiting: &[Text],
     packages: &mut Packages,
@@ -98,16 +102,18 @@ fn tell_left<W: Watcher>(
     ensures err { OnErr result (units.new.items ≡ units.old.items) }
     ensures renewed { OnOk result (AreRenewed asked.now database.now.records queue.packages
         packages.new) }
-    ensures watched { AddsTold W.tells units.old.items units.new.items watcher.old watcher.new }
+    ensures watched { AddsTold W.tells (H.state host.now) units.old.items units.new.items
+        watcher.old watcher.new }
 {
     let left = left_over(alloc, &queue, waiting)?;
     give_back(alloc, queue, packages, database, asked)?;
-    append(units, left, watcher)
+    append(host, units, left, watcher)
 }
 
 // The report of units behind which those that are left over are told.
-fn ended<W: Watcher>(
+fn ended<H: Host, W: Watcher>(
     alloc: Global,
+    host: &H,
     queue: RemoveQueue,
     waiting: &[Text],
     packages: &mut Packages,
@@ -121,10 +127,11 @@ fn ended<W: Watcher>(
     ensures ends { EndsAs queue units.items result }
     ensures renewed { IsNone result.last → AreRenewed asked.now database.now.records queue.packages
         packages.new }
-    ensures watched { AddsTold W.tells units.items result.units.items watcher.old watcher.new }
+    ensures watched { AddsTold W.tells (H.state host.now) units.items result.units.items
+        watcher.old watcher.new }
 {
     match tell_left(
-        alloc, queue, waiting, packages, database, asked, &mut units, watcher,
+        alloc, host, queue, waiting, packages, database, asked, &mut units, watcher,
     ) {
         Ok(()) => Report { units, last: None },
         Err(_) => Report {
@@ -158,7 +165,7 @@ fn run_sorted<H: Host, W: Watcher>(
         result.last (held_by administration.old diversions.now) (H.state host.old)
         (H.state host.new) }
     ensures told { TellsCalls (H.state host.old) (H.state host.new) result }
-    ensures any_moment { Since (IsAmidTurns purge sorted.waiting.items
+    ensures any_moment { Since (IsAmidTurns purge packages.old sorted.waiting.items
         (held_by administration.old diversions.now) (H.state host.old)) (H.state host.old)
         (H.state host.new) }
     ensures counts { CountsLast (H.state host.old) (H.state host.new) result.last }
@@ -169,15 +176,14 @@ fn run_sorted<H: Host, W: Watcher>(
     ensures indexed { IsNone result.last → ArePackagesOf administration.new.database.records
         packages.new }
     ensures answered { IsNone result.last → IsAnswered (H.state host.old) (H.state host.new) }
-    ensures watched { IsTold W.tells watcher.old result.units.items watcher.new }
+    ensures watched { IsTold W.tells (H.state host.old) watcher.old result.units.items watcher.new }
 {
     let Sorted {
         refused: mut units,
-        mut waiting,
+        waiting,
         asked,
     } = sorted;
-    what_is_told_in_turn::<W>();
-    tell_all(units.as_slice(), watcher);
+    tell_all(host, units.as_slice(), watcher);
     administration.database.law();
     let alloc = administration.alloc;
     let taken = std::mem::replace(packages, Packages::new(alloc));
@@ -187,14 +193,15 @@ fn run_sorted<H: Host, W: Watcher>(
         taken,
         diversions,
         purge,
-        &mut waiting,
+        waiting,
         &mut units,
         watcher,
     ) {
-        Ok(queue) => ended(
+        Ok((queue, left)) => ended(
             alloc,
+            host,
             queue,
-            waiting.as_slice(),
+            left.as_slice(),
             packages,
             &administration.database,
             asked.as_slice(),
@@ -232,9 +239,9 @@ pub fn remove_packages<H: Host, W: Watcher>(
     ensures part { HasRun names.items purge result.units.items result.last
         (held_by administration.old diversions.now) (H.state host.old) (H.state host.new) }
     ensures told { TellsCalls (H.state host.old) (H.state host.new) result }
-    ensures any_moment { Since (IsAmidTurns purge (waiting_for purge names.items
-        (held_by administration.old diversions.now)) (held_by administration.old diversions.now)
-        (H.state host.old)) (H.state host.old) (H.state host.new) }
+    ensures any_moment { Since (IsAmidRun names.items purge
+        (held_by administration.old diversions.now) (H.state host.old)) (H.state host.old)
+        (H.state host.new) }
     ensures counts { CountsLast (H.state host.old) (H.state host.new) result.last }
     ensures not_closed { IfSome result.last (λ unit. IsBrokenBy Closed unit.reply → ⊥) }
     ensures order { IsNone result.last → Needs (H.state host.new)
@@ -243,7 +250,7 @@ pub fn remove_packages<H: Host, W: Watcher>(
     ensures indexed { IsNone result.last → ArePackagesOf administration.new.database.records
         packages.new }
     ensures answered { IsNone result.last → IsAnswered (H.state host.old) (H.state host.new) }
-    ensures watched { IsTold W.tells watcher.old result.units.items watcher.new }
+    ensures watched { IsTold W.tells (H.state host.old) watcher.old result.units.items watcher.new }
 {
     let alloc = administration.alloc;
     match sorted(alloc, purge, &administration.database, names) {

@@ -1,14 +1,17 @@
-// Units that are told in turn.
+// Units that made no call are told in turn.
+ghost use Rattle.std.specs.Prelude.{◌≡◌, []};
+ghost use Rattle.unit_reports.specs.Units.{calls_of};
 ghost use Rattle.unit_reports.specs.Watching.{IsTold};
 
-use unit_reports::{Unit, Watcher, what_is_told_in_turn};
+use host_core::Host;
+use unit_reports::{Unit, Watcher};
 
-/// Tells units, one after another.
-pub(crate) fn tell_all<W: Watcher>(units: &[Unit], watcher: &mut W)
-    ensures { IsTold W.tells watcher.old units.now watcher.new }
+/// Tells units that made no call, one after another.
+pub(crate) fn tell_all<H: Host, W: Watcher>(host: &H, units: &[Unit], watcher: &mut W)
+    requires { calls_of units.now ≡ [] }
+    ensures { IsTold W.tells (H.state host.now) watcher.old units.now watcher.new }
 {
-    what_is_told_in_turn::<W>();
     for unit in units {
-        watcher.finished(unit);
+        watcher.finished(host, unit);
     }
 }

@@ -1,15 +1,14 @@
-// The removal of one package, brought to the disk and told.
-ghost use Rattle.std.specs.Prelude.{◌≡◌, ◌⊎◌, ◌∷◌, [], IfOk, OnOk, IfErr, OnErr, None};
+// The removal of one package, brought to the disk.
+ghost use Rattle.std.specs.Prelude.{◌≡◌, ◌⊎◌, ◌∷◌, [], true, IfOk, OnOk, IfErr, None};
 ghost use Rattle.host_core.specs.Host.{AtEachMomentOf, Counts, Needs, faults};
 ghost use Rattle.host_core.specs.Loss.{IsAnswered, IsOnDisk};
 ghost use Rattle.held_administration.specs.Open.{IsOpen};
 ghost use Rattle.held_administration.specs.Order.{IsInOrder};
 ghost use Rattle.unit_reports.specs.Held.{held_by};
-ghost use Rattle.unit_reports.specs.Units.{CountsReply, IsBroken, IsBrokenBy, TellsNoPackage, calls_of, touched_at};
+ghost use Rattle.unit_reports.specs.Units.{CountsReply, IsBroken, IsBrokenBy, TellsNoPackage, touched_at};
 ghost use Rattle.unit_reports.specs.declared.report.Breakage.TheVariants.{NoMemory, Closed};
-ghost use Rattle.unit_reports.specs.Watching.{AddsTold};
 ghost use Rattle.removal_run.specs.Refusals.{rule_for};
-ghost use Rattle.removal_run.specs.Units.{AddsRemoval, Answers, AreOthersKept, HasCalledRemoving, IsAmidRemoval, IsBroughtToDisk, IsBrokenOff, IsRemoval, extent_of, reply_to};
+ghost use Rattle.removal_run.specs.Units.{Answers, AreOthersKept, HasCalledRemoving, IsAmidRemoval, IsBroughtToDisk, IsBrokenOff, IsRemoval, RunsRemoval, extent_of, reply_to};
 ghost use Rattle.undo_rows.specs.Transcript.{TellsAll};
 
 use diversions::Diversions;
@@ -21,7 +20,7 @@ use std::alloc::{AllocError, Global};
 use texts::{Text, Texts};
 use undo_rows::{Called, Failure as Cause};
 use unit_reports::{
-    Breakage, Failure, Reply, Touched, Unit, Watcher, breakage_of, broken, is_broken, touched_at,
+    Breakage, Failure, Reply, Touched, Unit, breakage_of, broken, is_broken, touched_at,
 };
 
 // The reply to a unit of a package, by the call for which it failed.
@@ -161,40 +160,38 @@ fn remove_named<H: Host>(
     }
 }
 
-/// The unit of one package more, or the unit that was broken off.
-pub(crate) fn run_one<H: Host, W: Watcher>(
+/// The unit of a package, or the unit that was broken off, as it is where there is no room for it.
+pub(crate) fn remove_one<H: Host>(
     host: &mut H,
     administration: &mut Administration,
     diversions: &Diversions,
     package: Text,
     purge: bool,
-    units: &mut Vec<Unit>,
-    watcher: &mut W,
-) -> Result<(), Unit>
+    room: bool,
+) -> Result<Unit, Unit>
     requires order { Needs (H.state host.old)
         (IsInOrder administration.old.database administration.old.lists.lists) }
     requires open { IsOpen diversions.now.entries administration.old }
     requires accepted { rule_for purge administration.old.database.records «package» ≡ None }
-    ensures ok { OnOk result (AddsRemoval purge «package»
+    ensures ok { IfOk result (λ unit. RunsRemoval purge «package»
         (held_by administration.old diversions.now) (held_by administration.new diversions.now)
-        (H.state host.old) (H.state host.new) units.old.items units.new.items) }
+        unit (H.state host.old) (H.state host.new)) }
+    ensures room { OnOk result (room ≡ true) }
     ensures open { OnOk result (IsOpen diversions.now.entries administration.new) }
     ensures others { OnOk result (AreOthersKept «package» administration.old.database.records
         administration.new.database.records) }
-    ensures err { OnErr result (units.new.items ≡ units.old.items) }
     ensures broken_off { IfErr result (λ unit. IsBrokenOff purge «package»
         (held_by administration.old diversions.now) unit (H.state host.old) (H.state host.new)) }
-    ensures told { OnOk result (TellsAll (H.state host.old) (H.state host.new)
-        (calls_of units.old.items) (calls_of units.new.items)) }
+    ensures told { IfOk result (λ unit. TellsAll (H.state host.old) (H.state host.new) []
+        unit.calls.items) }
     ensures any_moment { AtEachMomentOf (IsAmidRemoval purge «package»
         (held_by administration.old diversions.now)) (H.state host.old) (H.state host.new) }
     ensures no_fault { OnOk result (faults (H.state host.new) ≡ faults (H.state host.old)) }
     ensures counts { IfErr result (λ unit. CountsReply (H.state host.old) (H.state host.new)
         unit.reply) }
     ensures not_closed { IfErr result (λ unit. IsBrokenBy Closed unit.reply → ⊥) }
-    ensures watched { AddsTold W.tells units.old.items units.new.items watcher.old watcher.new }
 {
-    if units.reserve(1).is_err() {
+    if !room {
         let alloc = administration.alloc;
         return Err(broken(alloc, Vec::new(alloc), Breakage::NoMemory));
     }
@@ -202,7 +199,5 @@ pub(crate) fn run_one<H: Host, W: Watcher>(
     if is_broken(&unit) {
         return Err(unit);
     }
-    watcher.finished(&unit);
-    units.push(unit).unwrap();
-    Ok(())
+    Ok(unit)
 }

@@ -1,9 +1,9 @@
 // The packages that wait to be removed, and the next of them.
 ghost use Rattle.std.specs.Prelude.{◌≡◌, ◌<◌, ℕ, List, IfOk, length, map};
 ghost use Rattle.dependency_check.specs.Waiting.{IsRemovableNow};
-ghost use Rattle.recorded_packages.specs.Packages.{ArePackagesOf};
 ghost use Rattle.removal_run.specs.Names.{without};
 ghost use Rattle.removal_run.specs.Next.{IsNext};
+ghost use Rattle.removal_run.specs.Taking.{IsQueueTo};
 ghost use Rattle.removal_run.specs.Units.{AreOthersKept};
 ghost use Rattle.removal_run.specs.Waiting.{IsEven, IsQueueNow, is_installed_in, is_installed_now, is_named, name_at};
 ghost use Rattle.status_records.specs.declared.record.Record.{Record as ARecord};
@@ -61,8 +61,7 @@ pub(crate) fn queue_of(
     database: &NotedDatabase,
     waiting: &[Text],
 ) -> Result<RemoveQueue, AllocError>
-    ensures { IfOk result (λ queue. (start : List ARecord) → ArePackagesOf start packages
-        → IsQueueNow start database.now.records waiting.now queue) }
+    ensures { IfOk result (IsQueueNow packages database.now.records waiting.now) }
 {
     let installed = installed_of(alloc, database, packages.as_slice())?;
     let marks = marks_of(alloc, waiting, packages.as_slice())?;
@@ -70,9 +69,9 @@ pub(crate) fn queue_of(
     Ok(queue)
 }
 
-/// The queue behind the removal of a package, whatever its end. A package that stays installed meets clauses as it did
-/// before it waited, so then the queue is made anew; where it isn't installed any more the queue goes on.
-pub(crate) fn queue_behind(
+// The queue behind the removal of a package, whatever its end. A package that stays installed meets clauses as it did
+// before it waited, so then the queue is made anew; where it isn't installed any more the queue goes on.
+fn queue_behind(
     alloc: Global,
     queue: RemoveQueue,
     number: usize,
@@ -81,10 +80,11 @@ pub(crate) fn queue_behind(
 ) -> Result<RemoveQueue, AllocError>
     requires even { IsEven queue }
     requires member { IsRemovableNow queue number }
-    ensures { IfOk result (λ later. (start before : List ARecord) (names : List (List ℕ))
-        → IsQueueNow start before names queue → AreOthersKept (name_at queue.packages number) before
-        database.now.records → waiting.now ≡ without (name_at queue.packages number) names
-        → IsQueueNow start database.now.records waiting.now later) }
+    ensures { IfOk result (λ later. (before : List ARecord) (names : List (List ℕ))
+        → IsQueueNow queue.packages before names queue
+        → AreOthersKept (name_at queue.packages number) before database.now.records
+        → waiting.now ≡ without (name_at queue.packages number) names
+        → IsQueueNow queue.packages database.now.records waiting.now later) }
 {
     let mut queue = queue;
     if is_installed_in(database, &queue.packages().as_slice()[number].name) {
@@ -93,6 +93,23 @@ pub(crate) fn queue_behind(
     }
     queue.removed(number);
     Ok(queue)
+}
+
+/// The queue of this moment: that of before, where no package was removed since.
+pub(crate) fn queue_now(
+    alloc: Global,
+    queue: RemoveQueue,
+    removed: Option<usize>,
+    database: &NotedDatabase,
+    waiting: &[Text],
+) -> Result<RemoveQueue, AllocError>
+    requires { IsQueueTo queue.packages database.now.records waiting.now queue removed }
+    ensures { IfOk result (IsQueueNow queue.packages database.now.records waiting.now) }
+{
+    match removed {
+        Some(number) => queue_behind(alloc, queue, number, database, waiting),
+        None => Ok(queue),
+    }
 }
 
 /// The package that is removed next.

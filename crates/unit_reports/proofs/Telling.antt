@@ -95,3 +95,19 @@ module _ {W : Type 0} (tells : W → AUnit → State → W → Type 0) where
     told = told_more s at old mid new a.more b.more a.told
         (tells_alone s at (calls_of first) (calls_of a.more) (subst (TellsAll s at (calls_of first)) (ap calls_of a.grown ∙ calls_both first a.more) told)) answered b.told;
   }
+
+  -- units without calls, told at the same state
+
+  pub one_still : (s : State) (old new : W) (us : List AUnit) (u : AUnit) → tells old u s new → u.calls.items ≡ [] → AddsTold tells s us (us ++ u ∷ []) old new
+  one_still s old new us u is none = one_added s s old new us u is (tells_none s s [] u.calls.items refl none) (answered_here s)
+
+  pub told_still : (s : State) (old mid new : W) (first second third : List AUnit) → AddsTold tells s first second old mid → calls_of second ≡ calls_of first → AddsTold tells s second third mid new → AddsTold tells s first third old new
+  told_still s old mid new first second third a same b = told_added s s old mid new first second third a (tells_none s s (calls_of first) (calls_of second) refl same) (answered_here s) b
+
+  -- the first units
+
+  pub begun_told : (s : State) (old new : W) (us : List AUnit) → IsTold tells s old us new → AddsTold tells s [] us old new
+  begun_told s old new us told = record { more = us; grown = refl; told = told }
+
+  pub told_all : (s : State) (old new : W) (us : List AUnit) → AddsTold tells s [] us old new → IsTold tells s old us new
+  told_all s old new us adds = subst (λ (l : List AUnit). IsTold tells s old l new) (sym adds.grown) adds.told

@@ -9,7 +9,7 @@ use Rattle.unit_runs.specs.Turns.{IsBrokenNext}
 
 -- no turn was left: nothing was done, and nothing has changed but what waits
 pub record IsOver {L : Type 0} (over : L → Held → Type 0) (q : L) (before after : Held) (s t : State) : Type 0 where
-  pub over : over q after
+  pub ended : over q after
   pub held : after ≡ before
   pub here : t ≡ s
 
@@ -34,7 +34,7 @@ CountsTaken old new (Err u) = CountsReply old new u.reply
 pub record AddsTurn {L : Type 0} (turn : L → Held → AUnit → L → Held → State → State → Type 0) (q later : L) (before after : Held) (s t : State) (old new : List AUnit) : Type 0 where
   pub unit : AUnit
   pub grown : new ≡ old ++ unit ∷ []
-  pub turn : turn q before unit later after s t
+  pub is : turn q before unit later after s t
 
 -- no turn was left, and no unit has come
 pub record AddsNone {L : Type 0} (over : L → Held → Type 0) (q : L) (before after : Held) (s t : State) (old new : List AUnit) : Type 0 where

@@ -18,11 +18,11 @@ pub record IsStill (old : World) (so_far : List Event) (now : World) : Type 0 wh
 abbrev pub IsAmidNext : {L : Type 0} → (L → L → Held → World → List Event → World → Type 0) → L → L → Held → World → List Event → World → Type 0
 IsAmidNext amid q later before old so_far now = IsStill old so_far now ⊎ amid q later before old so_far now
 
--- The unit that was broken off: it tells no package. Its calls are those that are `called` of the next unit.
-pub record IsBrokenNext {L : Type 0} (called : L → L → Held → State → State → AUnit → Type 0) (q later : L) (before : Held) (s t : State) (u : AUnit) : Type 0 where
+-- The unit that was broken off: it tells no package. Its calls are some of the `calls` of the next unit.
+pub record IsBrokenNext {L : Type 0} (calls : L → L → Held → State → State → AUnit → Type 0) (q later : L) (before : Held) (s t : State) (u : AUnit) : Type 0 where
   pub broken : IsBroken u.reply
   pub untouched : TellsNoPackage u
-  pub called : called q later before s t u
+  pub called : calls q later before s t u
 
 -- what waited may have come to this, turn by turn, of which each goes on so
 pub data GoesTo {L : Type 0} (goes : L → L → Type 0) (start : L) : L → Type 0 where
@@ -47,7 +47,7 @@ module _ {L : Type 0} (turn : L → Held → AUnit → L → Held → State → 
   pub record HaveAllTurned (over : L → Held → Type 0) (start : L) (before : Held) (s : State) (first now : List AUnit) (after : Held) (t : State) : Type 0 where
     pub q : L
     pub turned : HaveTurned start before s first now q after t
-    pub over : over q after
+    pub ended : over q after
 
   -- Turns up to a moment of the host. Since then only the next unit was under way, which was broken off: so what the units before
   -- it left stands.
@@ -66,7 +66,7 @@ module _ {L : Type 0} (turn : L → Held → AUnit → L → Held → State → 
     pub us : List AUnit
     pub q : L
     pub later : L
-    pub may : may later
+    pub behind : may later
     pub after : Held
     pub m : State
     pub honest : IsTrue m.honest

@@ -1,5 +1,5 @@
 // Units, one after another.
-ghost use Rattle.std.specs.Prelude.{◌≡◌, ◌++◌, ◌<◌, [], true, IfErr, IfOk, OnErr, OnOk};
+ghost use Rattle.std.specs.Prelude.{◌≡◌, ◌++◌, ◌<◌, [], true, IfErr, IfOk, OnErr, OnOk, vec_capacity, vec_len};
 ghost use Rattle.host_core.specs.Host.{AtEachMomentOf, Needs, Since, faults};
 ghost use Rattle.host_core.specs.Loss.{IsAnswered};
 ghost use Rattle.held_administration.specs.Open.{IsOpen};
@@ -17,6 +17,14 @@ use diversions::Diversions;
 use held_administration::Administration;
 use host_core::Host;
 use unit_reports::{Unit, Watcher, what_is_told_in_turn};
+
+// Whether there is room for one unit more.
+fn has_room(units: &mut Vec<Unit>) -> bool
+    ensures same { units.new.items ≡ units.old.items }
+    ensures room { result ≡ true → vec_len units.new < vec_capacity units.new }
+{
+    units.reserve(1).is_ok()
+}
 
 // The unit of the next turn more, or the unit that was broken off. The answer is whether a turn was left.
 fn run_one<H: Host, T: Turns<H>, W: Watcher>(
@@ -63,7 +71,7 @@ fn run_one<H: Host, T: Turns<H>, W: Watcher>(
         watcher.old watcher.new }
 {
     what_is_told_in_turn::<W>();
-    let room = units.reserve(1).is_ok();
+    let room = has_room(units);
     match turns.take(host, administration, diversions, room) {
         Ok(Some(unit)) => {
             watcher.finished(host, &unit);

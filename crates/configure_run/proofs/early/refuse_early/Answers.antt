@@ -1,16 +1,18 @@
-use Rattle.std.proofs.Common.{◌≡◌, [], ℕ, List, Option, refl, subst, sym, ap, ◌∙◌, get_or}
-use Rattle.std.proofs.lemmas.List.{append-nil}
+use Rattle.std.proofs.Common.{◌≡◌, [], ℕ, List, Option, subst, sym, ap, ◌∙◌, get_or, take}
 use Rattle.status_records.specs.Records.{record_in}
+use Rattle.unit_reports.proofs.Telling.{none_added, told_still}
+use Rattle.unit_reports.specs.Units.{calls_of}
 use Rattle.unit_reports.specs.declared.refusal.Rule.{Rule}
 use Rattle.unit_reports.specs.declared.report.Unit.{Unit as AUnit}
 use Rattle.configure_run.specs.Early.{AreRefused, AreSomeRefused, HasRefused, early_refusal, early_refusals, early_rule, refusal_by}
 use Rattle.configure_run.proofs.Refusals.{on_err, refused_next, some_refused}
+use Rattle.configure_run.proofs.Told.{refused_calls}
 use Rattle.configure_run.proofs.early.refuse_early.Goals as goal
 
 pub loop-name-init : goal.loop-name-init
 loop-name-init g c = record {
   refused = subst (AreRefused []) (sym c.requires.none) tt;
-  watched = record { more = []; grown = sym (append-nil c.args.units.now.items); told = refl };
+  watched = none_added g.W.Watcher.tells (g.H.Host.state c.args.host.now) c.args.watcher.now c.args.units.now.items;
 }
 
 pub returns-in_err-push_refusal-clause-err : goal.returns-in_err-push_refusal-clause-err
@@ -19,7 +21,8 @@ returns-in_err-push_refusal-clause-err g c =
     (some_refused c.args.database.now.records c.args.names.now c.loop-name.name-index c.loop-name.units.items c.loop-name.invariant.refused))
 
 pub returns-in_err-push_refusal-clause-watched : goal.returns-in_err-push_refusal-clause-watched
-returns-in_err-push_refusal-clause-watched g c = c.what_is_told_in_turn.ensures.added _ _ _ _ _ _ c.loop-name.invariant.watched c.push_refusal.ensures.watched
+returns-in_err-push_refusal-clause-watched g c = told_still g.W.Watcher.tells (g.H.Host.state c.args.host.now) c.args.watcher.now c.loop-name.watcher c.push_refusal.new.watcher c.args.units.now.items c.loop-name.units.items c.push_refusal.new.units.items c.loop-name.invariant.watched
+        (refused_calls (early_refusals c.args.database.now.records (take c.loop-name.name-index c.args.names.now)) c.loop-name.units.items c.loop-name.invariant.refused ∙ sym (ap calls_of c.requires.none)) c.push_refusal.ensures.watched
 
 pub loop-name-preserved : goal.loop-name-preserved
 loop-name-preserved g c =
@@ -31,5 +34,6 @@ loop-name-preserved g c =
       refused = refused_next records c.args.names.now c.loop-name.name-index name c.loop-name.units.items c.push_refusal.new.units.items c.loop-name-test.true c.loop-name.invariant.refused
           (subst (λ (n : List ℕ). HasRefused (early_refusal records n) c.loop-name.units.items c.push_refusal.new.units.items) (sym same)
           (subst (λ (o : Option Rule). HasRefused (refusal_by name o) c.loop-name.units.items c.push_refusal.new.units.items) rule c.in_ok-push_refusal.ensures.ok));
-      watched = c.what_is_told_in_turn.ensures.added _ _ _ _ _ _ c.loop-name.invariant.watched c.push_refusal.ensures.watched;
+      watched = told_still g.W.Watcher.tells (g.H.Host.state c.args.host.now) c.args.watcher.now c.loop-name.watcher c.push_refusal.new.watcher c.args.units.now.items c.loop-name.units.items c.push_refusal.new.units.items c.loop-name.invariant.watched
+        (refused_calls (early_refusals c.args.database.now.records (take c.loop-name.name-index c.args.names.now)) c.loop-name.units.items c.loop-name.invariant.refused ∙ sym (ap calls_of c.requires.none)) c.push_refusal.ensures.watched;
     }

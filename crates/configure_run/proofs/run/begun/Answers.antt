@@ -11,5 +11,5 @@ of-requires g c = subst (ArePackagesOf c.args.database.now.records) (sym {A = Li
 
 pub returns-in-Ok-clause-seen : goal.returns-in-Ok-clause-seen
 returns-in-Ok-clause-seen g c honest =
-    are_silent c.args.names.now c.args.database.now.records c.in_ok-turns.turns c.in_ok-turns.ensures (g.H.Host.state c.args.host.now).world c.in-Ok.silent.items
+    are_silent c.args.names.now c.args.database.now.records c.in_ok-queue.queue c.in_ok-queue.ensures (g.H.Host.state c.args.host.now).world c.in-Ok.silent.items
     (subst (λ (rs : List Record). AreSilentOf (g.H.Host.state c.args.host.now).world c.args.names.now rs c.in-Ok.silent.items) c.records.ensures (c.in-Ok.ensures.found honest))

@@ -13,16 +13,16 @@ use Rattle.configure_run.proofs.Units.{no_calls}
 use Rattle.configure_run.proofs.run.run_and_renew.Goals as goal
 
 pub run_turns-requires-clause-wait : goal.run_turns-requires-clause-wait
-run_turns-requires-clause-wait g c = are_waiting c.args.names.now c.args.administration.now.database.records c.args.turns c.requires.begun c.law.ensures.order
+run_turns-requires-clause-wait g c = are_waiting c.args.names.now c.args.administration.now.database.records c.args.queue c.requires.begun c.law.ensures.order
 
 pub returns-in-Ok-renew-clause-indexed : goal.returns-in-Ok-renew-clause-indexed
 returns-in-Ok-renew-clause-indexed g c =
     let records = c.args.administration.now.database.records in
     c.in-Ok-renew.ensures.ok records c.law.ensures.order (subst (ArePackagesOf records) (sym {A = List Package} c.in-Ok.ensures.packages) c.requires.begun.packages)
-    (named_alone c.args.names.now records c.args.turns c.requires.begun c.run_turns.new.administration.database.records c.in-Ok.ensures.others)
+    (named_alone c.args.names.now records c.args.queue c.requires.begun c.run_turns.new.administration.database.records c.in-Ok.ensures.others)
 
 pub returns-in-Err-renew-clause-err : goal.returns-in-Err-renew-clause-err
-returns-in-Err-renew-clause-err g c = stop_of_end c.args.policy (has c.args.silent.now) c.args.turns (held_by c.args.administration.now c.args.diversions.now) (g.H.Host.state c.args.host.now) (g.H.Host.state c.run_turns.new.host) c.args.units.now.items c.run_turns.new.units.items (held_by c.run_turns.new.administration c.args.diversions.now) (Some c.no_memory.result) c.in-Ok.ensures.ok
+returns-in-Err-renew-clause-err g c = stop_of_end c.args.policy (has c.args.silent.items) c.args.queue (held_by c.args.administration.now c.args.diversions.now) (g.H.Host.state c.args.host.now) (g.H.Host.state c.run_turns.new.host) c.args.units.now.items c.run_turns.new.units.items (held_by c.run_turns.new.administration c.args.diversions.now) (Some c.no_memory.result) c.in-Ok.ensures.ok
     (record { broken = broken_by _ c.no_memory.result.reply c.no_memory.ensures.reply; untouched = c.no_memory.ensures.touched; none = no_calls c.no_memory.result (g.H.Host.state c.run_turns.new.host) c.no_memory.ensures.told })
 
 pub returns-in-Err-renew-clause-told_broken : goal.returns-in-Err-renew-clause-told_broken

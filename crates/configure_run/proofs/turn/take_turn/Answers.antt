@@ -1,66 +1,62 @@
-use Rattle.std.proofs.Common.{◌≡◌, ◌<◌, ◌++◌, ◌∷◌, [], List, length, ◌⊎◌, inl, inr, refl, subst, sym, ◌∙◌, rules}
+use Rattle.std.proofs.Common.{◌<◌, [], List, length, ◌⊎◌, inl, inr, refl, subst, sym, ◌∙◌}
 use Rattle.configure_engine.specs.Units.{IsWaiting}
 use Rattle.dependency_sets.proofs.StrikingLaws.{in_range}
 use Rattle.host_core.proofs.Moments.{since_start, since_weaker}
 use Rattle.relation_index.specs.declared.package.Package.{Package}
 use Rattle.unit_reports.specs.Held.{held_by}
 use Rattle.unit_reports.specs.Units.{IsBroken}
-use Rattle.configure_run.specs.Taking.{IsAmidTurn}
-use Rattle.configure_run.specs.Turns.{IsAmidUnit, IsUnit}
+use Rattle.configure_run.specs.Taking.{IsAmidTurnOf}
+use Rattle.configure_run.specs.Turns.{IsAmidUnit, IsUnit, is_done}
 use Rattle.configure_run.proofs.LeftLaws.{numbered_by}
 use Rattle.configure_run.proofs.Members.{member_waits}
-use Rattle.configure_run.proofs.Moments.{silent_here, still_here}
+use Rattle.unit_runs.proofs.Going.{still_here}
+use Rattle.configure_run.proofs.Moments.{silent_here}
 use Rattle.configure_run.proofs.Replies.{broken_by, counts_no_memory, counts_whole, is_broken_off, is_whole, not_broken, not_closed_by}
-use Rattle.configure_run.proofs.Told.{called_for_tells, tells_silent, tells_unit}
+use Rattle.configure_run.proofs.Told.{called_for_tells, tells_silent}
 use Rattle.configure_run.proofs.Units.{no_calls, numbered_name, waiting_behind}
 use Rattle.configure_run.proofs.turn.take_turn.Goals as goal
 
-pub returns-then-is_err-clause-broken_off : goal.returns-then-is_err-clause-broken_off
-returns-then-is_err-clause-broken_off g c = record { broken = broken_by _ c.no_memory.result.reply c.no_memory.ensures.reply; untouched = c.no_memory.ensures.touched; called = inl (no_calls c.no_memory.result (g.H.Host.state c.args.host.now) c.no_memory.ensures.told) }
+pub returns-then-not-clause-broken_off : goal.returns-then-not-clause-broken_off
+returns-then-not-clause-broken_off g c = record { broken = broken_by _ c.no_memory.result.reply c.no_memory.ensures.reply; untouched = c.no_memory.ensures.touched; called = inl (no_calls c.no_memory.result (g.H.Host.state c.args.host.now) c.no_memory.ensures.told) }
 
-pub returns-then-is_err-clause-told_broken : goal.returns-then-is_err-clause-told_broken
-returns-then-is_err-clause-told_broken g c = tells_silent (g.H.Host.state c.args.host.now) (g.H.Host.state c.args.host.now) [] c.no_memory.result.calls.items (silent_here (g.H.Host.state c.args.host.now)) c.no_memory.ensures.told
+pub returns-then-not-clause-told_broken : goal.returns-then-not-clause-told_broken
+returns-then-not-clause-told_broken g c = tells_silent (g.H.Host.state c.args.host.now) (g.H.Host.state c.args.host.now) [] c.no_memory.result.calls.items (silent_here (g.H.Host.state c.args.host.now)) c.no_memory.ensures.told
 
-pub returns-then-is_err-clause-any_moment : goal.returns-then-is_err-clause-any_moment
-returns-then-is_err-clause-any_moment g c = since_start (IsAmidTurn c.args.policy c.args.turns.now c.args.number (held_by c.args.administration.now c.args.diversions.now) (g.H.Host.state c.args.host.now).world) (g.H.Host.state c.args.host.now) (inl (still_here (g.H.Host.state c.args.host.now).world))
+pub returns-then-not-clause-any_moment : goal.returns-then-not-clause-any_moment
+returns-then-not-clause-any_moment g c = since_start (IsAmidTurnOf c.args.policy c.args.queue.now c.args.number (held_by c.args.administration.now c.args.diversions.now) (g.H.Host.state c.args.host.now).world) (g.H.Host.state c.args.host.now) (inl (still_here (g.H.Host.state c.args.host.now).world))
 
-pub returns-then-is_err-clause-counts : goal.returns-then-is_err-clause-counts
-returns-then-is_err-clause-counts g c = counts_no_memory c.no_memory.result.reply (g.H.Host.state c.args.host.now) (g.H.Host.state c.args.host.now) refl c.no_memory.ensures.reply
+pub returns-then-not-clause-counts : goal.returns-then-not-clause-counts
+returns-then-not-clause-counts g c = counts_no_memory c.no_memory.result.reply (g.H.Host.state c.args.host.now) (g.H.Host.state c.args.host.now) refl c.no_memory.ensures.reply
 
-pub returns-then-is_err-clause-not_closed : goal.returns-then-is_err-clause-not_closed
-returns-then-is_err-clause-not_closed g c = not_closed_by c.no_memory.result.reply c.no_memory.ensures.reply
+pub returns-then-not-clause-not_closed : goal.returns-then-not-clause-not_closed
+returns-then-not-clause-not_closed g c = not_closed_by c.no_memory.result.reply c.no_memory.ensures.reply
 
 pub bounds-as_slice-number : goal.bounds-as_slice-number
-bounds-as_slice-number g c = (subst (λ (l : List Package). c.args.number < length l) (sym (c.as_slice.ensures.list ∙ c.packages-packages.ensures)) (subst (λ n. c.args.number < n) c.law.ensures.even.waiting (in_range c.args.turns.now.waiting c.args.number (member_waits c.args.turns.now c.args.number c.requires.member))))
+bounds-as_slice-number g c = (subst (λ (l : List Package). c.args.number < length l) (sym (c.as_slice.ensures.list ∙ c.packages-packages.ensures)) (subst (λ n. c.args.number < n) c.law.ensures.even.waiting (in_range c.args.queue.now.waiting c.args.number (member_waits c.args.queue.now c.args.number c.requires.member))))
 
 pub unit_of-unit-requires-clause-waits : goal.unit_of-unit-requires-clause-waits
-unit_of-unit-requires-clause-waits g c = subst (IsWaiting c.args.administration.now.database.records) (numbered_name c.args.turns.now.packages c.args.number c.index-as_slice-number.result (numbered_by c.args.turns.now.packages c.as_slice.result.now c.args.number c.index-as_slice-number.result (c.as_slice.ensures.list ∙ c.packages-packages.ensures) (subst (λ (l : List Package). c.args.number < length l) (sym (c.as_slice.ensures.list ∙ c.packages-packages.ensures)) (subst (λ n. c.args.number < n) c.law.ensures.even.waiting (in_range c.args.turns.now.waiting c.args.number (member_waits c.args.turns.now c.args.number c.requires.member)))) c.index-as_slice-number.is)) (c.requires.wait c.args.number (member_waits c.args.turns.now c.args.number c.requires.member))
+unit_of-unit-requires-clause-waits g c = subst (IsWaiting c.args.administration.now.database.records) (numbered_name c.args.queue.now.packages c.args.number c.index-as_slice-number.result (numbered_by c.args.queue.now.packages c.as_slice.result.now c.args.number c.index-as_slice-number.result (c.as_slice.ensures.list ∙ c.packages-packages.ensures) (subst (λ (l : List Package). c.args.number < length l) (sym (c.as_slice.ensures.list ∙ c.packages-packages.ensures)) (subst (λ n. c.args.number < n) c.law.ensures.even.waiting (in_range c.args.queue.now.waiting c.args.number (member_waits c.args.queue.now c.args.number c.requires.member)))) c.index-as_slice-number.is)) (c.requires.wait c.args.number (member_waits c.args.queue.now c.args.number c.requires.member))
 
 pub returns-then-is_broken-clause-broken_off : goal.returns-then-is_broken-clause-broken_off
-returns-then-is_broken-clause-broken_off g c = record { broken = (is_broken_off c.unit_of-unit.result.reply c.is_broken.result c.if-is_broken.true c.is_broken.ensures); untouched = c.unit_of-unit.ensures.untouched (is_broken_off c.unit_of-unit.result.reply c.is_broken.result c.if-is_broken.true c.is_broken.ensures); called = inr (c.index-as_slice-number.result, (numbered_by c.args.turns.now.packages c.as_slice.result.now c.args.number c.index-as_slice-number.result (c.as_slice.ensures.list ∙ c.packages-packages.ensures) (subst (λ (l : List Package). c.args.number < length l) (sym (c.as_slice.ensures.list ∙ c.packages-packages.ensures)) (subst (λ n. c.args.number < n) c.law.ensures.even.waiting (in_range c.args.turns.now.waiting c.args.number (member_waits c.args.turns.now c.args.number c.requires.member)))) c.index-as_slice-number.is), c.unit_of-unit.ensures.told) }
+returns-then-is_broken-clause-broken_off g c = record { broken = (is_broken_off c.unit_of-unit.result.reply c.is_broken.result c.if-is_broken.true c.is_broken.ensures); untouched = c.unit_of-unit.ensures.untouched (is_broken_off c.unit_of-unit.result.reply c.is_broken.result c.if-is_broken.true c.is_broken.ensures); called = inr (c.index-as_slice-number.result, (numbered_by c.args.queue.now.packages c.as_slice.result.now c.args.number c.index-as_slice-number.result (c.as_slice.ensures.list ∙ c.packages-packages.ensures) (subst (λ (l : List Package). c.args.number < length l) (sym (c.as_slice.ensures.list ∙ c.packages-packages.ensures)) (subst (λ n. c.args.number < n) c.law.ensures.even.waiting (in_range c.args.queue.now.waiting c.args.number (member_waits c.args.queue.now c.args.number c.requires.member)))) c.index-as_slice-number.is), c.unit_of-unit.ensures.told) }
 
 pub returns-then-is_broken-clause-told_broken : goal.returns-then-is_broken-clause-told_broken
 returns-then-is_broken-clause-told_broken g c = called_for_tells c.args.policy c.index-as_slice-number.result.name (held_by c.args.administration.now c.args.diversions.now) c.unit_of-unit.result (g.H.Host.state c.args.host.now) (g.H.Host.state c.unit_of-unit.new.host) c.unit_of-unit.ensures.told
 
 pub returns-then-is_broken-clause-any_moment : goal.returns-then-is_broken-clause-any_moment
-returns-then-is_broken-clause-any_moment g c = since_weaker (IsAmidUnit c.args.policy c.index-as_slice-number.result.name (held_by c.args.administration.now c.args.diversions.now) (g.H.Host.state c.args.host.now).world) (IsAmidTurn c.args.policy c.args.turns.now c.args.number (held_by c.args.administration.now c.args.diversions.now) (g.H.Host.state c.args.host.now).world) (g.H.Host.state c.args.host.now) (g.H.Host.state c.unit_of-unit.new.host) (λ x w amid. inr (c.index-as_slice-number.result, (numbered_by c.args.turns.now.packages c.as_slice.result.now c.args.number c.index-as_slice-number.result (c.as_slice.ensures.list ∙ c.packages-packages.ensures) (subst (λ (l : List Package). c.args.number < length l) (sym (c.as_slice.ensures.list ∙ c.packages-packages.ensures)) (subst (λ n. c.args.number < n) c.law.ensures.even.waiting (in_range c.args.turns.now.waiting c.args.number (member_waits c.args.turns.now c.args.number c.requires.member)))) c.index-as_slice-number.is), amid)) c.unit_of-unit.ensures.any_moment
+returns-then-is_broken-clause-any_moment g c = since_weaker (IsAmidUnit c.args.policy c.index-as_slice-number.result.name (held_by c.args.administration.now c.args.diversions.now) (g.H.Host.state c.args.host.now).world) (IsAmidTurnOf c.args.policy c.args.queue.now c.args.number (held_by c.args.administration.now c.args.diversions.now) (g.H.Host.state c.args.host.now).world) (g.H.Host.state c.args.host.now) (g.H.Host.state c.unit_of-unit.new.host) (λ x w amid. inr (c.index-as_slice-number.result, (numbered_by c.args.queue.now.packages c.as_slice.result.now c.args.number c.index-as_slice-number.result (c.as_slice.ensures.list ∙ c.packages-packages.ensures) (subst (λ (l : List Package). c.args.number < length l) (sym (c.as_slice.ensures.list ∙ c.packages-packages.ensures)) (subst (λ n. c.args.number < n) c.law.ensures.even.waiting (in_range c.args.queue.now.waiting c.args.number (member_waits c.args.queue.now c.args.number c.requires.member)))) c.index-as_slice-number.is), amid)) c.unit_of-unit.ensures.any_moment
 
 pub returns-clause-ok : goal.returns-clause-ok
-returns-clause-ok g c =
-    let grown : c.push.new.self.items ≡ c.args.units.now.items ++ c.unit_of-unit.result ∷ [] = search rules in
-    record {
-      p = c.index-as_slice-number.result;
-      numbered = (numbered_by c.args.turns.now.packages c.as_slice.result.now c.args.number c.index-as_slice-number.result (c.as_slice.ensures.list ∙ c.packages-packages.ensures) (subst (λ (l : List Package). c.args.number < length l) (sym (c.as_slice.ensures.list ∙ c.packages-packages.ensures)) (subst (λ n. c.args.number < n) c.law.ensures.even.waiting (in_range c.args.turns.now.waiting c.args.number (member_waits c.args.turns.now c.args.number c.requires.member)))) c.index-as_slice-number.is);
-      unit = c.unit_of-unit.result;
-      grown = grown;
-      done_is = c.is_done-done.ensures;
-      is = (not_broken c.unit_of-unit.result.reply c.is_broken.result c.if-is_broken.false c.is_broken.ensures (subst (λ (ps : List Package). IsBroken c.unit_of-unit.result.reply ⊎ IsUnit c.args.policy ps c.index-as_slice-number.result (held_by c.args.administration.now c.args.diversions.now) (held_by c.unit_of-unit.new.administration c.args.diversions.now) c.unit_of-unit.result (g.H.Host.state c.args.host.now) (g.H.Host.state c.unit_of-unit.new.host)) c.packages-packages.ensures c.unit_of-unit.ensures.unit));
-      moments = c.unit_of-unit.ensures.any_moment;
-      answered = not_broken c.unit_of-unit.result.reply c.is_broken.result c.if-is_broken.false c.is_broken.ensures c.unit_of-unit.ensures.answered;
-    }
+returns-clause-ok g c = record {
+  p = c.index-as_slice-number.result;
+  numbered = (numbered_by c.args.queue.now.packages c.as_slice.result.now c.args.number c.index-as_slice-number.result (c.as_slice.ensures.list ∙ c.packages-packages.ensures) (subst (λ (l : List Package). c.args.number < length l) (sym (c.as_slice.ensures.list ∙ c.packages-packages.ensures)) (subst (λ n. c.args.number < n) c.law.ensures.even.waiting (in_range c.args.queue.now.waiting c.args.number (member_waits c.args.queue.now c.args.number c.requires.member)))) c.index-as_slice-number.is);
+  is = (not_broken c.unit_of-unit.result.reply c.is_broken.result c.if-is_broken.false c.is_broken.ensures (subst (λ (ps : List Package). IsBroken c.unit_of-unit.result.reply ⊎ IsUnit c.args.policy ps c.index-as_slice-number.result (held_by c.args.administration.now c.args.diversions.now) (held_by c.unit_of-unit.new.administration c.args.diversions.now) c.unit_of-unit.result (g.H.Host.state c.args.host.now) (g.H.Host.state c.unit_of-unit.new.host)) c.packages-packages.ensures c.unit_of-unit.ensures.unit));
+  moments = c.unit_of-unit.ensures.any_moment;
+  answered = not_broken c.unit_of-unit.result.reply c.is_broken.result c.if-is_broken.false c.is_broken.ensures c.unit_of-unit.ensures.answered;
+}
 
 pub returns-clause-wait : goal.returns-clause-wait
-returns-clause-wait g c = waiting_behind c.args.policy c.args.turns.now c.args.number c.index-as_slice-number.result c.is_done-done.result (held_by c.args.administration.now c.args.diversions.now) (held_by c.unit_of-unit.new.administration c.args.diversions.now) c.unit_of-unit.result (g.H.Host.state c.args.host.now) (g.H.Host.state c.unit_of-unit.new.host) c.law.ensures.even c.law.ensures.apart (numbered_by c.args.turns.now.packages c.as_slice.result.now c.args.number c.index-as_slice-number.result (c.as_slice.ensures.list ∙ c.packages-packages.ensures) (subst (λ (l : List Package). c.args.number < length l) (sym (c.as_slice.ensures.list ∙ c.packages-packages.ensures)) (subst (λ n. c.args.number < n) c.law.ensures.even.waiting (in_range c.args.turns.now.waiting c.args.number (member_waits c.args.turns.now c.args.number c.requires.member)))) c.index-as_slice-number.is) c.requires.wait (not_broken c.unit_of-unit.result.reply c.is_broken.result c.if-is_broken.false c.is_broken.ensures (subst (λ (ps : List Package). IsBroken c.unit_of-unit.result.reply ⊎ IsUnit c.args.policy ps c.index-as_slice-number.result (held_by c.args.administration.now c.args.diversions.now) (held_by c.unit_of-unit.new.administration c.args.diversions.now) c.unit_of-unit.result (g.H.Host.state c.args.host.now) (g.H.Host.state c.unit_of-unit.new.host)) c.packages-packages.ensures c.unit_of-unit.ensures.unit))
+returns-clause-wait g c = waiting_behind c.args.policy c.args.queue.now c.args.number c.index-as_slice-number.result (is_done c.unit_of-unit.result.reply) (held_by c.args.administration.now c.args.diversions.now) (held_by c.unit_of-unit.new.administration c.args.diversions.now) c.unit_of-unit.result (g.H.Host.state c.args.host.now) (g.H.Host.state c.unit_of-unit.new.host) c.law.ensures.even c.law.ensures.apart (numbered_by c.args.queue.now.packages c.as_slice.result.now c.args.number c.index-as_slice-number.result (c.as_slice.ensures.list ∙ c.packages-packages.ensures) (subst (λ (l : List Package). c.args.number < length l) (sym (c.as_slice.ensures.list ∙ c.packages-packages.ensures)) (subst (λ n. c.args.number < n) c.law.ensures.even.waiting (in_range c.args.queue.now.waiting c.args.number (member_waits c.args.queue.now c.args.number c.requires.member)))) c.index-as_slice-number.is) c.requires.wait (not_broken c.unit_of-unit.result.reply c.is_broken.result c.if-is_broken.false c.is_broken.ensures (subst (λ (ps : List Package). IsBroken c.unit_of-unit.result.reply ⊎ IsUnit c.args.policy ps c.index-as_slice-number.result (held_by c.args.administration.now c.args.diversions.now) (held_by c.unit_of-unit.new.administration c.args.diversions.now) c.unit_of-unit.result (g.H.Host.state c.args.host.now) (g.H.Host.state c.unit_of-unit.new.host)) c.packages-packages.ensures c.unit_of-unit.ensures.unit))
 
 pub returns-clause-order : goal.returns-clause-order
 returns-clause-order g c = not_broken c.unit_of-unit.result.reply c.is_broken.result c.if-is_broken.false c.is_broken.ensures c.unit_of-unit.ensures.order
@@ -69,12 +65,10 @@ pub returns-clause-open : goal.returns-clause-open
 returns-clause-open g c = not_broken c.unit_of-unit.result.reply c.is_broken.result c.if-is_broken.false c.is_broken.ensures c.unit_of-unit.ensures.open
 
 pub returns-clause-told : goal.returns-clause-told
-returns-clause-told g c =
-    let grown : c.push.new.self.items ≡ c.args.units.now.items ++ c.unit_of-unit.result ∷ [] = search rules in
-    tells_unit (g.H.Host.state c.args.host.now) (g.H.Host.state c.unit_of-unit.new.host) c.args.units.now.items c.push.new.self.items c.unit_of-unit.result grown (called_for_tells c.args.policy c.index-as_slice-number.result.name (held_by c.args.administration.now c.args.diversions.now) c.unit_of-unit.result (g.H.Host.state c.args.host.now) (g.H.Host.state c.unit_of-unit.new.host) c.unit_of-unit.ensures.told)
+returns-clause-told g c = called_for_tells c.args.policy c.index-as_slice-number.result.name (held_by c.args.administration.now c.args.diversions.now) c.unit_of-unit.result (g.H.Host.state c.args.host.now) (g.H.Host.state c.unit_of-unit.new.host) c.unit_of-unit.ensures.told
 
 pub returns-clause-any_moment : goal.returns-clause-any_moment
-returns-clause-any_moment g c = since_weaker (IsAmidUnit c.args.policy c.index-as_slice-number.result.name (held_by c.args.administration.now c.args.diversions.now) (g.H.Host.state c.args.host.now).world) (IsAmidTurn c.args.policy c.args.turns.now c.args.number (held_by c.args.administration.now c.args.diversions.now) (g.H.Host.state c.args.host.now).world) (g.H.Host.state c.args.host.now) (g.H.Host.state c.unit_of-unit.new.host) (λ x w amid. inr (c.index-as_slice-number.result, (numbered_by c.args.turns.now.packages c.as_slice.result.now c.args.number c.index-as_slice-number.result (c.as_slice.ensures.list ∙ c.packages-packages.ensures) (subst (λ (l : List Package). c.args.number < length l) (sym (c.as_slice.ensures.list ∙ c.packages-packages.ensures)) (subst (λ n. c.args.number < n) c.law.ensures.even.waiting (in_range c.args.turns.now.waiting c.args.number (member_waits c.args.turns.now c.args.number c.requires.member)))) c.index-as_slice-number.is), amid)) c.unit_of-unit.ensures.any_moment
+returns-clause-any_moment g c = since_weaker (IsAmidUnit c.args.policy c.index-as_slice-number.result.name (held_by c.args.administration.now c.args.diversions.now) (g.H.Host.state c.args.host.now).world) (IsAmidTurnOf c.args.policy c.args.queue.now c.args.number (held_by c.args.administration.now c.args.diversions.now) (g.H.Host.state c.args.host.now).world) (g.H.Host.state c.args.host.now) (g.H.Host.state c.unit_of-unit.new.host) (λ x w amid. inr (c.index-as_slice-number.result, (numbered_by c.args.queue.now.packages c.as_slice.result.now c.args.number c.index-as_slice-number.result (c.as_slice.ensures.list ∙ c.packages-packages.ensures) (subst (λ (l : List Package). c.args.number < length l) (sym (c.as_slice.ensures.list ∙ c.packages-packages.ensures)) (subst (λ n. c.args.number < n) c.law.ensures.even.waiting (in_range c.args.queue.now.waiting c.args.number (member_waits c.args.queue.now c.args.number c.requires.member)))) c.index-as_slice-number.is), amid)) c.unit_of-unit.ensures.any_moment
 
 pub returns-clause-no_fault : goal.returns-clause-no_fault
 returns-clause-no_fault g c = counts_whole c.unit_of-unit.result.reply (g.H.Host.state c.args.host.now) (g.H.Host.state c.unit_of-unit.new.host) (is_whole c.unit_of-unit.result.reply c.is_broken.result c.if-is_broken.false c.is_broken.ensures) c.unit_of-unit.ensures.counts

@@ -4,9 +4,10 @@ use Rattle.unit_reports.specs.Held.{held_by}
 use Rattle.unit_reports.specs.declared.refusal.Rule.TheVariants.{ConffileKind}
 use Rattle.unit_reports.specs.declared.report.Breakage.TheVariants.{NoMemory}
 use Rattle.unit_reports.specs.declared.report.Reply.TheVariants.{Broken}
+use Rattle.unit_runs.proofs.Taken.{counts_from}
 use Rattle.configure_run.specs.Turns.{HasObstacle, IsUnitFor}
 use Rattle.configure_run.proofs.Moments.{order_read, since_unit, since_unit_reads}
-use Rattle.configure_run.proofs.Replies.{broken_by, broken_or, counts_broken, counts_from, counts_refused, either_so, fault_not_closed, refused_not_closed}
+use Rattle.configure_run.proofs.Replies.{broken_by, broken_or, counts_broken, counts_refused, either_so, fault_not_closed, refused_not_closed}
 use Rattle.configure_run.proofs.Units.{called_nothing}
 use Rattle.configure_run.proofs.unit.unit_for.Goals as goal
 

@@ -9,7 +9,8 @@ use Rattle.unit_reports.specs.declared.report.Breakage.TheVariants.{NoMemory}
 use Rattle.std.proofs.Common.{◌⊎◌}
 use Rattle.configure_run.specs.Starting.{name_at}
 use Rattle.configure_run.specs.Turns.{IsUnit}
-use Rattle.configure_run.proofs.Moments.{answered_here, since_unit_start, silent_here}
+use Rattle.unit_reports.proofs.Telling.{answered_here}
+use Rattle.configure_run.proofs.Moments.{since_unit_start, silent_here}
 use Rattle.configure_run.proofs.Replies.{broken_or, counts_refused, either_so, refused_not_closed}
 use Rattle.configure_run.proofs.Units.{called_nothing, those_within}
 use Rattle.configure_run.proofs.unit.unit_of.Goals as goal

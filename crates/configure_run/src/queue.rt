@@ -1,10 +1,11 @@
-// Packages that wait for their turn.
+// The queue of packages that wait for their turn.
 ghost use Rattle.std.specs.Prelude.{◌≡◌, ◌<◌, ℕ, None, IfOk, IfSome, IsTrue, false, length, slice_set};
 ghost use Rattle.dependency_check.specs.Waiting.{IsConfigurableNow, IsNextOfConfigurable};
 ghost use Rattle.dependency_sets.specs.Choices.{IsListing};
 ghost use Rattle.dependency_sets.specs.Sets.{has};
 ghost use Rattle.recorded_packages.specs.Packages.{ArePackagesOf};
 ghost use Rattle.configure_run.specs.Starting.{AreNamedApart, IsBegun, IsEven};
+ghost use Rattle.configure_run.specs.Taking.{left_behind};
 ghost use Rattle.configure_run.specs.Turns.{after_turn};
 
 use crate::starting::{installed_of, waiting_of};
@@ -18,12 +19,12 @@ use texts::Text;
 
 /// The queue of the packages, and which of them wait.
 #[derive(Drop)]
-pub(crate) struct Turns {
+pub(crate) struct Queue {
     queue: ConfigureQueue,
     waiting: Vec<bool>,
 }
 
-impl Model for Turns {
+impl Model for Queue {
     ghost use Rattle.std.specs.Prelude.{◌≡◌};
     ghost use Rattle.dependency_check.specs.Waiting.{Waiting};
     ghost use Rattle.configure_run.specs.Starting.{AreNamedApart, IsEven};
@@ -53,14 +54,14 @@ fn queue_after(
     queue.failed(number)
 }
 
-impl Turns {
-    /// The turns of the named packages that can wait.
+impl Queue {
+    /// The queue of the named packages that can wait.
     pub(crate) fn of(
         alloc: Global,
         database: &NotedDatabase,
         packages: Packages,
         names: &[Text],
-    ) -> Result<Turns, AllocError>
+    ) -> Result<Queue, AllocError>
         requires { ArePackagesOf database.now.records packages }
         ensures { IfOk result (IsBegun names.now database.now.records) }
     {
@@ -68,10 +69,10 @@ impl Turns {
         let installed = installed_of(alloc, database.records())?;
         let waiting = waiting_of(alloc, names, database.records())?;
         let queue = ConfigureQueue::of(alloc, packages, installed.as_slice(), waiting.as_slice())?;
-        Ok(Turns { queue, waiting })
+        Ok(Queue { queue, waiting })
     }
 
-    /// What holds of all turns.
+    /// What holds of each queue.
     pub(crate) fn law(&self)
         ensures even { IsEven self.now }
         ensures apart { AreNamedApart self.now.packages }
@@ -118,17 +119,28 @@ impl Turns {
         Ok(left)
     }
 
-    /// The turns behind that of a package, which was configured or wasn't. Where memory is wanting they are gone.
-    pub(crate) fn after(self, number: usize, done: bool) -> Result<Turns, AllocError>
+    /// The queue behind the turn of a package, which was configured or wasn't. Where memory is wanting it is gone.
+    pub(crate) fn after(self, number: usize, done: bool) -> Result<Queue, AllocError>
         requires member { IsConfigurableNow self number }
         ensures { IfOk result (λ t. t ≡ after_turn done number self) }
     {
-        let Turns { queue, mut waiting } = self;
+        let Queue { queue, mut waiting } = self;
         waiting[number] = false;
         let left = queue_after(queue, number, done)?;
-        Ok(Turns {
+        Ok(Queue {
             queue: left,
             waiting,
         })
+    }
+
+    /// The same, where a turn was taken.
+    pub(crate) fn behind(self, taken: Option<(usize, bool)>) -> Result<Queue, AllocError>
+        requires member { IfSome taken (λ n. IsConfigurableNow self n.0) }
+        ensures { IfOk result (λ q. q ≡ left_behind self taken) }
+    {
+        match taken {
+            Some(turn) => self.after(turn.0, turn.1),
+            None => Ok(self),
+        }
     }
 }

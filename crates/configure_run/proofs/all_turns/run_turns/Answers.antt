@@ -1,4 +1,5 @@
 use Rattle.std.proofs.Common.{List, subst, sym, ◌∙◌}
+use Rattle.unit_reports.proofs.Telling.{told_added}
 use Rattle.unit_reports.specs.Held.{held_by}
 use Rattle.unit_reports.specs.Units.{calls_of}
 use Rattle.undo_rows.specs.Transcript.{TellsAll}
@@ -7,7 +8,7 @@ use Rattle.configure_run.specs.Turns.{StopTurns}
 use Rattle.configure_run.proofs.Replies.{broken_by, counts_no_memory, not_closed_by}
 use Rattle.configure_run.proofs.Told.{refused_left_calls, some_left_calls, tells_no_more}
 use Rattle.configure_run.proofs.Units.{no_calls}
-use Rattle.configure_run.proofs.turn.run_turns.Goals as goal
+use Rattle.configure_run.proofs.all_turns.run_turns.Goals as goal
 
 pub refuse_left-requires : goal.refuse_left-requires
 refuse_left-requires g c = record { none_left = c.in-Ok.ensures.none_left }
@@ -32,3 +33,13 @@ returns-in-Err-refuse_left-clause-counts g c = counts_no_memory c.no_memory.resu
 
 pub returns-in-Err-refuse_left-clause-not_closed : goal.returns-in-Err-refuse_left-clause-not_closed
 returns-in-Err-refuse_left-clause-not_closed g c = not_closed_by c.no_memory.result.reply c.no_memory.ensures.reply
+
+pub returns-in-Ok-refuse_left-clause-watched : goal.returns-in-Ok-refuse_left-clause-watched
+returns-in-Ok-refuse_left-clause-watched g c = 
+    told_added g.W.Watcher.tells (g.H.Host.state c.args.host.now) (g.H.Host.state c.take_turns.new.host) c.args.watcher.now c.take_turns.new.watcher c.refuse_left.new.watcher c.args.units.now.items c.take_turns.new.units.items c.refuse_left.new.units.items
+    c.take_turns.ensures.watched c.in-Ok.ensures.told c.in-Ok.ensures.answered c.refuse_left.ensures.watched
+
+pub returns-in-Err-refuse_left-clause-watched : goal.returns-in-Err-refuse_left-clause-watched
+returns-in-Err-refuse_left-clause-watched g c = 
+    told_added g.W.Watcher.tells (g.H.Host.state c.args.host.now) (g.H.Host.state c.take_turns.new.host) c.args.watcher.now c.take_turns.new.watcher c.refuse_left.new.watcher c.args.units.now.items c.take_turns.new.units.items c.refuse_left.new.units.items
+    c.take_turns.ensures.watched c.in-Ok.ensures.told c.in-Ok.ensures.answered c.refuse_left.ensures.watched

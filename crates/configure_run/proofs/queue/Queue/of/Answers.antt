@@ -6,8 +6,8 @@ use Rattle.status_records.specs.Words.{is_installed}
 use Rattle.status_records.specs.declared.record.Record.{Record}
 use Rattle.configure_run.specs.Starting.{IsBegun, waits}
 use Rattle.configure_run.proofs.Numbers.{begun_even, named_apart}
-use Rattle.configure_run.proofs.turns.Turns.of.Goals as goal
-use Rattle.configure_run.proofs.turns.Turns.of.Goals.{In_ok-queue}
+use Rattle.configure_run.proofs.queue.Queue.of.Goals as goal
+use Rattle.configure_run.proofs.queue.Queue.of.Goals.{In_ok-queue}
 
 begun : (c : In_ok-queue) → IsBegun c.args.names.now c.args.database.now.records c.in_ok-queue.queue
 begun c =

@@ -1,6 +1,6 @@
 use Rattle.std.proofs.Common.{◌≡◌, subst, sym}
 use Rattle.dependency_check.specs.Waiting.{Waiting, IsConfigurableNow}
-use Rattle.configure_run.proofs.turns.Turns.after.Goals as goal
+use Rattle.configure_run.proofs.queue.Queue.after.Goals as goal
 
 pub queue_after-requires-clause-member : goal.queue_after-requires-clause-member
 queue_after-requires-clause-member c =

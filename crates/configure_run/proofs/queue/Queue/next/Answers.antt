@@ -3,7 +3,7 @@ use Rattle.std.specs.Prelude.{IfSome}
 use Rattle.dependency_check.specs.Waiting.{Waiting, IsConfigurableNow, IsNextOfConfigurable}
 use Rattle.dependency_sets.specs.Sets.{has}
 use Rattle.configure_run.proofs.Members.{next_member, none_is_member}
-use Rattle.configure_run.proofs.turns.Turns.next.Goals as goal
+use Rattle.configure_run.proofs.queue.Queue.next.Goals as goal
 
 pub returns-clause-next : goal.returns-clause-next
 returns-clause-next c =
