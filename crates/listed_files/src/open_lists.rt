@@ -1,13 +1,14 @@
-// Writing into lists that are open.
+// Writing into lists that are open, and the file of a list that goes.
 ghost use Rattle.std.specs.Prelude.{◌≡◌, ℕ, List, Contains, OnOk, OnErr, true, false};
 ghost use Rattle.host_core.specs.Host.{AtEachMoment, Counts, Leaves, Needs, Silent};
 ghost use Rattle.texts.specs.PackageNames.{is_package_name};
-ghost use Rattle.administration.specs.Files.{IsReplaced, IsReplacing};
-ghost use Rattle.administration.specs.Places.{list_path};
+ghost use Rattle.administration.specs.Files.{IsDropped, IsDropping, IsReplaced, IsReplacing};
+ghost use Rattle.administration.specs.Places.{list_path as list_place};
 ghost use Rattle.file_lists.specs.Owners.{AreListPaths};
 ghost use Rattle.file_lists.specs.Taking.{HasTakenAll, IsTaking, without_all};
 ghost use Rattle.file_lists.specs.Writing.{list_file, with_list, IsListReady};
 
+use administration::{discard, list_path};
 use diversions::Diversions;
 use file_lists::{FileLists, ListFault, Paths};
 use host_core::{Host, HostFault, RootPath};
@@ -15,7 +16,7 @@ use std::alloc::Global;
 use texts::Text;
 
 /// Writes the list of a package: since the lists are open, no other fault than the host's comes.
-pub(crate) fn replace_list<H: Host>(
+pub fn replace_list<H: Host>(
     alloc: Global,
     host: &mut H,
     lists: &mut FileLists,
@@ -26,14 +27,12 @@ pub(crate) fn replace_list<H: Host>(
     requires named { is_package_name name.now ≡ true }
     requires paths { AreListPaths paths }
     requires ready { Needs (H.state host.old) (IsListReady name.now) }
-    ensures lists { OnOk result (lists.new ≡ record lists.old {
-      lists = with_list name.now paths
-          lists.old.lists;
-    }) }
+    ensures lists { OnOk result
+        (lists.new ≡ record lists.old { lists = with_list name.now paths lists.old.lists }) }
     ensures err { OnErr result (lists.new ≡ record lists.old { closed = true }) }
-    ensures replaced { Leaves result (IsReplaced (list_path name.now) (list_file paths))
+    ensures replaced { Leaves result (IsReplaced (list_place name.now) (list_file paths))
         (H.state host.old) (H.state host.new) }
-    ensures any_moment { AtEachMoment (IsReplacing (list_path name.now) (list_file paths))
+    ensures any_moment { AtEachMoment (IsReplacing (list_place name.now) (list_file paths))
         (H.state host.old) (H.state host.new) }
     ensures silent { Silent (H.state host.old) (H.state host.new) }
     ensures counts { Counts (H.state host.old) (H.state host.new) result }
@@ -44,6 +43,21 @@ pub(crate) fn replace_list<H: Host>(
         Err(ListFault::NoMemory) => Err(HostFault::NoMemory),
         Err(ListFault::Closed) => unreachable!(),
     }
+}
+
+/// The file of a package's list goes.
+pub fn drop_list<H: Host>(alloc: Global, host: &mut H, name: &Text) -> Result<(), HostFault>
+    requires named { is_package_name name.now ≡ true }
+    requires ready { Needs (H.state host.old) (IsListReady name.now) }
+    ensures dropped { Leaves result (IsDropped (list_place name.now))
+        (H.state host.old) (H.state host.new) }
+    ensures any_moment { AtEachMoment (IsDropping (list_place name.now))
+        (H.state host.old) (H.state host.new) }
+    ensures silent { Silent (H.state host.old) (H.state host.new) }
+    ensures counts { Counts (H.state host.old) (H.state host.new) result }
+{
+    let path = list_path(alloc, name)?;
+    discard(host, &path)
 }
 
 /// Takes these places out of the lists of these packages.

@@ -1,17 +1,17 @@
-// The list of a part is written, or its file goes.
-ghost use Rattle.std.specs.Prelude.{◌≡◌, IfOk, OnOk, OnErr, true, false};
+// The list of a part is written.
+ghost use Rattle.std.specs.Prelude.{◌≡◌, IfOk, OnOk, true, false};
 ghost use Rattle.std.specs.List.{AllByRecursion};
 ghost use Rattle.std.specs.Str.{IsUtf8};
 ghost use Rattle.texts.specs.PackageNames.{is_package_name};
 ghost use Rattle.host_core.specs.Host.{AtEachMoment, Counts, Leaves, Needs, Silent};
-ghost use Rattle.administration.specs.Files.{IsDropped, IsDropping, IsReplaced, IsReplacing};
-ghost use Rattle.administration.specs.Places.{list_path as list_place};
+ghost use Rattle.administration.specs.Files.{IsReplaced, IsReplacing};
+ghost use Rattle.administration.specs.Places.{list_path};
 ghost use Rattle.file_lists.specs.Owners.{AreListPaths};
 ghost use Rattle.file_lists.specs.Writing.{list_file, with_list, IsListReady};
 
-use administration::{discard, list_path};
-use file_lists::{FileLists, ListFault, Paths};
+use file_lists::{FileLists, Paths};
 use host_core::{Host, HostFault, RootPath};
+use listed_files::replace_list;
 use std::alloc::{AllocError, Global};
 use texts::Text;
 
@@ -35,35 +35,6 @@ fn copy_of(alloc: Global, paths: &Paths) -> Result<Paths, AllocError>
     Ok(Paths { items })
 }
 
-// Writes a list: since the lists are open, no other fault than the host's comes.
-fn replace_list<H: Host>(
-    alloc: Global,
-    host: &mut H,
-    lists: &mut FileLists,
-    name: &Text,
-    paths: Paths,
-) -> Result<(), HostFault>
-    requires opened { lists.old.closed ≡ false }
-    requires named { is_package_name name.now ≡ true }
-    requires paths { AreListPaths paths }
-    requires ready { Needs (H.state host.old) (IsListReady name.now) }
-    ensures lists { OnOk result
-        (lists.new ≡ record lists.old { lists = with_list name.now paths lists.old.lists }) }
-    ensures replaced { Leaves result (IsReplaced (list_place name.now) (list_file paths))
-        (H.state host.old) (H.state host.new) }
-    ensures any_moment { AtEachMoment (IsReplacing (list_place name.now) (list_file paths))
-        (H.state host.old) (H.state host.new) }
-    ensures silent { Silent (H.state host.old) (H.state host.new) }
-    ensures counts { Counts (H.state host.old) (H.state host.new) result }
-{
-    match lists.replace(alloc, host, name, paths) {
-        Ok(()) => Ok(()),
-        Err(ListFault::Device) => Err(HostFault::Device),
-        Err(ListFault::NoMemory) => Err(HostFault::NoMemory),
-        Err(ListFault::Closed) => unreachable!(),
-    }
-}
-
 /// Writes the list of a package; the paths stay with the part.
 pub(crate) fn write_list<H: Host>(
     alloc: Global,
@@ -79,28 +50,13 @@ pub(crate) fn write_list<H: Host>(
     ensures lists { OnOk result
         (lists.new ≡ record lists.old { lists = with_list name.now paths.now lists.old.lists }) }
     ensures texts { OnOk result (AllByRecursion IsUtf8 paths.now) }
-    ensures replaced { Leaves result (IsReplaced (list_place name.now) (list_file paths.now))
+    ensures replaced { Leaves result (IsReplaced (list_path name.now) (list_file paths.now))
         (H.state host.old) (H.state host.new) }
-    ensures any_moment { AtEachMoment (IsReplacing (list_place name.now) (list_file paths.now))
+    ensures any_moment { AtEachMoment (IsReplacing (list_path name.now) (list_file paths.now))
         (H.state host.old) (H.state host.new) }
     ensures silent { Silent (H.state host.old) (H.state host.new) }
     ensures counts { Counts (H.state host.old) (H.state host.new) result }
 {
     let copy = copy_of(alloc, paths)?;
     replace_list(alloc, host, lists, name, copy)
-}
-
-/// The file of a package's list goes.
-pub(crate) fn drop_list<H: Host>(alloc: Global, host: &mut H, name: &Text) -> Result<(), HostFault>
-    requires named { is_package_name name.now ≡ true }
-    requires ready { Needs (H.state host.old) (IsListReady name.now) }
-    ensures dropped { Leaves result (IsDropped (list_place name.now))
-        (H.state host.old) (H.state host.new) }
-    ensures any_moment { AtEachMoment (IsDropping (list_place name.now))
-        (H.state host.old) (H.state host.new) }
-    ensures silent { Silent (H.state host.old) (H.state host.new) }
-    ensures counts { Counts (H.state host.old) (H.state host.new) result }
-{
-    let path = list_path(alloc, name)?;
-    discard(host, &path)
 }

@@ -7,7 +7,7 @@ ghost use Rattle.unit_stages.specs.PartFitting.{AreSettleable, IsFit};
 ghost use Rattle.held_administration.specs.Order.{IsInOrder};
 ghost use Rattle.unit_stages.specs.Parts.{HasDone, part_lists, part_records};
 
-use crate::listing::{drop_list, write_list};
+use crate::listing::write_list;
 use crate::members::drop_members;
 use crate::noting::note_copy;
 use crate::part::Part;
@@ -15,6 +15,7 @@ use conffiles::apply;
 use file_lists::FileLists;
 use file_removal::{clear_names, remove_directories, remove_owned};
 use host_core::{Host, HostFault};
+use listed_files::drop_list;
 use status_db::{NotedDatabase, note_no_record};
 use std::alloc::Global;
 use texts::Text;

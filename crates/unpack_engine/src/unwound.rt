@@ -2,34 +2,18 @@
 ghost use Rattle.std.specs.Prelude.{◌≡◌, true};
 ghost use Rattle.texts.specs.PackageNames.{is_package_name};
 ghost use Rattle.host_core.specs.Host.{AtEachMoment, Counts, Leaves, Needs, Silent};
-ghost use Rattle.administration.specs.Files.{IsDropped, IsDropping};
-ghost use Rattle.administration.specs.Places.{list_path as list_place};
 ghost use Rattle.control_members.specs.LaidOut.{AreLaidOut};
 ghost use Rattle.file_lists.specs.Writing.{IsListReady};
 ghost use Rattle.status_db.specs.Held.{IsKept};
 ghost use Rattle.status_records.specs.Records.{record_in};
 ghost use Rattle.unpack_engine.specs.Units.{HasDropped, HasLeftBy, MayDrop, MayLeaveBy};
 
-use administration::{discard, list_path};
 use control_members::{Members, clear_away};
 use host_core::{Host, HostFault};
+use listed_files::drop_list;
 use status_db::NotedDatabase;
 use std::alloc::Global;
 use texts::Text;
-
-fn drop_list<H: Host>(alloc: Global, host: &mut H, name: &Text) -> Result<(), HostFault>
-    requires named { is_package_name name.now ≡ true }
-    requires ready { Needs (H.state host.old) (IsListReady name.now) }
-    ensures dropped { Leaves result
-        (IsDropped (list_place name.now)) (H.state host.old) (H.state host.new) }
-    ensures any_moment { AtEachMoment
-        (IsDropping (list_place name.now)) (H.state host.old) (H.state host.new) }
-    ensures silent { Silent (H.state host.old) (H.state host.new) }
-    ensures counts { Counts (H.state host.old) (H.state host.new) result }
-{
-    let path = list_path(alloc, name)?;
-    discard(host, &path)
-}
 
 // Drops the list of a package that has no record, where its rows went on to the new preinst's.
 fn drop_unrecorded<H: Host>(
