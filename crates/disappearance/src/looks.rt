@@ -5,18 +5,17 @@ ghost use Rattle.host_core.specs.World.{is_directory as is_directory_node};
 ghost use Rattle.diversions.specs.Places.{place};
 ghost use Rattle.diversions.specs.Sights.{is_directory_kind};
 ghost use Rattle.recorded_packages.specs.Packages.{ArePackagesOf};
-ghost use Rattle.unit_stages.specs.Holding.{holding};
+ghost use Rattle.unit_stages.specs.Holding.{holding_of};
 ghost use Rattle.disappearance.specs.Verdicts.{HasLost, IsVerdict, are_directories, is_there};
 
 use crate::losing::Losing;
 use crate::needed::is_needed;
 use diversions::Diversions;
 use file_lists::FileLists;
+use held_administration::Administration;
 use host_core::{Host, HostFault, Kind, RootPath};
 use relation_index::Packages;
-use status_db::NotedDatabase;
 use status_records::{Record, State};
-use std::alloc::Global;
 use texts::Text;
 
 // Whether a package is at least half-installed.
@@ -91,37 +90,35 @@ fn are_directories<H: Host>(
 /// Looks whether a package disappears: it is recorded and at least half-installed, it lists fewer paths than before the unpack, a
 /// directory stands at the place of each path that it still lists, and no other package needs it.
 pub(crate) fn look<H: Host>(
-    alloc: Global,
     host: &mut H,
-    database: &NotedDatabase,
+    administration: &Administration,
     packages: &Packages,
-    lists: &FileLists,
     diversions: &Diversions,
     incoming: &Text,
     losing: &Losing,
 ) -> Result<bool, HostFault>
-    requires indexed { ArePackagesOf database.now.records packages.now }
+    requires indexed { ArePackagesOf administration.now.database.records packages.now }
     ensures verdict { IfOk result
-        (IsVerdict incoming.now diversions.now.entries losing.now (holding database.now lists.now)
+        (IsVerdict incoming.now diversions.now.entries losing.now (holding_of administration.now)
         (H.state host.old).world (H.state host.new).honest) }
     ensures reads { Reads (H.state host.old) (H.state host.new) }
     ensures silent { Silent (H.state host.old) (H.state host.new) }
     ensures counts { Counts (H.state host.old) (H.state host.new) result }
 {
-    let Some(entry) = database.get(&losing.name) else {
+    let Some(entry) = administration.database.get(&losing.name) else {
         return Ok(false);
     };
     if !is_there(entry) {
         return Ok(false);
     }
-    if !has_lost(lists, losing) {
+    if !has_lost(&administration.lists, losing) {
         return Ok(false);
     }
-    let listed = lists.list_of(&losing.name);
+    let listed = administration.lists.list_of(&losing.name);
     let empty = are_directories(host, diversions, &losing.name, listed)?;
     if !empty {
         return Ok(false);
     }
-    let needed = is_needed(alloc, packages, incoming, &losing.name)?;
+    let needed = is_needed(administration.alloc, packages, incoming, &losing.name)?;
     Ok(!needed)
 }

@@ -10,7 +10,7 @@ ghost use Rattle.status_records.specs.declared.record.Record.{Record as ARecord}
 ghost use Rattle.held_administration.specs.Order.{IsInOrder};
 ghost use Rattle.unit_stages.specs.Calls.{MayRunStages};
 ghost use Rattle.unit_stages.specs.Fitting.{AreStagesFit};
-ghost use Rattle.unit_stages.specs.Holding.{holding, holding_of};
+ghost use Rattle.unit_stages.specs.Holding.{holding_of};
 ghost use Rattle.unit_stages.specs.Running.{AreRunning};
 ghost use Rattle.unit_stages.specs.Runs.{HaveRun};
 ghost use Rattle.undo_rows.specs.declared.rows.Row.{Row as ARow};
@@ -22,13 +22,11 @@ use crate::looks::look;
 use crate::losing::Losing;
 use crate::stages::{Plan, plan_stages};
 use diversions::Diversions;
-use file_lists::FileLists;
 use held_administration::Administration;
 use host_core::{Call, Host, HostFault};
 use recorded_packages::renew_one;
 use relation_index::Packages;
-use status_db::NotedDatabase;
-use std::alloc::{AllocError, Global};
+use std::alloc::AllocError;
 use texts::{Text, Texts};
 use undo_rows::Called;
 use unit_stages::{Stage, run_stages};
@@ -129,36 +127,39 @@ fn run_both<H: Host>(
 // Looks whether a package disappears, and plans what is run then.
 #[tactic(auto, using(host_core::proofs::Moments::reads_then))]
 fn decide<H: Host>(
-    alloc: Global,
     host: &mut H,
-    database: &NotedDatabase,
+    administration: &Administration,
     packages: &Packages,
-    lists: &FileLists,
     diversions: &Diversions,
     incoming: &Text,
     version: &Version,
     losing: &Losing,
 ) -> Result<Option<Plan>, HostFault>
-    requires indexed { ArePackagesOf database.now.records packages.now }
+    requires indexed { ArePackagesOf administration.now.database.records packages.now }
     ensures decision { IfOk result
         (λ found. MatchOption found
-        (Stays incoming.now diversions.now.entries losing.now (holding database.now lists.now)
+        (Stays incoming.now diversions.now.entries losing.now (holding_of administration.now)
         (H.state host.old).world (H.state host.new).honest)
-        (λ p. Goes incoming.now diversions.now.entries losing.now (holding database.now lists.now)
+        (λ p. Goes incoming.now diversions.now.entries losing.now (holding_of administration.now)
         (H.state host.old).world (H.state host.new).honest
-        × IsPlan incoming.now version.now losing.now.name (holding database.now lists.now)
+        × IsPlan incoming.now version.now losing.now.name (holding_of administration.now)
         (H.state host.old).world (H.state host.new).honest p.call.items p.gone.items)) }
     ensures reads { Reads (H.state host.old) (H.state host.new) }
     ensures silent { Silent (H.state host.old) (H.state host.new) }
     ensures counts { Counts (H.state host.old) (H.state host.new) result }
 {
-    let goes = look(
-        alloc, host, database, packages, lists, diversions, incoming, losing,
-    )?;
+    let goes = look(host, administration, packages, diversions, incoming, losing)?;
     if !goes {
         return Ok(None);
     }
-    let plan = plan_stages(alloc, host, database, incoming, version, &losing.name)?;
+    let plan = plan_stages(
+        administration.alloc,
+        host,
+        &administration.database,
+        incoming,
+        version,
+        &losing.name,
+    )?;
     Ok(Some(plan))
 }
 
@@ -206,13 +207,10 @@ pub(crate) fn disappear<H: Host>(
         (H.state host.old) (H.state host.new) }
     ensures counts { Counts (H.state host.old) (H.state host.new) result }
 {
-    let alloc = administration.alloc;
     match decide(
-        alloc,
         host,
-        &administration.database,
+        administration,
         packages,
-        &administration.lists,
         diversions,
         incoming,
         version,

@@ -16,6 +16,7 @@ use crate::scripts::{Stored, postrm_row, prerm_row, purge_row, quiet_row};
 use crate::side_names::purged_names;
 use diversions::Diversions;
 use file_lists::{FileLists, Paths};
+use held_administration::Administration;
 use host_core::RootPath;
 use status_records::{Record, State};
 use std::alloc::{AllocError, Global};
@@ -167,8 +168,7 @@ fn last_stage(
 
 // Adds the stages of a purge.
 fn push_purge(
-    alloc: Global,
-    lists: &FileLists,
+    administration: &Administration,
     diversions: &Diversions,
     entry: &Record,
     stored: Stored,
@@ -179,8 +179,11 @@ fn push_purge(
     ensures { OnOk result
         (map planned stages.new.items
         ≡ map planned stages.old.items
-        ++ purge_stages diversions.now.entries lists.now.lists entry.now stored listed.now) }
+        ++ purge_stages diversions.now.entries administration.now.lists.lists entry.now stored
+        listed.now) }
 {
+    let alloc = administration.alloc;
+    let lists = &administration.lists;
     stages.push(purge_stage(alloc, lists, diversions, entry, stored)?)?;
     stages.push(last_stage(alloc, lists, diversions, entry, listed)?)?;
     Ok(())
@@ -188,8 +191,7 @@ fn push_purge(
 
 // Adds the stages behind that of the files.
 fn push_end(
-    alloc: Global,
-    lists: &FileLists,
+    administration: &Administration,
     diversions: &Diversions,
     entry: &Record,
     stored: Stored,
@@ -201,8 +203,10 @@ fn push_end(
     ensures { OnOk result
         (map planned stages.new.items
         ≡ map planned stages.old.items
-        ++ end_stages diversions.now.entries lists.now.lists entry.now stored purge to_come.now) }
+        ++ end_stages diversions.now.entries administration.now.lists.lists entry.now stored purge
+        to_come.now) }
 {
+    let alloc = administration.alloc;
     if goes_at_once(entry, stored) {
         stages.push(gone_stage(alloc, entry)?)?;
         return Ok(());
@@ -212,14 +216,13 @@ fn push_end(
         return Ok(());
     }
     let left = config_files(alloc, entry)?;
-    push_purge(alloc, lists, diversions, &left, stored, to_come, stages)?;
+    push_purge(administration, diversions, &left, stored, to_come, stages)?;
     Ok(())
 }
 
 // Adds the stages from that of the files on.
 fn push_files(
-    alloc: Global,
-    lists: &FileLists,
+    administration: &Administration,
     diversions: &Diversions,
     entry: &Record,
     stored: Stored,
@@ -231,19 +234,27 @@ fn push_files(
     ensures { OnOk result
         (map planned stages.new.items
         ≡ map planned stages.old.items
-        ++ files_stages diversions.now.entries lists.now.lists entry.now stored purge to_come.now) }
+        ++ files_stages diversions.now.entries administration.now.lists.lists entry.now stored purge
+        to_come.now) }
 {
+    let alloc = administration.alloc;
+    let lists = &administration.lists;
     stages.push(files_stage(alloc, lists, diversions, entry, stored, to_come)?)?;
     push_end(
-        alloc, lists, diversions, entry, stored, purge, to_come, stages,
+        administration,
+        diversions,
+        entry,
+        stored,
+        purge,
+        to_come,
+        stages,
     )?;
     Ok(())
 }
 
 // Adds the stages by the state in which the package is found.
 fn push_from(
-    alloc: Global,
-    lists: &FileLists,
+    administration: &Administration,
     diversions: &Diversions,
     entry: &Record,
     stored: Stored,
@@ -255,21 +266,33 @@ fn push_from(
     ensures { OnOk result
         (map planned stages.new.items
         ≡ map planned stages.old.items
-        ++ stages_from diversions.now.entries lists.now.lists entry.now.state entry.now stored purge
-        to_come.now) }
+        ++ stages_from diversions.now.entries administration.now.lists.lists entry.now.state
+        entry.now stored purge to_come.now) }
 {
     match entry.state {
         State::ConfigFiles => {
-            let listed = lists.list_of(&entry.name);
-            push_purge(alloc, lists, diversions, entry, stored, listed, stages)
+            let listed = administration.lists.list_of(&entry.name);
+            push_purge(administration, diversions, entry, stored, listed, stages)
         }
         State::NotInstalled | State::HalfInstalled | State::Unpacked => push_files(
-            alloc, lists, diversions, entry, stored, purge, to_come, stages,
+            administration,
+            diversions,
+            entry,
+            stored,
+            purge,
+            to_come,
+            stages,
         ),
         State::HalfConfigured | State::Installed => {
-            stages.push(prerm_stage(alloc, entry, stored)?)?;
+            stages.push(prerm_stage(administration.alloc, entry, stored)?)?;
             push_files(
-                alloc, lists, diversions, entry, stored, purge, to_come, stages,
+                administration,
+                diversions,
+                entry,
+                stored,
+                purge,
+                to_come,
+                stages,
             )
         }
     }
@@ -277,8 +300,7 @@ fn push_from(
 
 /// The stages of a removal of this extent: of the package of this record, which lists that once its files are gone.
 pub(crate) fn removal_stages(
-    alloc: Global,
-    lists: &FileLists,
+    administration: &Administration,
     diversions: &Diversions,
     entry: &Record,
     stored: Stored,
@@ -288,15 +310,14 @@ pub(crate) fn removal_stages(
     requires named { is_package_name entry.now.name ≡ true }
     ensures { IfOk result
         (λ stages. map planned stages.items
-        ≡ removal_stages diversions.now.entries lists.now.lists extent entry.now stored
-        to_come.now) }
+        ≡ removal_stages diversions.now.entries administration.now.lists.lists extent entry.now
+        stored to_come.now) }
 {
     let purge = extent.is_purge();
-    let mut stages = Vec::new(alloc);
+    let mut stages = Vec::new(administration.alloc);
     match extent {
         Extent::Remove | Extent::Purge => push_from(
-            alloc,
-            lists,
+            administration,
             diversions,
             entry,
             stored,
@@ -305,8 +326,7 @@ pub(crate) fn removal_stages(
             &mut stages,
         )?,
         Extent::InFavour => push_files(
-            alloc,
-            lists,
+            administration,
             diversions,
             entry,
             stored,

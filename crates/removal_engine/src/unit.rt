@@ -12,37 +12,35 @@ use crate::lists::list_to_come;
 use crate::scripts::{Stored, stored_scripts};
 use crate::stages::removal_stages;
 use diversions::Diversions;
-use file_lists::FileLists;
 use held_administration::Administration;
 use host_core::{Call, Host, HostFault};
 use status_records::Record;
-use std::alloc::Global;
 use texts::Text;
 use undo_rows::Called;
 use unit_stages::{Stage, run_stages};
 
 // Plans: nothing but looking.
 fn plan<H: Host>(
-    alloc: Global,
     host: &mut H,
-    lists: &FileLists,
+    administration: &Administration,
     diversions: &Diversions,
     entry: &Record,
     extent: Extent,
 ) -> Result<Vec<Stage>, HostFault>
     requires named { is_package_name entry.now.name ≡ true }
     ensures planned { IfOk result
-        (λ stages. IsPlanFor diversions.now.entries lists.now.lists entry.now extent
-        (H.state host.old).world (H.state host.new).honest stages.items) }
+        (λ stages. IsPlanFor diversions.now.entries administration.now.lists.lists
+        entry.now extent (H.state host.old).world (H.state host.new).honest stages.items) }
     ensures reads { Reads (H.state host.old) (H.state host.new) }
     ensures silent { Silent (H.state host.old) (H.state host.new) }
     ensures counts { Counts (H.state host.old) (H.state host.new) result }
 {
+    let alloc = administration.alloc;
     match stored_scripts(alloc, host, &entry.name) {
         Ok(stored) => {
             let to_come = list_to_come(alloc, entry, stored)?;
             let paths = to_come.as_slice();
-            Ok(removal_stages(alloc, lists, diversions, entry, stored, extent, paths)?)
+            Ok(removal_stages(administration, diversions, entry, stored, extent, paths)?)
         }
         Err(fault) => Err(fault),
     }
@@ -86,14 +84,7 @@ pub fn remove<H: Host>(
     let alloc = administration.alloc;
     administration.lists.index(alloc)?;
     let entry = administration.database.get(name).unwrap();
-    match plan(
-        alloc,
-        host,
-        &administration.lists,
-        diversions,
-        entry,
-        extent,
-    ) {
+    match plan(host, administration, diversions, entry, extent) {
         Ok(stages) => run_stages(host, administration, diversions, name, stages, told),
         Err(fault) => Err(fault),
     }

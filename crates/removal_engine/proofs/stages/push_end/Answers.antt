@@ -8,7 +8,7 @@ use Rattle.removal_engine.proofs.stages.push_end.Goals as goal
 pub returns : goal.returns
 returns c =
     let entries = c.args.diversions.now.entries in
-    let lists = c.args.lists.now.lists in
+    let lists = c.args.administration.now.lists.lists in
     let r = c.args.entry.now in
     let base = c.args.stages.now.items in
     goes_on (map planned base) _ _ (goes_at_once r c.args.stored) c.args.purge (gone_stage r) (left_stage r) (purge_stages entries lists (config_files r) c.args.stored c.args.to_come.now)
