@@ -17,7 +17,7 @@ use unpack_rows::{is_spared, note_before, note_undone};
 impl<'a, 's, H: Host> Around<H> for Unpacking<'a, 's, H> {
     ghost Task = { Task };
 
-    ghost task = { task_in H.state };
+    ghost task = { λ a. task_in a };
 
     ghost reference = { λ a. a.administration.ghost_name ∷ a.works.ghost_name ∷ [] };
 
@@ -29,11 +29,11 @@ impl<'a, 's, H: Host> Around<H> for Unpacking<'a, 's, H> {
 
     ghost stops = { Stops };
 
-    ghost at = { λ a. At (task_in H.state a) (held_in a) };
+    ghost at = { λ a. At (task_in a) (held_in a) };
 
-    ghost stays = { λ a. stays_at (task_in H.state a) (held_in a) };
+    ghost stays = { λ a. stays_at (task_in a) (held_in a) };
 
-    ghost holds = { λ a. holds_at (task_in H.state a) (held_in a) };
+    ghost holds = { λ a. holds_at (task_in a) (held_in a) };
 
     fn places(&self) -> &Places {
         &self.administration.places

@@ -28,19 +28,19 @@ fn run_all<H: Host>(
     calls: Vec<Row>,
     told: &mut Vec<Called>,
 ) -> Result<Option<Unwinding>, HostFault>
-    requires place { At (task_in H.state unpacking.old) (held_in unpacking.old)
+    requires place { At (task_in unpacking.old) (held_in unpacking.old)
         (H.state host.old) (Forward 0) }
-    requires rows { Fit (Fits (name (task_in H.state unpacking.old))
-        (kinds (task_in H.state unpacking.old))) calls.items }
-    ensures calls { IfOk result (λ u. HasRun (IsFileFault (task_in H.state unpacking.old))
+    requires rows { Fit (Fits (name (task_in unpacking.old))
+        (kinds (task_in unpacking.old))) calls.items }
+    ensures calls { IfOk result (λ u. HasRun (IsFileFault (task_in unpacking.old))
         (ended_as u) calls.items (H.state host.old) (H.state host.new) told.old.items
         told.new.items) }
     ensures cause { IfOk result (IsCauseOf calls.items) }
     ensures told { Begun (MayRun calls.items) (H.state host.old) (H.state host.new) told.old.items
         told.new.items }
-    ensures there { IfOk result (λ u. At (task_in H.state unpacking.old) (held_in unpacking.new)
+    ensures there { IfOk result (λ u. At (task_in unpacking.old) (held_in unpacking.new)
         (H.state host.new) (end_place (length calls.items) u)) }
-    ensures any_moment { AtEachStop (Stops (task_in H.state unpacking.old)) (H.state host.old)
+    ensures any_moment { AtEachStop (Stops (task_in unpacking.old)) (H.state host.old)
         (H.state host.new) }
     ensures administration_stay { unpacking.new.administration.ghost_name
         ≡ unpacking.old.administration.ghost_name }

@@ -10,7 +10,7 @@ use Rattle.unpack_steps.proofs.around.UnpackingAround.conclude.Goals as goal
 pub returns-clause-place : goal.returns-clause-place
 returns-clause-place g c =
     let self = c.args.self.now in
-    let t : Task = task_in g.H.Host.state self in
+    let t : Task = task_in self in
     let h : Holding = held_in self in
     let s = g.H.Host.state c.args._host.now in
     let at = c.requires.place in
@@ -22,7 +22,7 @@ returns-clause-place g c =
 pub returns-clause-any_moment : goal.returns-clause-any_moment
 returns-clause-any_moment g c =
     let self = c.args.self.now in
-    let t : Task = task_in g.H.Host.state self in
+    let t : Task = task_in self in
     let h : Holding = held_in self in
     let s = g.H.Host.state c.args._host.now in
     let at = c.requires.place in

@@ -15,7 +15,7 @@ use Rattle.unpack_steps.proofs.around.UnpackingAround.prepare.Goals as goal
 pub clear_left-requires-clause-named : goal.clear_left-requires-clause-named
 clear_left-requires-clause-named g c =
     let self = c.args.self.now in
-    let t : Task = task_in g.H.Host.state self in
+    let t : Task = task_in self in
     let h : Holding = held_in self in
     let s = g.H.Host.state c.args.host.now in
     let at = c.requires.place in
@@ -26,7 +26,7 @@ clear_left-requires-clause-named g c =
 pub clear_left-requires-clause-members : goal.clear_left-requires-clause-members
 clear_left-requires-clause-members g c =
     let self = c.args.self.now in
-    let t : Task = task_in g.H.Host.state self in
+    let t : Task = task_in self in
     let h : Holding = held_in self in
     let s = g.H.Host.state c.args.host.now in
     let at = c.requires.place in
@@ -37,7 +37,7 @@ clear_left-requires-clause-members g c =
 pub clear_left-requires-clause-list : goal.clear_left-requires-clause-list
 clear_left-requires-clause-list g c =
     let self = c.args.self.now in
-    let t : Task = task_in g.H.Host.state self in
+    let t : Task = task_in self in
     let h : Holding = held_in self in
     let s = g.H.Host.state c.args.host.now in
     let at = c.requires.place in
@@ -48,7 +48,7 @@ clear_left-requires-clause-list g c =
 pub returns-in_err-clear_left-clause-any_moment : goal.returns-in_err-clear_left-clause-any_moment
 returns-in_err-clear_left-clause-any_moment g c =
     let self = c.args.self.now in
-    let t : Task = task_in g.H.Host.state self in
+    let t : Task = task_in self in
     let h : Holding = held_in self in
     let s = g.H.Host.state c.args.host.now in
     let at = c.requires.place in
@@ -61,7 +61,7 @@ returns-in_err-clear_left-clause-any_moment g c =
 pub returns-in_err-entry-clause-any_moment : goal.returns-in_err-entry-clause-any_moment
 returns-in_err-entry-clause-any_moment g c =
     let self = c.args.self.now in
-    let t : Task = task_in g.H.Host.state self in
+    let t : Task = task_in self in
     let h : Holding = held_in self in
     let s = g.H.Host.state c.args.host.now in
     let at = c.requires.place in
@@ -74,7 +74,7 @@ returns-in_err-entry-clause-any_moment g c =
 pub write_note-requires-clause-notable : goal.write_note-requires-clause-notable
 write_note-requires-clause-notable g c =
     let self = c.args.self.now in
-    let t : Task = task_in g.H.Host.state self in
+    let t : Task = task_in self in
     let h : Holding = held_in self in
     let s = g.H.Host.state c.args.host.now in
     let at = c.requires.place in
@@ -86,7 +86,7 @@ write_note-requires-clause-notable g c =
 pub write_note-requires-clause-kept : goal.write_note-requires-clause-kept
 write_note-requires-clause-kept g c =
     let self = c.args.self.now in
-    let t : Task = task_in g.H.Host.state self in
+    let t : Task = task_in self in
     let h : Holding = held_in self in
     let s = g.H.Host.state c.args.host.now in
     let at = c.requires.place in
@@ -99,7 +99,7 @@ write_note-requires-clause-kept g c =
 pub returns-clause-place : goal.returns-clause-place
 returns-clause-place g c =
     let self = c.args.self.now in
-    let t : Task = task_in g.H.Host.state self in
+    let t : Task = task_in self in
     let h : Holding = held_in self in
     let s = g.H.Host.state c.args.host.now in
     let at = c.requires.place in
@@ -115,7 +115,7 @@ returns-clause-place g c =
 pub returns-clause-any_moment : goal.returns-clause-any_moment
 returns-clause-any_moment g c =
     let self = c.args.self.now in
-    let t : Task = task_in g.H.Host.state self in
+    let t : Task = task_in self in
     let h : Holding = held_in self in
     let s = g.H.Host.state c.args.host.now in
     let at = c.requires.place in

@@ -1,4 +1,4 @@
-use Rattle.std.proofs.Common.{◌+◌, ◌≤◌, List, OnOk, length, sym, subst}
+use Rattle.std.proofs.Common.{◌≡◌, ◌+◌, ◌≤◌, List, OnOk, length, sym, subst}
 use Rattle.host_core.specs.Host.{AtEachMoment, Leaves}
 use Rattle.administration.specs.Places.{list_path}
 use Rattle.file_lists.specs.Writing.{list_file}
@@ -22,7 +22,7 @@ use Rattle.unpack_steps.proofs.around.UnpackingAround.put_back.Goals as goal
 pub returns-then-fall-index-clause-place : goal.returns-then-fall-index-clause-place
 returns-then-fall-index-clause-place g c =
     let self = c.args.self.now in
-    let t : Task = task_in g.H.Host.state self in
+    let t : Task = task_in self in
     let h : Holding = held_in self in
     let s = g.H.Host.state c.args.host.now in
     let row = file_row (name t) (kinds t) c.args.index c.args._row.now c.requires.row c.requires.files in
@@ -32,7 +32,7 @@ returns-then-fall-index-clause-place g c =
 pub returns-then-fall-index-clause-any_moment : goal.returns-then-fall-index-clause-any_moment
 returns-then-fall-index-clause-any_moment g c =
     let self = c.args.self.now in
-    let t : Task = task_in g.H.Host.state self in
+    let t : Task = task_in self in
     let h : Holding = held_in self in
     let s = g.H.Host.state c.args.host.now in
     let at = c.requires.place in
@@ -57,7 +57,7 @@ put_back-requires-clause-ready g c =
 pub put_back-requires-clause-named : goal.put_back-requires-clause-named
 put_back-requires-clause-named g c =
     let self = c.args.self.now in
-    let t : Task = task_in g.H.Host.state self in
+    let t : Task = task_in self in
     let s = g.H.Host.state c.args.host.now in
     let row = file_row (name t) (kinds t) c.args.index c.args._row.now c.requires.row c.requires.files in
     subst (Each IsNamed) (sym c.as_slice.ensures.value) (ordered_there t self.administration.now.database self.administration.now.lists self.administration.now.places self.works.now.items s c.args.index c.args.fall.now c.args._failed.now row c.if-fall-index.false c.requires.place).named
@@ -65,7 +65,7 @@ put_back-requires-clause-named g c =
 pub put_back-requires-clause-order : goal.put_back-requires-clause-order
 put_back-requires-clause-order g c =
     let self = c.args.self.now in
-    let t : Task = task_in g.H.Host.state self in
+    let t : Task = task_in self in
     let s = g.H.Host.state c.args.host.now in
     let row = file_row (name t) (kinds t) c.args.index c.args._row.now c.requires.row c.requires.files in
     subst AllInOrder (sym c.as_slice.ensures.value) (ordered_there t self.administration.now.database self.administration.now.lists self.administration.now.places self.works.now.items s c.args.index c.args.fall.now c.args._failed.now row c.if-fall-index.false c.requires.place).order
@@ -73,7 +73,7 @@ put_back-requires-clause-order g c =
 pub put_back-requires-clause-written : goal.put_back-requires-clause-written
 put_back-requires-clause-written g c =
     let self = c.args.self.now in
-    let t : Task = task_in g.H.Host.state self in
+    let t : Task = task_in self in
     let s = g.H.Host.state c.args.host.now in
     let row = file_row (name t) (kinds t) c.args.index c.args._row.now c.requires.row c.requires.files in
     λ h. subst (λ (l : List Work). CanGoBack l s.world) (sym c.as_slice.ensures.value) (can_go_back t self.administration.now.database self.administration.now.lists self.administration.now.places self.works.now.items s c.args.index c.args.fall.now c.args._failed.now row c.if-fall-index.false c.requires.place h)
@@ -81,7 +81,7 @@ put_back-requires-clause-written g c =
 pub put_back-requires-clause-grown : goal.put_back-requires-clause-grown
 put_back-requires-clause-grown g c =
     let self = c.args.self.now in
-    let t : Task = task_in g.H.Host.state self in
+    let t : Task = task_in self in
     let s = g.H.Host.state c.args.host.now in
     let row = file_row (name t) (kinds t) c.args.index c.args._row.now c.requires.row c.requires.files in
     subst (λ (l : List Work). length l ≤ length self.administration.now.places) (sym c.as_slice.ensures.value) (enough t self.administration.now.database self.administration.now.lists self.administration.now.places self.works.now.items s c.args.index c.args.fall.now c.args._failed.now row c.if-fall-index.false c.requires.place)
@@ -89,7 +89,7 @@ put_back-requires-clause-grown g c =
 pub returns-clause-place : goal.returns-clause-place
 returns-clause-place g c =
     let self = c.args.self.now in
-    let t : Task = task_in g.H.Host.state self in
+    let t : Task = task_in self in
     let s = g.H.Host.state c.args.host.now in
     let row = file_row (name t) (kinds t) c.args.index c.args._row.now c.requires.row c.requires.files in
     let u = g.H.Host.state c.put_back.new.host in
@@ -100,7 +100,7 @@ returns-clause-place g c =
 pub returns-clause-any_moment : goal.returns-clause-any_moment
 returns-clause-any_moment g c =
     let self = c.args.self.now in
-    let t : Task = task_in g.H.Host.state self in
+    let t : Task = task_in self in
     let s = g.H.Host.state c.args.host.now in
     let row = file_row (name t) (kinds t) c.args.index c.args._row.now c.requires.row c.requires.files in
     let u = g.H.Host.state c.put_back.new.host in

@@ -15,7 +15,7 @@ use Rattle.unpack_steps.proofs.around.UnpackingAround.undone.Goals as goal
 pub returns-then-is_spared-clause-place : goal.returns-then-is_spared-clause-place
 returns-then-is_spared-clause-place g c =
     let self = c.args.self.now in
-    let t : Task = task_in g.H.Host.state self in
+    let t : Task = task_in self in
     let h : Holding = held_in self in
     let s = g.H.Host.state c.args.host.now in
     let at = c.requires.place in
@@ -30,7 +30,7 @@ returns-then-is_spared-clause-place g c =
 pub returns-then-is_spared-clause-any_moment : goal.returns-then-is_spared-clause-any_moment
 returns-then-is_spared-clause-any_moment g c =
     let self = c.args.self.now in
-    let t : Task = task_in g.H.Host.state self in
+    let t : Task = task_in self in
     let h : Holding = held_in self in
     let s = g.H.Host.state c.args.host.now in
     let at = c.requires.place in
@@ -39,7 +39,7 @@ returns-then-is_spared-clause-any_moment g c =
 pub returns-in_err-entry-clause-any_moment : goal.returns-in_err-entry-clause-any_moment
 returns-in_err-entry-clause-any_moment g c =
     let self = c.args.self.now in
-    let t : Task = task_in g.H.Host.state self in
+    let t : Task = task_in self in
     let h : Holding = held_in self in
     let s = g.H.Host.state c.args.host.now in
     let at = c.requires.place in
@@ -48,7 +48,7 @@ returns-in_err-entry-clause-any_moment g c =
 pub write_note-requires-clause-notable : goal.write_note-requires-clause-notable
 write_note-requires-clause-notable g c =
     let self = c.args.self.now in
-    let t : Task = task_in g.H.Host.state self in
+    let t : Task = task_in self in
     let h : Holding = held_in self in
     let s = g.H.Host.state c.args.host.now in
     let at = c.requires.place in
@@ -60,7 +60,7 @@ write_note-requires-clause-notable g c =
 pub write_note-requires-clause-kept : goal.write_note-requires-clause-kept
 write_note-requires-clause-kept g c =
     let self = c.args.self.now in
-    let t : Task = task_in g.H.Host.state self in
+    let t : Task = task_in self in
     let h : Holding = held_in self in
     let s = g.H.Host.state c.args.host.now in
     let at = c.requires.place in
@@ -69,7 +69,7 @@ write_note-requires-clause-kept g c =
 pub returns-clause-place : goal.returns-clause-place
 returns-clause-place g c =
     let self = c.args.self.now in
-    let t : Task = task_in g.H.Host.state self in
+    let t : Task = task_in self in
     let h : Holding = held_in self in
     let s = g.H.Host.state c.args.host.now in
     let at = c.requires.place in
@@ -88,7 +88,7 @@ returns-clause-place g c =
 pub returns-clause-any_moment : goal.returns-clause-any_moment
 returns-clause-any_moment g c =
     let self = c.args.self.now in
-    let t : Task = task_in g.H.Host.state self in
+    let t : Task = task_in self in
     let h : Holding = held_in self in
     let s = g.H.Host.state c.args.host.now in
     let at = c.requires.place in

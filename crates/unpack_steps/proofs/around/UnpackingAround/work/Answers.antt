@@ -30,7 +30,7 @@ check_and_write-requires-clause-ready g c =
 pub check_and_write-requires-clause-named : goal.check_and_write-requires-clause-named
 check_and_write-requires-clause-named g c =
     let self = c.args.self.now in
-    let t : Task = task_in g.H.Host.state self in
+    let t : Task = task_in self in
     let s = g.H.Host.state c.args.host.now in
     let row = file_row (name t) (kinds t) c.args._index c.args._row.now c.requires.row c.requires.files in
     named_here t self.administration.now.database self.administration.now.lists self.administration.now.places self.works.now.items s c.args._index row c.requires.place
@@ -38,7 +38,7 @@ check_and_write-requires-clause-named g c =
 pub check_and_write-requires-clause-fitting : goal.check_and_write-requires-clause-fitting
 check_and_write-requires-clause-fitting g c =
     let self = c.args.self.now in
-    let t : Task = task_in g.H.Host.state self in
+    let t : Task = task_in self in
     let s = g.H.Host.state c.args.host.now in
     let row = file_row (name t) (kinds t) c.args._index c.args._row.now c.requires.row c.requires.files in
     subst (Each IsFitting) (sym (works_before t self.administration.now.database self.administration.now.lists self.administration.now.places self.works.now.items s c.args._index row c.requires.place)) c.requires.place.sound.fitting
@@ -46,7 +46,7 @@ check_and_write-requires-clause-fitting g c =
 pub returns-clause-fault : goal.returns-clause-fault
 returns-clause-fault g c =
     let self = c.args.self.now in
-    let t : Task = task_in g.H.Host.state self in
+    let t : Task = task_in self in
     let s = g.H.Host.state c.args.host.now in
     let row = file_row (name t) (kinds t) c.args._index c.args._row.now c.requires.row c.requires.files in
     let u = g.H.Host.state c.check_and_write.new.host in
@@ -55,7 +55,7 @@ returns-clause-fault g c =
 pub returns-clause-place : goal.returns-clause-place
 returns-clause-place g c =
     let self = c.args.self.now in
-    let t : Task = task_in g.H.Host.state self in
+    let t : Task = task_in self in
     let s = g.H.Host.state c.args.host.now in
     let row = file_row (name t) (kinds t) c.args._index c.args._row.now c.requires.row c.requires.files in
     let u = g.H.Host.state c.check_and_write.new.host in
@@ -66,7 +66,7 @@ returns-clause-place g c =
 pub returns-clause-any_moment : goal.returns-clause-any_moment
 returns-clause-any_moment g c =
     let self = c.args.self.now in
-    let t : Task = task_in g.H.Host.state self in
+    let t : Task = task_in self in
     let s = g.H.Host.state c.args.host.now in
     let row = file_row (name t) (kinds t) c.args._index c.args._row.now c.requires.row c.requires.files in
     let u = g.H.Host.state c.check_and_write.new.host in
