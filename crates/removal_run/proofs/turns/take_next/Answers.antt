@@ -28,7 +28,7 @@ returns-in-Ok-clause-taken g c =
     let found = subst (IsNextIn q) (sym c.in-Ok-Some.next-is) (is_next q c.in-Ok-Some.field-0 c.in-Ok-Some.next c.in-Ok-Some.field-0-is c.in-Ok-Some.ensures) in
     record {
       name = n.name;
-      next = next_is q.packages c.args.administration.now.database.records c.args.waiting.now.items q c.requires.queue n found;
+      next = record { queue = q; is = c.requires.queue; number = n.number; next = found.next; named = found.named };
       can = found.member;
       is = c.in-Ok.ensures.ok;
       others = c.in-Ok.ensures.others;
