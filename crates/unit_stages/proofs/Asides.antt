@@ -11,6 +11,7 @@ use Rattle.undo_rows.specs.declared.rows.Owner.{Owner}
 use Rattle.undo_rows.specs.declared.rows.Row.{Row}
 use Rattle.diversions.specs.declared.entry.Diversion.{Diversion}
 use Rattle.file_lists.specs.Owners.{places_in}
+use Rattle.status_records.specs.declared.record.Record.{Record}
 use Rattle.unit_stages.specs.Aside.{IsAside}
 use Rattle.unit_stages.specs.PartFitting.{AreFit}
 use Rattle.unit_stages.specs.declared.part.Part.{Part}
