@@ -36,7 +36,8 @@ returns-clause-watched g c =
     let first = c.unpack_trees-unpacked in
     let none = sym c.is_some.ensures ∙ c.if-is_some.false in
     c.what_is_told_in_turn.ensures.more (g.H.Host.state c.args.host.now) (g.H.Host.state first.new.host) c.args.watcher.now first.new.watcher c.configure_done-configured.new.watcher first.result.units.items c.configure_done-configured.result.units.items
-    first.ensures.watched (tells_units _ _ first.result none first.ensures.told) (run_answered c.args.auto_deconfigure first.ensures.run.0 first.result.units.items _ _ _ _ (first.ensures.run.2.whole none)) c.configure_done-configured.ensures.watched
+    first.ensures.watched (tells_units (g.H.Host.state c.args.host.now) (g.H.Host.state first.new.host) first.result none first.ensures.told)
+    (run_answered c.args.auto_deconfigure first.ensures.run.0 first.result.units.items (held_by c.args.administration.now c.args.diversions.now) (held_by first.new.administration c.args.diversions.now) (g.H.Host.state c.args.host.now) (g.H.Host.state first.new.host) (first.ensures.run.2.whole none)) c.configure_done-configured.ensures.watched
 
 pub returns-clause-answered : goal.returns-clause-answered
 returns-clause-answered g c = λ none.

@@ -4,6 +4,8 @@ use Rattle.std.proofs.lemmas.Option.{MatchOption-at_none, MatchOption-at_some}
 use Rattle.host_core.proofs.Moments.{since_start, since_weaker}
 use Rattle.dpkg_session.specs.Turns.{unread}
 use Rattle.dpkg_session.specs.declared.report.Candidate.{Candidate}
+use Rattle.unit_reports.specs.Held.{held_by}
+use Rattle.dpkg_session.proofs.Told.{called_tells}
 use Rattle.dpkg_session.proofs.unpacks.UnpacksTurns.take.Goals as goal
 
 pub take_unit-requires-clause-indexed : goal.take_unit-requires-clause-indexed
@@ -67,3 +69,7 @@ returns-in-Ok-clause-fewer g c =
 
 pub returns-in-Ok-clause-room : goal.returns-in-Ok-clause-room
 returns-in-Ok-clause-room g c = λ none. absurd (true≢false (sym c.in-Ok.ensures.room ∙ none))
+
+pub returns-in-Err-clause-told : goal.returns-in-Err-clause-told
+returns-in-Err-clause-told g c =
+    called_tells c.args.self.now.auto_deconfigure c.in-Some.candidate.tree (held_by c.args.administration.now c.args.diversions.now) c.in-Err.unit (g.H.Host.state c.args.host.now) (g.H.Host.state c.take_unit.new.host) c.in-Err.ensures.broken_off.called
