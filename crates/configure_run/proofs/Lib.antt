@@ -11,4 +11,5 @@ pub mod Units
 pub mod Taking
 pub mod Others
 pub mod AllTurns
+pub mod Between
 pub mod Runs

@@ -1,5 +1,5 @@
 -- One turn is that of the next package.
-use Rattle.std.proofs.Common.{ℕ, Bool, inl, inr, List, Some, ap, refl, subst, sym}
+use Rattle.std.proofs.Common.{◌≡◌, ℕ, Bool, inl, inr, List, Some, ap, refl, subst, sym}
 use Rattle.conffiles.specs.declared.decisions.ConfPolicy.{ConfPolicy}
 use Rattle.dependency_check.specs.Waiting.{Waiting, IsConfigurableNow, IsNextOfConfigurable}
 use Rattle.host_core.specs.Events.{Event}
@@ -11,6 +11,10 @@ use Rattle.unit_runs.specs.Turns as runs
 use Rattle.unit_runs.specs.Turns.{IsBrokenNext}
 use Rattle.configure_run.specs.Taking.{IsAmidTurnOf, IsBrokenAt, IsTurnOf}
 use Rattle.configure_run.specs.Turns.{HasCalledNext, IsAmidTurn, IsTurn, after_turn, is_done}
+
+-- the left side of an equation
+abbrev pub lhs : {A : Type 0} {a b : A} → a ≡ b → A
+lhs {a = a} same = a
 
 module _ (policy : ConfPolicy) (silent : ℕ → Bool) (q : Waiting) (x : ℕ) where
   pub takes_one : (before after : Held) (s t : State) (u : AUnit) → IsNextOfConfigurable q silent (Some x) → IsConfigurableNow q x → IsTurnOf policy q x before after s t u → IsTurn policy silent q before u (after_turn (is_done u.reply) x q) after s t

@@ -80,7 +80,14 @@ pub(crate) fn refuse_early<H: Host, W: Watcher>(
         watcher.old watcher.new }
 {
     for name in names {
-        push_refusal(alloc, host, early_rule(database.get(name)), name, units, watcher)?;
+        push_refusal(
+            alloc,
+            host,
+            early_rule(database.get(name)),
+            name,
+            units,
+            watcher,
+        )?;
     }
     Ok(())
 }

@@ -1,5 +1,5 @@
 // The turns of the packages that wait.
-ghost use Rattle.std.specs.Prelude.{◌≡◌, ℕ, [], false, true, None, IfErr, IfOk, IfSome, OnOk};
+ghost use Rattle.std.specs.Prelude.{◌≡◌, ℕ, Bool, [], false, true, None, IfErr, IfOk, IfSome, OnOk};
 ghost use Rattle.dependency_check.specs.Waiting.{IsConfigurableNow};
 ghost use Rattle.dependency_sets.specs.Sets.{has};
 ghost use Rattle.held_administration.specs.Open.{IsOpen};

@@ -59,3 +59,7 @@ removed_among packages now names name next can =
 
 pub is_next : (q : Waiting) (o : Option Next) (n : Next) → o ≡ Some n → IsNext q o → IsNextIn q n
 is_next q o n e is = subst (IsNext q) e is
+
+-- the left side of an equation
+abbrev pub lhs : {A : Type 0} {a b : A} → a ≡ b → A
+lhs {a = a} same = a

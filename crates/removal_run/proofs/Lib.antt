@@ -10,5 +10,6 @@ mod Overleft
 mod Accepting
 mod Removable
 mod Turning
+mod Between
 mod Tellings
 mod Ending

@@ -1,5 +1,5 @@
 -- The units of a whole removal are told.
-use Rattle.std.proofs.Common.{◌≡◌, ℕ, suc, ◌<◌, List, [], ◌∷◌, ◌++◌, get_or, length, take, drop, refl, sym, ap, subst, ◌∙◌}
+use Rattle.std.proofs.Common.{◌≡◌, ℕ, ◌+◌, ◌<◌, List, [], ◌∷◌, ◌++◌, get_or, length, take, drop, refl, sym, ap, subst, ◌∙◌}
 use Rattle.std.proofs.lemmas.List.{take_more, take-append-drop}
 use Rattle.host_core.specs.Host.{State}
 use Rattle.host_core.specs.Loss.{IsAnswered}
@@ -27,11 +27,11 @@ quiet_front us i none = empty_first (calls_of (take i us)) (calls_of (drop i us)
 quiet_next : (us : List AUnit) (i : ℕ) (u : AUnit) → i < length us → calls_of us ≡ [] → (get_or us i u).calls.items ≡ []
 quiet_next us i u lt none =
     empty_last (calls_of (take i us)) (get_or us i u).calls.items
-    (sym (calls_more (take i us) (get_or us i u)) ∙ ap calls_of (sym (take_more us i u lt)) ∙ quiet_front us (suc i) none)
+    (sym (calls_more (take i us) (get_or us i u)) ∙ ap calls_of (sym (take_more us i u lt)) ∙ quiet_front us (i + 1) none)
 
 module _ {W : Type 0} (tells : W → AUnit → State → W → Type 0) where
   -- one more of units without calls
-  pub told_next : (s : State) (old mid new : W) (us : List AUnit) (i : ℕ) (u : AUnit) → i < length us → calls_of us ≡ [] → IsTold tells s old (take i us) mid → tells mid (get_or us i u) s new → IsTold tells s old (take (suc i) us) new
+  pub told_next : (s : State) (old mid new : W) (us : List AUnit) (i : ℕ) (u : AUnit) → i < length us → calls_of us ≡ [] → IsTold tells s old (take i us) mid → tells mid (get_or us i u) s new → IsTold tells s old (take (i + 1) us) new
   told_next s old mid new us i u lt none told is =
       subst (λ (l : List AUnit). IsTold tells s old l new) (sym (take_more us i u lt))
       (told_more tells s s old mid new (take i us) (get_or us i u ∷ []) told (tells_none s s [] (calls_of (take i us)) refl (quiet_front us i none)) (answered_here s)

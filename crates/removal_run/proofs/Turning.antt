@@ -66,14 +66,17 @@ module _ (purge : Bool) (packages : List Package) where
 
   -- a run that ended before it began
   pub stopped_here : (waiting : List (List ℕ)) (before : Held) (s : State) (us : List AUnit) (u : AUnit) → IsBroken u.reply → TellsNoPackage u → u.calls.items ≡ [] → HasStopped purge packages waiting before s s us us u
-  stopped_here waiting before s us u broken untouched none = (waiting, record {
-    q = waiting;
-    after = before;
-    m = s;
-    turned = no_turn (IsTurn purge packages) waiting before s us;
-    since = since_next_start waiting waiting before s;
-    broken = broken_here waiting waiting before s u broken untouched none;
-  })
+  stopped_here waiting before s us u broken untouched none = (
+    waiting,
+    record {
+      q = waiting;
+      after = before;
+      m = s;
+      turned = no_turn (IsTurn purge packages) waiting before s us;
+      since = since_next_start waiting waiting before s;
+      broken = broken_here waiting waiting before s u broken untouched none;
+    },
+  )
 
   pub since_any : (may : List (List ℕ) → Type 0) (waiting : List (List ℕ)) (before : Held) (s t : State) → Since (runs.IsAmidTurns (IsTurn purge packages) (λ left behind. IsAmidTurn purge packages left) may waiting before s) s t
       → Since (IsAmidTurns purge packages waiting before s) s t

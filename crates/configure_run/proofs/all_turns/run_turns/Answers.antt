@@ -35,11 +35,11 @@ pub returns-in-Err-refuse_left-clause-not_closed : goal.returns-in-Err-refuse_le
 returns-in-Err-refuse_left-clause-not_closed g c = not_closed_by c.no_memory.result.reply c.no_memory.ensures.reply
 
 pub returns-in-Ok-refuse_left-clause-watched : goal.returns-in-Ok-refuse_left-clause-watched
-returns-in-Ok-refuse_left-clause-watched g c = 
+returns-in-Ok-refuse_left-clause-watched g c =
     told_added g.W.Watcher.tells (g.H.Host.state c.args.host.now) (g.H.Host.state c.take_turns.new.host) c.args.watcher.now c.take_turns.new.watcher c.refuse_left.new.watcher c.args.units.now.items c.take_turns.new.units.items c.refuse_left.new.units.items
     c.take_turns.ensures.watched c.in-Ok.ensures.told c.in-Ok.ensures.answered c.refuse_left.ensures.watched
 
 pub returns-in-Err-refuse_left-clause-watched : goal.returns-in-Err-refuse_left-clause-watched
-returns-in-Err-refuse_left-clause-watched g c = 
+returns-in-Err-refuse_left-clause-watched g c =
     told_added g.W.Watcher.tells (g.H.Host.state c.args.host.now) (g.H.Host.state c.take_turns.new.host) c.args.watcher.now c.take_turns.new.watcher c.refuse_left.new.watcher c.args.units.now.items c.take_turns.new.units.items c.refuse_left.new.units.items
     c.take_turns.ensures.watched c.in-Ok.ensures.told c.in-Ok.ensures.answered c.refuse_left.ensures.watched

@@ -22,7 +22,7 @@ returns-in_err-push_refusal-clause-err g c =
 
 pub returns-in_err-push_refusal-clause-watched : goal.returns-in_err-push_refusal-clause-watched
 returns-in_err-push_refusal-clause-watched g c = told_still g.W.Watcher.tells (g.H.Host.state c.args.host.now) c.args.watcher.now c.loop-name.watcher c.push_refusal.new.watcher c.args.units.now.items c.loop-name.units.items c.push_refusal.new.units.items c.loop-name.invariant.watched
-        (refused_calls (early_refusals c.args.database.now.records (take c.loop-name.name-index c.args.names.now)) c.loop-name.units.items c.loop-name.invariant.refused ∙ sym (ap calls_of c.requires.none)) c.push_refusal.ensures.watched
+    (refused_calls (early_refusals c.args.database.now.records (take c.loop-name.name-index c.args.names.now)) c.loop-name.units.items c.loop-name.invariant.refused ∙ sym (ap calls_of c.requires.none)) c.push_refusal.ensures.watched
 
 pub loop-name-preserved : goal.loop-name-preserved
 loop-name-preserved g c =
@@ -35,5 +35,5 @@ loop-name-preserved g c =
           (subst (λ (n : List ℕ). HasRefused (early_refusal records n) c.loop-name.units.items c.push_refusal.new.units.items) (sym same)
           (subst (λ (o : Option Rule). HasRefused (refusal_by name o) c.loop-name.units.items c.push_refusal.new.units.items) rule c.in_ok-push_refusal.ensures.ok));
       watched = told_still g.W.Watcher.tells (g.H.Host.state c.args.host.now) c.args.watcher.now c.loop-name.watcher c.push_refusal.new.watcher c.args.units.now.items c.loop-name.units.items c.push_refusal.new.units.items c.loop-name.invariant.watched
-        (refused_calls (early_refusals c.args.database.now.records (take c.loop-name.name-index c.args.names.now)) c.loop-name.units.items c.loop-name.invariant.refused ∙ sym (ap calls_of c.requires.none)) c.push_refusal.ensures.watched;
+          (refused_calls (early_refusals c.args.database.now.records (take c.loop-name.name-index c.args.names.now)) c.loop-name.units.items c.loop-name.invariant.refused ∙ sym (ap calls_of c.requires.none)) c.push_refusal.ensures.watched;
     }

@@ -26,8 +26,8 @@ loop-number-preserved g c =
       added = subst (λ (l : List ℕ). AddLeftOver c.args.queue.now l c.args.units.now.items c.refuse_one.new.units.items) (sym (take_more numbers i 0 c.loop-number-test.true))
           (add_last c.args.queue.now (take i numbers) (get_or numbers i 0) c.args.units.now.items c.loop-number.units.items c.refuse_one.new.units.items c.loop-number.invariant.added c.in_ok-refuse_one.ensures.ok);
       watched = told_still g.W.Watcher.tells (g.H.Host.state c.args.host.now) c.args.watcher.now c.loop-number.watcher c.refuse_one.new.watcher c.args.units.now.items c.loop-number.units.items c.refuse_one.new.units.items c.loop-number.invariant.watched
-        (more_without_calls c.args.units.now.items c.loop-number.invariant.added.more c.loop-number.units.items c.loop-number.invariant.added.grown
-        (left_over_calls c.args.queue.now (take c.loop-number.number-index c.args.numbers.now) c.loop-number.invariant.added.more c.loop-number.invariant.added.are)) c.refuse_one.ensures.watched;
+          (more_without_calls c.args.units.now.items c.loop-number.invariant.added.more c.loop-number.units.items c.loop-number.invariant.added.grown
+          (left_over_calls c.args.queue.now (take c.loop-number.number-index c.args.numbers.now) c.loop-number.invariant.added.more c.loop-number.invariant.added.are)) c.refuse_one.ensures.watched;
     }
 
 pub loop-number-init : goal.loop-number-init
@@ -38,5 +38,5 @@ loop-number-init g c = record {
 
 pub returns-in_err-refuse_one-clause-watched : goal.returns-in_err-refuse_one-clause-watched
 returns-in_err-refuse_one-clause-watched g c = told_still g.W.Watcher.tells (g.H.Host.state c.args.host.now) c.args.watcher.now c.loop-number.watcher c.refuse_one.new.watcher c.args.units.now.items c.loop-number.units.items c.refuse_one.new.units.items c.loop-number.invariant.watched
-        (more_without_calls c.args.units.now.items c.loop-number.invariant.added.more c.loop-number.units.items c.loop-number.invariant.added.grown
-        (left_over_calls c.args.queue.now (take c.loop-number.number-index c.args.numbers.now) c.loop-number.invariant.added.more c.loop-number.invariant.added.are)) c.refuse_one.ensures.watched
+    (more_without_calls c.args.units.now.items c.loop-number.invariant.added.more c.loop-number.units.items c.loop-number.invariant.added.grown
+    (left_over_calls c.args.queue.now (take c.loop-number.number-index c.args.numbers.now) c.loop-number.invariant.added.more c.loop-number.invariant.added.are)) c.refuse_one.ensures.watched

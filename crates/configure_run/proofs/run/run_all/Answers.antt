@@ -35,58 +35,58 @@ returns-in-Ok-run_and_renew-clause-any_moment g c = since_run c.args.names.now c
 pub returns-in-Ok-run_and_renew-clause-no_fault : goal.returns-in-Ok-run_and_renew-clause-no_fault
 returns-in-Ok-run_and_renew-clause-no_fault g c = c.in-Ok-run_and_renew.ensures.no_fault ∙ c.in-Ok-begun.ensures.counts
 
-pub returns-in-Ok-begun-clause-err : goal.returns-in-Ok-begun-clause-err
-returns-in-Ok-begun-clause-err g c = HasRun.turning c.refuse_first.new.units.items c.in-Ok.ensures.ok (has c.in-Ok-begun.silent.items) c.in-Ok-begun.queue (g.H.Host.state c.begun.new.host) (record { begun = c.in-Ok-begun.ensures.begun; looks = c.begun.ensures.reads; quiet = c.begun.ensures.silent; seen = c.in-Ok-begun.ensures.seen }) c.in-Err-run_and_renew.ensures.err
+pub returns-in-Err-run_and_renew-clause-err : goal.returns-in-Err-run_and_renew-clause-err
+returns-in-Err-run_and_renew-clause-err g c = HasRun.turning c.refuse_first.new.units.items c.in-Ok.ensures.ok (has c.in-Ok-begun.silent.items) c.in-Ok-begun.queue (g.H.Host.state c.begun.new.host) (record { begun = c.in-Ok-begun.ensures.begun; looks = c.begun.ensures.reads; quiet = c.begun.ensures.silent; seen = c.in-Ok-begun.ensures.seen }) c.in-Err-run_and_renew.ensures.err
 
-pub returns-in-Ok-begun-clause-told_broken : goal.returns-in-Ok-begun-clause-told_broken
-returns-in-Ok-begun-clause-told_broken g c = tells_then (g.H.Host.state c.args.host.now) (g.H.Host.state c.begun.new.host) (g.H.Host.state c.run_and_renew.new.host) [] (calls_of c.refuse_first.new.units.items) (calls_of c.run_and_renew.new.units.items ++ c.in-Err-run_and_renew.unit.calls.items) (tells_silent (g.H.Host.state c.args.host.now) (g.H.Host.state c.begun.new.host) [] (calls_of c.refuse_first.new.units.items) c.begun.ensures.silent (refused_calls (early_refusals c.args.administration.now.database.records (each_once c.args.names.now)) c.refuse_first.new.units.items c.in-Ok.ensures.ok)) c.in-Err-run_and_renew.ensures.told_broken
+pub returns-in-Err-run_and_renew-clause-told_broken : goal.returns-in-Err-run_and_renew-clause-told_broken
+returns-in-Err-run_and_renew-clause-told_broken g c = tells_then (g.H.Host.state c.args.host.now) (g.H.Host.state c.begun.new.host) (g.H.Host.state c.run_and_renew.new.host) [] (calls_of c.refuse_first.new.units.items) (calls_of c.run_and_renew.new.units.items ++ c.in-Err-run_and_renew.unit.calls.items) (tells_silent (g.H.Host.state c.args.host.now) (g.H.Host.state c.begun.new.host) [] (calls_of c.refuse_first.new.units.items) c.begun.ensures.silent (refused_calls (early_refusals c.args.administration.now.database.records (each_once c.args.names.now)) c.refuse_first.new.units.items c.in-Ok.ensures.ok)) c.in-Err-run_and_renew.ensures.told_broken
 
-pub returns-in-Ok-begun-clause-any_moment : goal.returns-in-Ok-begun-clause-any_moment
-returns-in-Ok-begun-clause-any_moment g c = since_run c.args.names.now c.args.policy (held_by c.args.administration.now c.args.diversions.now) (has c.in-Ok-begun.silent.items) c.in-Ok-begun.queue (g.H.Host.state c.args.host.now) (g.H.Host.state c.begun.new.host) (g.H.Host.state c.run_and_renew.new.host) (record { begun = c.in-Ok-begun.ensures.begun; looks = c.begun.ensures.reads; quiet = c.begun.ensures.silent; seen = c.in-Ok-begun.ensures.seen }) c.run_and_renew.ensures.any_moment
+pub returns-in-Err-run_and_renew-clause-any_moment : goal.returns-in-Err-run_and_renew-clause-any_moment
+returns-in-Err-run_and_renew-clause-any_moment g c = since_run c.args.names.now c.args.policy (held_by c.args.administration.now c.args.diversions.now) (has c.in-Ok-begun.silent.items) c.in-Ok-begun.queue (g.H.Host.state c.args.host.now) (g.H.Host.state c.begun.new.host) (g.H.Host.state c.run_and_renew.new.host) (record { begun = c.in-Ok-begun.ensures.begun; looks = c.begun.ensures.reads; quiet = c.begun.ensures.silent; seen = c.in-Ok-begun.ensures.seen }) c.run_and_renew.ensures.any_moment
 
-pub returns-in-Ok-begun-clause-counts : goal.returns-in-Ok-begun-clause-counts
-returns-in-Ok-begun-clause-counts g c = counts_from c.in-Err-run_and_renew.unit.reply (g.H.Host.state c.args.host.now) (g.H.Host.state c.begun.new.host) (g.H.Host.state c.run_and_renew.new.host) c.in-Ok-begun.ensures.counts c.in-Err-run_and_renew.ensures.counts
+pub returns-in-Err-run_and_renew-clause-counts : goal.returns-in-Err-run_and_renew-clause-counts
+returns-in-Err-run_and_renew-clause-counts g c = counts_from c.in-Err-run_and_renew.unit.reply (g.H.Host.state c.args.host.now) (g.H.Host.state c.begun.new.host) (g.H.Host.state c.run_and_renew.new.host) c.in-Ok-begun.ensures.counts c.in-Err-run_and_renew.ensures.counts
 
-pub returns-in-Ok-clause-err : goal.returns-in-Ok-clause-err
-returns-in-Ok-clause-err g c = HasRun.refusing (all_refused (early_refusals c.args.administration.now.database.records (each_once c.args.names.now)) c.refuse_first.new.units.items c.in-Ok.ensures.ok) c.begun.ensures.reads (record { broken = broken_by _ c.broken.result.reply c.broken.ensures.reply; untouched = c.broken.ensures.touched; none = record { silent = c.begun.ensures.silent; told = (c.broken.ensures.told ∙ c.new.ensures.items) } })
+pub returns-in-Err-begun-clause-err : goal.returns-in-Err-begun-clause-err
+returns-in-Err-begun-clause-err g c = HasRun.refusing (all_refused (early_refusals c.args.administration.now.database.records (each_once c.args.names.now)) c.refuse_first.new.units.items c.in-Ok.ensures.ok) c.begun.ensures.reads (record { broken = broken_by _ c.broken.result.reply c.broken.ensures.reply; untouched = c.broken.ensures.touched; none = record { silent = c.begun.ensures.silent; told = (c.broken.ensures.told ∙ c.new.ensures.items) } })
 
-pub returns-in-Ok-clause-told_broken : goal.returns-in-Ok-clause-told_broken
-returns-in-Ok-clause-told_broken g c = tells_no_more (g.H.Host.state c.args.host.now) (g.H.Host.state c.begun.new.host) [] (calls_of c.refuse_first.new.units.items) c.broken.result.calls.items (tells_silent (g.H.Host.state c.args.host.now) (g.H.Host.state c.begun.new.host) [] (calls_of c.refuse_first.new.units.items) c.begun.ensures.silent (refused_calls (early_refusals c.args.administration.now.database.records (each_once c.args.names.now)) c.refuse_first.new.units.items c.in-Ok.ensures.ok)) (c.broken.ensures.told ∙ c.new.ensures.items)
+pub returns-in-Err-begun-clause-told_broken : goal.returns-in-Err-begun-clause-told_broken
+returns-in-Err-begun-clause-told_broken g c = tells_no_more (g.H.Host.state c.args.host.now) (g.H.Host.state c.begun.new.host) [] (calls_of c.refuse_first.new.units.items) c.broken.result.calls.items (tells_silent (g.H.Host.state c.args.host.now) (g.H.Host.state c.begun.new.host) [] (calls_of c.refuse_first.new.units.items) c.begun.ensures.silent (refused_calls (early_refusals c.args.administration.now.database.records (each_once c.args.names.now)) c.refuse_first.new.units.items c.in-Ok.ensures.ok)) (c.broken.ensures.told ∙ c.new.ensures.items)
 
-pub returns-in-Ok-clause-any_moment : goal.returns-in-Ok-clause-any_moment
-returns-in-Ok-clause-any_moment g c = since_run_reads c.args.names.now c.args.policy (held_by c.args.administration.now c.args.diversions.now) (g.H.Host.state c.args.host.now) (g.H.Host.state c.begun.new.host) c.begun.ensures.reads
+pub returns-in-Err-begun-clause-any_moment : goal.returns-in-Err-begun-clause-any_moment
+returns-in-Err-begun-clause-any_moment g c = since_run_reads c.args.names.now c.args.policy (held_by c.args.administration.now c.args.diversions.now) (g.H.Host.state c.args.host.now) (g.H.Host.state c.begun.new.host) c.begun.ensures.reads
 
-pub returns-in-Ok-clause-counts : goal.returns-in-Ok-clause-counts
-returns-in-Ok-clause-counts g c = counts_broken_by c.begun.result c.in-Err-begun.fault c.broken.result.reply (g.H.Host.state c.args.host.now) (g.H.Host.state c.begun.new.host) c.in-Err-begun.is (c.broken.ensures.reply ∙ ap Broken c.breakage_of.ensures) c.begun.ensures.counts
+pub returns-in-Err-begun-clause-counts : goal.returns-in-Err-begun-clause-counts
+returns-in-Err-begun-clause-counts g c = counts_broken_by c.begun.result c.in-Err-begun.fault c.broken.result.reply (g.H.Host.state c.args.host.now) (g.H.Host.state c.begun.new.host) c.in-Err-begun.is (c.broken.ensures.reply ∙ ap Broken c.breakage_of.ensures) c.begun.ensures.counts
 
-pub returns-in-Ok-clause-not_closed : goal.returns-in-Ok-clause-not_closed
-returns-in-Ok-clause-not_closed g c = fault_not_closed c.in-Err-begun.fault c.broken.result.reply (c.broken.ensures.reply ∙ ap Broken c.breakage_of.ensures)
+pub returns-in-Err-begun-clause-not_closed : goal.returns-in-Err-begun-clause-not_closed
+returns-in-Err-begun-clause-not_closed g c = fault_not_closed c.in-Err-begun.fault c.broken.result.reply (c.broken.ensures.reply ∙ ap Broken c.breakage_of.ensures)
 
-pub returns-clause-err : goal.returns-clause-err
-returns-clause-err g c = HasRun.refusing c.in-Err.ensures.err (reads_here (g.H.Host.state c.args.host.now)) (record { broken = broken_by _ c.no_memory.result.reply c.no_memory.ensures.reply; untouched = c.no_memory.ensures.touched; none = no_calls c.no_memory.result (g.H.Host.state c.args.host.now) c.no_memory.ensures.told })
+pub returns-in-Err-clause-err : goal.returns-in-Err-clause-err
+returns-in-Err-clause-err g c = HasRun.refusing c.in-Err.ensures.err (reads_here (g.H.Host.state c.args.host.now)) (record { broken = broken_by _ c.no_memory.result.reply c.no_memory.ensures.reply; untouched = c.no_memory.ensures.touched; none = no_calls c.no_memory.result (g.H.Host.state c.args.host.now) c.no_memory.ensures.told })
 
-pub returns-clause-told_broken : goal.returns-clause-told_broken
-returns-clause-told_broken g c = tells_no_more (g.H.Host.state c.args.host.now) (g.H.Host.state c.args.host.now) [] (calls_of c.refuse_first.new.units.items) c.no_memory.result.calls.items (tells_silent (g.H.Host.state c.args.host.now) (g.H.Host.state c.args.host.now) [] (calls_of c.refuse_first.new.units.items) (silent_here (g.H.Host.state c.args.host.now)) (some_refused_calls (early_refusals c.args.administration.now.database.records (each_once c.args.names.now)) c.refuse_first.new.units.items c.in-Err.ensures.err)) c.no_memory.ensures.told
+pub returns-in-Err-clause-told_broken : goal.returns-in-Err-clause-told_broken
+returns-in-Err-clause-told_broken g c = tells_no_more (g.H.Host.state c.args.host.now) (g.H.Host.state c.args.host.now) [] (calls_of c.refuse_first.new.units.items) c.no_memory.result.calls.items (tells_silent (g.H.Host.state c.args.host.now) (g.H.Host.state c.args.host.now) [] (calls_of c.refuse_first.new.units.items) (silent_here (g.H.Host.state c.args.host.now)) (some_refused_calls (early_refusals c.args.administration.now.database.records (each_once c.args.names.now)) c.refuse_first.new.units.items c.in-Err.ensures.err)) c.no_memory.ensures.told
 
-pub returns-clause-any_moment : goal.returns-clause-any_moment
-returns-clause-any_moment g c = since_run_start c.args.names.now c.args.policy (held_by c.args.administration.now c.args.diversions.now) (g.H.Host.state c.args.host.now)
+pub returns-in-Err-clause-any_moment : goal.returns-in-Err-clause-any_moment
+returns-in-Err-clause-any_moment g c = since_run_start c.args.names.now c.args.policy (held_by c.args.administration.now c.args.diversions.now) (g.H.Host.state c.args.host.now)
 
-pub returns-clause-counts : goal.returns-clause-counts
-returns-clause-counts g c = counts_no_memory c.no_memory.result.reply (g.H.Host.state c.args.host.now) (g.H.Host.state c.args.host.now) refl c.no_memory.ensures.reply
+pub returns-in-Err-clause-counts : goal.returns-in-Err-clause-counts
+returns-in-Err-clause-counts g c = counts_no_memory c.no_memory.result.reply (g.H.Host.state c.args.host.now) (g.H.Host.state c.args.host.now) refl c.no_memory.ensures.reply
 
-pub returns-clause-not_closed : goal.returns-clause-not_closed
-returns-clause-not_closed g c = not_closed_by c.no_memory.result.reply c.no_memory.ensures.reply
+pub returns-in-Err-clause-not_closed : goal.returns-in-Err-clause-not_closed
+returns-in-Err-clause-not_closed g c = not_closed_by c.no_memory.result.reply c.no_memory.ensures.reply
 
 pub returns-in-Ok-run_and_renew-clause-watched : goal.returns-in-Ok-run_and_renew-clause-watched
-returns-in-Ok-run_and_renew-clause-watched g c = 
+returns-in-Ok-run_and_renew-clause-watched g c =
     told_added g.W.Watcher.tells (g.H.Host.state c.args.host.now) (g.H.Host.state c.begun.new.host) c.args.watcher.now c.refuse_first.new.watcher c.run_and_renew.new.watcher c.args.units.now.items c.refuse_first.new.units.items c.run_and_renew.new.units.items
     c.refuse_first.ensures.watched
     (tells_silent (g.H.Host.state c.args.host.now) (g.H.Host.state c.begun.new.host) (calls_of c.args.units.now.items) (calls_of c.refuse_first.new.units.items) c.begun.ensures.silent
     (refused_calls (early_refusals c.args.administration.now.database.records (each_once c.args.names.now)) c.refuse_first.new.units.items c.in-Ok.ensures.ok ∙ sym (ap calls_of c.requires.none)))
     (inr c.begun.ensures.reads) c.run_and_renew.ensures.watched
 
-pub returns-in-Ok-begun-clause-watched : goal.returns-in-Ok-begun-clause-watched
-returns-in-Ok-begun-clause-watched g c = 
+pub returns-in-Err-run_and_renew-clause-watched : goal.returns-in-Err-run_and_renew-clause-watched
+returns-in-Err-run_and_renew-clause-watched g c =
     told_added g.W.Watcher.tells (g.H.Host.state c.args.host.now) (g.H.Host.state c.begun.new.host) c.args.watcher.now c.refuse_first.new.watcher c.run_and_renew.new.watcher c.args.units.now.items c.refuse_first.new.units.items c.run_and_renew.new.units.items
     c.refuse_first.ensures.watched
     (tells_silent (g.H.Host.state c.args.host.now) (g.H.Host.state c.begun.new.host) (calls_of c.args.units.now.items) (calls_of c.refuse_first.new.units.items) c.begun.ensures.silent

@@ -1,4 +1,4 @@
-use Rattle.std.proofs.Common.{[], inl, refl, subst, sym, true, false, ◌∙◌}
+use Rattle.std.proofs.Common.{[], Some, inl, refl, subst, sym, true, false, ◌∙◌}
 use Rattle.std.proofs.lemmas.Bool.{true≢false}
 use Rattle.std.specs.Prelude.{IfSome}
 use Rattle.dependency_check.specs.Waiting.{IsConfigurableNow, IsNextOfConfigurable}
@@ -13,31 +13,31 @@ use Rattle.configure_run.specs.Taking.{IsAmidTurnOf}
 use Rattle.configure_run.specs.Turns.{IsAmidTurn, IsTurn, after_turn}
 use Rattle.configure_run.proofs.Moments.{silent_here}
 use Rattle.configure_run.proofs.Replies.{broken_by, counts_no_memory, not_closed_by}
-use Rattle.configure_run.proofs.Taking.{amid_next, broken_at, takes_one}
+use Rattle.configure_run.proofs.Taking.{amid_next, broken_at, lhs, takes_one}
 use Rattle.configure_run.proofs.Told.{tells_silent}
 use Rattle.configure_run.proofs.Units.{no_calls}
 use Rattle.configure_run.proofs.turn.take_next.Goals as goal
 
 pub take_turn-requires-clause-member : goal.take_turn-requires-clause-member
-take_turn-requires-clause-member g c = subst (λ o. IfSome o (IsConfigurableNow c.args.queue.now)) c.in-Ok-Some.field-0-is c.in-Ok-Some.ensures.member
+take_turn-requires-clause-member g c = subst (λ n. IsConfigurableNow c.args.queue.now n) (sym c.in-Ok-Some.number-is) (subst (λ o. IfSome o (IsConfigurableNow c.args.queue.now)) c.in-Ok-Some.field-0-is c.in-Ok-Some.ensures.member)
 
 pub returns-in-Ok-clause-taken : goal.returns-in-Ok-clause-taken
 returns-in-Ok-clause-taken g c =
-    subst (λ b. IsTurn c.args.policy (has c.args.silent.now) c.args.queue.now (held_by c.args.administration.now c.args.diversions.now) c.in-Ok.unit (after_turn b c.in-Ok-Some.number c.args.queue.now) (held_by c.take_turn.new.administration c.args.diversions.now) (g.H.Host.state c.args.host.now) (g.H.Host.state c.take_turn.new.host)) (sym c.is_done.ensures)
-    (takes_one c.args.policy (has c.args.silent.now) c.args.queue.now c.in-Ok-Some.number (held_by c.args.administration.now c.args.diversions.now) (held_by c.take_turn.new.administration c.args.diversions.now) (g.H.Host.state c.args.host.now) (g.H.Host.state c.take_turn.new.host) c.in-Ok.unit
-    (subst (λ o. IsNextOfConfigurable c.args.queue.now (has c.args.silent.now) o) c.in-Ok-Some.field-0-is c.in-Ok-Some.ensures.next) (subst (λ o. IfSome o (IsConfigurableNow c.args.queue.now)) c.in-Ok-Some.field-0-is c.in-Ok-Some.ensures.member) c.in-Ok.ensures.ok)
+    subst (λ b. IsTurn c.args.policy (has c.args.silent.now) c.args.queue.now (held_by c.args.administration.now c.args.diversions.now) c.in-Ok.unit (after_turn b (lhs c.in-Ok-Some.number-is) c.args.queue.now) (held_by c.take_turn.new.administration c.args.diversions.now) (g.H.Host.state c.args.host.now) (g.H.Host.state c.take_turn.new.host)) (sym c.is_done.ensures)
+    (takes_one c.args.policy (has c.args.silent.now) c.args.queue.now (lhs c.in-Ok-Some.number-is) (held_by c.args.administration.now c.args.diversions.now) (held_by c.take_turn.new.administration c.args.diversions.now) (g.H.Host.state c.args.host.now) (g.H.Host.state c.take_turn.new.host) c.in-Ok.unit
+    (subst (λ n. IsNextOfConfigurable c.args.queue.now (has c.args.silent.now) (Some n)) (sym c.in-Ok-Some.number-is) (subst (λ o. IsNextOfConfigurable c.args.queue.now (has c.args.silent.now) o) c.in-Ok-Some.field-0-is c.in-Ok-Some.ensures.next)) (subst (λ n. IsConfigurableNow c.args.queue.now n) (sym c.in-Ok-Some.number-is) (subst (λ o. IfSome o (IsConfigurableNow c.args.queue.now)) c.in-Ok-Some.field-0-is c.in-Ok-Some.ensures.member)) c.in-Ok.ensures.ok)
 
 pub returns-in-Ok-clause-member : goal.returns-in-Ok-clause-member
-returns-in-Ok-clause-member g c = subst (λ o. IfSome o (IsConfigurableNow c.args.queue.now)) c.in-Ok-Some.field-0-is c.in-Ok-Some.ensures.member
+returns-in-Ok-clause-member g c = subst (λ n. IsConfigurableNow c.args.queue.now n) (sym c.in-Ok-Some.number-is) (subst (λ o. IfSome o (IsConfigurableNow c.args.queue.now)) c.in-Ok-Some.field-0-is c.in-Ok-Some.ensures.member)
 
 pub returns-in-Ok-clause-found : goal.returns-in-Ok-clause-found
-returns-in-Ok-clause-found g c = ((c.in-Ok-Some.number, c.is_done.result), refl, subst (λ o. IfSome o (IsConfigurableNow c.args.queue.now)) c.in-Ok-Some.field-0-is c.in-Ok-Some.ensures.member)
+returns-in-Ok-clause-found g c = (((lhs c.in-Ok-Some.number-is), c.is_done.result), refl, subst (λ n. IsConfigurableNow c.args.queue.now n) (sym c.in-Ok-Some.number-is) (subst (λ o. IfSome o (IsConfigurableNow c.args.queue.now)) c.in-Ok-Some.field-0-is c.in-Ok-Some.ensures.member))
 
 pub returns-in-Ok-clause-room : goal.returns-in-Ok-clause-room
 returns-in-Ok-clause-room g c none = absurd (true≢false (sym c.in-Ok.ensures.room ∙ none))
 
 pub returns-in-Ok-clause-wait : goal.returns-in-Ok-clause-wait
-returns-in-Ok-clause-wait g c = subst (λ b. AreWaiting (after_turn b c.in-Ok-Some.number c.args.queue.now) c.take_turn.new.administration.database.records) (sym c.is_done.ensures) c.in-Ok.ensures.wait
+returns-in-Ok-clause-wait g c = subst (λ b. AreWaiting (after_turn b (lhs c.in-Ok-Some.number-is) c.args.queue.now) c.take_turn.new.administration.database.records) (sym c.is_done.ensures) c.in-Ok.ensures.wait
 
 pub returns-in-Ok-clause-answered : goal.returns-in-Ok-clause-answered
 returns-in-Ok-clause-answered g c = c.in-Ok.ensures.ok.answered
@@ -46,16 +46,16 @@ pub returns-in-Ok-clause-told : goal.returns-in-Ok-clause-told
 returns-in-Ok-clause-told g c = c.in-Ok.ensures.told
 
 pub returns-in-Ok-clause-any_moment : goal.returns-in-Ok-clause-any_moment
-returns-in-Ok-clause-any_moment g c = since_weaker (IsAmidTurnOf c.args.policy c.args.queue.now c.in-Ok-Some.number (held_by c.args.administration.now c.args.diversions.now) (g.H.Host.state c.args.host.now).world) (runs.IsAmidNext (λ left later. IsAmidTurn c.args.policy (has c.args.silent.now) left) c.args.queue.now c.args.queue.now (held_by c.args.administration.now c.args.diversions.now) (g.H.Host.state c.args.host.now).world) (g.H.Host.state c.args.host.now) (g.H.Host.state c.take_turn.new.host) (λ x w amid. amid_next c.args.policy (has c.args.silent.now) c.args.queue.now c.in-Ok-Some.number c.args.queue.now (held_by c.args.administration.now c.args.diversions.now) (g.H.Host.state c.args.host.now).world x w (subst (λ o. IsNextOfConfigurable c.args.queue.now (has c.args.silent.now) o) c.in-Ok-Some.field-0-is c.in-Ok-Some.ensures.next) amid) c.take_turn.ensures.any_moment
+returns-in-Ok-clause-any_moment g c = since_weaker (IsAmidTurnOf c.args.policy c.args.queue.now (lhs c.in-Ok-Some.number-is) (held_by c.args.administration.now c.args.diversions.now) (g.H.Host.state c.args.host.now).world) (runs.IsAmidNext (λ left later. IsAmidTurn c.args.policy (has c.args.silent.now) left) c.args.queue.now c.args.queue.now (held_by c.args.administration.now c.args.diversions.now) (g.H.Host.state c.args.host.now).world) (g.H.Host.state c.args.host.now) (g.H.Host.state c.take_turn.new.host) (λ x w amid. amid_next c.args.policy (has c.args.silent.now) c.args.queue.now (lhs c.in-Ok-Some.number-is) c.args.queue.now (held_by c.args.administration.now c.args.diversions.now) (g.H.Host.state c.args.host.now).world x w (subst (λ n. IsNextOfConfigurable c.args.queue.now (has c.args.silent.now) (Some n)) (sym c.in-Ok-Some.number-is) (subst (λ o. IsNextOfConfigurable c.args.queue.now (has c.args.silent.now) o) c.in-Ok-Some.field-0-is c.in-Ok-Some.ensures.next)) amid) c.take_turn.ensures.any_moment
 
 pub returns-in-Err-take_turn-clause-taken : goal.returns-in-Err-take_turn-clause-taken
-returns-in-Err-take_turn-clause-taken g c = broken_at c.args.policy (has c.args.silent.now) c.args.queue.now c.in-Ok-Some.number _ (held_by c.args.administration.now c.args.diversions.now) (g.H.Host.state c.args.host.now) (g.H.Host.state c.take_turn.new.host) c.in-Err-take_turn.unit (subst (λ o. IsNextOfConfigurable c.args.queue.now (has c.args.silent.now) o) c.in-Ok-Some.field-0-is c.in-Ok-Some.ensures.next) c.in-Err-take_turn.ensures.broken_off
+returns-in-Err-take_turn-clause-taken g c = broken_at c.args.policy (has c.args.silent.now) c.args.queue.now (lhs c.in-Ok-Some.number-is) _ (held_by c.args.administration.now c.args.diversions.now) (g.H.Host.state c.args.host.now) (g.H.Host.state c.take_turn.new.host) c.in-Err-take_turn.unit (subst (λ n. IsNextOfConfigurable c.args.queue.now (has c.args.silent.now) (Some n)) (sym c.in-Ok-Some.number-is) (subst (λ o. IsNextOfConfigurable c.args.queue.now (has c.args.silent.now) o) c.in-Ok-Some.field-0-is c.in-Ok-Some.ensures.next)) c.in-Err-take_turn.ensures.broken_off
 
 pub returns-in-Err-take_turn-clause-told : goal.returns-in-Err-take_turn-clause-told
 returns-in-Err-take_turn-clause-told g c = c.in-Err-take_turn.ensures.told_broken
 
 pub returns-in-Err-take_turn-clause-any_moment : goal.returns-in-Err-take_turn-clause-any_moment
-returns-in-Err-take_turn-clause-any_moment g c = since_weaker (IsAmidTurnOf c.args.policy c.args.queue.now c.in-Ok-Some.number (held_by c.args.administration.now c.args.diversions.now) (g.H.Host.state c.args.host.now).world) (runs.IsAmidNext (λ left later. IsAmidTurn c.args.policy (has c.args.silent.now) left) c.args.queue.now c.args.queue.now (held_by c.args.administration.now c.args.diversions.now) (g.H.Host.state c.args.host.now).world) (g.H.Host.state c.args.host.now) (g.H.Host.state c.take_turn.new.host) (λ x w amid. amid_next c.args.policy (has c.args.silent.now) c.args.queue.now c.in-Ok-Some.number c.args.queue.now (held_by c.args.administration.now c.args.diversions.now) (g.H.Host.state c.args.host.now).world x w (subst (λ o. IsNextOfConfigurable c.args.queue.now (has c.args.silent.now) o) c.in-Ok-Some.field-0-is c.in-Ok-Some.ensures.next) amid) c.take_turn.ensures.any_moment
+returns-in-Err-take_turn-clause-any_moment g c = since_weaker (IsAmidTurnOf c.args.policy c.args.queue.now (lhs c.in-Ok-Some.number-is) (held_by c.args.administration.now c.args.diversions.now) (g.H.Host.state c.args.host.now).world) (runs.IsAmidNext (λ left later. IsAmidTurn c.args.policy (has c.args.silent.now) left) c.args.queue.now c.args.queue.now (held_by c.args.administration.now c.args.diversions.now) (g.H.Host.state c.args.host.now).world) (g.H.Host.state c.args.host.now) (g.H.Host.state c.take_turn.new.host) (λ x w amid. amid_next c.args.policy (has c.args.silent.now) c.args.queue.now (lhs c.in-Ok-Some.number-is) c.args.queue.now (held_by c.args.administration.now c.args.diversions.now) (g.H.Host.state c.args.host.now).world x w (subst (λ n. IsNextOfConfigurable c.args.queue.now (has c.args.silent.now) (Some n)) (sym c.in-Ok-Some.number-is) (subst (λ o. IsNextOfConfigurable c.args.queue.now (has c.args.silent.now) o) c.in-Ok-Some.field-0-is c.in-Ok-Some.ensures.next)) amid) c.take_turn.ensures.any_moment
 
 pub returns-in-Ok-None-clause-taken : goal.returns-in-Ok-None-clause-taken
 returns-in-Ok-None-clause-taken g c = record {

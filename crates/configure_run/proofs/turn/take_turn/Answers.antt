@@ -16,21 +16,6 @@ use Rattle.configure_run.proofs.Told.{called_for_tells, tells_silent}
 use Rattle.configure_run.proofs.Units.{no_calls, numbered_name, waiting_behind}
 use Rattle.configure_run.proofs.turn.take_turn.Goals as goal
 
-pub returns-then-not-clause-broken_off : goal.returns-then-not-clause-broken_off
-returns-then-not-clause-broken_off g c = record { broken = broken_by _ c.no_memory.result.reply c.no_memory.ensures.reply; untouched = c.no_memory.ensures.touched; called = inl (no_calls c.no_memory.result (g.H.Host.state c.args.host.now) c.no_memory.ensures.told) }
-
-pub returns-then-not-clause-told_broken : goal.returns-then-not-clause-told_broken
-returns-then-not-clause-told_broken g c = tells_silent (g.H.Host.state c.args.host.now) (g.H.Host.state c.args.host.now) [] c.no_memory.result.calls.items (silent_here (g.H.Host.state c.args.host.now)) c.no_memory.ensures.told
-
-pub returns-then-not-clause-any_moment : goal.returns-then-not-clause-any_moment
-returns-then-not-clause-any_moment g c = since_start (IsAmidTurnOf c.args.policy c.args.queue.now c.args.number (held_by c.args.administration.now c.args.diversions.now) (g.H.Host.state c.args.host.now).world) (g.H.Host.state c.args.host.now) (inl (still_here (g.H.Host.state c.args.host.now).world))
-
-pub returns-then-not-clause-counts : goal.returns-then-not-clause-counts
-returns-then-not-clause-counts g c = counts_no_memory c.no_memory.result.reply (g.H.Host.state c.args.host.now) (g.H.Host.state c.args.host.now) refl c.no_memory.ensures.reply
-
-pub returns-then-not-clause-not_closed : goal.returns-then-not-clause-not_closed
-returns-then-not-clause-not_closed g c = not_closed_by c.no_memory.result.reply c.no_memory.ensures.reply
-
 pub bounds-as_slice-number : goal.bounds-as_slice-number
 bounds-as_slice-number g c = (subst (λ (l : List Package). c.args.number < length l) (sym (c.as_slice.ensures.list ∙ c.packages-packages.ensures)) (subst (λ n. c.args.number < n) c.law.ensures.even.waiting (in_range c.args.queue.now.waiting c.args.number (member_waits c.args.queue.now c.args.number c.requires.member))))
 

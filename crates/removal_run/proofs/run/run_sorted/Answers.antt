@@ -53,4 +53,4 @@ pub returns-in-Ok-clause-indexed : goal.returns-in-Ok-clause-indexed
 returns-in-Ok-clause-indexed g c = λ none.
     let start = c.args.administration.now.database.records in
     let packages = subst (ArePackagesOf start) (sym {A = List Package} (c.in-Ok.ensures.nothing.queue.stated ∙ c.replace-taken.ensures.value)) c.requires.indexed in
-    c.ended.ensures.renewed none start c.law.ensures.order packages (subst (λ (names : List (List ℕ)). AreSameBut names start c.run_turns.new.administration.database.records) (sym c.requires.asked) c.in-Ok.ensures.others)
+    c.ended.ensures.renewed none start c.law.ensures.order packages (subst (λ (names : List (List ℕ)). AreSameBut names start c.run_turns.new.administration.database.records) (sym (c.as_slice-in-Ok-2.ensures.value ∙ c.requires.asked)) c.in-Ok.ensures.others)

@@ -1,4 +1,4 @@
-use Rattle.std.proofs.Common.{◌≡◌, [], ℕ, List, length, ap, refl, subst, sym, true, false, ◌∙◌}
+use Rattle.std.proofs.Common.{◌<◌, [], ℕ, List, length, ap, refl, subst, sym, true, false, ◌∙◌}
 use Rattle.std.proofs.lemmas.Bool.{true≢false}
 use Rattle.unit_reports.proofs.Telling.{answered_here}
 use Rattle.unit_reports.specs.Held.{held_by}
@@ -9,7 +9,7 @@ use Rattle.removal_run.specs.Turns.{AreAccepted, IsTurn}
 use Rattle.removal_run.specs.Units.{AreOthersKept}
 use Rattle.removal_run.proofs.Accepting.{accepted_next, struck_fewer}
 use Rattle.removal_run.proofs.Calling.{removing_tells}
-use Rattle.removal_run.proofs.Following.{is_next, next_among, next_is}
+use Rattle.removal_run.proofs.Following.{is_next, lhs, next_among, next_is}
 use Rattle.removal_run.proofs.Replies.{broken_by}
 use Rattle.removal_run.proofs.Turning.{broken_here, broken_one, since_next, since_next_start}
 use Rattle.removal_run.proofs.turns.take_next.Goals as goal
@@ -17,18 +17,18 @@ use Rattle.removal_run.proofs.turns.take_next.Goals as goal
 pub remove_one-requires-clause-accepted : goal.remove_one-requires-clause-accepted
 remove_one-requires-clause-accepted g c =
     let q = c.args.queue.now in
-    let n = c.in-Ok-Some.next in
-    let found = is_next q c.in-Ok-Some.field-0 n c.in-Ok-Some.field-0-is c.in-Ok-Some.ensures in
+    let n = lhs c.in-Ok-Some.next-is in
+    let found = subst (IsNextIn q) (sym c.in-Ok-Some.next-is) (is_next q c.in-Ok-Some.field-0 c.in-Ok-Some.next c.in-Ok-Some.field-0-is c.in-Ok-Some.ensures) in
     c.requires.accepted n.name (next_among q.packages c.args.administration.now.database.records c.args.waiting.now.items q c.requires.queue n found)
 
 pub returns-in-Ok-clause-taken : goal.returns-in-Ok-clause-taken
 returns-in-Ok-clause-taken g c =
     let q = c.args.queue.now in
-    let n = c.in-Ok-Some.next in
-    let found = is_next q c.in-Ok-Some.field-0 n c.in-Ok-Some.field-0-is c.in-Ok-Some.ensures in
+    let n = lhs c.in-Ok-Some.next-is in
+    let found = subst (IsNextIn q) (sym c.in-Ok-Some.next-is) (is_next q c.in-Ok-Some.field-0 c.in-Ok-Some.next c.in-Ok-Some.field-0-is c.in-Ok-Some.ensures) in
     record {
       name = n.name;
-      next = next_is q.packages c.args.administration.now.database.records c.args.waiting.now.items q c.requires.queue n found;
+      next = record { queue = q; is = c.requires.queue; number = n.number; next = found.next; named = found.named };
       can = found.member;
       is = c.in-Ok.ensures.ok;
       others = c.in-Ok.ensures.others;
@@ -38,8 +38,8 @@ returns-in-Ok-clause-taken g c =
 pub returns-in-Ok-clause-queue : goal.returns-in-Ok-clause-queue
 returns-in-Ok-clause-queue g c =
     let q = c.args.queue.now in
-    let n = c.in-Ok-Some.next in
-    let found = is_next q c.in-Ok-Some.field-0 n c.in-Ok-Some.field-0-is c.in-Ok-Some.ensures in
+    let n = lhs c.in-Ok-Some.next-is in
+    let found = subst (IsNextIn q) (sym c.in-Ok-Some.next-is) (is_next q c.in-Ok-Some.field-0 c.in-Ok-Some.next c.in-Ok-Some.field-0-is c.in-Ok-Some.ensures) in
     let old = c.args.administration.now.database.records in
     record {
       before = old;
@@ -53,13 +53,13 @@ returns-in-Ok-clause-queue g c =
 pub returns-in-Ok-clause-accepted : goal.returns-in-Ok-clause-accepted
 returns-in-Ok-clause-accepted g c =
     subst (λ (w : List (List ℕ)). AreAccepted c.args.purge c.remove_one.new.administration.database.records w) (sym c.strike.ensures)
-    (accepted_next c.args.purge c.args.administration.now.database.records c.remove_one.new.administration.database.records c.args.waiting.now.items c.in-Ok-Some.next.name c.in-Ok.ensures.others c.requires.accepted)
+    (accepted_next c.args.purge c.args.administration.now.database.records c.remove_one.new.administration.database.records c.args.waiting.now.items (lhs c.in-Ok-Some.next-is).name c.in-Ok.ensures.others c.requires.accepted)
 
 pub returns-in-Ok-clause-fewer : goal.returns-in-Ok-clause-fewer
 returns-in-Ok-clause-fewer g c =
     let q = c.args.queue.now in
-    let n = c.in-Ok-Some.next in
-    let found = is_next q c.in-Ok-Some.field-0 n c.in-Ok-Some.field-0-is c.in-Ok-Some.ensures in
+    let n = lhs c.in-Ok-Some.next-is in
+    let found = subst (IsNextIn q) (sym c.in-Ok-Some.next-is) (is_next q c.in-Ok-Some.field-0 c.in-Ok-Some.next c.in-Ok-Some.field-0-is c.in-Ok-Some.ensures) in
     subst (λ (w : List (List ℕ)). length w < length c.args.waiting.now.items) (sym c.strike.ensures)
     (struck_fewer n.name c.args.waiting.now.items (next_among q.packages c.args.administration.now.database.records c.args.waiting.now.items q c.requires.queue n found))
 
@@ -78,16 +78,16 @@ returns-in-Ok-clause-told g c = c.in-Ok.ensures.told
 pub returns-in-Ok-clause-any_moment : goal.returns-in-Ok-clause-any_moment
 returns-in-Ok-clause-any_moment g c =
     let q = c.args.queue.now in
-    let n = c.in-Ok-Some.next in
-    let found = is_next q c.in-Ok-Some.field-0 n c.in-Ok-Some.field-0-is c.in-Ok-Some.ensures in
-    since_next c.args.purge q.packages c.args.waiting.now.items _ (held_by c.args.administration.now c.args.diversions.now) n.name (g.H.Host.state c.args.host.now) (g.H.Host.state c.remove_one.new.host)
+    let n = lhs c.in-Ok-Some.next-is in
+    let found = subst (IsNextIn q) (sym c.in-Ok-Some.next-is) (is_next q c.in-Ok-Some.field-0 c.in-Ok-Some.next c.in-Ok-Some.field-0-is c.in-Ok-Some.ensures) in
+    since_next c.args.purge q.packages c.args.waiting.now.items c.args.waiting.now.items (held_by c.args.administration.now c.args.diversions.now) n.name (g.H.Host.state c.args.host.now) (g.H.Host.state c.remove_one.new.host)
     (next_is q.packages c.args.administration.now.database.records c.args.waiting.now.items q c.requires.queue n found) c.remove_one.ensures.any_moment
 
 pub returns-in-Err-remove_one-clause-taken : goal.returns-in-Err-remove_one-clause-taken
 returns-in-Err-remove_one-clause-taken g c =
     let q = c.args.queue.now in
-    let n = c.in-Ok-Some.next in
-    let found = is_next q c.in-Ok-Some.field-0 n c.in-Ok-Some.field-0-is c.in-Ok-Some.ensures in
+    let n = lhs c.in-Ok-Some.next-is in
+    let found = subst (IsNextIn q) (sym c.in-Ok-Some.next-is) (is_next q c.in-Ok-Some.field-0 c.in-Ok-Some.next c.in-Ok-Some.field-0-is c.in-Ok-Some.ensures) in
     broken_one c.args.purge q.packages c.args.waiting.now.items _ (held_by c.args.administration.now c.args.diversions.now) n.name (g.H.Host.state c.args.host.now) (g.H.Host.state c.remove_one.new.host) c.in-Err-remove_one.unit
     (next_is q.packages c.args.administration.now.database.records c.args.waiting.now.items q c.requires.queue n found) c.in-Err-remove_one.ensures.broken_off
 
@@ -97,19 +97,19 @@ returns-in-Err-remove_one-clause-told g c = removing_tells _ _ _ (g.H.Host.state
 pub returns-in-Err-remove_one-clause-any_moment : goal.returns-in-Err-remove_one-clause-any_moment
 returns-in-Err-remove_one-clause-any_moment g c =
     let q = c.args.queue.now in
-    let n = c.in-Ok-Some.next in
-    let found = is_next q c.in-Ok-Some.field-0 n c.in-Ok-Some.field-0-is c.in-Ok-Some.ensures in
-    since_next c.args.purge q.packages c.args.waiting.now.items _ (held_by c.args.administration.now c.args.diversions.now) n.name (g.H.Host.state c.args.host.now) (g.H.Host.state c.remove_one.new.host)
+    let n = lhs c.in-Ok-Some.next-is in
+    let found = subst (IsNextIn q) (sym c.in-Ok-Some.next-is) (is_next q c.in-Ok-Some.field-0 c.in-Ok-Some.next c.in-Ok-Some.field-0-is c.in-Ok-Some.ensures) in
+    since_next c.args.purge q.packages c.args.waiting.now.items c.args.waiting.now.items (held_by c.args.administration.now c.args.diversions.now) n.name (g.H.Host.state c.args.host.now) (g.H.Host.state c.remove_one.new.host)
     (next_is q.packages c.args.administration.now.database.records c.args.waiting.now.items q c.requires.queue n found) c.remove_one.ensures.any_moment
 
 pub returns-in-Ok-None-clause-answered : goal.returns-in-Ok-None-clause-answered
 returns-in-Ok-None-clause-answered g c = answered_here (g.H.Host.state c.args.host.now)
 
 pub returns-in-Ok-None-clause-any_moment : goal.returns-in-Ok-None-clause-any_moment
-returns-in-Ok-None-clause-any_moment g c = since_next_start c.args.purge c.args.queue.now.packages c.args.waiting.now.items _ (held_by c.args.administration.now c.args.diversions.now) (g.H.Host.state c.args.host.now)
+returns-in-Ok-None-clause-any_moment g c = since_next_start c.args.purge c.args.queue.now.packages c.args.waiting.now.items c.args.waiting.now.items (held_by c.args.administration.now c.args.diversions.now) (g.H.Host.state c.args.host.now)
 
 pub returns-in-Err-clause-taken : goal.returns-in-Err-clause-taken
 returns-in-Err-clause-taken g c = broken_here c.args.purge c.args.queue.now.packages c.args.waiting.now.items _ (held_by c.args.administration.now c.args.diversions.now) (g.H.Host.state c.args.host.now) c.no_memory.result (broken_by _ c.no_memory.result.reply c.no_memory.ensures.reply) c.no_memory.ensures.touched c.no_memory.ensures.told
 
 pub returns-in-Err-clause-any_moment : goal.returns-in-Err-clause-any_moment
-returns-in-Err-clause-any_moment g c = since_next_start c.args.purge c.args.queue.now.packages c.args.waiting.now.items _ (held_by c.args.administration.now c.args.diversions.now) (g.H.Host.state c.args.host.now)
+returns-in-Err-clause-any_moment g c = since_next_start c.args.purge c.args.queue.now.packages c.args.waiting.now.items c.args.waiting.now.items (held_by c.args.administration.now c.args.diversions.now) (g.H.Host.state c.args.host.now)

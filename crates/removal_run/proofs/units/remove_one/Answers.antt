@@ -1,8 +1,8 @@
-use Rattle.std.proofs.Common.{refl, ◌∙◌}
+use Rattle.std.proofs.Common.{◌∙◌}
 use Rattle.unit_reports.specs.Held.{held_by}
 use Rattle.removal_run.proofs.Calling.{removing_tells}
-use Rattle.removal_run.proofs.Removals.{called_none, since_removal_start}
-use Rattle.removal_run.proofs.Replies.{broken_by, counts_no_memory, counts_whole, is_broken_off, is_whole, no_memory_not_closed, not_broken}
+use Rattle.removal_run.proofs.Removals.{called_none}
+use Rattle.removal_run.proofs.Replies.{broken_by, counts_whole, is_broken_off, is_whole, not_broken}
 use Rattle.removal_run.proofs.units.remove_one.Goals as goal
 
 pub returns-clause-ok : goal.returns-clause-ok
@@ -23,11 +23,8 @@ returns-clause-others g c = not_broken c.remove_named-unit.result.reply c.is_bro
 pub returns-clause-told : goal.returns-clause-told
 returns-clause-told g c = removing_tells _ _ _ (g.H.Host.state c.args.host.now) (g.H.Host.state c.remove_named-unit.new.host) _ _ c.remove_named-unit.ensures.told
 
-pub returns-then-not-clause-any_moment : goal.returns-then-not-clause-any_moment
-returns-then-not-clause-any_moment g c = since_removal_start c.args.purge c.args.«package» (held_by c.args.administration.now c.args.diversions.now) (g.H.Host.state c.args.host.now)
-
-pub returns-then-not-clause-broken_off : goal.returns-then-not-clause-broken_off
-returns-then-not-clause-broken_off g c = record {
+pub returns-then-not-room-clause-broken_off : goal.returns-then-not-room-clause-broken_off
+returns-then-not-room-clause-broken_off g c = record {
   broken = broken_by _ c.broken.result.reply c.broken.ensures.reply;
   untouched = c.broken.ensures.touched;
   called = called_none c.args.purge c.args.«package» (held_by c.args.administration.now c.args.diversions.now) (g.H.Host.state c.args.host.now) c.broken.result.calls.items (c.broken.ensures.told ∙ c.new.ensures.items);
@@ -37,12 +34,6 @@ pub returns-then-is_broken-clause-broken_off : goal.returns-then-is_broken-claus
 returns-then-is_broken-clause-broken_off g c =
     let broken = is_broken_off c.remove_named-unit.result.reply c.is_broken.result c.if-is_broken.true c.is_broken.ensures in
     record { broken = broken; untouched = c.remove_named-unit.ensures.untouched broken; called = c.remove_named-unit.ensures.told }
-
-pub returns-then-not-clause-counts : goal.returns-then-not-clause-counts
-returns-then-not-clause-counts g c = counts_no_memory c.broken.result.reply (g.H.Host.state c.args.host.now) (g.H.Host.state c.args.host.now) refl c.broken.ensures.reply
-
-pub returns-then-not-clause-not_closed : goal.returns-then-not-clause-not_closed
-returns-then-not-clause-not_closed g c = no_memory_not_closed c.broken.result.reply c.broken.ensures.reply
 
 pub returns-clause-no_fault : goal.returns-clause-no_fault
 returns-clause-no_fault g c =

@@ -59,8 +59,8 @@ loop-unit-preserved g c =
       answered = answered_then old now new inv.answered c.in-Ok-true.ensures.answered;
       told = tells_then old now new (calls_of first) (calls_of us) (calls_of more) inv.told c.in-Ok-true.ensures.told;
       moments = since_more (g.T.Turns.turn task) start before old (g.T.Turns.amid task) (g.T.Turns.goes task) first us q later mid now new inv.turned inv.moments
-        (subst (λ k. g.T.Turns.goes k q later) inv.same_task c.run_one.ensures.goes)
-        (subst (λ k. AtEachMomentOf (IsAmidNext (g.T.Turns.amid k) q later mid) now new) inv.same_task c.run_one.ensures.any_moment);
+          (subst (λ k. g.T.Turns.goes k q later) inv.same_task c.run_one.ensures.goes)
+          (subst (λ k. AtEachMomentOf (IsAmidNext (g.T.Turns.amid k) q later mid) now new) inv.same_task c.run_one.ensures.any_moment);
       no_fault = c.in-Ok-true.ensures.no_fault ∙ inv.no_fault;
       same_task = c.in-Ok-true.ensures.task ∙ inv.same_task;
       goes = goes_then (g.T.Turns.goes task) start q later inv.goes (goes_once (g.T.Turns.goes task) q later (subst (λ k. g.T.Turns.goes k q later) inv.same_task c.run_one.ensures.goes));
@@ -145,8 +145,8 @@ returns-in-Ok-false-clause-any_moment g c =
     let us = l.units.items in
     let more = c.run_one.new.units.items in
     since_more (g.T.Turns.turn task) start before old (g.T.Turns.amid task) (g.T.Turns.goes task) first us q later mid now new inv.turned inv.moments
-        (subst (λ k. g.T.Turns.goes k q later) inv.same_task c.run_one.ensures.goes)
-        (subst (λ k. AtEachMomentOf (IsAmidNext (g.T.Turns.amid k) q later mid) now new) inv.same_task c.run_one.ensures.any_moment)
+    (subst (λ k. g.T.Turns.goes k q later) inv.same_task c.run_one.ensures.goes)
+    (subst (λ k. AtEachMomentOf (IsAmidNext (g.T.Turns.amid k) q later mid) now new) inv.same_task c.run_one.ensures.any_moment)
 
 pub returns-in-Ok-false-clause-no_fault : goal.returns-in-Ok-false-clause-no_fault
 returns-in-Ok-false-clause-no_fault g c =
@@ -283,8 +283,8 @@ returns-in-Err-clause-any_moment g c =
     let us = l.units.items in
     let more = c.run_one.new.units.items in
     since_more (g.T.Turns.turn task) start before old (g.T.Turns.amid task) (g.T.Turns.goes task) first us q later mid now new inv.turned inv.moments
-        (subst (λ k. g.T.Turns.goes k q later) inv.same_task c.run_one.ensures.goes)
-        (subst (λ k. AtEachMomentOf (IsAmidNext (g.T.Turns.amid k) q later mid) now new) inv.same_task c.run_one.ensures.any_moment)
+    (subst (λ k. g.T.Turns.goes k q later) inv.same_task c.run_one.ensures.goes)
+    (subst (λ k. AtEachMomentOf (IsAmidNext (g.T.Turns.amid k) q later mid) now new) inv.same_task c.run_one.ensures.any_moment)
 
 pub returns-in-Err-clause-counts : goal.returns-in-Err-clause-counts
 returns-in-Err-clause-counts g c =

@@ -1,0 +1,43 @@
+-- Between removals, and what one of them leaves.
+use Rattle.std.proofs.Common.{◌≡◌, ◌<◌, ℕ, Bool, List, [], Option, Some, None, Result, Ok, Err, ap, sym, subst, ◌∙◌}
+use Rattle.std.specs.Prelude.{OnOk}
+use Rattle.dependency_check.specs.Waiting.{Waiting}
+use Rattle.held_administration.specs.declared.held.Administration.{Administration}
+use Rattle.host_core.specs.Host.{State, AtEachMomentOf}
+use Rattle.relation_index.specs.declared.package.Package.{Package}
+use Rattle.unit_reports.specs.Held.{Held}
+use Rattle.unit_reports.specs.declared.report.Unit.{Unit as AUnit}
+use Rattle.unit_runs.specs.Taking.{IsTaken}
+use Rattle.unit_runs.specs.Turns as runs
+use Rattle.unit_runs.proofs.Taken.{taken_so}
+use Rattle.removal_run.specs.Next.{IsNothing}
+use Rattle.removal_run.specs.Taking.{IsBetween, IsOver, IsQueueTo, packages_in}
+use Rattle.removal_run.specs.Turns.{AreAccepted, HasCalledNext, IsAmidTurn, IsTurn}
+use Rattle.removal_run.specs.declared.turns.Removing.{Removing}
+
+abbrev or_queue : Waiting → Option Waiting → Waiting
+or_queue q None = q
+or_queue q (Some other) = other
+
+-- the queue of a moment between removals
+pub ready_of : (r : Removing) (a : Administration) (q : Waiting) → r.queue ≡ Some q → IsBetween r a → IsQueueTo q.packages a.database.records r.waiting.items q r.removed
+ready_of r a q here between =
+    subst (λ (w : Waiting). IsQueueTo w.packages a.database.records r.waiting.items w r.removed) (ap (or_queue q) (sym between.here ∙ here)) between.is
+
+pub on_ok : {T E P Q R : Type 0} (r : Result T E) → (P → Q → R) → OnOk r P → OnOk r Q → OnOk r R
+on_ok (Ok x) both p q = both p q
+on_ok (Err e) both p q = tt
+
+-- what a turn does, seen from the packages that were given
+pub taken_of : (purge : Bool) (packages : List Package) (q : Waiting) (r : Removing) (left later : List (List ℕ)) (before after : Held) (s t : State) (result : Result (Option AUnit) AUnit) → q.packages ≡ packages → r.queue ≡ Some q
+    → IsTaken (IsTurn purge q.packages) (λ l behind. HasCalledNext purge q.packages l) (λ l held. (r.waiting.items ≡ l) × IsNothing q.packages held.records.records l q) left later before after s t result
+    → IsTaken (IsTurn purge packages) (λ l behind. HasCalledNext purge packages l) (IsOver r) left later before after s t result
+taken_of purge packages q r left later before after s t result same here is =
+    subst (λ (ps : List Package). IsTaken (IsTurn purge ps) (λ l behind. HasCalledNext purge ps l) (IsOver r) left later before after s t result) same
+    (taken_so (IsTurn purge q.packages) (λ l behind. HasCalledNext purge q.packages l) (λ l held. (r.waiting.items ≡ l) × IsNothing q.packages held.records.records l q) (IsOver r) left later before after s t result
+    (λ over. record { queue = q; here = here; same = over.0; nothing = over.1 }) is)
+
+pub moments_of : (purge : Bool) (packages : List Package) (q : Waiting) (left later : List (List ℕ)) (before : Held) (s t : State) → q.packages ≡ packages
+    → AtEachMomentOf (runs.IsAmidNext (λ l behind. IsAmidTurn purge q.packages l) left later before) s t → AtEachMomentOf (runs.IsAmidNext (λ l behind. IsAmidTurn purge packages l) left later before) s t
+moments_of purge packages q left later before s t same since =
+    subst (λ (ps : List Package). AtEachMomentOf (runs.IsAmidNext (λ l behind. IsAmidTurn purge ps l) left later before) s t) same since
