@@ -99,5 +99,5 @@ returns-in-Ok-clause-any_moment g c =
     plan_moments c.args.administration.now c.args.diversions.now.entries c.args.plan.rows c.args.plan.works.items c.args.plan.calls.items c.args.plan.commit c.requires.plan.job c.requires.plan.planned (g.H.Host.state c.args.host.now) (g.H.Host.state c.begin_and_run.new.host) c.requires.order (g.H.Host.tree c.args.host.now) (g.H.Host.state c.finish.new.host) (ended_as c.in-Ok.unwinding) (holding_by c.begin_and_run.new.administration c.begin_and_run.new.works.items) c.args.told.now.items c.begin_and_run.new.told.items c.begin_and_run.ensures.any_moment c.in-Ok.ensures.ran c.finish.ensures.silent
     (subst (λ (x : List Work). AtEachMoment (MayLeave (changes_from (own_name c.args.plan.rows.found c.args.plan.rows.incoming) c.args.plan.rows.yields c.args.diversions.now.entries c.begin_and_run.new.administration.lists.lists x c.args.plan.commit) (records_from (own_name c.args.plan.rows.found c.args.plan.rows.incoming) c.args.plan.rows.yields c.args.diversions.now.entries c.begin_and_run.new.administration.lists.lists x c.args.plan.commit c.begin_and_run.new.administration.database.records) c.args.diversions.now.entries c.begin_and_run.new.administration.lists.lists c.begin_and_run.new.administration.database.records (length c.args.plan.rows.others.items) (ended_as c.in-Ok.unwinding)) (g.H.Host.state c.begin_and_run.new.host) (g.H.Host.state c.finish.new.host)) c.as_slice-shipped.ensures.value c.finish.ensures.any_moment)
 
-pub returns-in-Err-clause-any_moment : goal.returns-in-Err-clause-any_moment
-returns-in-Err-clause-any_moment g c = plan_begins c.args.administration.now c.args.diversions.now.entries c.args.plan.rows c.args.plan.works.items c.args.plan.calls.items c.args.plan.commit c.requires.plan.job c.requires.plan.planned (g.H.Host.state c.args.host.now) (g.H.Host.state c.begin_and_run.new.host) c.requires.order (g.H.Host.tree c.args.host.now) c.begin_and_run.ensures.any_moment
+pub returns-clause-any_moment : goal.returns-clause-any_moment
+returns-clause-any_moment g c = plan_begins c.args.administration.now c.args.diversions.now.entries c.args.plan.rows c.args.plan.works.items c.args.plan.calls.items c.args.plan.commit c.requires.plan.job c.requires.plan.planned (g.H.Host.state c.args.host.now) (g.H.Host.state c.begin_and_run.new.host) c.requires.order (g.H.Host.tree c.args.host.now) c.begin_and_run.ensures.any_moment
