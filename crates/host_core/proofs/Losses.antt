@@ -8,14 +8,14 @@ use Rattle.std.specs.Str.{bytes_eq}
 use Rattle.std.proofs.lemmas.Slice.Eq.{bytes_eq-Decides}
 use Rattle.host_core.specs.Paths.{Path}
 use Rattle.host_core.specs.World.{World, Change, Avoids, Step, Write, Move, Take, MakeDir, RemoveDir, HardLink, MakeLink, Sync, Barrier, IsPart, SameOn, KeepsBut}
-use Rattle.host_core.specs.Events.{Event, Did, Finished, Cut, Failed, follow, follow_all, IsCutOf, Ran, scripts_of, changes_of}
+use Rattle.host_core.specs.Events.{Event, Did, Finished, Cut, Failed, Denied, follow, follow_all, IsCutOf, Ran, scripts_of, changes_of}
 use Rattle.host_core.specs.Unsynced.{unsynced, unsynced_all, unsynced_after, unsynced_step, marked, is_temporary, IsSettled, KeepsSettled}
 use Rattle.host_core.specs.Host.{State, AllFailed, Throughout, Since, Silent, Runs, Calls, finished, ScriptsBut, OnlyScripts}
 use Rattle.host_core.proofs.Scripts.{Avoids-front, Avoids-append, changes_of-append, changed_kept}
 use Rattle.host_core.specs.declared.call.Call.{Call}
 use Rattle.host_core.specs.declared.call.Outcome.{Outcome}
 use Rattle.host_core.specs.declared.fault.HostFault.{HostFault}
-use Rattle.host_core.specs.declared.fault.HostFault.TheVariants.{Device, NoMemory}
+use Rattle.host_core.specs.declared.fault.HostFault.TheVariants.{Device, NoMemory, Declined}
 use Rattle.host_core.proofs.Moments.{follow_all-append, unmoved, since_now}
 use Rattle.host_core.specs.Loss.{writes, HasNoBarrier, IsOnDisk, IsBlurred, IsMoment, IsLoss, LosesSince, IsLike, IsBlind, unwritten, ScriptsAvoid, IsLikeAStop, LosesBehind, IsLikeOne, IsAnswered, IsLater}
 use Rattle.host_core.specs.declared.node.Node.{Node}
@@ -75,6 +75,7 @@ unsynced_failed (Did s ∷ es) u all = absurd all
 unsynced_failed (Finished ran ∷ es) u all = absurd all
 unsynced_failed (Cut call change ∷ es) u all = absurd all
 unsynced_failed (Failed ∷ es) u all = unsynced_failed es u all
+unsynced_failed (Denied path ∷ es) u all = absurd all
 
 -- of a file that is written in part the same is said
 part_unsynced : (s t : Step) (u : Path → Bool) → IsPart s t → unsynced_step t u ≡ unsynced_step s u
@@ -95,6 +96,7 @@ cut_unsynced (Did s) d u cut = ap (λ x. unsynced_after x u) cut.2 ∙ part_unsy
 cut_unsynced (Finished ran) d u cut = ap (λ x. unsynced_after x u) cut.3
 cut_unsynced (Cut call change) d u cut = ap (λ x. unsynced_after x u) cut.3
 cut_unsynced Failed d u cut = absurd cut
+cut_unsynced (Denied path) d u cut = absurd cut
 
 abbrev Temporary : (Path → Bool) → Type 0
 Temporary u = (q : Path) → u q ≡ true → is_temporary q ≡ true
@@ -152,12 +154,14 @@ EventKeepsSettled events (Did s) = KeepsSettled events s
 EventKeepsSettled events (Finished ran) = Unit {0}
 EventKeepsSettled events (Cut call change) = Unit {0}
 EventKeepsSettled events Failed = Unit {0}
+EventKeepsSettled events (Denied path) = Unit {0}
 
 temporary_after : (events : List Event) (e : Event) → EventKeepsSettled events e → Temporary (unsynced events) → Temporary (unsynced_after e (unsynced events))
 temporary_after events (Did s) owed all = temporary_step events s owed all
 temporary_after events (Finished ran) owed all = all
 temporary_after events (Cut call change) owed all = all
 temporary_after events Failed owed all = all
+temporary_after events (Denied path) owed all = all
 
 pub settled_none : IsSettled []
 settled_none front rest is q u = absurd (none front rest is q u)
@@ -244,6 +248,7 @@ part_wrote kept (Finished ran) d cut all =
 part_wrote kept (Cut call change) d cut all =
     subst (λ x. Avoids kept (change_in x)) (sym cut.3) (subst (Avoids kept) (sym (append-nil cut.0)) (Avoids-front kept cut.0 cut.1 (subst (Avoids kept) (append-nil change ∙ cut.2) all)))
 part_wrote kept Failed d cut all = absurd cut
+part_wrote kept (Denied path) d cut all = absurd cut
 
 avoids_append : (kept : Path → Bool) (a b : List Event) → Avoids kept (changes_of a) → Avoids kept (changes_of b) → Avoids kept (changes_of (a ++ b))
 avoids_append kept a b first second = subst (Avoids kept) (sym (changes_of-append a b)) (Avoids-append kept (changes_of a) (changes_of b) first second)
@@ -334,6 +339,7 @@ AllFailed-back (Did s ∷ a) b all = absurd all
 AllFailed-back (Finished ran ∷ a) b all = absurd all
 AllFailed-back (Cut call change ∷ a) b all = absurd all
 AllFailed-back (Failed ∷ a) b all = AllFailed-back a b all
+AllFailed-back (Denied path ∷ a) b all = absurd all
 
 HasNoBarrier-back : (a b : List Event) → HasNoBarrier (a ++ b) → HasNoBarrier b
 HasNoBarrier-back [] b none = none
@@ -491,6 +497,7 @@ changes_of-scripts (Did s ∷ es) = changes_of-scripts es
 changes_of-scripts (Finished ran ∷ es) = ap (λ (c : Change). ran.change ++ c) (changes_of-scripts es)
 changes_of-scripts (Cut call change ∷ es) = ap (λ (c : Change). change ++ c) (changes_of-scripts es)
 changes_of-scripts (Failed ∷ es) = changes_of-scripts es
+changes_of-scripts (Denied path ∷ es) = changes_of-scripts es
 
 -- what scripts wrote isn't among what they didn't write
 pub avoid_unwritten : (kept : Path → Bool) (c : Change) → Avoids (unwritten kept c) c
@@ -545,6 +552,7 @@ pub avoid_runs : (kept : Path → Bool) (call : Call) (a b : State) (result : Re
 avoid_runs kept call a b (Ok x) h runs = avoid_added kept _ a b runs.2.events (subst (Avoids kept) (sym (append-nil runs.0)) (runs.1 h))
 avoid_runs kept call a b (Err Device) h (inl goes) = avoid_added kept (Failed ∷ []) a b goes.events tt
 avoid_runs kept call a b (Err Device) h (inr more) = avoid_added kept _ a b more.2.events (subst (Avoids kept) (sym (append-nil more.0)) (more.1 h))
+avoid_runs kept call a b (Err Declined) h never = absurd never
 avoid_runs kept call a b (Err NoMemory) h same = avoid_added kept [] a b (same.events ∙ sym (append-nil a.events)) tt
 
 pub avoid_calls : (kept : Path → Bool) (ts : List Ran) (a b : State) → IsTrue b.honest → Calls kept ts a b → ScriptsAvoid kept a b

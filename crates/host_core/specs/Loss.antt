@@ -4,7 +4,7 @@ use Rattle.std.specs.List.{list_any}
 use Rattle.std.specs.Str.{bytes_eq}
 use Rattle.host_core.specs.Paths.{Path}
 use Rattle.host_core.specs.World.{World, Change, Avoids, Step, Write, Move, Take, MakeDir, RemoveDir, HardLink, MakeLink, Sync, Barrier}
-use Rattle.host_core.specs.Events.{Event, Did, Finished, Cut, Failed, follow_all, IsCutOf, changes_of}
+use Rattle.host_core.specs.Events.{Event, Did, Finished, Cut, Failed, Denied, follow_all, IsCutOf, changes_of}
 use Rattle.host_core.specs.Unsynced.{unsynced, is_temporary}
 use Rattle.host_core.specs.Host.{State, Reads, AllFailed, Since}
 use Rattle.host_core.specs.declared.node.Node.{Node}
@@ -30,6 +30,7 @@ is_barrier (Did s) = flushes s
 is_barrier (Finished ran) = false
 is_barrier (Cut call change) = false
 is_barrier Failed = false
+is_barrier (Denied path) = false
 
 abbrev pub HasNoBarrier : List Event → Type 0
 HasNoBarrier [] = Unit {0}
