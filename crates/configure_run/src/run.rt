@@ -2,7 +2,7 @@
 ghost use Rattle.std.specs.Prelude.{◌≡◌, ◌++◌, [], Some, IfErr, IfOk, IfSome, IsNone, OnErr, OnOk};
 ghost use Rattle.dependency_sets.specs.Sets.{has};
 ghost use Rattle.held_administration.specs.Open.{IsOpen};
-ghost use Rattle.host_core.specs.Host.{Counts, Needs, Reads, Silent, Since, Tells, faults};
+ghost use Rattle.host_core.specs.Host.{Counts, Needs, Reads, Silent, Since, Tells, NoFault};
 ghost use Rattle.host_core.specs.Loss.{IsAnswered};
 ghost use Rattle.recorded_packages.specs.Packages.{ArePackagesOf};
 ghost use Rattle.held_administration.specs.Order.{IsInOrder};
@@ -117,7 +117,7 @@ fn run_and_renew<H: Host, W: Watcher>(
     ensures any_moment { Since (IsAmidTurns policy (has silent.items) queue
         (held_by administration.old diversions.now) (H.state host.old)) (H.state host.old)
         (H.state host.new) }
-    ensures no_fault { OnOk result (faults (H.state host.new) ≡ faults (H.state host.old)) }
+    ensures no_fault { OnOk result (NoFault (H.state host.old) (H.state host.new)) }
     ensures counts { IfErr result (λ unit. CountsReply (H.state host.old) (H.state host.new)
         unit.reply) }
     ensures not_closed { IfErr result (λ unit. IsBrokenBy Closed unit.reply → ⊥) }
@@ -180,7 +180,7 @@ fn run_all<H: Host, W: Watcher>(
     ensures any_moment { Since (IsAmidRun names.now policy
         (held_by administration.old diversions.now) (H.state host.old)) (H.state host.old)
         (H.state host.new) }
-    ensures no_fault { OnOk result (faults (H.state host.new) ≡ faults (H.state host.old)) }
+    ensures no_fault { OnOk result (NoFault (H.state host.old) (H.state host.new)) }
     ensures counts { IfErr result (λ unit. CountsReply (H.state host.old) (H.state host.new)
         unit.reply) }
     ensures not_closed { IfErr result (λ unit. IsBrokenBy Closed unit.reply → ⊥) }

@@ -3,7 +3,7 @@ ghost use Rattle.std.specs.Prelude.{◌≡◌, ℕ, Bool, [], false, true, None,
 ghost use Rattle.dependency_check.specs.Waiting.{IsConfigurableNow};
 ghost use Rattle.dependency_sets.specs.Sets.{has};
 ghost use Rattle.held_administration.specs.Open.{IsOpen};
-ghost use Rattle.host_core.specs.Host.{AtEachMomentOf, Needs, faults};
+ghost use Rattle.host_core.specs.Host.{AtEachMomentOf, Needs, NoFault};
 ghost use Rattle.host_core.specs.Loss.{IsAnswered};
 ghost use Rattle.held_administration.specs.Order.{IsInOrder};
 ghost use Rattle.unit_reports.specs.Held.{held_by};
@@ -58,7 +58,7 @@ fn take_turn<H: Host>(
         unit.calls.items) }
     ensures any_moment { AtEachMomentOf (IsAmidTurnOf policy queue.now number
         (held_by administration.old diversions.now)) (H.state host.old) (H.state host.new) }
-    ensures no_fault { OnOk result (faults (H.state host.new) ≡ faults (H.state host.old)) }
+    ensures no_fault { OnOk result (NoFault (H.state host.old) (H.state host.new)) }
     ensures counts { IfErr result (λ unit. CountsReply (H.state host.old) (H.state host.new)
         unit.reply) }
     ensures not_closed { IfErr result (λ unit. IsBrokenBy Closed unit.reply → ⊥) }

@@ -13,45 +13,19 @@ use Rattle.host_core.specs.Loss.{IsAnswered}
 use Rattle.host_core.proofs.Moments.{ThroughEvent, since_failed, since_fails, since_goes, since_now, since_then}
 use Rattle.host_core.specs.declared.call.Call.{Call}
 use Rattle.host_core.specs.declared.fault.HostFault.{HostFault}
-use Rattle.host_core.specs.declared.fault.HostFault.TheVariants.{Device, NoMemory}
+use Rattle.host_core.specs.declared.fault.HostFault.TheVariants.{Device, NoMemory, Declined}
 use Rattle.status_db.specs.Recorded.{Recorded}
 use Rattle.held_administration.specs.Order.{IsInOrder}
 use Rattle.unit_stages.specs.Holding.{Holding}
 use Rattle.undo_rows.specs.declared.rows.Called.{Called}
 use Rattle.displaced_packages.specs.Displacing.{HaveBeenDisplaced, IsBroughtToDisk, is_nothing}
-
--- what holds at each moment, and asks no more of what was done than which scripts were called, goes on to hold
-since_barrier_behind : (P : List Event → World → Type 0) (result : Result Unit HostFault) (a b c : State) → ((x quiet : List Event) (w : World) → scripts_of quiet ≡ [] → P x w → P (x ++ quiet) w)
-    → Since P a b → Does Barrier b c result → Since P a c
-since_barrier_behind P result a b c still first does = since_then P a b c first (more result does)
-  where
-    Q : List Event → World → Type 0
-    Q so_far w = P (first.added ++ so_far) w
-
-    here : IsTrue b.honest → (x : List Event) → scripts_of x ≡ [] → Q x b.world
-    here h x none = still first.added x b.world none (since_now P a b first h)
-
-    through : IsTrue b.honest → ThroughEvent Q b.world (Did Barrier)
-    through h = record { before = here h [] refl; inside = λ d cut. absurd cut.1; behind = here h (Did Barrier ∷ []) refl }
-
-    whole : (u : Step) → IsTrue b.honest → u ≡ Barrier → ThroughEvent Q b.world (Did u)
-    whole u h same = subst (λ x. ThroughEvent Q b.world (Did x)) (sym same) (through h)
-
-    after : (u : Step) → IsTrue b.honest → u ≡ Barrier → Q (Did u ∷ Failed ∷ []) (follow (Did u) b.world)
-    after u h same = subst (λ x. Q (Did x ∷ Failed ∷ []) (follow (Did x) b.world)) (sym same) (here h (Did Barrier ∷ Failed ∷ []) refl)
-
-    more : (result : Result Unit HostFault) → Does Barrier b c result → Since Q b c
-    more (Ok x) does = since_goes Q (Did Barrier) b c does (λ h. through (does.honest h))
-    more (Err Device) (Stops.nothing goes) = since_failed Q b c goes (λ h. here (goes.honest h) [] refl) (λ h. here (goes.honest h) (Failed ∷ []) refl)
-    more (Err Device) (Stops.some u is goes) = since_fails Q (Did u) b c goes (λ h. elim (is h) [ inl same ↦ whole u (goes.honest h) same | inr part ↦ absurd part ])
-        (λ h. elim (is h) [ inl same ↦ after u (goes.honest h) same | inr part ↦ absurd part ])
-    more (Err NoMemory) does = record { added = []; events = does.events ∙ sym (append-nil b.events); honest = does.honest; world = does.world; each = λ h. here (does.honest h) [] refl }
+use Rattle.host_core.proofs.Barriers.{since_to_disk, answered_here}
 
 -- also where nothing was called at all
-pub since_to_disk : (P : List Event → World → Type 0) (result : Result Unit HostFault) (a b c : State) → ((x quiet : List Event) (w : World) → scripts_of quiet ≡ [] → P x w → P (x ++ quiet) w)
+pub since_brought : (P : List Event → World → Type 0) (result : Result Unit HostFault) (a b c : State) → ((x quiet : List Event) (w : World) → scripts_of quiet ≡ [] → P x w → P (x ++ quiet) w)
     → Since P a b → (c ≡ b) ⊎ Does Barrier b c result → Since P a c
-since_to_disk P result a b c still first (inl same) = subst (λ (x : State). Since P a x) (sym same) first
-since_to_disk P result a b c still first (inr does) = since_barrier_behind P result a b c still first does
+since_brought P result a b c still first (inl same) = subst (λ (x : State). Since P a x) (sym same) first
+since_brought P result a b c still first (inr does) = since_to_disk P result a b c still first does
 
 order_barrier : (d : Recorded) (lists : List PackageList) (m t : State) → Happens (Did Barrier ∷ []) m t → Needs m (IsInOrder d lists) → Needs t (IsInOrder d lists)
 order_barrier d lists m t goes order = λ h. subst (IsInOrder d lists) (sym goes.world) (order (goes.honest h))
@@ -74,11 +48,8 @@ some_brought (Ok x) [] (name ∷ names) s t some does = does
 some_brought (Ok x) (one ∷ more) names s t some does = does
 some_brought (Err fault) losing names s t some does = tt
 
-answered_here : (s : State) → IsAnswered s s
-answered_here s = inr (record { honest = λ h. h; world = refl; added = []; failed = tt; events = sym (append-nil s.events) })
-
-on_disk : (s m t : State) → Happens (Did Barrier ∷ []) m t → IsAnswered s t
-on_disk s m t goes = inl (m.events, [], goes.events, tt)
+disk_answered : (s m t : State) → Happens (Did Barrier ∷ []) m t → IsAnswered s t
+disk_answered s m t goes = inl (m.events, [], goes.events, tt)
 
 -- all of it is on the disk, or nothing was done
 pub displaced_answered : (incoming version : List ℕ) (entries : List Diversion) (losing : List Losing) (conflicting names : List (List ℕ)) (failed : Option Call) (before after : Holding) (s t : State) (told now : List Called)
@@ -87,5 +58,5 @@ displaced_answered incoming version entries [] [] names failed before after s t 
     let gone = is.gone.disappeared in
     let removed = is.gone.removed.removed in
     subst (λ (x : State). IsAnswered s x) (sym (is.disk ∙ removed.2 ∙ gone.3)) (answered_here s)
-displaced_answered incoming version entries [] (one ∷ more) names failed before after s t told now is = on_disk s is.end t is.disk
-displaced_answered incoming version entries (one ∷ more) conflicting names failed before after s t told now is = on_disk s is.end t is.disk
+displaced_answered incoming version entries [] (one ∷ more) names failed before after s t told now is = disk_answered s is.end t is.disk
+displaced_answered incoming version entries (one ∷ more) conflicting names failed before after s t told now is = disk_answered s is.end t is.disk

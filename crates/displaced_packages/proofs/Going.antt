@@ -18,7 +18,7 @@ use Rattle.status_records.specs.declared.record.Record.{Record}
 use Rattle.unit_stages.specs.Holding.{Holding}
 use Rattle.undo_rows.specs.declared.rows.Called.{Called}
 use Rattle.displaced_packages.specs.Displacing.{AreGoing, HasCalled, HasCalledFirst, HaveBeenRemovedBehind, HaveGone, IsAmidDisplacing}
-use Rattle.displaced_packages.proofs.Barriers.{since_to_disk}
+use Rattle.host_core.proofs.Barriers.{since_to_disk}
 
 module _ (incoming version : List ℕ) (entries : List Diversion) (losing : List Losing) (conflicting : List (List ℕ)) (before : Holding) where
   -- the moments

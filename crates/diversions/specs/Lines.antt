@@ -6,7 +6,7 @@ use Rattle.host_core.specs.declared.node.Node.{Node}
 use Rattle.host_core.specs.declared.node.Node.TheVariants.{File, Dir, Link}
 use Rattle.administration.specs.Places.{diversions_path}
 use Rattle.administration.specs.declared.fault.AdministrationFault.{AdministrationFault}
-use Rattle.administration.specs.declared.fault.AdministrationFault.TheVariants.{Damaged, Device, NoMemory}
+use Rattle.administration.specs.declared.fault.AdministrationFault.TheVariants.{Damaged, Device, NoMemory, Declined}
 use Rattle.diversions.specs.declared.entry.Owner.{Owner}
 use Rattle.diversions.specs.declared.entry.Owner.TheVariants.{Local, Package}
 use Rattle.diversions.specs.declared.entry.Diversion.{Diversion}
@@ -67,6 +67,7 @@ abbrev pub IsNodeDamage : Option Node → AdministrationFault → Type 0
 IsNodeDamage found (Damaged file line) = (file ≡ diversions_path) × IsDamageAt found line
 IsNodeDamage found Device = Unit {0}
 IsNodeDamage found NoMemory = Unit {0}
+IsNodeDamage found Declined = Unit {0}
 
 abbrev pub IsDiversionsDamage : World → AdministrationFault → Type 0
 IsDiversionsDamage w fault = IsNodeDamage (w diversions_path) fault
@@ -76,3 +77,4 @@ abbrev pub IsFileDamage : List ℕ → AdministrationFault → Type 0
 IsFileDamage text (Damaged file line) = (file ≡ diversions_path) × IsFirstFaulty text line
 IsFileDamage text Device = Unit {0}
 IsFileDamage text NoMemory = Unit {0}
+IsFileDamage text Declined = Unit {0}

@@ -13,6 +13,8 @@ pub enum DiversionFault {
     Device,
     #[error("NoMemory")]
     NoMemory,
+    #[error("Declined")]
+    Declined,
     #[error("Closed")]
     Closed,
 }
@@ -24,6 +26,7 @@ impl From<HostFault> for DiversionFault {
         match fault {
             HostFault::Device => DiversionFault::Device,
             HostFault::NoMemory => DiversionFault::NoMemory,
+            HostFault::Declined => DiversionFault::Declined,
         }
     }
 }

@@ -157,6 +157,7 @@ impl<'a, D: Disk> Directories<'a, D> {
                 Err(HostFault::Device)
             }
             Err(HostFault::NoMemory) => Err(HostFault::NoMemory),
+            Err(HostFault::Declined) => Err(HostFault::Declined),
         }
     }
 

@@ -11,7 +11,7 @@ use Rattle.host_core.specs.Host.{State, Does, Falls, Happens, Needs, Silent, Sin
 use Rattle.host_core.specs.Loss.{IsAnswered, IsLater, IsOnDisk}
 use Rattle.host_core.proofs.Moments.{ThroughEvent, since_failed, since_fails, since_goes, since_now, since_then, silent_then}
 use Rattle.host_core.specs.declared.fault.HostFault.{HostFault}
-use Rattle.host_core.specs.declared.fault.HostFault.TheVariants.{Device, NoMemory}
+use Rattle.host_core.specs.declared.fault.HostFault.TheVariants.{Device, NoMemory, Declined}
 use Rattle.undo_rows.specs.Transcripts.{Ended, MayRun}
 use Rattle.file_lists.specs.declared.paths.PackageList.{PackageList}
 use Rattle.opening.specs.Leaving.{IsOpeningOrMerging}
@@ -24,52 +24,7 @@ use Rattle.unpack_engine.specs.Units.{Given, Ground, HasCalled, HasCalledRows, H
 use Rattle.unpack_plan.specs.Planned.{Planned}
 use Rattle.undo_rows.specs.declared.rows.Called.{Called}
 use Rattle.undo_rows.specs.declared.rows.Row.{Row}
-
--- all is on the disk
-pub on_disk : (s t : State) → Happens (Did Barrier ∷ []) s t → IsOnDisk t.events
-on_disk s t goes = (s.events, [], goes.events, tt)
-
--- nothing was done
-pub answered_here : (s : State) → IsAnswered s s
-answered_here s = inr (record { honest = λ h. h; world = refl; added = []; failed = tt; events = sym (append-nil s.events) })
-
--- nothing changes in the world
-pub barrier_world : (result : Result Unit HostFault) (s t : State) → Does Barrier s t result → IsTrue t.honest → t.world ≡ s.world
-barrier_world (Ok x) s t does h = does.world
-barrier_world (Err Device) s t (Stops.nothing goes) h = goes.world
-barrier_world (Err Device) s t (Stops.some u is goes) h = elim (is h) [
-  | inl same ↦ goes.world ∙ ap (λ x. follow_all (Did x ∷ Failed ∷ []) s.world) same
-  | inr part ↦ absurd part
-]
-barrier_world (Err NoMemory) s t does h = does.world
-
--- what holds at each moment, and asks no more of what was done than which scripts were called and what they changed, goes on
--- to hold
-pub since_to_disk : (P : List Event → World → Type 0) (result : Result Unit HostFault) (a b c : State) → ((x quiet : List Event) (w : World) → scripts_of quiet ≡ [] → P x w → P (x ++ quiet) w)
-    → Since P a b → Does Barrier b c result → Since P a c
-since_to_disk P result a b c still first does = since_then P a b c first (more result does)
-  where
-    Q : List Event → World → Type 0
-    Q so_far w = P (first.added ++ so_far) w
-
-    here : IsTrue b.honest → (x : List Event) → scripts_of x ≡ [] → Q x b.world
-    here h x none = still first.added x b.world none (since_now P a b first h)
-
-    through : IsTrue b.honest → ThroughEvent Q b.world (Did Barrier)
-    through h = record { before = here h [] refl; inside = λ d cut. absurd cut.1; behind = here h (Did Barrier ∷ []) refl }
-
-    whole : (u : Step) → IsTrue b.honest → u ≡ Barrier → ThroughEvent Q b.world (Did u)
-    whole u h same = subst (λ x. ThroughEvent Q b.world (Did x)) (sym same) (through h)
-
-    after : (u : Step) → IsTrue b.honest → u ≡ Barrier → Q (Did u ∷ Failed ∷ []) (follow (Did u) b.world)
-    after u h same = subst (λ x. Q (Did x ∷ Failed ∷ []) (follow (Did x) b.world)) (sym same) (here h (Did Barrier ∷ Failed ∷ []) refl)
-
-    more : (result : Result Unit HostFault) → Does Barrier b c result → Since Q b c
-    more (Ok x) does = since_goes Q (Did Barrier) b c does (λ h. through (does.honest h))
-    more (Err Device) (Stops.nothing goes) = since_failed Q b c goes (λ h. here (goes.honest h) [] refl) (λ h. here (goes.honest h) (Failed ∷ []) refl)
-    more (Err Device) (Stops.some u is goes) = since_fails Q (Did u) b c goes (λ h. elim (is h) [ inl same ↦ whole u (goes.honest h) same | inr part ↦ absurd part ])
-        (λ h. elim (is h) [ inl same ↦ after u (goes.honest h) same | inr part ↦ absurd part ])
-    more (Err NoMemory) does = record { added = []; events = does.events ∙ sym (append-nil b.events); honest = does.honest; world = does.world; each = λ h. here (does.honest h) [] refl }
+use Rattle.host_core.proofs.Barriers.{since_to_disk}
 
 -- the unit of a package, with a barrier behind it
 
@@ -139,6 +94,7 @@ opens_stopped fault given old now later is same opens = by opens.found opens.ope
     sound : (f : HostFault) → IsDamaged (Some (fault_of f)) → ⊥
     sound Device damaged = damaged
     sound NoMemory damaged = damaged
+    sound Declined damaged = damaged
 
     merged : HasMerged None opens.read now → HasMerged (Some given) opens.read later
     merged has = record {

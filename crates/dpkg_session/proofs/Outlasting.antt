@@ -12,7 +12,7 @@ use Rattle.dpkg_session.specs.declared.report.Candidate.{Candidate}
 use Rattle.unit_reports.specs.declared.report.Unit.{Unit as AUnit}
 use Rattle.dpkg_session.specs.PowerLoss.{LosesLikeAStop, StandsOnceAnswered}
 use Rattle.dpkg_session.specs.Run.{IsRun}
-use Rattle.dpkg_session.proofs.Barriers.{answered_here}
+use Rattle.host_core.proofs.Barriers.{answered_here}
 
 pub loses_like : (P : List Event → World → Type 0) (old new : State) → (IsTrue new.honest → IsSettled new.events) → Since P old new → LosesLikeAStop P old new
 loses_like P old new settled since = λ kept begun session left h is loses.

@@ -3,7 +3,7 @@ use Rattle.std.specs.Prelude.{MatchBool, IfSome, length, map, take, drop}
 use Rattle.std.proofs.Common.{◌≡◌, ◌⊎◌, inl, inr, ℕ, Bool, true, false, List, [], ◌∷◌, ◌++◌, Option, Some, None, Result, Ok, Err, IsTrue, refl, sym, ap, subst, ◌∙◌, ◌+◌}
 use Rattle.std.proofs.Math.Seq.{take-append_seam, drop-append_seam}
 use Rattle.std.proofs.lemmas.Bool.{true≢false}
-use Rattle.host_core.specs.Host.{State, Counts, Needs, Since, faults}
+use Rattle.host_core.specs.Host.{State, Counts, Needs, Since, faults, NoFault}
 use Rattle.host_core.specs.declared.call.Call.{Call}
 use Rattle.host_core.specs.declared.fault.HostFault.{HostFault}
 use Rattle.host_core.specs.declared.fault.HostFault.TheVariants as host
@@ -19,7 +19,7 @@ use Rattle.undo_rows.specs.declared.rows.Called.{Called}
 use Rattle.unit_reports.specs.declared.refusal.Rule.{Rule}
 use Rattle.unit_reports.specs.declared.refusal.Rule.TheVariants.{Tree}
 use Rattle.unit_reports.specs.declared.report.Breakage.{Breakage}
-use Rattle.unit_reports.specs.declared.report.Breakage.TheVariants.{Device, NoMemory, Closed}
+use Rattle.unit_reports.specs.declared.report.Breakage.TheVariants.{Device, NoMemory, Declined, Closed}
 use Rattle.dpkg_session.specs.declared.report.Candidate.{Candidate}
 use Rattle.unit_reports.specs.declared.report.Reply.{Reply}
 use Rattle.unit_reports.specs.declared.report.Reply.TheVariants.{Done, Refused, Failed, Broken}
@@ -176,18 +176,19 @@ answer_not_closed name records copies half unwinding failed touched displaced u 
 
 -- the faults of a unit
 
-counts_reply : (name : List ℕ) (unwinding : Option Unwinding) (failed : Option Call) (a b : State) → faults b ≡ faults a → CountsReply a b (reply_to name unwinding failed)
+counts_reply : (name : List ℕ) (unwinding : Option Unwinding) (failed : Option Call) (a b : State) → NoFault a b → CountsReply a b (reply_to name unwinding failed)
 counts_reply name None None a b same = same
 counts_reply name None (Some call) a b same = same
 counts_reply name (Some u) failed a b same = same
 
-pub counts_answered : (name : List ℕ) (records : List Record) (copies : List Touched) (half : List (List ℕ)) (unwinding : Option Unwinding) (failed : Option Call) (touched displaced : List (List ℕ)) (u : AUnit) (a b : State) → faults b ≡ faults a → IsBrokenBy NoMemory u.reply ⊎ AnswersBoth name records copies half unwinding failed touched displaced u → CountsReply a b u.reply
+pub counts_answered : (name : List ℕ) (records : List Record) (copies : List Touched) (half : List (List ℕ)) (unwinding : Option Unwinding) (failed : Option Call) (touched displaced : List (List ℕ)) (u : AUnit) (a b : State) → NoFault a b → IsBrokenBy NoMemory u.reply ⊎ AnswersBoth name records copies half unwinding failed touched displaced u → CountsReply a b u.reply
 counts_answered name records copies half unwinding failed touched displaced u a b same (inl broken) = subst (CountsReply a b) (sym broken) same
 counts_answered name records copies half unwinding failed touched displaced u a b same (inr answers) = subst (CountsReply a b) (sym answers.replied) (counts_reply name unwinding failed a b same)
 
 counts_fault : (T : Type 0) (fault : HostFault) (a b : State) → Counts {T = T} a b (Err fault) → CountsReply a b (Broken (breakage_of fault))
 counts_fault T host.Device a b counts = counts
 counts_fault T host.NoMemory a b counts = counts
+counts_fault T host.Declined a b counts = counts
 
 pub counts_broken : (T : Type 0) (fault : HostFault) (reply : Reply) (a b : State) → IsBrokenBy (breakage_of fault) reply → Counts {T = T} a b (Err fault) → CountsReply a b reply
 counts_broken T fault reply a b broken counts = subst (CountsReply a b) (sym broken) (counts_fault T fault a b counts)
@@ -198,15 +199,16 @@ counts_refused rule name u a refused = subst (CountsReply a a) (sym refused.repl
 pub counts_no_memory : (reply : Reply) (a : State) → IsBrokenBy NoMemory reply → CountsReply a a reply
 counts_no_memory reply a broken = subst (CountsReply a a) (sym broken) refl
 
-pub counts_whole : (reply : Reply) (a b : State) → (IsBroken reply → ⊥) → CountsReply a b reply → faults b ≡ faults a
+pub counts_whole : (reply : Reply) (a b : State) → (IsBroken reply → ⊥) → CountsReply a b reply → NoFault a b
 counts_whole (Broken breakage) a b whole counts = absurd (whole tt)
 counts_whole Done a b whole counts = counts
 counts_whole (Refused refusal) a b whole counts = counts
 counts_whole (Failed failure) a b whole counts = counts
 
-pub counts_from : (reply : Reply) (a m b : State) → faults m ≡ faults a → CountsReply m b reply → CountsReply a b reply
+pub counts_from : (reply : Reply) (a m b : State) → NoFault a m → CountsReply m b reply → CountsReply a b reply
 counts_from (Broken Device) a m b same counts = record { once = counts.once ∙ ap (λ n. n + 1) same; last = counts.last }
 counts_from (Broken NoMemory) a m b same counts = counts ∙ same
+counts_from (Broken Declined) a m b same counts = counts ∙ same
 counts_from (Broken Closed) a m b same counts = counts ∙ same
 counts_from Done a m b same counts = counts ∙ same
 counts_from (Refused refusal) a m b same counts = counts ∙ same

@@ -6,11 +6,11 @@ use Rattle.displaced_packages.specs.Displacing.{HasCalled as HasCalledDisplacing
 use Rattle.displaced_packages.specs.Losing.{losing_beside}
 use Rattle.disappearance.specs.declared.losing.Losing.{Losing}
 use Rattle.file_lists.specs.declared.paths.PackageList.{PackageList}
-use Rattle.host_core.specs.Host.{Counts, Needs, Since, State, faults}
+use Rattle.host_core.specs.Host.{Counts, Needs, Since, State, faults, NoFault}
 use Rattle.host_core.specs.Paths.{Path}
 use Rattle.host_core.specs.declared.call.Call.{Call}
 use Rattle.host_core.specs.declared.fault.HostFault.{HostFault}
-use Rattle.host_core.specs.declared.fault.HostFault.TheVariants.{Device, NoMemory}
+use Rattle.host_core.specs.declared.fault.HostFault.TheVariants.{Device, NoMemory, Declined}
 use Rattle.package_tree.specs.declared.package.Package.{Package}
 use Rattle.removal_run.specs.Units.{holding_of}
 use Rattle.undo_rows.specs.declared.unwinding.Unwinding.{Unwinding}
@@ -101,6 +101,7 @@ module _ (p : Package) (beside : Beside) (before : Held) (places : List Path) (r
 
 -- the faults of both
 
-pub counts_behind : (T U : Type 0) (fault : HostFault) (s m t : State) → faults m ≡ faults s → Counts {T = T} m t (Err fault) → Counts {T = U} s t (Err fault)
+pub counts_behind : (T U : Type 0) (fault : HostFault) (s m t : State) → NoFault s m → Counts {T = T} m t (Err fault) → Counts {T = U} s t (Err fault)
 counts_behind T U Device s m t same counts = record { once = counts.once ∙ ap (λ n. n + 1) same; last = counts.last }
 counts_behind T U NoMemory s m t same counts = counts ∙ same
+counts_behind T U Declined s m t same counts = counts ∙ same

@@ -1,7 +1,7 @@
 // A session over one host.
 ghost use Rattle.std.specs.Prelude.{◌≡◌, List, true, false, IsTrue, IsNone, OnOk, IfOk, IfErr, IfSome, is_some, Some, None};
 ghost use Rattle.std.specs.Option.{ForSome};
-ghost use Rattle.host_core.specs.Host.{AtEachMoment, Falls, Gives, Needs, Silent, faults};
+ghost use Rattle.host_core.specs.Host.{AtEachMoment, Falls, Gives, Needs, Silent, NoFault};
 ghost use Rattle.host_core.specs.Loss.{IsAnswered, IsOnDisk};
 ghost use Rattle.administration.specs.Fault.{CountsAdministration};
 ghost use Rattle.held_administration.specs.Open.{IsOpen};
@@ -100,7 +100,7 @@ impl<H: Host> Session<H> {
             (H.state host).world) (H.state host) (H.state e.0)) }
         ensures silent { IfOk result (λ s. Silent (H.state host) (H.state s.host)) }
         ensures silent_refused { IfErr result (λ e. Silent (H.state host) (H.state e.0)) }
-        ensures no_fault { IfOk result (λ s. faults (H.state s.host) ≡ faults (H.state host)) }
+        ensures no_fault { IfOk result (λ s. NoFault (H.state host) (H.state s.host)) }
         ensures counts { IfErr result (λ e. CountsRefusal e.1 (H.state host) (H.state e.0)) }
         ensures closed { IfOk result (λ s. s.closed ≡ false) }
         ensures on_disk { IfOk result (λ s. IsOnDisk (H.state s.host).events) }

@@ -21,6 +21,7 @@ pub(crate) fn breakage_of(fault: DiversionFault) -> Breakage
     match fault {
         DiversionFault::Device => Breakage::Device,
         DiversionFault::NoMemory => Breakage::NoMemory,
+        DiversionFault::Declined => Breakage::Declined,
         DiversionFault::Closed => Breakage::Closed,
     }
 }

@@ -1,6 +1,6 @@
 // Unpacks as turns of a run: each tree is read once the unit of the one before it is told.
 ghost use Rattle.std.specs.Prelude.{◌≡◌, ◌∷◌, ◌++◌, Bool, List, [], IfErr, IfOk, IfSome, IsNone, OnOk, length, map, true};
-ghost use Rattle.host_core.specs.Host.{AtEachMomentOf, Needs, faults};
+ghost use Rattle.host_core.specs.Host.{AtEachMomentOf, Needs, NoFault};
 ghost use Rattle.host_core.specs.Loss.{IsAnswered};
 ghost use Rattle.held_administration.specs.Open.{IsOpen};
 ghost use Rattle.held_administration.specs.Order.{IsInOrder};
@@ -129,7 +129,7 @@ fn take_unit<H: Host>(
         unit.calls.items) }
     ensures any_moment { AtEachMomentOf (IsAmidUnitOf auto_deconfigure candidate.tree
         (held_by administration.old diversions.now)) (H.state host.old) (H.state host.new) }
-    ensures no_fault { OnOk result (faults (H.state host.new) ≡ faults (H.state host.old)) }
+    ensures no_fault { OnOk result (NoFault (H.state host.old) (H.state host.new)) }
     ensures counts { IfErr result (λ unit. CountsReply (H.state host.old) (H.state host.new)
         unit.reply) }
     ensures not_closed { IfErr result (λ unit. IsBrokenBy Closed unit.reply → ⊥) }

@@ -18,7 +18,7 @@ use Rattle.host_core.specs.declared.node.Node.{Node}
 use Rattle.host_core.specs.declared.node.Node.TheVariants.{File, Dir, Link}
 use Rattle.administration.specs.Places.{list_name}
 use Rattle.administration.specs.declared.fault.AdministrationFault.{AdministrationFault}
-use Rattle.administration.specs.declared.fault.AdministrationFault.TheVariants.{Damaged, Device, NoMemory}
+use Rattle.administration.specs.declared.fault.AdministrationFault.TheVariants.{Damaged, Device, NoMemory, Declined}
 use Rattle.diversions.specs.Lines.{lines_in}
 use Rattle.file_lists.specs.declared.paths.PackageList.{PackageList}
 use Rattle.file_lists.specs.Lists.{IsReadable, IsWhole, Lists}
@@ -192,3 +192,4 @@ pub list_fault_at : (w : World) (names : List (List ℕ)) (entry : Path) (fault 
 list_fault_at w names entry (Damaged file line) of is = (is.0, list_fault names entry (w (entry_path entry)) line of is.1)
 list_fault_at w names entry Device of is = tt
 list_fault_at w names entry NoMemory of is = tt
+list_fault_at w names entry Declined of is = tt

@@ -8,7 +8,7 @@ use Rattle.host_core.specs.Tree.{IsTree, has_slash}
 use Rattle.host_core.specs.declared.node.Node.{Node}
 use Rattle.administration.specs.Places.{list_name, list_path}
 use Rattle.administration.specs.declared.fault.AdministrationFault.{AdministrationFault}
-use Rattle.administration.specs.declared.fault.AdministrationFault.TheVariants.{Damaged, Device, NoMemory}
+use Rattle.administration.specs.declared.fault.AdministrationFault.TheVariants.{Damaged, Device, NoMemory, Declined}
 use Rattle.administration.proofs.Within.{first_name}
 use Rattle.file_lists.specs.declared.paths.PackageList.{PackageList}
 use Rattle.file_lists.specs.Owners.{names_of, paths_of}
@@ -108,6 +108,7 @@ pub name_damage : (w : World) (names : List (List ℕ)) (fault : AdministrationF
 name_damage w names (Damaged file line) is = inl is
 name_damage w names Device is = tt
 name_damage w names NoMemory is = tt
+name_damage w names Declined is = tt
 
 pub entry_damage : (w : World) (names mine : List (List ℕ)) (all : Path → Bool) (fault : AdministrationFault) → AreEntries w all → AreSame mine names → IsFaultAmong w mine all fault → IsInfoDamage w names fault
 entry_damage w names mine all (Damaged file line) entries same is = inr (
@@ -122,3 +123,4 @@ entry_damage w names mine all (Damaged file line) entries same is = inr (
 )
 entry_damage w names mine all Device entries same is = tt
 entry_damage w names mine all NoMemory entries same is = tt
+entry_damage w names mine all Declined entries same is = tt

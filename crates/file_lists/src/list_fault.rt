@@ -13,6 +13,8 @@ pub enum ListFault {
     Device,
     #[error("NoMemory")]
     NoMemory,
+    #[error("Declined")]
+    Declined,
     #[error("Closed")]
     Closed,
 }
@@ -24,6 +26,7 @@ impl From<HostFault> for ListFault {
         match fault {
             HostFault::Device => ListFault::Device,
             HostFault::NoMemory => ListFault::NoMemory,
+            HostFault::Declined => ListFault::Declined,
         }
     }
 }

@@ -41,6 +41,7 @@ pub fn replace_list<H: Host>(
         Ok(()) => Ok(()),
         Err(ListFault::Device) => Err(HostFault::Device),
         Err(ListFault::NoMemory) => Err(HostFault::NoMemory),
+        Err(ListFault::Declined) => Err(HostFault::Declined),
         Err(ListFault::Closed) => unreachable!(),
     }
 }
@@ -87,6 +88,7 @@ pub(crate) fn take_places<H: Host>(
         Ok(()) => Ok(()),
         Err(ListFault::Device) => Err(HostFault::Device),
         Err(ListFault::NoMemory) => Err(HostFault::NoMemory),
+        Err(ListFault::Declined) => Err(HostFault::Declined),
         Err(ListFault::Closed) => unreachable!(),
     }
 }

@@ -20,7 +20,7 @@ use Rattle.administration.specs.Fault.{fault_of}
 use Rattle.administration.specs.Files.{NoDirectory, KeepsBeside}
 use Rattle.administration.specs.Least.{IsLeastIn}
 use Rattle.administration.specs.declared.fault.AdministrationFault.{AdministrationFault}
-use Rattle.administration.specs.declared.fault.AdministrationFault.TheVariants.{Damaged, Device, NoMemory}
+use Rattle.administration.specs.declared.fault.AdministrationFault.TheVariants.{Damaged, Device, NoMemory, Declined}
 use Rattle.administration.proofs.WholeFiles.{no_directory_none, no_directory_at}
 use Rattle.administration.proofs.Emptying.{less_then}
 use Rattle.file_lists.specs.Info.{AreSound, IsInfoDamage, IsSound}
@@ -231,11 +231,13 @@ finds_behind a b w None fine finds = all_append (IsFine w) a b fine finds
 finds_behind a b w (Some (Damaged file line)) fine finds = fault_behind a b w file line fine finds
 finds_behind a b w (Some Device) fine finds = tt
 finds_behind a b w (Some NoMemory) fine finds = tt
+finds_behind a b w (Some Declined) fine finds = tt
 
 damage_before : (a b : List Part) (w : World) (fault : AdministrationFault) → IsDamage a w fault → IsDamage (a ++ b) w fault
 damage_before a b w (Damaged file line) finds = fault_before a b w file line finds
 damage_before a b w Device finds = tt
 damage_before a b w NoMemory finds = tt
+damage_before a b w Declined finds = tt
 
 either_false : (x y : Bool) → (x || y) ≡ false → (x ≡ false) × (y ≡ false)
 either_false true y e = absurd (true≢false e)
@@ -307,10 +309,12 @@ memory_damage among w fault is = subst (IsDamage among w) (sym is) tt
 host_damage : (among : List Part) (w : World) (h : HostFault) (fault : AdministrationFault) → fault ≡ fault_of h → IsDamage among w fault
 host_damage among w host.Device fault is = subst (IsDamage among w) (sym is) tt
 host_damage among w host.NoMemory fault is = subst (IsDamage among w) (sym is) tt
+host_damage among w host.Declined fault is = subst (IsDamage among w) (sym is) tt
 
 host_spared : (h : HostFault) (fault : AdministrationFault) → fault ≡ fault_of h → IsDamaged (Some fault) → ⊥
 host_spared host.Device fault is damaged = subst (λ f. IsDamaged (Some f)) is damaged
 host_spared host.NoMemory fault is damaged = subst (λ f. IsDamaged (Some f)) is damaged
+host_spared host.Declined fault is damaged = subst (λ f. IsDamaged (Some f)) is damaged
 
 -- the answer after a `?`
 
@@ -350,6 +354,7 @@ way_loose p q fault u v e way is making loose = subst (λ r. Opens (Way r ∷ []
 made_unless : (h : HostFault) (fault : AdministrationFault) (u v : World) → fault ≡ fault_of h → (h ≡ host.NoMemory → v ≡ u) → (Some fault ≡ Some Device → ⊥) → HasMadeWays u v
 made_unless host.Device fault u v is memory told = absurd (told (ap (λ f. Some f) is))
 made_unless host.NoMemory fault u v is memory told = made_same u v (memory refl)
+made_unless host.Declined fault u v is memory told = made_same u v (memory refl)
 
 -- the device failed while a directory was made, or memory was refused
 pub way_stopped : {T : Type 0} (p q : Path) (h : HostFault) (result : Result T AdministrationFault) (u v : World) → p ≡ q → is_way q ≡ true → IsErrAnd result (λ e. e ≡ fault_of h) → IsMaking p u v → (h ≡ host.NoMemory → v ≡ u) → Opens (Way q ∷ []) (fault_in result) u v
@@ -425,6 +430,7 @@ diversions_fault : (w : World) (fault : AdministrationFault) → IsDiversionsDam
 diversions_fault w (Damaged file line) damage = inl damage
 diversions_fault w Device damage = tt
 diversions_fault w NoMemory damage = tt
+diversions_fault w Declined damage = tt
 
 pub diversions_damaged : (fault : AdministrationFault) (u v : World) → v ≡ u → IsDiversionsDamage u fault → Opens (Diversions ∷ []) (Some fault) u v
 diversions_damaged fault u v same damage = opens_read (Diversions ∷ []) (Some fault) u v same (diversions_fault u fault damage)
@@ -455,6 +461,7 @@ found_info table w (Ok k) is text sound damage = (record { table = table; is_tab
 found_info table w (Err (Damaged file line)) is text sound damage = inl (table, is, damage)
 found_info table w (Err Device) is text sound damage = tt
 found_info table w (Err NoMemory) is text sound damage = tt
+found_info table w (Err Declined) is text sound damage = tt
 
 pub info_read : {T : Type 0} (result : Result T AdministrationFault) (table : List Record) (u v w : World) → Opens (Way info_path ∷ []) None u v → IsTable v table → w ≡ v → IfOk result (λ k. HasBadName v info_path → ⊥) → IfOk result (λ k. AreSound v (names_of table)) → IfErr result (IsInfoDamage v (names_of table))
     → Opens (Way info_path ∷ Info ∷ []) (fault_in result) u w
@@ -469,6 +476,7 @@ records_fault : (w : World) (fault : AdministrationFault) → IsRecordsDamage w 
 records_fault w (Damaged file line) damage = inl damage
 records_fault w Device damage = tt
 records_fault w NoMemory damage = tt
+records_fault w Declined damage = tt
 
 pub records_damaged : (fault : AdministrationFault) (u v : World) → v ≡ u → IsRecordsDamage u fault → Opens (Records ∷ []) (Some fault) u v
 records_damaged fault u v same damage = opens_read (Records ∷ []) (Some fault) u v same (records_fault u fault damage)

@@ -8,7 +8,7 @@ use Rattle.administration.specs.Directories.{HasBadName}
 use Rattle.administration.specs.Files.{NoDirectory}
 use Rattle.administration.specs.Least.{IsLeastIn}
 use Rattle.administration.specs.declared.fault.AdministrationFault.{AdministrationFault}
-use Rattle.administration.specs.declared.fault.AdministrationFault.TheVariants.{Damaged, Device, NoMemory}
+use Rattle.administration.specs.declared.fault.AdministrationFault.TheVariants.{Damaged, Device, NoMemory, Declined}
 use Rattle.diversions.specs.declared.entry.Diversion.{Diversion}
 use Rattle.diversions.specs.Lines.{HasDiversions, IsDiversionsDamage}
 use Rattle.file_lists.specs.Info.{IsInfoDamage, AreSound}
@@ -89,6 +89,7 @@ abbrev pub IsDamage : List Part → World → AdministrationFault → Type 0
 IsDamage among w (Damaged file line) = IsFirstFault among w file line
 IsDamage among w Device = Unit {0}
 IsDamage among w NoMemory = Unit {0}
+IsDamage among w Declined = Unit {0}
 
 -- what reading these parts came to: all are fine, or the fault is that of the first that isn't
 abbrev pub Finds : List Part → World → Option AdministrationFault → Type 0
@@ -113,6 +114,7 @@ IsDamaged None = ⊥
 IsDamaged (Some (Damaged file line)) = Unit {0}
 IsDamaged (Some Device) = ⊥
 IsDamaged (Some NoMemory) = ⊥
+IsDamaged (Some Declined) = ⊥
 
 -- what a unit left behind stays: parts before it were opened, or damage was told
 abbrev pub SparesLeftovers : List Part → Option AdministrationFault → Type 0

@@ -381,6 +381,7 @@ fn told(fault: RecordFault) -> AdministrationFault
     match fault {
         RecordFault::Device => AdministrationFault::Device,
         RecordFault::NoMemory => AdministrationFault::NoMemory,
+        RecordFault::Declined => AdministrationFault::Declined,
         RecordFault::Closed => AdministrationFault::NoMemory,
     }
 }

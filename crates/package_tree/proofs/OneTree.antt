@@ -37,7 +37,7 @@ use Rattle.package_tree.specs.declared.fault.FieldName.{FieldName}
 use Rattle.package_tree.specs.declared.fault.FieldName.TheVariants as field
 use Rattle.relation_fields.specs.declared.relation_field.RelationField.{RelationField}
 use Rattle.package_tree.specs.declared.fault.TreeFault.{TreeFault}
-use Rattle.package_tree.specs.declared.fault.TreeFault.TheVariants.{Twice, NoControl, Control, FieldMissing, FieldBad, PathBad, Reserved, ConffileNotShipped, ConffileShipped, ConffileFlag, TooLarge, Device, NoMemory}
+use Rattle.package_tree.specs.declared.fault.TreeFault.TheVariants.{Twice, NoControl, Control, FieldMissing, FieldBad, PathBad, Reserved, ConffileNotShipped, ConffileShipped, ConffileFlag, TooLarge, Device, NoMemory, Declined}
 use Rattle.package_tree.proofs.Ordered.{none_in, first_or_later, same_list}
 use Rattle.package_tree.proofs.FieldsOnce.{lacked, one_value, not_bad, not_lacked}
 use Rattle.package_tree.proofs.OneStated.{stated_once}
@@ -99,6 +99,7 @@ no_fault w p (ConffileFlag line) t wrong = first_of_none IsOdd _ line wrong.4.0 
 no_fault w p (TooLarge path) t wrong = t.room path wrong.3.holds
 no_fault w p Device t wrong = wrong
 no_fault w p NoMemory t wrong = wrong
+no_fault w p Declined t wrong = wrong
 
 pub control_once : (w : World) (p q : Package) → IsTreeOf w p → IsTreeOf w q → p.control ≡ q.control
 control_once w p q s t = one_control w q t s.text p.control s.there s.control.reads

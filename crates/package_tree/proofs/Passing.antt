@@ -3,11 +3,11 @@ use Rattle.std.proofs.Common.{◌≡◌, ◌∙◌, ◌+◌, ℕ, List, Result, 
 use Rattle.std.specs.Prelude.{IfErr, IsErrAnd}
 use Rattle.control_fields.specs.Grammar.{ReadsOne, lines_of}
 use Rattle.control_fields.specs.declared.field.Field.{Field}
-use Rattle.host_core.specs.Host.{State, faults}
+use Rattle.host_core.specs.Host.{State, NoFault}
 use Rattle.package_tree.specs.Fault.{CountsTree}
 use Rattle.package_tree.specs.ControlFile.{IsFieldFault, IsTextFault}
 use Rattle.package_tree.specs.declared.fault.TreeFault.{TreeFault}
-use Rattle.package_tree.specs.declared.fault.TreeFault.TheVariants.{Twice, NoControl, Control, FieldMissing, FieldBad, PathBad, Reserved, ConffileNotShipped, ConffileShipped, ConffileFlag, TooLarge, Device, NoMemory}
+use Rattle.package_tree.specs.declared.fault.TreeFault.TheVariants.{Twice, NoControl, Control, FieldMissing, FieldBad, PathBad, Reserved, ConffileNotShipped, ConffileShipped, ConffileFlag, TooLarge, Device, NoMemory, Declined}
 
 -- it is that of the call
 pub passed_fault : {T : Type 0} (P : TreeFault → Type 0) (r : Result T TreeFault) (fault : TreeFault) → IsErrAnd r (λ e. e ≡ fault) → P fault → IfErr r P
@@ -29,9 +29,10 @@ told_fields text paragraph (ConffileFlag line) reads is = absurd is
 told_fields text paragraph (TooLarge path) reads is = absurd is
 told_fields text paragraph Device reads is = absurd is
 told_fields text paragraph NoMemory reads is = tt
+told_fields text paragraph Declined reads is = tt
 
 -- The counts of a fault are those since an earlier state from which none was counted.
-counts_since : (T U : Type 0) (a b c : State) (fault : TreeFault) → faults b ≡ faults a → CountsTree {T = T} b c (Err fault) → CountsTree {T = U} a c (Err fault)
+counts_since : (T U : Type 0) (a b c : State) (fault : TreeFault) → NoFault a b → CountsTree {T = T} b c (Err fault) → CountsTree {T = U} a c (Err fault)
 counts_since T U a b c Twice same told = told ∙ same
 counts_since T U a b c NoControl same told = told ∙ same
 counts_since T U a b c (Control fault) same told = told ∙ same
@@ -45,7 +46,8 @@ counts_since T U a b c (ConffileFlag line) same told = told ∙ same
 counts_since T U a b c (TooLarge path) same told = told ∙ same
 counts_since T U a b c Device same told = record { once = told.once ∙ ap (λ n. n + 1) same; last = told.last }
 counts_since T U a b c NoMemory same told = told ∙ same
+counts_since T U a b c Declined same told = told ∙ same
 
-pub passed_counts : (T U : Type 0) (a b c : State) (fault : TreeFault) (r : Result U TreeFault) → IsErrAnd r (λ e. e ≡ fault) → faults b ≡ faults a → CountsTree {T = T} b c (Err fault) → CountsTree {T = U} a c r
+pub passed_counts : (T U : Type 0) (a b c : State) (fault : TreeFault) (r : Result U TreeFault) → IsErrAnd r (λ e. e ≡ fault) → NoFault a b → CountsTree {T = T} b c (Err fault) → CountsTree {T = U} a c r
 passed_counts T U a b c fault (Ok x) passed same told = absurd passed
 passed_counts T U a b c fault (Err e) passed same told = subst (λ (f : TreeFault). CountsTree {T = U} a c (Err f)) (sym passed) (counts_since T U a b c fault same told)

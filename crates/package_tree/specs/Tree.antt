@@ -18,7 +18,7 @@ use Rattle.package_tree.specs.Shipped.{HasNoPath, IsFirstPath, IsReserved}
 use Rattle.package_tree.specs.declared.conffile_lines.Entry.TheVariants.{Plain, Flagged}
 use Rattle.package_tree.specs.declared.package.Package.{Package}
 use Rattle.package_tree.specs.declared.fault.TreeFault.{TreeFault}
-use Rattle.package_tree.specs.declared.fault.TreeFault.TheVariants.{Twice, NoControl, Control, FieldMissing, FieldBad, PathBad, Reserved, ConffileNotShipped, ConffileShipped, ConffileFlag, TooLarge, Device, NoMemory}
+use Rattle.package_tree.specs.declared.fault.TreeFault.TheVariants.{Twice, NoControl, Control, FieldMissing, FieldBad, PathBad, Reserved, ConffileNotShipped, ConffileShipped, ConffileFlag, TooLarge, Device, NoMemory, Declined}
 
 -- the tree's control file has this text
 abbrev pub HasControl : World → List ℕ → Type 0
@@ -72,6 +72,7 @@ IsTreeFault w (ConffileFlag line) =
 IsTreeFault w (TooLarge path) = HasGoodControl w × HasGoodPaths w × HasGoodLines w × IsFirstPath (IsTooLarge w) path
 IsTreeFault w Device = ⊥
 IsTreeFault w NoMemory = ⊥
+IsTreeFault w Declined = ⊥
 
 -- what a reading may answer in place of the package: the tree's first fault, or one of the host
 abbrev pub IsReadingFault : World → TreeFault → Type 0

@@ -82,6 +82,8 @@ pub enum TreeFault {
     Device,
     #[error("NoMemory")]
     NoMemory,
+    #[error("Declined")]
+    Declined,
 }
 
 impl TreeFault {
@@ -105,6 +107,7 @@ impl TreeFault {
             TreeFault::TooLarge(path) => Ok(TreeFault::TooLarge(path.copy()?)),
             TreeFault::Device => Ok(TreeFault::Device),
             TreeFault::NoMemory => Ok(TreeFault::NoMemory),
+            TreeFault::Declined => Ok(TreeFault::Declined),
         }
     }
 }
@@ -116,6 +119,7 @@ impl From<HostFault> for TreeFault {
         match fault {
             HostFault::Device => TreeFault::Device,
             HostFault::NoMemory => TreeFault::NoMemory,
+            HostFault::Declined => TreeFault::Declined,
         }
     }
 }

@@ -4,7 +4,7 @@ use Rattle.std.proofs.lemmas.List.{append-nil}
 use Rattle.std.specs.Prelude.{IfSome, IsNone}
 use Rattle.std.proofs.lemmas.Bool.{true≢false}
 use Rattle.dependency_check.specs.Waiting.{Waiting}
-use Rattle.host_core.specs.Host.{State, Since, faults}
+use Rattle.host_core.specs.Host.{State, Since, NoFault}
 use Rattle.host_core.proofs.Moments.{since_start, since_weaker}
 use Rattle.unit_runs.proofs.Going.{still_here}
 use Rattle.status_records.specs.declared.record.Record.{Record}
@@ -82,7 +82,7 @@ told_calls q mid us None ends =
     append-nil (calls_of us) ∙ ap calls_of ends.grown ∙ calls_both mid ends.left ∙ ap (λ l. calls_of mid ++ l) (depended_calls q.packages _ _ ends.told.numbers ends.left ends.told.each) ∙ append-nil (calls_of mid)
 told_calls q mid us (Some u) ends = ap (λ l. calls_of us ++ l) ends.1.calls ∙ append-nil (calls_of us) ∙ ap calls_of ends.0
 
-pub ending_counts : (q : Waiting) (mid us : List AUnit) (last : Option AUnit) (s t : State) → faults t ≡ faults s → EndsWith q mid us last → CountsLast s t last
+pub ending_counts : (q : Waiting) (mid us : List AUnit) (last : Option AUnit) (s t : State) → NoFault s t → EndsWith q mid us last → CountsLast s t last
 ending_counts q mid us None s t same ends = same
 ending_counts q mid us (Some u) s t same ends = counts_no_memory u.reply s t same ends.1.broken
 

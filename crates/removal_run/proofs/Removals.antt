@@ -19,8 +19,8 @@ use Rattle.undo_rows.proofs.Makes.{tells_then}
 use Rattle.undo_rows.specs.Transcript.{TellsAll}
 use Rattle.undo_rows.specs.declared.rows.Called.{Called}
 use Rattle.removal_run.specs.Units.{Answers, HasCalledRemoving, IsAmidRemoval, IsBroughtToDisk, IsRemoval, extent_of, given_by, holding_of}
-use Rattle.removal_run.proofs.Barriers.{since_to_disk}
 use Rattle.removal_run.proofs.Replies.{broken_or}
+use Rattle.host_core.proofs.Barriers.{since_to_disk}
 
 -- its moments
 

@@ -6,10 +6,11 @@ use Rattle.host_core.specs.Loss.{IsAnswered}
 use Rattle.undo_rows.proofs.Makes.{tells_none}
 use Rattle.undo_rows.specs.Transcript.{TellsAll}
 use Rattle.undo_rows.specs.declared.rows.Called.{Called}
-use Rattle.unit_reports.proofs.Telling.{answered_here, begun_told, calls_both, calls_more, told_added, told_all, told_more, told_one, told_still}
+use Rattle.unit_reports.proofs.Telling.{begun_told, calls_both, calls_more, told_added, told_all, told_more, told_one, told_still}
 use Rattle.unit_reports.specs.Units.{calls_of}
 use Rattle.unit_reports.specs.Watching.{AddsTold, IsTold}
 use Rattle.unit_reports.specs.declared.report.Unit.{Unit as AUnit}
+use Rattle.host_core.proofs.Barriers.{answered_here}
 
 -- parts of units without calls
 

@@ -1,7 +1,7 @@
 // The removals of a command, one after another.
 ghost use Rattle.std.specs.Prelude.{◌≡◌, ◌<◌, ◌++◌, [], ℕ, false, None, IfErr, IfOk, IfSome, OnOk, length};
 ghost use Rattle.dependency_check.specs.Waiting.{IsRemovableNow};
-ghost use Rattle.host_core.specs.Host.{AtEachMomentOf, Needs, Since, faults};
+ghost use Rattle.host_core.specs.Host.{AtEachMomentOf, Needs, Since, NoFault};
 ghost use Rattle.host_core.specs.Loss.{IsAnswered};
 ghost use Rattle.held_administration.specs.Open.{IsOpen};
 ghost use Rattle.recorded_packages.specs.Renewal.{AreSameBut};
@@ -208,7 +208,7 @@ pub(crate) fn run_turns<H: Host, W: Watcher>(
     ensures any_moment { Since (IsAmidTurns purge packages waiting.items
         (held_by administration.old diversions.now) (H.state host.old)) (H.state host.old)
         (H.state host.new) }
-    ensures no_fault { OnOk result (faults (H.state host.new) ≡ faults (H.state host.old)) }
+    ensures no_fault { OnOk result (NoFault (H.state host.old) (H.state host.new)) }
     ensures counts { IfErr result (λ unit. CountsReply (H.state host.old) (H.state host.new)
         unit.reply) }
     ensures not_closed { IfErr result (λ unit. IsBrokenBy Closed unit.reply → ⊥) }

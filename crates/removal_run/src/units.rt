@@ -1,6 +1,6 @@
 // The removal of one package, brought to the disk.
 ghost use Rattle.std.specs.Prelude.{◌≡◌, ◌⊎◌, ◌∷◌, [], true, IfOk, OnOk, IfErr, None};
-ghost use Rattle.host_core.specs.Host.{AtEachMomentOf, Counts, Needs, faults};
+ghost use Rattle.host_core.specs.Host.{AtEachMomentOf, Counts, Needs, NoFault};
 ghost use Rattle.host_core.specs.Loss.{IsAnswered, IsOnDisk};
 ghost use Rattle.held_administration.specs.Open.{IsOpen};
 ghost use Rattle.held_administration.specs.Order.{IsInOrder};
@@ -186,7 +186,7 @@ pub(crate) fn remove_one<H: Host>(
         unit.calls.items) }
     ensures any_moment { AtEachMomentOf (IsAmidRemoval purge «package»
         (held_by administration.old diversions.now)) (H.state host.old) (H.state host.new) }
-    ensures no_fault { OnOk result (faults (H.state host.new) ≡ faults (H.state host.old)) }
+    ensures no_fault { OnOk result (NoFault (H.state host.old) (H.state host.new)) }
     ensures counts { IfErr result (λ unit. CountsReply (H.state host.old) (H.state host.new)
         unit.reply) }
     ensures not_closed { IfErr result (λ unit. IsBrokenBy Closed unit.reply → ⊥) }

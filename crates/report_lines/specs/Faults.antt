@@ -9,7 +9,7 @@ use Rattle.package_tree.specs.declared.fault.FieldName.TheVariants as field
 use Rattle.package_tree.specs.declared.fault.LineName.{LineName}
 use Rattle.package_tree.specs.declared.fault.LineName.TheVariants as named
 use Rattle.package_tree.specs.declared.fault.TreeFault.{TreeFault}
-use Rattle.package_tree.specs.declared.fault.TreeFault.TheVariants.{Twice, NoControl, Control, FieldMissing, FieldBad, PathBad, Reserved, ConffileNotShipped, ConffileShipped, ConffileFlag, TooLarge, Device, NoMemory}
+use Rattle.package_tree.specs.declared.fault.TreeFault.TheVariants.{Twice, NoControl, Control, FieldMissing, FieldBad, PathBad, Reserved, ConffileNotShipped, ConffileShipped, ConffileFlag, TooLarge, Device, NoMemory, Declined}
 use Rattle.relation_fields.specs.Printing.{print_clause}
 use Rattle.relation_fields.specs.RelationFields.{relation_name}
 use Rattle.diversions.specs.declared.refusal.Refusal.{Refusal as ItsRefusal}
@@ -60,6 +60,7 @@ tree_text (ConffileFlag line) = codes "ConffileFlag " ++ decimal line
 tree_text (TooLarge path) = codes "TooLarge " ++ path_text path
 tree_text Device = codes "Device"
 tree_text NoMemory = codes "NoMemory"
+tree_text Declined = codes "Declined"
 
 -- why a diversion isn't added or taken away
 abbrev pub divert_word : ItsRefusal → List ℕ

@@ -3,7 +3,7 @@ use Rattle.std.specs.Prelude.{ℕ, List, ◌++◌, codes, nat_eq, if◌then◌el
 use Rattle.std.specs.List.{starts_with}
 use Rattle.std.specs.Fmt.{decimal}
 use Rattle.administration.specs.declared.fault.AdministrationFault.{AdministrationFault}
-use Rattle.administration.specs.declared.fault.AdministrationFault.TheVariants.{Damaged, Device, NoMemory}
+use Rattle.administration.specs.declared.fault.AdministrationFault.TheVariants.{Damaged, Device, NoMemory, Declined}
 use Rattle.report_lines.specs.Faults.{path_text}
 use Rattle.shown_lines.specs.Lines.{line}
 
@@ -33,3 +33,4 @@ abbrev pub opening_line : AdministrationFault → List ℕ
 opening_line (Damaged file at) = damaged_line file at ++ (codes "expected: " ++ (expectation file at ++ codes "\n"))
 opening_line Device = codes "broken device\n"
 opening_line NoMemory = codes "broken memory\n"
+opening_line Declined = codes "broken declined\n"

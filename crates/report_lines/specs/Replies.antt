@@ -1,7 +1,7 @@
 -- The last line of a unit: its reply.
 use Rattle.std.specs.Prelude.{ℕ, Bool, true, false, List, ◌++◌, codes}
 use Rattle.unit_reports.specs.declared.report.Breakage.{Breakage}
-use Rattle.unit_reports.specs.declared.report.Breakage.TheVariants.{Device, NoMemory, Closed}
+use Rattle.unit_reports.specs.declared.report.Breakage.TheVariants.{Device, NoMemory, Declined, Closed}
 use Rattle.unit_reports.specs.declared.report.Reply.{Reply}
 use Rattle.unit_reports.specs.declared.report.Reply.TheVariants.{Done, Refused, Failed, Broken}
 use Rattle.report_lines.specs.Calls.{call_text}
@@ -14,6 +14,7 @@ use Rattle.undo_rows.specs.declared.failure.Failure.TheVariants.{OfCall, OfFiles
 abbrev pub breakage_word : Breakage → List ℕ
 breakage_word Device = codes "device"
 breakage_word NoMemory = codes "memory"
+breakage_word Declined = codes "declined"
 breakage_word Closed = codes "closed"
 
 -- for what a package's unit failed: a call of a package, its own or another one, or a step fault

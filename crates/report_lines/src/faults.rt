@@ -117,6 +117,7 @@ fn tree_text(alloc: Global, fault: &TreeFault) -> Result<String, AllocError>
         TreeFault::TooLarge(path) => at_path(alloc, "TooLarge", path),
         TreeFault::Device => String::from_str(alloc, "Device"),
         TreeFault::NoMemory => String::from_str(alloc, "NoMemory"),
+        TreeFault::Declined => String::from_str(alloc, "Declined"),
     }
 }
 
@@ -260,5 +261,6 @@ pub fn opening_line(alloc: Global, fault: &AdministrationFault) -> Result<String
         }
         AdministrationFault::Device => String::from_str(alloc, "broken device\n"),
         AdministrationFault::NoMemory => String::from_str(alloc, "broken memory\n"),
+        AdministrationFault::Declined => String::from_str(alloc, "broken declined\n"),
     }
 }

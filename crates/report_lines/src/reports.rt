@@ -105,6 +105,7 @@ fn breakage_word(breakage: Breakage) -> &'static str
     match breakage {
         Breakage::Device => "device",
         Breakage::NoMemory => "memory",
+        Breakage::Declined => "declined",
         Breakage::Closed => "closed",
     }
 }

@@ -9,7 +9,7 @@ use Rattle.administration.specs.Places.{status_path, temporary, updates_path}
 use Rattle.administration.specs.Directories.{HasBadName}
 use Rattle.administration.specs.Files.{NoDirectory}
 use Rattle.administration.specs.declared.fault.AdministrationFault.{AdministrationFault}
-use Rattle.administration.specs.declared.fault.AdministrationFault.TheVariants.{Damaged, Device, NoMemory}
+use Rattle.administration.specs.declared.fault.AdministrationFault.TheVariants.{Damaged, Device, NoMemory, Declined}
 use Rattle.administration.proofs.WholeFiles.{no_directory_none, no_directory_at}
 use Rattle.status_records.specs.declared.record.Record.{Record}
 use Rattle.status_db.specs.NoteDamage.{AreNotesFine, IsFineNumber, IsNoteDamage, IsRecordsDamage}
@@ -77,6 +77,7 @@ pub first_faulty : (w : World) (count number : ℕ) (before after : List Record)
 first_faulty w count number before after (Damaged file line) lt taken here = record { number = number; within = lt; before = fine_number w count number before after taken; here = here }
 first_faulty w count number before after Device lt taken here = tt
 first_faulty w count number before after NoMemory lt taken here = tt
+first_faulty w count number before after Declined lt taken here = tt
 
 -- of one number
 
@@ -87,11 +88,13 @@ pub number_file : (w : World) (n : ℕ) (path : Path) (fault : AdministrationFau
 number_file w n path (Damaged file line) e damage = inl (damage.0 ∙ e, subst (λ (p : Path). IsNoteDamage (w p) line) e damage.1)
 number_file w n path Device e damage = tt
 number_file w n path NoMemory e damage = tt
+number_file w n path Declined e damage = tt
 
 pub number_spare : (w : World) (n : ℕ) (path : Path) (before after : List Record) (fault : AdministrationFault) → path ≡ temporary (note_path n) → IsNoteTaken (w (note_path n)) before after → IsSpareDamage w path fault → IsNumberDamage w n fault
 number_spare w n path before after (Damaged file line) e taken damage = inr ((taken.0, taken.1), damage.0 ∙ e, damage.1, subst (λ (p : Path). IsDirectory (w p)) e damage.2)
 number_spare w n path before after Device e taken damage = tt
 number_spare w n path before after NoMemory e taken damage = tt
+number_spare w n path before after Declined e taken damage = tt
 
 -- all of them
 
@@ -99,11 +102,13 @@ pub names_told : (w : World) (fault : AdministrationFault) → IsNameDamage w fa
 names_told w (Damaged file line) damage = inl damage
 names_told w Device damage = tt
 names_told w NoMemory damage = tt
+names_told w Declined damage = tt
 
 pub numbers_told : (w : World) (fault : AdministrationFault) → (HasBadName w updates_path → ⊥) → IsNumbersDamage w fault → IsNotesDamage w fault
 numbers_told w (Damaged file line) text damage = inr (text, damage)
 numbers_told w Device text damage = tt
 numbers_told w NoMemory text damage = tt
+numbers_told w Declined text damage = tt
 
 pub all_fine : (w : World) (count : ℕ) (before after : List Record) → (HasBadName w updates_path → ⊥) → AreNumbersTaken w count 10000 before after → AreNotesFine w
 all_fine w count before after text taken = record { text = text; each = λ n lt. fine_number w count 10000 before after taken n (within_limit n lt) }
@@ -130,11 +135,13 @@ pub status_told : (w : World) (fault : AdministrationFault) → IsStatusDamage w
 status_told w (Damaged file line) damage = inl damage
 status_told w Device damage = tt
 status_told w NoMemory damage = tt
+status_told w Declined damage = tt
 
 pub notes_told : (w : World) (table : List Record) (fault : AdministrationFault) → IsTableOf (w status_path) table → IsNotesDamage w fault → IsRecordsDamage w fault
 notes_told w table (Damaged file line) is damage = inr (∥∥₁_map is (λ b. (b.0, b.1)), damage)
 notes_told w table Device is damage = tt
 notes_told w table NoMemory is damage = tt
+notes_told w table Declined is damage = tt
 
 -- the table of a text
 pub table_of_text : (bytes : List ℕ) (records table : List Record) → ∥ IsStatus bytes records ∥₁ → standing records ≡ records → ((name : List ℕ) → record_in table name ≡ record_in records name) → IsTableOfText bytes table

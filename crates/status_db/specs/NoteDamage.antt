@@ -9,7 +9,7 @@ use Rattle.administration.specs.Places.{status_path, updates_path, temporary}
 use Rattle.administration.specs.Directories.{HasBadName}
 use Rattle.administration.specs.Files.{NoDirectory}
 use Rattle.administration.specs.declared.fault.AdministrationFault.{AdministrationFault}
-use Rattle.administration.specs.declared.fault.AdministrationFault.TheVariants.{Damaged, Device, NoMemory}
+use Rattle.administration.specs.declared.fault.AdministrationFault.TheVariants.{Damaged, Device, NoMemory, Declined}
 use Rattle.control_fields.specs.Grammar.{lines_of}
 use Rattle.control_fields.specs.Faults.{IsReadTo}
 use Rattle.control_fields.specs.declared.field.Field.{Field}
@@ -97,3 +97,4 @@ abbrev pub IsRecordsDamage : World → AdministrationFault → Type 0
 IsRecordsDamage w (Damaged file line) = AreRecordsDamaged w file line
 IsRecordsDamage w Device = Unit {0}
 IsRecordsDamage w NoMemory = Unit {0}
+IsRecordsDamage w Declined = Unit {0}

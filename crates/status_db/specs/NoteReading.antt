@@ -6,7 +6,7 @@ use Rattle.administration.specs.Places.{updates_path, temporary}
 use Rattle.administration.specs.Directories.{HasBadName}
 use Rattle.administration.specs.Files.{NoDirectory}
 use Rattle.administration.specs.declared.fault.AdministrationFault.{AdministrationFault}
-use Rattle.administration.specs.declared.fault.AdministrationFault.TheVariants.{Damaged, Device, NoMemory}
+use Rattle.administration.specs.declared.fault.AdministrationFault.TheVariants.{Damaged, Device, NoMemory, Declined}
 use Rattle.status_db.specs.NoteDamage.{AreNotesDamaged, IsFaultyNumber, IsFirstFaultyNumber, IsNoteDamage}
 use Rattle.status_db.specs.Notes.{IsNoteAt, Note, digits, entered, note_path, with_notes}
 use Rattle.status_records.specs.Records.{record_in}
@@ -51,28 +51,34 @@ abbrev pub IsFileDamage : World → Path → AdministrationFault → Type 0
 IsFileDamage w path (Damaged file line) = (file ≡ path) × IsNoteDamage (w path) line
 IsFileDamage w path Device = Unit {0}
 IsFileDamage w path NoMemory = Unit {0}
+IsFileDamage w path Declined = Unit {0}
 
 abbrev pub IsSpareDamage : World → Path → AdministrationFault → Type 0
 IsSpareDamage w path (Damaged file line) = (file ≡ path) × (line ≡ 0) × IsDirectory (w path)
 IsSpareDamage w path Device = Unit {0}
 IsSpareDamage w path NoMemory = Unit {0}
+IsSpareDamage w path Declined = Unit {0}
 
 abbrev pub IsNumberDamage : World → ℕ → AdministrationFault → Type 0
 IsNumberDamage w n (Damaged file line) = IsFaultyNumber w n file line
 IsNumberDamage w n Device = Unit {0}
 IsNumberDamage w n NoMemory = Unit {0}
+IsNumberDamage w n Declined = Unit {0}
 
 abbrev pub IsNumbersDamage : World → AdministrationFault → Type 0
 IsNumbersDamage w (Damaged file line) = IsFirstFaultyNumber w file line
 IsNumbersDamage w Device = Unit {0}
 IsNumbersDamage w NoMemory = Unit {0}
+IsNumbersDamage w Declined = Unit {0}
 
 abbrev pub IsNameDamage : World → AdministrationFault → Type 0
 IsNameDamage w (Damaged file line) = HasBadName w updates_path × (file ≡ updates_path) × (line ≡ 0)
 IsNameDamage w Device = Unit {0}
 IsNameDamage w NoMemory = Unit {0}
+IsNameDamage w Declined = Unit {0}
 
 abbrev pub IsNotesDamage : World → AdministrationFault → Type 0
 IsNotesDamage w (Damaged file line) = AreNotesDamaged w file line
 IsNotesDamage w Device = Unit {0}
 IsNotesDamage w NoMemory = Unit {0}
+IsNotesDamage w Declined = Unit {0}

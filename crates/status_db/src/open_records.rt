@@ -37,6 +37,7 @@ pub fn note_record<H: Host>(
         Ok(()) => Ok(()),
         Err(RecordFault::Device) => Err(HostFault::Device),
         Err(RecordFault::NoMemory) => Err(HostFault::NoMemory),
+        Err(RecordFault::Declined) => Err(HostFault::Declined),
         Err(RecordFault::Closed) => unreachable!(),
     }
 }
@@ -65,6 +66,7 @@ pub fn note_no_record<H: Host>(
         Ok(()) => Ok(()),
         Err(RecordFault::Device) => Err(HostFault::Device),
         Err(RecordFault::NoMemory) => Err(HostFault::NoMemory),
+        Err(RecordFault::Declined) => Err(HostFault::Declined),
         Err(RecordFault::Closed) => unreachable!(),
     }
 }

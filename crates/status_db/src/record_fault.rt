@@ -13,6 +13,8 @@ pub enum RecordFault {
     Device,
     #[error("NoMemory")]
     NoMemory,
+    #[error("Declined")]
+    Declined,
     #[error("Closed")]
     Closed,
 }
@@ -24,6 +26,7 @@ impl From<HostFault> for RecordFault {
         match fault {
             HostFault::Device => RecordFault::Device,
             HostFault::NoMemory => RecordFault::NoMemory,
+            HostFault::Declined => RecordFault::Declined,
         }
     }
 }

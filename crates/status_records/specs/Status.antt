@@ -6,7 +6,7 @@ use Rattle.host_core.specs.declared.node.Node.{Node}
 use Rattle.host_core.specs.declared.node.Node.TheVariants.{File, Dir, Link}
 use Rattle.administration.specs.Places.{status_path}
 use Rattle.administration.specs.declared.fault.AdministrationFault.{AdministrationFault}
-use Rattle.administration.specs.declared.fault.AdministrationFault.TheVariants.{Damaged, Device, NoMemory}
+use Rattle.administration.specs.declared.fault.AdministrationFault.TheVariants.{Damaged, Device, NoMemory, Declined}
 use Rattle.control_fields.specs.Grammar.{Reads, lines_of}
 use Rattle.control_fields.specs.declared.field.Field.{Field}
 use Rattle.status_records.specs.Records.{standing}
@@ -45,6 +45,7 @@ abbrev pub IsNodeDamage : Option Node → AdministrationFault → Type 0
 IsNodeDamage found (Damaged file line) = (file ≡ status_path) × IsDamageAt found line
 IsNodeDamage found Device = Unit {0}
 IsNodeDamage found NoMemory = Unit {0}
+IsNodeDamage found Declined = Unit {0}
 
 abbrev pub IsStatusDamage : World → AdministrationFault → Type 0
 IsStatusDamage w fault = IsNodeDamage (w status_path) fault
@@ -54,3 +55,4 @@ abbrev pub IsFileDamage : List ℕ → AdministrationFault → Type 0
 IsFileDamage text (Damaged file line) = (file ≡ status_path) × IsFirstFault text line
 IsFileDamage text Device = Unit {0}
 IsFileDamage text NoMemory = Unit {0}
+IsFileDamage text Declined = Unit {0}

@@ -10,7 +10,7 @@ use Rattle.host_core.specs.declared.call.Call.{Call}
 use Rattle.host_core.specs.declared.call.Outcome.{Outcome}
 use Rattle.host_core.specs.declared.call.Outcome.TheVariants.{Killed}
 use Rattle.host_core.specs.declared.fault.HostFault.{HostFault}
-use Rattle.host_core.specs.declared.fault.HostFault.TheVariants.{Device, NoMemory}
+use Rattle.host_core.specs.declared.fault.HostFault.TheVariants.{Device, NoMemory, Declined}
 use Rattle.undo_rows.specs.declared.rows.Called.{Called}
 use Rattle.undo_rows.specs.Transcript.{told_of, Begins, BrokeOff, IsCall, IsNext, IsOne, Makes, TellsAll}
 
@@ -114,6 +114,7 @@ off_by : (kept : Path → Bool) (call : Call) (fault : HostFault) (a b : State) 
 off_by kept call Device a b (inl goes) = BrokeOff.failed goes
 off_by kept call Device a b (inr more) = BrokeOff.within call more.0 (killed call, [], refl, refl) more.1 more.2
 off_by kept call NoMemory a b same = BrokeOff.before same
+off_by kept call Declined a b same = BrokeOff.before same
 
 pub begins_failed : (kept : Path → Bool) (call : Call) (fault : HostFault) (a b : State) (told now : List Called) → Runs kept call a b (Err fault) → now ≡ told → Begins kept (IsCall call) a b told now
 begins_failed kept call fault a b told now runs same = begins_off kept (IsCall call) a b told now (killed call ∷ []) same (some_call call) (off_by kept call fault a b runs)
@@ -139,5 +140,8 @@ pub counts_told : {T : Type 0} (U : Type 0) (a b : State) (given : HostFault) (r
 counts_told U a b given (Ok x) told counts = absurd told
 counts_told U a b Device (Err Device) is counts = counts
 counts_told U a b NoMemory (Err Device) is counts = absurd cc
+counts_told U a b Declined (Err Device) is counts = absurd cc
 counts_told U a b Device (Err NoMemory) is counts = absurd cc
+counts_told U a b Device (Err Declined) is counts = absurd cc
 counts_told U a b NoMemory (Err NoMemory) is counts = counts
+counts_told U a b Declined (Err Declined) is counts = counts

@@ -12,13 +12,10 @@ use Rattle.undo_rows.specs.declared.rows.Called.{Called}
 use Rattle.unit_reports.specs.Units.{calls_of}
 use Rattle.unit_reports.specs.Watching.{AddsTold, IsTold, IsToldBehind}
 use Rattle.unit_reports.specs.declared.report.Unit.{Unit as AUnit}
+use Rattle.host_core.proofs.Barriers.{answered_here}
 
 still_on_disk : (a b : State) → IsOnDisk a.events → Reads a b → IsOnDisk b.events
 still_on_disk a b disk reads = (disk.0, disk.1 ++ reads.added, reads.events ∙ ap (λ (l : List Event). l ++ reads.added) disk.2 ∙ append_assoc disk.0 (Did Barrier ∷ disk.1) reads.added, faults_then disk.1 reads.added disk.3 reads.failed)
-
--- nothing was done
-pub answered_here : (s : State) → IsAnswered s s
-answered_here s = inr (record { honest = λ h. h; world = refl; added = []; failed = tt; events = sym (append-nil s.events) })
 
 -- what was answered before, and what is answered now
 pub answered_then : (a b c : State) → IsAnswered a b → IsAnswered b c → IsAnswered a c

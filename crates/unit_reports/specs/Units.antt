@@ -1,6 +1,6 @@
 -- Units of a command: what each tells, and what it answers.
 use Rattle.std.specs.Prelude.{◌≡◌, ℕ, IsTrue, List, [], ◌∷◌, ◌++◌, Option, Some, None, IsSomeAnd}
-use Rattle.host_core.specs.Host.{State, Silent, HasFailed, faults}
+use Rattle.host_core.specs.Host.{State, Silent, HasFailed, NoFault, HasDeclined}
 use Rattle.host_core.specs.declared.fault.HostFault.{HostFault}
 use Rattle.host_core.specs.declared.fault.HostFault.TheVariants as host
 use Rattle.status_records.specs.declared.record.Record.{Record}
@@ -10,7 +10,7 @@ use Rattle.undo_rows.specs.declared.rows.Called.{Called}
 use Rattle.unit_reports.specs.Held.{Held}
 use Rattle.unit_reports.specs.declared.refusal.Rule.{Rule}
 use Rattle.unit_reports.specs.declared.report.Breakage.{Breakage}
-use Rattle.unit_reports.specs.declared.report.Breakage.TheVariants.{Device, NoMemory, Closed}
+use Rattle.unit_reports.specs.declared.report.Breakage.TheVariants.{Device, NoMemory, Declined, Closed}
 use Rattle.unit_reports.specs.declared.report.Reply.{Reply}
 use Rattle.unit_reports.specs.declared.report.Reply.TheVariants.{Done, Refused, Failed, Broken}
 use Rattle.unit_reports.specs.declared.report.Report.{Report}
@@ -52,19 +52,21 @@ IsBrokenBy breakage reply = reply ≡ Broken breakage
 abbrev pub breakage_of : HostFault → Breakage
 breakage_of host.Device = Device
 breakage_of host.NoMemory = NoMemory
+breakage_of host.Declined = Declined
 
 -- a unit is broken off for a device fault exactly where the device failed
 abbrev pub CountsReply : State → State → Reply → Type 0
 CountsReply old new (Broken Device) = HasFailed old new
-CountsReply old new (Broken NoMemory) = faults new ≡ faults old
-CountsReply old new (Broken Closed) = faults new ≡ faults old
-CountsReply old new Done = faults new ≡ faults old
-CountsReply old new (Refused refusal) = faults new ≡ faults old
-CountsReply old new (Failed failure) = faults new ≡ faults old
+CountsReply old new (Broken NoMemory) = NoFault old new
+CountsReply old new (Broken Declined) = HasDeclined old new
+CountsReply old new (Broken Closed) = NoFault old new
+CountsReply old new Done = NoFault old new
+CountsReply old new (Refused refusal) = NoFault old new
+CountsReply old new (Failed failure) = NoFault old new
 
 -- the same of the units of a command, of which the last may be broken off
 abbrev pub CountsLast : State → State → Option AUnit → Type 0
-CountsLast old new None = faults new ≡ faults old
+CountsLast old new None = NoFault old new
 CountsLast old new (Some unit) = CountsReply old new unit.reply
 
 -- no call was made, and none is told

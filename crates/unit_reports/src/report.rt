@@ -19,12 +19,13 @@ pub struct Failure {
     pub cause: Cause,
 }
 
-/// Why a unit was broken off: a device fault, want of memory, or a session that is closed since
-/// one of these.
+/// Why a unit was broken off: a device fault, want of memory, a step that was declined where it
+/// can't be undone, or a session that is closed since one of these.
 #[derive(Clone, Copy)]
 pub enum Breakage {
     Device,
     NoMemory,
+    Declined,
     Closed,
 }
 

@@ -96,6 +96,7 @@ pub fn breakage_of(fault: HostFault) -> Breakage
     match fault {
         HostFault::Device => Breakage::Device,
         HostFault::NoMemory => Breakage::NoMemory,
+        HostFault::Declined => Breakage::Declined,
     }
 }
 

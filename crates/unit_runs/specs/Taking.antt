@@ -1,6 +1,6 @@
 -- One turn: what it answers, and what is known of it.
 use Rattle.std.specs.Prelude.{◌≡◌, Bool, true, false, List, [], ◌∷◌, ◌++◌, Option, Some, None, Result, Ok, Err}
-use Rattle.host_core.specs.Host.{State, faults}
+use Rattle.host_core.specs.Host.{State, NoFault}
 use Rattle.undo_rows.specs.declared.rows.Called.{Called}
 use Rattle.unit_reports.specs.Held.{Held}
 use Rattle.unit_reports.specs.Units.{CountsReply}
@@ -27,7 +27,7 @@ calls_in (Err u) = u.calls.items
 
 -- a unit is broken off for a device fault exactly where the device failed
 abbrev pub CountsTaken : State → State → Result (Option AUnit) AUnit → Type 0
-CountsTaken old new (Ok found) = faults new ≡ faults old
+CountsTaken old new (Ok found) = NoFault old new
 CountsTaken old new (Err u) = CountsReply old new u.reply
 
 -- one unit more

@@ -1,6 +1,6 @@
 // Units, one after another.
 ghost use Rattle.std.specs.Prelude.{◌≡◌, ◌++◌, ◌<◌, [], true, IfErr, IfOk, OnErr, OnOk, vec_capacity, vec_len};
-ghost use Rattle.host_core.specs.Host.{AtEachMomentOf, Needs, Since, faults};
+ghost use Rattle.host_core.specs.Host.{AtEachMomentOf, Needs, Since, NoFault};
 ghost use Rattle.host_core.specs.Loss.{IsAnswered};
 ghost use Rattle.held_administration.specs.Open.{IsOpen};
 ghost use Rattle.held_administration.specs.Order.{IsInOrder};
@@ -59,7 +59,7 @@ fn run_one<H: Host, T: Turns<H>, W: Watcher>(
     ensures any_moment { AtEachMomentOf (IsAmidNext (T.amid (T.task turns.old)) (T.left turns.old)
         (T.left turns.new) (held_by administration.old diversions.now)) (H.state host.old)
         (H.state host.new) }
-    ensures no_fault { OnOk result (faults (H.state host.new) ≡ faults (H.state host.old)) }
+    ensures no_fault { OnOk result (NoFault (H.state host.old) (H.state host.new)) }
     ensures counts { IfErr result (λ unit. CountsReply (H.state host.old) (H.state host.new)
         unit.reply) }
     ensures not_closed { IfErr result (λ unit. IsBrokenBy Closed unit.reply → ⊥) }
@@ -118,7 +118,7 @@ pub fn run_units<H: Host, T: Turns<H>, W: Watcher>(
         (λ later. GoesTo (T.goes (T.task turns.old)) later (T.left turns.new)) (T.left turns.old)
         (held_by administration.old diversions.now) (H.state host.old)) (H.state host.old)
         (H.state host.new) }
-    ensures no_fault { OnOk result (faults (H.state host.new) ≡ faults (H.state host.old)) }
+    ensures no_fault { OnOk result (NoFault (H.state host.old) (H.state host.new)) }
     ensures counts { IfErr result (λ unit. CountsReply (H.state host.old) (H.state host.new)
         unit.reply) }
     ensures not_closed { IfErr result (λ unit. IsBrokenBy Closed unit.reply → ⊥) }

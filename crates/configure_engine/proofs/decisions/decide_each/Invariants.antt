@@ -1,6 +1,6 @@
 use Rattle.std.proofs.Common.{◌≡◌, take, IsTrue}
 use Rattle.std.specs.List.{All}
-use Rattle.host_core.specs.Host.{Reads, Silent, faults}
+use Rattle.host_core.specs.Host.{Reads, Silent, NoFault}
 use Rattle.configure_engine.specs.Decided.{decided_paths, IsDecidedOf}
 use Rattle.configure_engine.proofs.decisions.decide_each.Given as goal
 
@@ -13,5 +13,5 @@ invariant-loop-path g l =
       each : IsTrue now.honest → All (IsDecidedOf l.entry l.policy old.world) l.list.items;
       reads : Reads old now;
       silent : Silent old now;
-      counts : faults now ≡ faults old;
+      counts : NoFault old now;
     }

@@ -1,6 +1,6 @@
 use Rattle.std.proofs.Common.{◌≡◌, None, take, IsTrue}
 use Rattle.std.specs.List.{All}
-use Rattle.host_core.specs.Host.{Reads, Silent, faults}
+use Rattle.host_core.specs.Host.{Reads, Silent, NoFault}
 use Rattle.host_core.specs.Paths.{Path}
 use Rattle.conffiles.specs.Settling.{CanSettle}
 use Rattle.configure_engine.specs.Obstacles.{names_of_all, IsObstacle}
@@ -15,5 +15,5 @@ invariant-loop-path g l =
       clear : IsTrue now.honest → l.least ≡ None → All (λ (x : Path). CanSettle x old.world) (take l.path-index l.paths);
       reads : Reads old now;
       silent : Silent old now;
-      counts : faults now ≡ faults old;
+      counts : NoFault old now;
     }

@@ -1,5 +1,5 @@
 use Rattle.std.proofs.Common.{◌≡◌, IsTrue}
-use Rattle.host_core.specs.Host.{Reads, Silent, faults}
+use Rattle.host_core.specs.Host.{Reads, Silent, NoFault}
 use Rattle.configure_run.proofs.Silence.{AreSilentSoFar}
 use Rattle.configure_run.proofs.starting.silent_of.Given as goal
 
@@ -11,5 +11,5 @@ invariant-loop-entry g l =
       so_far : IsTrue now.honest → AreSilentSoFar old.world l.names l.records l.entry-index l.set.items;
       reads : Reads old now;
       silent : Silent old now;
-      faults_same : faults now ≡ faults old;
+      faults_same : NoFault old now;
     }

@@ -4,7 +4,6 @@ use Rattle.std.specs.Prelude.{IfSome}
 use Rattle.dependency_check.specs.Waiting.{IsConfigurableNow, IsNextOfConfigurable}
 use Rattle.dependency_sets.specs.Sets.{has}
 use Rattle.host_core.proofs.Moments.{since_start, since_weaker}
-use Rattle.unit_reports.proofs.Telling.{answered_here}
 use Rattle.unit_reports.specs.Held.{held_by}
 use Rattle.unit_runs.proofs.Going.{still_here}
 use Rattle.unit_runs.specs.Turns as runs
@@ -17,6 +16,7 @@ use Rattle.configure_run.proofs.Taking.{amid_next, broken_at, lhs, takes_one}
 use Rattle.configure_run.proofs.Told.{tells_silent}
 use Rattle.configure_run.proofs.Units.{no_calls}
 use Rattle.configure_run.proofs.turn.take_next.Goals as goal
+use Rattle.host_core.proofs.Barriers.{answered_here}
 
 pub take_turn-requires-clause-member : goal.take_turn-requires-clause-member
 take_turn-requires-clause-member g c = subst (λ n. IsConfigurableNow c.args.queue.now n) (sym c.in-Ok-Some.number-is) (subst (λ o. IfSome o (IsConfigurableNow c.args.queue.now)) c.in-Ok-Some.field-0-is c.in-Ok-Some.ensures.member)

@@ -1,8 +1,9 @@
 use Rattle.configure_engine.specs.Units.{IsAmidUnit as IsAmidConfiguring}
 use Rattle.unit_reports.specs.Held.{held_by}
 use Rattle.configure_run.specs.Turns.{IsBeside, given_by}
-use Rattle.configure_run.proofs.Moments.{beside_still, on_disk, order_behind, silent_here, since_beside, since_to_disk}
+use Rattle.configure_run.proofs.Moments.{beside_still, order_behind, silent_here, since_beside}
 use Rattle.configure_run.proofs.unit.configure_to_disk.Goals as goal
+use Rattle.host_core.proofs.Barriers.{since_to_disk, on_disk}
 
 pub returns-in-Ok-barrier-clause-unit : goal.returns-in-Ok-barrier-clause-unit
 returns-in-Ok-barrier-clause-unit g c = record { left = g.H.Host.state c.configure.new.host; unit = c.in-Ok.ensures.unit; flushed = c.in-Ok-barrier.ensures.does }

@@ -5,15 +5,15 @@ use Rattle.relation_index.specs.declared.package.Package.{Package}
 use Rattle.unit_reports.specs.Held.{held_by}
 use Rattle.unit_reports.specs.Units.{IsBrokenBy, IsRefusedUnit}
 use Rattle.unit_reports.specs.declared.refusal.Rule.TheVariants.{BrokenBy}
-use Rattle.unit_reports.specs.declared.report.Breakage.TheVariants.{NoMemory}
+use Rattle.unit_reports.specs.declared.report.Breakage.TheVariants.{NoMemory, Declined}
 use Rattle.std.proofs.Common.{◌⊎◌}
 use Rattle.configure_run.specs.Starting.{name_at}
 use Rattle.configure_run.specs.Turns.{IsUnit}
-use Rattle.unit_reports.proofs.Telling.{answered_here}
 use Rattle.configure_run.proofs.Moments.{since_unit_start, silent_here}
 use Rattle.configure_run.proofs.Replies.{broken_or, counts_refused, either_so, refused_not_closed}
 use Rattle.configure_run.proofs.Units.{called_nothing, those_within}
 use Rattle.configure_run.proofs.unit.unit_of.Goals as goal
+use Rattle.host_core.proofs.Barriers.{answered_here}
 
 pub refused_for-requires : goal.refused_for-requires
 refused_for-requires g c = subst (λ (l : List Package). c.in-Some.breaking < length l) (sym c.as_slice.ensures.list) (those_within (plays Breaking c.args.of.now) c.args.packages.now c.in-Some.breaking c.in-Some.ensures.0)
@@ -21,6 +21,7 @@ refused_for-requires g c = subst (λ (l : List Package). c.in-Some.breaking < le
 pub returns-in-Some-clause-unit : goal.returns-in-Some-clause-unit
 returns-in-Some-clause-unit g c =
     broken_or NoMemory c.refused_for.result.reply (λ refused. IsUnit.broken c.in-Some.breaking c.in-Some.ensures (record { refused = refused; held = refl; silent = silent_here (g.H.Host.state c.args.host.now); world = λ honest. refl }))
+    broken_or Declined c.refused_for.result.reply (λ refused. IsUnit.broken c.in-Some.breaking c.in-Some.ensures (record { refused = refused; held = refl; silent = silent_here (g.H.Host.state c.args.host.now); world = λ honest. refl }))
     (subst (λ (l : List Package). IsBrokenBy NoMemory c.refused_for.result.reply ⊎ IsRefusedUnit (BrokenBy (name_at l c.in-Some.breaking)) c.args.of.now.name c.refused_for.result) c.as_slice.ensures.list c.refused_for.ensures.unit)
 
 pub returns-in-Some-clause-answered : goal.returns-in-Some-clause-answered

@@ -1,6 +1,6 @@
 use Rattle.std.proofs.Common.{◌≡◌, ℕ, List, take}
 use Rattle.std.specs.Prelude.{Contains}
-use Rattle.host_core.specs.Host.{Needs, Since, faults}
+use Rattle.host_core.specs.Host.{Needs, Since, NoFault}
 use Rattle.held_administration.specs.Open.{IsOpen}
 use Rattle.status_records.specs.Records.{record_in}
 use Rattle.held_administration.specs.Order.{IsInOrder}
@@ -21,5 +21,5 @@ invariant-loop-name g l =
       order : Needs now (IsInOrder l.administration.database l.administration.lists.lists);
       is_open : IsOpen entries l.administration;
       moments : Since (IsAmidRemovals entries l.names before old) old now;
-      counts : faults now ≡ faults old;
+      counts : NoFault old now;
     }

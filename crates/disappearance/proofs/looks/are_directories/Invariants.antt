@@ -1,5 +1,5 @@
 use Rattle.std.proofs.Common.{◌≡◌, true, take, IsTrue}
-use Rattle.host_core.specs.Host.{Reads, Silent, faults}
+use Rattle.host_core.specs.Host.{Reads, Silent, NoFault}
 use Rattle.disappearance.specs.Verdicts.{are_directories}
 use Rattle.disappearance.proofs.looks.are_directories.Given as goal
 
@@ -11,5 +11,5 @@ invariant-loop-path g l =
       found : IsTrue now.honest → are_directories l.diversions.entries l.name old.world (take l.path-index l.paths) ≡ true;
       reads : Reads old now;
       silent : Silent old now;
-      counts : faults now ≡ faults old;
+      counts : NoFault old now;
     }

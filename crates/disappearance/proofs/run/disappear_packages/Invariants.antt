@@ -1,5 +1,5 @@
 use Rattle.std.proofs.Common.{◌≡◌, take}
-use Rattle.host_core.specs.Host.{Needs, Since, faults}
+use Rattle.host_core.specs.Host.{Needs, Since, NoFault}
 use Rattle.held_administration.specs.Open.{IsOpen}
 use Rattle.recorded_packages.specs.Packages.{ArePackagesOf}
 use Rattle.held_administration.specs.Order.{IsInOrder}
@@ -19,5 +19,5 @@ invariant-loop-one g l =
       is_open : IsOpen entries l.administration;
       indexed : ArePackagesOf l.administration.database.records l.packages;
       moments : Since (IsAmidDisappearances l.incoming l.version entries l.losing before old) old now;
-      counts : faults now ≡ faults old;
+      counts : NoFault old now;
     }

@@ -1,5 +1,6 @@
-use Rattle.dpkg_session.proofs.Barriers.{barrier_world, opening_to_disk, opens_stopped}
+use Rattle.dpkg_session.proofs.Barriers.{opening_to_disk, opens_stopped}
 use Rattle.dpkg_session.proofs.session.open_to_disk.Goals as goal
+use Rattle.host_core.proofs.Barriers.{barrier_world}
 
 pub returns-in-Ok-barrier-clause-any_moment : goal.returns-in-Ok-barrier-clause-any_moment
 returns-in-Ok-barrier-clause-any_moment g c = opening_to_disk _ _ _ _ c.open_administration.ensures.any_moment c.barrier.ensures.does

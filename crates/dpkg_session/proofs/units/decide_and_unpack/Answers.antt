@@ -1,11 +1,11 @@
 use Rattle.std.proofs.Common.{inl, inr, subst, ◌∙◌}
 use Rattle.unit_reports.specs.Held.{held_by}
 use Rattle.dpkg_session.proofs.Amid.{since_decided, since_package_start}
-use Rattle.dpkg_session.proofs.Barriers.{answered_here}
 use Rattle.dpkg_session.proofs.Runs.{by_refused, by_unpacked, counts_no_memory, counts_refused}
 use Rattle.dpkg_session.proofs.Told.{called_decided, not_begun_package}
 use Rattle.unpack_relations.specs.Checks.{AreBesideApart}
 use Rattle.dpkg_session.proofs.units.decide_and_unpack.Goals as goal
+use Rattle.host_core.proofs.Barriers.{answered_here}
 
 pub unpack_unit-requires-clause-apart : goal.unpack_unit-requires-clause-apart
 unpack_unit-requires-clause-apart g c = subst (AreBesideApart c.args.incoming.name c.args.administration.now.database.records) c.in-Ok-Planned.field-0-is (c.in-Ok-Planned.ensures.apart c.args.administration.now.database.records c.requires.indexed)

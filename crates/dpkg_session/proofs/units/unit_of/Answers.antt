@@ -1,10 +1,10 @@
 use Rattle.std.proofs.Common.{inr}
 use Rattle.unit_reports.specs.Held.{held_by}
 use Rattle.dpkg_session.proofs.Amid.{since_read, since_unit_start}
-use Rattle.dpkg_session.proofs.Barriers.{answered_here}
 use Rattle.dpkg_session.proofs.Runs.{counts_refused, of_read, of_unread}
 use Rattle.dpkg_session.proofs.Told.{called_read, not_begun}
 use Rattle.dpkg_session.proofs.units.unit_of.Goals as goal
+use Rattle.host_core.proofs.Barriers.{answered_here}
 
 pub returns-in-Ok-clause-unit : goal.returns-in-Ok-clause-unit
 returns-in-Ok-clause-unit g c = of_read c.args.auto_deconfigure c.args.candidate _ _ _ c.unit_of_package.result _ _ c.in-Ok.is c.unit_of_package.ensures.unit

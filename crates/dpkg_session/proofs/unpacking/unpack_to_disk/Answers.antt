@@ -1,7 +1,8 @@
-use Rattle.dpkg_session.proofs.Barriers.{called_behind, failed_behind, on_disk, order_behind, since_to_disk, unpacked_to_disk}
+use Rattle.dpkg_session.proofs.Barriers.{called_behind, failed_behind, order_behind, unpacked_to_disk}
 use Rattle.unpack_engine.proofs.Quiet.{amid_unit_still}
 use Rattle.host_core.proofs.Moments.{since_barrier}
 use Rattle.dpkg_session.proofs.unpacking.unpack_to_disk.Goals as goal
+use Rattle.host_core.proofs.Barriers.{since_to_disk, on_disk}
 
 pub returns-in-Ok-barrier-clause-unit : goal.returns-in-Ok-barrier-clause-unit
 returns-in-Ok-barrier-clause-unit g c =

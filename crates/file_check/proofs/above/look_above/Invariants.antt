@@ -3,7 +3,7 @@ use denote.Text.{Utf8}
 use denote.Shadow.{shadow}
 use Rattle.std.specs.BTreeSet.{contains_text}
 use Rattle.host_core.specs.Paths.{is_path}
-use Rattle.host_core.specs.Host.{Reads, Silent, faults}
+use Rattle.host_core.specs.Host.{Reads, Silent, NoFault}
 use Rattle.file_check.proofs.Looking.{IsLooking}
 use Rattle.file_check.proofs.above.look_above.Given as goal
 
@@ -17,7 +17,7 @@ invariant-loop-front g l =
       looking : IsTrue now.honest → IsLooking (contains_text l.made) old.world l.place l.rest l.lacking;
       reads : Reads old now;
       silent : Silent old now;
-      counts : faults now ≡ faults old;
+      counts : NoFault old now;
     }
 
 abbrev pub decreases-loop-front : goal.decreases-loop-front

@@ -1,6 +1,6 @@
 use Rattle.std.proofs.Common.{◌≡◌, IsTrue, take}
 use Rattle.std.specs.BTreeSet.{contains_text}
-use Rattle.host_core.specs.Host.{Reads, Silent, faults}
+use Rattle.host_core.specs.Host.{Reads, Silent, NoFault}
 use Rattle.file_check.specs.Index.{AllOutside}
 use Rattle.file_check.specs.Sound.{AreSound}
 use Rattle.file_check.proofs.checking.check_each.Given as goal
@@ -14,5 +14,5 @@ invariant-loop-one g l =
       apart : AllOutside (contains_text l.index.twice) (take l.one-index l.works);
       reads : Reads old now;
       silent : Silent old now;
-      counts : faults now ≡ faults old;
+      counts : NoFault old now;
     }

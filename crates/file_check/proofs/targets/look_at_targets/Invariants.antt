@@ -1,5 +1,5 @@
 use Rattle.std.proofs.Common.{◌≡◌, IsTrue, take}
-use Rattle.host_core.specs.Host.{Reads, Silent, faults}
+use Rattle.host_core.specs.Host.{Reads, Silent, NoFault}
 use Rattle.package_files.specs.Files.{Each}
 use Rattle.package_files.specs.Free.{IsSeen}
 use Rattle.file_check.specs.Ready.{IsSameBut}
@@ -14,5 +14,5 @@ invariant-loop-work g l =
       seen : IsTrue now.honest → Each (IsSeen old.world) (take l.work-index l.works);
       reads : Reads old now;
       silent : Silent old now;
-      counts : faults now ≡ faults old;
+      counts : NoFault old now;
     }

@@ -1,13 +1,13 @@
 use Rattle.std.proofs.Common.{◌≡◌, IsTrue, length}
 use Rattle.std.specs.BTreeSet.{contains_text}
-use Rattle.host_core.specs.Host.{Reads, Silent, faults}
+use Rattle.host_core.specs.Host.{Reads, Silent, NoFault}
 use Rattle.file_lists.proofs.Among.{IsAmid}
 use Rattle.file_lists.proofs.info.look_at_all.Given as goal
 
 abbrev pub invariant-loop-entry : goal.invariant-loop-entry
 invariant-loop-entry g l = record {
   silent : Silent (g.H.Host.state l.fn.host) (g.H.Host.state l.host);
-  counts : faults (g.H.Host.state l.host) ≡ faults (g.H.Host.state l.fn.host);
+  counts : NoFault (g.H.Host.state l.fn.host) (g.H.Host.state l.host);
   reads : Reads (g.H.Host.state l.fn.host) (g.H.Host.state l.host);
   amid : IsTrue (g.H.Host.state l.host).honest → IsAmid (g.H.Host.state l.fn.host).world (contains_text l.fn.entries) (contains_text l.entries) l.fn.table l.table;
 }

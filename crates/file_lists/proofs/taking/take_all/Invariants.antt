@@ -1,5 +1,5 @@
 use Rattle.std.proofs.Common.{◌≡◌, ℕ, List, Some, Contains, IsTrue, take}
-use Rattle.host_core.specs.Host.{Since, Silent, faults}
+use Rattle.host_core.specs.Host.{Since, Silent, NoFault}
 use Rattle.administration.specs.Places.{list_path}
 use Rattle.file_lists.specs.Index.{IsIndexed}
 use Rattle.file_lists.specs.Owners.{paths_of}
@@ -10,7 +10,7 @@ use Rattle.file_lists.proofs.taking.take_all.Given as goal
 abbrev pub invariant-loop-name : goal.invariant-loop-name
 invariant-loop-name g l = record {
   silent : Silent (g.H.Host.state l.fn.host) (g.H.Host.state l.host);
-  counts : faults (g.H.Host.state l.host) ≡ faults (g.H.Host.state l.fn.host);
+  counts : NoFault (g.H.Host.state l.fn.host) (g.H.Host.state l.host);
   since : Since (λ so_far. IsTaking l.diversions.entries l.places l.from l.fn.table (g.H.Host.state l.fn.host).world) (g.H.Host.state l.fn.host) (g.H.Host.state l.host);
   taken : IsTrue (g.H.Host.state l.host).honest → (name : List ℕ) → Contains (take l.name-index l.from) name → (g.H.Host.state l.host).world (list_path name) ≡ Some (left_file l.diversions.entries l.places l.fn.table name);
   table : l.table ≡ without_all l.diversions.entries l.places (take l.name-index l.from) l.fn.table;

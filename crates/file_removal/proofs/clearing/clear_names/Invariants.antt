@@ -1,5 +1,5 @@
 use Rattle.std.proofs.Common.{◌≡◌, IsTrue, take}
-use Rattle.host_core.specs.Host.{AtEachMoment, Silent, faults}
+use Rattle.host_core.specs.Host.{AtEachMoment, Silent, NoFault}
 use Rattle.file_removal.specs.Clearing.{Cleared, IsClearing}
 use Rattle.file_removal.proofs.clearing.clear_names.Given as goal
 
@@ -9,7 +9,7 @@ invariant-loop-name g l =
     let now = g.H.Host.state l.host in
     record {
       silent : Silent old now;
-      counts : faults now ≡ faults old;
+      counts : NoFault old now;
       cleared : IsTrue now.honest → Cleared (take l.name-index l.names) old.world now.world;
       any_moment : AtEachMoment (IsClearing l.names) old now;
     }

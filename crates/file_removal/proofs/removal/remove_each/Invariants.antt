@@ -1,5 +1,5 @@
 use Rattle.std.proofs.Common.{◌≡◌, IsTrue, length, drop, ◌≤◌}
-use Rattle.host_core.specs.Host.{AtEachMoment, Silent, faults}
+use Rattle.host_core.specs.Host.{AtEachMoment, Silent, NoFault}
 use Rattle.file_removal.specs.Removal.{RemovedBy, IsRemovingBy}
 use Rattle.file_removal.proofs.removal.remove_each.Given as goal
 
@@ -10,7 +10,7 @@ invariant-loop-count g l =
     record {
       within : l.count ≤ length l.leaving;
       silent : Silent old now;
-      counts : faults now ≡ faults old;
+      counts : NoFault old now;
       removed : IsTrue now.honest → RemovedBy l.directories_only (drop l.count l.leaving) old.world now.world;
       any_moment : AtEachMoment (IsRemovingBy l.directories_only l.leaving) old now;
     }

@@ -1,5 +1,5 @@
 use Rattle.std.proofs.Common.{◌≡◌, map, take, IsTrue}
-use Rattle.host_core.specs.Host.{Reads, Silent, faults}
+use Rattle.host_core.specs.Host.{Reads, Silent, NoFault}
 use Rattle.unpack_rows.specs.ForwardRows.{AreOwn, records_of}
 use Rattle.in_favour_rows.specs.Entries.{entry_records}
 use Rattle.in_favour_rows.specs.Rows.{AreRowsOf, other_package}
@@ -16,5 +16,5 @@ invariant-loop-entry g l =
       rows : IsTrue now.honest → l.others.items ≡ map (other_package l.incoming.name l.incoming.version old.world) (take l.entry-index l.entries);
       reads : Reads old now;
       silent : Silent old now;
-      counts : faults now ≡ faults old;
+      counts : NoFault old now;
     }

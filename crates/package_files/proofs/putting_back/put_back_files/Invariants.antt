@@ -1,6 +1,6 @@
 use Rattle.std.proofs.Common.{◌≡◌, ◌≤◌, IsTrue, length, drop}
 use Rattle.host_core.specs.World.{World}
-use Rattle.host_core.specs.Host.{AtEachMoment, Silent, faults}
+use Rattle.host_core.specs.Host.{AtEachMoment, Silent, NoFault}
 use Rattle.package_files.specs.Files.{PutBack}
 use Rattle.package_files.specs.Free.{IsWrittenFrom}
 use Rattle.package_files.specs.Back.{IsGoingBack}
@@ -13,7 +13,7 @@ invariant-loop-count g l =
     record {
       within : l.count ≤ length l.works;
       silent : Silent old now;
-      counts : faults now ≡ faults old;
+      counts : NoFault old now;
       back : IsTrue now.honest → (was : World) → IsWrittenFrom l.works was old.world → PutBack (drop l.count l.works) was old.world now.world;
       any_moment : AtEachMoment (IsGoingBack l.works) old now;
     }

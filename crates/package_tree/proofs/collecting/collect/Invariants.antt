@@ -1,7 +1,7 @@
 use Rattle.std.proofs.Common.{◌≡◌, ◌≤◌, take, Some}
 use Rattle.std.specs.Prelude.{IsTrue}
 use Rattle.std.specs.List.{AllByRecursion}
-use Rattle.host_core.specs.Host.{Reads, Silent, faults}
+use Rattle.host_core.specs.Host.{Reads, Silent, NoFault}
 use Rattle.package_tree.specs.ShipMap.{paths_of, IsLarge}
 use Rattle.package_tree.proofs.collecting.collect.Given as goal
 
@@ -13,5 +13,5 @@ invariant-loop-index g l = record {
   small : IsTrue (g.H.Host.state l.host).honest → AllByRecursion (λ q. IsLarge ((g.H.Host.state l.fn.host).world q) → ⊥) (take l.index l.paths);
   reads : Reads (g.H.Host.state l.fn.host) (g.H.Host.state l.host);
   silent : Silent (g.H.Host.state l.fn.host) (g.H.Host.state l.host);
-  counts : faults (g.H.Host.state l.host) ≡ faults (g.H.Host.state l.fn.host);
+  counts : NoFault (g.H.Host.state l.fn.host) (g.H.Host.state l.host);
 }

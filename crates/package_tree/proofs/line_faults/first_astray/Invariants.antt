@@ -1,6 +1,6 @@
 use Rattle.std.proofs.Common.{◌≡◌, take}
 use Rattle.std.specs.Prelude.{IsTrue}
-use Rattle.host_core.specs.Host.{Reads, Silent, faults}
+use Rattle.host_core.specs.Host.{Reads, Silent, NoFault}
 use Rattle.package_tree.specs.Conffiles.{HasNoEntry}
 use Rattle.package_tree.specs.ConffileFaults.{IsAstray}
 use Rattle.package_tree.proofs.line_faults.first_astray.Given as goal
@@ -10,5 +10,5 @@ invariant-loop-index g l = record {
   none : IsTrue (g.H.Host.state l.host).honest → HasNoEntry (IsAstray (g.H.Host.state l.fn.host).world) (take l.index l.entries);
   reads : Reads (g.H.Host.state l.fn.host) (g.H.Host.state l.host);
   silent : Silent (g.H.Host.state l.fn.host) (g.H.Host.state l.host);
-  counts : faults (g.H.Host.state l.host) ≡ faults (g.H.Host.state l.fn.host);
+  counts : NoFault (g.H.Host.state l.fn.host) (g.H.Host.state l.host);
 }

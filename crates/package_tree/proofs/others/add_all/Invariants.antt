@@ -2,7 +2,7 @@ use Rattle.std.proofs.Common.{◌≡◌, length, Some}
 use Rattle.std.specs.Prelude.{IsTrue}
 use Rattle.std.specs.List.{AllByRecursion}
 use Rattle.std.specs.BTreeSet.{contains_text}
-use Rattle.host_core.specs.Host.{Reads, Silent, faults}
+use Rattle.host_core.specs.Host.{Reads, Silent, NoFault}
 use Rattle.host_core.specs.World.{kind_of}
 use Rattle.host_core.specs.declared.node.Kind.TheVariants.{File}
 use Rattle.package_tree.specs.OtherFiles.{names_of, control_member}
@@ -17,7 +17,7 @@ invariant-loop-text g l = record {
   kept : IsTrue (g.H.Host.state l.host).honest → HasKept (λ q. kind_of ((g.H.Host.state l.fn.host).world (control_member q)) ≡ Some File) (contains_text l.initial.left) (contains_text l.left) (names_of l.others.items);
   reads : Reads (g.H.Host.state l.fn.host) (g.H.Host.state l.host);
   silent : Silent (g.H.Host.state l.fn.host) (g.H.Host.state l.host);
-  counts : faults (g.H.Host.state l.host) ≡ faults (g.H.Host.state l.fn.host);
+  counts : NoFault (g.H.Host.state l.fn.host) (g.H.Host.state l.host);
 }
 
 abbrev pub decreases-loop-text : goal.decreases-loop-text

@@ -1,7 +1,7 @@
 use Rattle.std.proofs.Common.{◌≡◌}
 use Rattle.std.specs.Prelude.{IsTrue}
 use Rattle.std.specs.BTreeSet.{contains_text}
-use Rattle.host_core.specs.Host.{Reads, Silent, faults}
+use Rattle.host_core.specs.Host.{Reads, Silent, NoFault}
 use Rattle.package_tree.specs.Shipped.{AreInOrder, ArePathTexts}
 use Rattle.package_tree.specs.Walk.{IsAmid, IsOrderly}
 use Rattle.package_tree.proofs.walk.walk.Given as goal
@@ -14,5 +14,5 @@ invariant-loop g l = record {
   texts : ArePathTexts l.found.items;
   reads : Reads (g.H.Host.state l.fn.host) (g.H.Host.state l.host);
   silent : Silent (g.H.Host.state l.fn.host) (g.H.Host.state l.host);
-  counts : faults (g.H.Host.state l.host) ≡ faults (g.H.Host.state l.fn.host);
+  counts : NoFault (g.H.Host.state l.fn.host) (g.H.Host.state l.host);
 }

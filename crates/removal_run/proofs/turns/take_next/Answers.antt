@@ -1,6 +1,5 @@
 use Rattle.std.proofs.Common.{◌<◌, [], ℕ, List, length, ap, refl, subst, sym, true, false, ◌∙◌}
 use Rattle.std.proofs.lemmas.Bool.{true≢false}
-use Rattle.unit_reports.proofs.Telling.{answered_here}
 use Rattle.unit_reports.specs.Held.{held_by}
 use Rattle.undo_rows.proofs.Makes.{tells_none}
 use Rattle.removal_run.specs.Names.{without}
@@ -13,6 +12,7 @@ use Rattle.removal_run.proofs.Following.{is_next, lhs, next_among, next_is}
 use Rattle.removal_run.proofs.Replies.{broken_by}
 use Rattle.removal_run.proofs.Turning.{broken_here, broken_one, since_next, since_next_start}
 use Rattle.removal_run.proofs.turns.take_next.Goals as goal
+use Rattle.host_core.proofs.Barriers.{answered_here}
 
 pub remove_one-requires-clause-accepted : goal.remove_one-requires-clause-accepted
 remove_one-requires-clause-accepted g c =

@@ -1,5 +1,5 @@
 use Rattle.std.proofs.Common.{◌≡◌, ◌++◌, length}
-use Rattle.host_core.specs.Host.{faults}
+use Rattle.host_core.specs.Host.{NoFault}
 use Rattle.undo_rows.specs.Place.{Forward}
 use Rattle.undo_rows.specs.Stops.{AtEachStop}
 use Rattle.undo_rows.specs.Telling.{HasSucceeded}
@@ -18,5 +18,5 @@ invariant-loop-row g l =
       any_moment : AtEachStop (A.stops (A.task l.fn.around)) old now;
       task : A.task l.around ≡ A.task l.fn.around;
       reference : A.reference l.around ≡ A.reference l.fn.around;
-      counts : faults now ≡ faults old;
+      counts : NoFault old now;
     }

@@ -2,7 +2,7 @@ use Rattle.std.proofs.Common.{◌++◌, List, refl, subst, sym, ◌∙◌}
 use Rattle.host_core.specs.Host.{AtEachMomentOf}
 use Rattle.undo_rows.proofs.Makes.{tells_none, tells_then}
 use Rattle.undo_rows.specs.Transcript.{TellsAll}
-use Rattle.unit_reports.proofs.Telling.{answered_here, answered_then}
+use Rattle.unit_reports.proofs.Telling.{answered_then}
 use Rattle.unit_reports.specs.Held.{held_by}
 use Rattle.unit_reports.specs.Units.{calls_of}
 use Rattle.unit_reports.specs.declared.report.Unit.{Unit as AUnit}
@@ -11,6 +11,7 @@ use Rattle.unit_runs.specs.Turns.{GoesTo, IsAmidNext, IsBrokenNext}
 use Rattle.unit_runs.proofs.Going.{all_turned, goes_once, goes_then, no_turn, one_turn_more, since_more, since_turns_start, stopped}
 use Rattle.unit_runs.proofs.Taken.{counts_from, tells_last}
 use Rattle.unit_runs.proofs.run.run_units.Goals as goal
+use Rattle.host_core.proofs.Barriers.{answered_here}
 
 pub loop-unit-init : goal.loop-unit-init
 loop-unit-init g c =

@@ -1,5 +1,5 @@
 use Rattle.std.proofs.Common.{◌≡◌}
-use Rattle.host_core.specs.Host.{Needs, Since, faults}
+use Rattle.host_core.specs.Host.{Needs, Since, NoFault}
 use Rattle.host_core.specs.Loss.{IsAnswered}
 use Rattle.held_administration.specs.Open.{IsOpen}
 use Rattle.held_administration.specs.Order.{IsInOrder}
@@ -27,7 +27,7 @@ invariant-loop-unit g l =
       answered : IsAnswered old now;
       told : TellsAll old now (calls_of l.fn.units.items) (calls_of l.units.items);
       moments : Since (IsAmidTurns (g.T.Turns.turn task) (g.T.Turns.amid task) (λ later. GoesTo (g.T.Turns.goes task) later left) start before old) old now;
-      no_fault : faults now ≡ faults old;
+      no_fault : NoFault old now;
       same_task : g.T.Turns.task l.turns ≡ task;
       goes : GoesTo (g.T.Turns.goes task) start left;
       watched : AddsTold g.W.Watcher.tells old l.fn.units.items l.units.items l.fn.watcher l.watcher;

@@ -1,5 +1,5 @@
 use Rattle.std.proofs.Common.{◌≡◌, false, drop, take, IsTrue}
-use Rattle.host_core.specs.Host.{AtEachMoment, Needs, Silent, faults}
+use Rattle.host_core.specs.Host.{AtEachMoment, Needs, Silent, NoFault}
 use Rattle.unit_stages.specs.Doing.{AreDoing}
 use Rattle.unit_stages.specs.PartFitting.{AreFit, AreSettleable}
 use Rattle.held_administration.specs.Order.{IsInOrder}
@@ -9,7 +9,7 @@ use Rattle.unit_stages.proofs.doing.do_parts.Given as goal
 abbrev pub invariant-loop-part : goal.invariant-loop-part
 invariant-loop-part g l = record {
   silent : Silent (g.H.Host.state l.fn.host) (g.H.Host.state l.host);
-  counts : faults (g.H.Host.state l.host) ≡ faults (g.H.Host.state l.fn.host);
+  counts : NoFault (g.H.Host.state l.fn.host) (g.H.Host.state l.host);
   records : l.database.records ≡ parts_records l.name (take l.part-index l.parts) l.fn.database.records;
   lists : l.lists.lists ≡ parts_lists l.name (take l.part-index l.parts) l.fn.lists.lists;
   noting : l.database.closed ≡ false;

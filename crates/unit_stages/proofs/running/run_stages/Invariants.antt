@@ -1,5 +1,5 @@
 use Rattle.std.proofs.Common.{◌≡◌, ◌++◌, None}
-use Rattle.host_core.specs.Host.{AtEachMomentOf, Needs, faults}
+use Rattle.host_core.specs.Host.{AtEachMomentOf, Needs, NoFault}
 use Rattle.held_administration.specs.Open.{IsOpen}
 use Rattle.held_administration.specs.Order.{IsInOrder}
 use Rattle.unit_stages.specs.Holding.{holding_of}
@@ -19,5 +19,5 @@ invariant-loop-stage g l =
       order : Needs now (IsInOrder l.administration.database l.administration.lists.lists);
       is_open : IsOpen entries l.administration;
       any_moment : AtEachMomentOf (AreRunning name entries l.fn.stages.items (holding_of l.fn.administration)) old now;
-      counts : faults now ≡ faults old;
+      counts : NoFault old now;
     }

@@ -1,6 +1,6 @@
 use Rattle.std.proofs.Common.{◌≡◌, false, take, IsTrue}
 use Rattle.host_core.specs.World.{KeepsBut}
-use Rattle.host_core.specs.Host.{AtEachMoment, Silent, faults}
+use Rattle.host_core.specs.Host.{AtEachMoment, Silent, NoFault}
 use Rattle.status_db.specs.Held.{IsKept, is_record_place}
 use Rattle.unpack_commit.specs.Commit.{AreNoting}
 use Rattle.unpack_commit.specs.Takeover.{put_records}
@@ -9,7 +9,7 @@ use Rattle.unpack_commit.proofs.noting.note_records.Given as goal
 abbrev pub invariant-loop-entry : goal.invariant-loop-entry
 invariant-loop-entry g l = record {
   silent : Silent (g.H.Host.state l.fn.host) (g.H.Host.state l.host);
-  counts : faults (g.H.Host.state l.host) ≡ faults (g.H.Host.state l.fn.host);
+  counts : NoFault (g.H.Host.state l.fn.host) (g.H.Host.state l.host);
   records : l.database.records ≡ put_records (take l.entry-index l.records) l.fn.database.records;
   opened : l.database.closed ≡ false;
   kept : IsTrue (g.H.Host.state l.host).honest → IsKept l.database (g.H.Host.state l.host).world;
