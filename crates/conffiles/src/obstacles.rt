@@ -1,6 +1,7 @@
 // Whether a conffile can be settled.
 ghost use Rattle.std.specs.Prelude.{◌≡◌, ◌∷◌, [], None};
-ghost use Rattle.host_core.specs.Host.{Counts, Reads, Silent, Tells};
+ghost use Rattle.host_core.specs.Host.{Tells};
+ghost use Rattle.host_core.specs.Looks.{Looks};
 ghost use Rattle.conffiles.specs.Settling.{dist_name, spare_name, shipped_name, backup_name, is_other_kind, ordered_names, obstacle_of, CanSettle};
 
 use host_core::{Host, HostFault, Kind, RootPath, ShipPath, Suffix};
@@ -18,11 +19,8 @@ fn is_other(kind: Option<Kind>) -> bool
 
 // The name, where something else than a file stands there.
 fn look_at<H: Host>(host: &mut H, name: RootPath) -> Result<Option<RootPath>, HostFault>
-    ensures found { Tells result (λ found w. found ≡ obstacle_of w (name ∷ [])) (H.state host.old)
+    ensures looks { Looks result (λ found w. found ≡ obstacle_of w (name ∷ [])) (H.state host.old)
         (H.state host.new) }
-    ensures reads { Reads (H.state host.old) (H.state host.new) }
-    ensures silent { Silent (H.state host.old) (H.state host.new) }
-    ensures counts { Counts (H.state host.old) (H.state host.new) result }
 {
     if is_other(host.kind(&name)?) {
         return Ok(Some(name));
@@ -32,11 +30,8 @@ fn look_at<H: Host>(host: &mut H, name: RootPath) -> Result<Option<RootPath>, Ho
 
 #[tactic(auto, using(host_core::proofs::Moments::reads_then))]
 fn look_at_old<H: Host>(host: &mut H, path: &ShipPath) -> Result<Option<RootPath>, HostFault>
-    ensures found { Tells result (λ found w. found ≡ obstacle_of w (shipped_name path.now
+    ensures looks { Looks result (λ found w. found ≡ obstacle_of w (shipped_name path.now
         ∷ backup_name path.now ∷ [])) (H.state host.old) (H.state host.new) }
-    ensures reads { Reads (H.state host.old) (H.state host.new) }
-    ensures silent { Silent (H.state host.old) (H.state host.new) }
-    ensures counts { Counts (H.state host.old) (H.state host.new) result }
 {
     let shipped = path.beside(Suffix::New)?;
     if let Some(found) = look_at(host, shipped)? {
@@ -48,12 +43,9 @@ fn look_at_old<H: Host>(host: &mut H, path: &ShipPath) -> Result<Option<RootPath
 
 #[tactic(auto, using(host_core::proofs::Moments::reads_then))]
 fn look_beside<H: Host>(host: &mut H, path: &ShipPath) -> Result<Option<RootPath>, HostFault>
-    ensures found { Tells result (λ found w. found ≡ obstacle_of w (dist_name path.now ∷ spare_name
+    ensures looks { Looks result (λ found w. found ≡ obstacle_of w (dist_name path.now ∷ spare_name
         path.now ∷ shipped_name path.now ∷ backup_name path.now ∷ [])) (H.state host.old)
         (H.state host.new) }
-    ensures reads { Reads (H.state host.old) (H.state host.new) }
-    ensures silent { Silent (H.state host.old) (H.state host.new) }
-    ensures counts { Counts (H.state host.old) (H.state host.new) result }
 {
     let dist = path.beside(Suffix::Dist)?;
     if let Some(found) = look_at(host, dist)? {
@@ -68,11 +60,8 @@ fn look_beside<H: Host>(host: &mut H, path: &ShipPath) -> Result<Option<RootPath
 
 #[tactic(auto, using(host_core::proofs::Moments::reads_then))]
 fn look_at_all<H: Host>(host: &mut H, path: &ShipPath) -> Result<Option<RootPath>, HostFault>
-    ensures found { Tells result (λ found w. found ≡ obstacle_of w (ordered_names path.now))
+    ensures looks { Looks result (λ found w. found ≡ obstacle_of w (ordered_names path.now))
         (H.state host.old) (H.state host.new) }
-    ensures reads { Reads (H.state host.old) (H.state host.new) }
-    ensures silent { Silent (H.state host.old) (H.state host.new) }
-    ensures counts { Counts (H.state host.old) (H.state host.new) result }
 {
     let home = path.at()?;
     if let Some(found) = look_at(host, home)? {
@@ -84,13 +73,10 @@ fn look_at_all<H: Host>(host: &mut H, path: &ShipPath) -> Result<Option<RootPath
 /// Of a conffile's path and the names beside it the first, in the order of their bytes, at which
 /// something else than a file stands: then it can't be settled.
 pub fn find_obstacle<H: Host>(host: &mut H, path: &ShipPath) -> Result<Option<RootPath>, HostFault>
-    ensures found { Tells result (λ found w. found ≡ obstacle_of w (ordered_names path.now))
+    ensures looks { Looks result (λ found w. found ≡ obstacle_of w (ordered_names path.now))
         (H.state host.old) (H.state host.new) }
     ensures clear { Tells result (λ found w. found ≡ None → CanSettle path.now w) (H.state host.old)
         (H.state host.new) }
-    ensures reads { Reads (H.state host.old) (H.state host.new) }
-    ensures silent { Silent (H.state host.old) (H.state host.new) }
-    ensures counts { Counts (H.state host.old) (H.state host.new) result }
 {
     look_at_all(host, path)
 }

@@ -3,7 +3,8 @@ ghost use Rattle.std.specs.Prelude.{◌≡◌, ◌≢◌, ◌⊎◌, ◌↔◌, 
 ghost use Rattle.std.specs.List.{All, AllPairs};
 ghost use Rattle.host_core.specs.World.{IsFile, HasParent};
 ghost use Rattle.host_core.specs.Unsynced.{is_temporary};
-ghost use Rattle.host_core.specs.Host.{AtEachMoment, Counts, Leaves, Needs, Reads, Silent, Tells};
+ghost use Rattle.host_core.specs.Host.{AtEachMoment, Counts, Leaves, Needs, Silent};
+ghost use Rattle.host_core.specs.Looks.{Looks};
 ghost use Rattle.administration.specs.Files.{NoDirectory};
 ghost use Rattle.conffiles.specs.declared.decisions.Decision.TheVariants.{TakeNew, DropNew, NewToDist, BackupOld, Delete, Rename};
 ghost use Rattle.conffiles.specs.Settling.{shipped_name, access_at, with_access, renewed, settled_files, backed_up, CanSettle, IsFileOrNone, IsMovedIfThere, HasChanged, IsChanging, AreSettled, AreSettling};
@@ -64,11 +65,8 @@ fn only_file(node: Option<Node>) -> Option<Node>
 // The file at a path, where one is there.
 fn file_at<H: Host>(host: &mut H, path: &RootPath) -> Result<Option<Node>, HostFault>
     ensures file { IfOk result (λ found. IfSome found IsFile) }
-    ensures found { Tells result (λ found w. IsFileOrNone (w path.now) → found ≡ w path.now)
+    ensures looks { Looks result (λ found w. IsFileOrNone (w path.now) → found ≡ w path.now)
         (H.state host.old) (H.state host.new) }
-    ensures reads { Reads (H.state host.old) (H.state host.new) }
-    ensures silent { Silent (H.state host.old) (H.state host.new) }
-    ensures counts { Counts (H.state host.old) (H.state host.new) result }
 {
     let node = host.node(path)?;
     Ok(only_file(node))
@@ -76,11 +74,8 @@ fn file_at<H: Host>(host: &mut H, path: &RootPath) -> Result<Option<Node>, HostF
 
 // The access of the file at a path, where one is there.
 fn look_at_access<H: Host>(host: &mut H, path: &RootPath) -> Result<Option<Access>, HostFault>
-    ensures found { Tells result (λ access w. access ≡ access_at (w path.now)) (H.state host.old)
+    ensures looks { Looks result (λ access w. access ≡ access_at (w path.now)) (H.state host.old)
         (H.state host.new) }
-    ensures reads { Reads (H.state host.old) (H.state host.new) }
-    ensures silent { Silent (H.state host.old) (H.state host.new) }
-    ensures counts { Counts (H.state host.old) (H.state host.new) result }
 {
     let node = host.node(path)?;
     Ok(access_of(&node))

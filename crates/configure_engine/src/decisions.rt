@@ -1,7 +1,7 @@
 // What becomes of the conffiles of a record.
 ghost use Rattle.std.specs.Prelude.{◌≡◌, [], IfOk, OnOk, map};
 ghost use Rattle.std.specs.List.{All};
-ghost use Rattle.host_core.specs.Host.{Counts, Reads, Silent, Tells};
+ghost use Rattle.host_core.specs.Looks.{Looks};
 ghost use Rattle.conffiles.specs.Settling.{digest_at};
 ghost use Rattle.status_records.specs.Conffiles.{recorded_digest};
 ghost use Rattle.configure_engine.specs.Decided.{decided_paths, AreDecided, IsDecidedOf};
@@ -49,11 +49,8 @@ fn digest_of(node: &Option<Node>) -> Option<Digest>
 // The digest of the file that is there now.
 #[tactic(auto, using(host_core::proofs::Moments::reads_then))]
 fn digest_now<H: Host>(host: &mut H, path: &ShipPath) -> Result<Option<Digest>, HostFault>
-    ensures found { Tells result (λ digest w. digest ≡ digest_at (w path.now)) (H.state host.old)
+    ensures looks { Looks result (λ digest w. digest ≡ digest_at (w path.now)) (H.state host.old)
         (H.state host.new) }
-    ensures reads { Reads (H.state host.old) (H.state host.new) }
-    ensures silent { Silent (H.state host.old) (H.state host.new) }
-    ensures counts { Counts (H.state host.old) (H.state host.new) result }
 {
     let home = path.at()?;
     let node = host.node(&home)?;
@@ -68,11 +65,8 @@ fn decide_one<H: Host>(
     path: &ShipPath,
 ) -> Result<Settled, HostFault>
     ensures path { IfOk result (λ e. e.path ≡ path.now) }
-    ensures decided { Tells result (λ e w. IsDecidedOf entry.now policy w e) (H.state host.old)
+    ensures looks { Looks result (λ e w. IsDecidedOf entry.now policy w e) (H.state host.old)
         (H.state host.new) }
-    ensures reads { Reads (H.state host.old) (H.state host.new) }
-    ensures silent { Silent (H.state host.old) (H.state host.new) }
-    ensures counts { Counts (H.state host.old) (H.state host.new) result }
 {
     let current = digest_now(host, path)?;
     let recorded = recorded_digest(entry.conffiles.as_slice(), path);
@@ -91,11 +85,8 @@ fn decide_each<H: Host>(
 ) -> Result<(), HostFault>
     requires { list.old.items ≡ [] }
     ensures paths { OnOk result (decided_paths list.new.items ≡ paths.now) }
-    ensures decided { Tells result (λ done w. All (IsDecidedOf entry.now policy w) list.new.items)
+    ensures looks { Looks result (λ done w. All (IsDecidedOf entry.now policy w) list.new.items)
         (H.state host.old) (H.state host.new) }
-    ensures reads { Reads (H.state host.old) (H.state host.new) }
-    ensures silent { Silent (H.state host.old) (H.state host.new) }
-    ensures counts { Counts (H.state host.old) (H.state host.new) result }
 {
     for path in paths {
         list.push(decide_one(host, entry, policy, path)?)?;
@@ -111,11 +102,8 @@ pub(crate) fn decisions<H: Host>(
     policy: ConfPolicy,
 ) -> Result<Vec<Settled>, HostFault>
     ensures paths { IfOk result (λ list. decided_paths list.items ≡ settling_paths entry.now) }
-    ensures decided { Tells result (λ list w. AreDecided entry.now policy w list.items)
+    ensures looks { Looks result (λ list w. AreDecided entry.now policy w list.items)
         (H.state host.old) (H.state host.new) }
-    ensures reads { Reads (H.state host.old) (H.state host.new) }
-    ensures silent { Silent (H.state host.old) (H.state host.new) }
-    ensures counts { Counts (H.state host.old) (H.state host.new) result }
 {
     let paths = settling_paths(alloc, entry)?;
     let mut list = Vec::new(alloc);

@@ -1,7 +1,8 @@
 // Whether the conffiles of a package can be settled.
 ghost use Rattle.std.specs.Prelude.{◌≡◌, None};
 ghost use Rattle.std.specs.List.{All};
-ghost use Rattle.host_core.specs.Host.{Counts, Reads, Silent, Tells};
+ghost use Rattle.host_core.specs.Host.{Tells};
+ghost use Rattle.host_core.specs.Looks.{Looks};
 ghost use Rattle.conffiles.specs.Settling.{CanSettle};
 ghost use Rattle.status_records.specs.ConffilePaths.{is_before};
 ghost use Rattle.configure_engine.specs.Obstacles.{lesser_of, names_of_all, IsObstacle};
@@ -38,13 +39,10 @@ fn look_at_each<H: Host>(
     least: &mut Option<RootPath>,
 ) -> Result<(), HostFault>
     requires { least.old ≡ None }
-    ensures found { Tells result (λ done w. IsObstacle w (names_of_all paths.now) least.new)
+    ensures looks { Looks result (λ done w. IsObstacle w (names_of_all paths.now) least.new)
         (H.state host.old) (H.state host.new) }
     ensures clear { Tells result (λ done w. least.new ≡ None → All (λ x. CanSettle x w) paths.now)
         (H.state host.old) (H.state host.new) }
-    ensures reads { Reads (H.state host.old) (H.state host.new) }
-    ensures silent { Silent (H.state host.old) (H.state host.new) }
-    ensures counts { Counts (H.state host.old) (H.state host.new) result }
 {
     for path in paths {
         if let Some(found) = find_obstacle(host, path)? {
@@ -61,14 +59,11 @@ pub fn obstacle<H: Host>(
     host: &mut H,
     entry: &Record,
 ) -> Result<Option<RootPath>, HostFault>
-    ensures found { Tells result (λ found w. IsObstacle w (names_of_all (settling_paths entry.now))
+    ensures looks { Looks result (λ found w. IsObstacle w (names_of_all (settling_paths entry.now))
         found) (H.state host.old) (H.state host.new) }
     ensures clear { Tells result (λ found w. found ≡ None
         → All (λ x. CanSettle x w) (settling_paths entry.now)) (H.state host.old)
         (H.state host.new) }
-    ensures reads { Reads (H.state host.old) (H.state host.new) }
-    ensures silent { Silent (H.state host.old) (H.state host.new) }
-    ensures counts { Counts (H.state host.old) (H.state host.new) result }
 {
     let paths = settling_paths(alloc, entry)?;
     let mut least = None;

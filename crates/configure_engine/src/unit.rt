@@ -1,7 +1,8 @@
 // The unit that configures a package.
 ghost use Rattle.std.specs.Prelude.{◌≡◌, true, IfOk, OnOk, is_some};
 ghost use Rattle.texts.specs.PackageNames.{is_package_name};
-ghost use Rattle.host_core.specs.Host.{AtEachMomentOf, Counts, Needs, Reads, Silent, Tells};
+ghost use Rattle.host_core.specs.Host.{AtEachMomentOf, Counts, Needs, Reads, Silent};
+ghost use Rattle.host_core.specs.Looks.{Looks};
 ghost use Rattle.host_core.specs.declared.call.Script.TheVariants.{Postinst};
 ghost use Rattle.administration.specs.Places.{script_path as stored_path};
 ghost use Rattle.status_records.specs.ConffilePaths.{AreInOrder};
@@ -27,11 +28,8 @@ use unit_stages::{Stage, run_stages};
 #[tactic(auto, using(host_core::proofs::Moments::reads_then))]
 fn has_postinst<H: Host>(alloc: Global, host: &mut H, name: &Text) -> Result<bool, HostFault>
     requires named { is_package_name name.now ≡ true }
-    ensures found { Tells result (λ is w. is ≡ is_some (w (stored_path name.now Postinst)))
+    ensures looks { Looks result (λ is w. is ≡ is_some (w (stored_path name.now Postinst)))
         (H.state host.old) (H.state host.new) }
-    ensures reads { Reads (H.state host.old) (H.state host.new) }
-    ensures silent { Silent (H.state host.old) (H.state host.new) }
-    ensures counts { Counts (H.state host.old) (H.state host.new) result }
 {
     let path = script_path(alloc, name, Script::Postinst)?;
     Ok(host.kind(&path)?.is_some())

@@ -2,7 +2,8 @@
 ghost use Rattle.std.specs.Prelude.{◌≡◌, ◌++◌, [], Some, IfErr, IfOk, IfSome, IsNone, OnErr, OnOk};
 ghost use Rattle.dependency_sets.specs.Sets.{has};
 ghost use Rattle.held_administration.specs.Open.{IsOpen};
-ghost use Rattle.host_core.specs.Host.{Counts, Needs, Reads, Silent, Since, Tells, NoFault};
+ghost use Rattle.host_core.specs.Host.{Needs, Since, NoFault};
+ghost use Rattle.host_core.specs.Looks.{Looks};
 ghost use Rattle.host_core.specs.Loss.{IsAnswered};
 ghost use Rattle.recorded_packages.specs.Packages.{ArePackagesOf};
 ghost use Rattle.held_administration.specs.Order.{IsInOrder};
@@ -67,11 +68,8 @@ fn begun<H: Host>(
 ) -> Result<(Queue, Vec<bool>), HostFault>
     requires indexed { ArePackagesOf database.now.records packages.old }
     ensures begun { IfOk result (λ both. IsBegun names.now database.now.records both.0) }
-    ensures seen { Tells result (λ both w. AreSilent w both.0 (has both.1.items)) (H.state host.old)
+    ensures looks { Looks result (λ both w. AreSilent w both.0 (has both.1.items)) (H.state host.old)
         (H.state host.new) }
-    ensures reads { Reads (H.state host.old) (H.state host.new) }
-    ensures silent { Silent (H.state host.old) (H.state host.new) }
-    ensures counts { Counts (H.state host.old) (H.state host.new) result }
 {
     let taken = mem::replace(packages, Packages::new(alloc));
     let queue = Queue::of(alloc, database, taken, names)?;

@@ -1,7 +1,7 @@
 // The packages as numbers, and which of them wait and call no script, when configuring begins.
 ghost use Rattle.std.specs.Prelude.{◌≡◌, IfOk, map, true};
 ghost use Rattle.administration.specs.Places.{script_path as stored_path};
-ghost use Rattle.host_core.specs.Host.{Counts, Reads, Silent, Tells};
+ghost use Rattle.host_core.specs.Looks.{Looks};
 ghost use Rattle.status_records.specs.Words.{is_installed};
 ghost use Rattle.texts.specs.PackageNames.{is_package_name};
 ghost use Rattle.configure_run.specs.Starting.{AreSilentOf, is_silent, waits};
@@ -48,11 +48,8 @@ pub(crate) fn waiting_of(
 #[tactic(auto, using(host_core::proofs::Moments::reads_then))]
 fn is_silent<H: Host>(alloc: Global, host: &mut H, name: &Text) -> Result<bool, HostFault>
     requires named { is_package_name name.now ≡ true }
-    ensures found { Tells result (λ is w. is ≡ is_silent w name.now) (H.state host.old)
+    ensures looks { Looks result (λ is w. is ≡ is_silent w name.now) (H.state host.old)
         (H.state host.new) }
-    ensures reads { Reads (H.state host.old) (H.state host.new) }
-    ensures silent { Silent (H.state host.old) (H.state host.new) }
-    ensures counts { Counts (H.state host.old) (H.state host.new) result }
 {
     let path = script_path(alloc, name, Script::Postinst)?;
     Ok(host.kind(&path)?.is_none())
@@ -65,11 +62,8 @@ fn is_silent_at<H: Host>(
     names: &[Text],
     entry: &Record,
 ) -> Result<bool, HostFault>
-    ensures found { Tells result (λ is w. waits names.now entry.now ≡ true
+    ensures looks { Looks result (λ is w. waits names.now entry.now ≡ true
         → is ≡ is_silent w entry.now.name) (H.state host.old) (H.state host.new) }
-    ensures reads { Reads (H.state host.old) (H.state host.new) }
-    ensures silent { Silent (H.state host.old) (H.state host.new) }
-    ensures counts { Counts (H.state host.old) (H.state host.new) result }
 {
     if waits(names, entry) {
         return is_silent(alloc, host, &entry.name);
@@ -84,11 +78,8 @@ pub(crate) fn silent_of<H: Host>(
     names: &[Text],
     records: &[Record],
 ) -> Result<Vec<bool>, HostFault>
-    ensures found { Tells result (λ set w. AreSilentOf w names.now records.now set.items)
+    ensures looks { Looks result (λ set w. AreSilentOf w names.now records.now set.items)
         (H.state host.old) (H.state host.new) }
-    ensures reads { Reads (H.state host.old) (H.state host.new) }
-    ensures silent { Silent (H.state host.old) (H.state host.new) }
-    ensures counts { Counts (H.state host.old) (H.state host.new) result }
 {
     let mut set = Vec::new(alloc);
     for entry in records {

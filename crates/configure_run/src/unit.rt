@@ -2,7 +2,8 @@
 ghost use Rattle.std.specs.Prelude.{◌≡◌, ◌⊎◌, ◌<◌, [], ◌∷◌, None, IfOk, OnOk, length};
 ghost use Rattle.configure_engine.specs.Units.{CanConfigure, HasEnded, IsAmidUnit as IsAmidConfiguring, IsWaiting};
 ghost use Rattle.held_administration.specs.Open.{IsOpen};
-ghost use Rattle.host_core.specs.Host.{AtEachMomentOf, Counts, Needs, Reads, Silent, Tells};
+ghost use Rattle.host_core.specs.Host.{AtEachMomentOf, Counts, Needs, Tells};
+ghost use Rattle.host_core.specs.Looks.{Looks};
 ghost use Rattle.host_core.specs.Loss.{IsAnswered, IsOnDisk};
 ghost use Rattle.held_administration.specs.Order.{IsInOrder};
 ghost use Rattle.unit_reports.specs.Held.{held_by};
@@ -57,13 +58,10 @@ fn obstacle_of<H: Host>(
     name: &Text,
 ) -> Result<Option<RootPath>, HostFault>
     requires waits { IsWaiting database.now.records name.now }
-    ensures found { Tells result (λ found w. HasObstacle database.now.records name.now w found)
+    ensures looks { Looks result (λ found w. HasObstacle database.now.records name.now w found)
         (H.state host.old) (H.state host.new) }
     ensures clear { Tells result (λ found w. found ≡ None → CanConfigure database.now.records
         name.now w) (H.state host.old) (H.state host.new) }
-    ensures reads { Reads (H.state host.old) (H.state host.new) }
-    ensures silent { Silent (H.state host.old) (H.state host.new) }
-    ensures counts { Counts (H.state host.old) (H.state host.new) result }
 {
     match database.get(name) {
         Some(entry) => obstacle(alloc, host, entry),

@@ -5,7 +5,8 @@ ghost use Rattle.std.specs.Str.{bytes_eq};
 ghost use Rattle.host_core.specs.Outcome.{script_name};
 ghost use Rattle.host_core.specs.declared.call.Script.TheVariants.{Postrm};
 ghost use Rattle.texts.specs.PackageNames.{is_package_name};
-ghost use Rattle.host_core.specs.Host.{AtEachMoment, Counts, Leaves, Needs, Reads, Silent, Tells};
+ghost use Rattle.host_core.specs.Host.{AtEachMoment, Counts, Leaves, Needs, Silent};
+ghost use Rattle.host_core.specs.Looks.{Looks};
 ghost use Rattle.administration.specs.Files.{IsReplaced, IsReplacing, IsDropped, IsDropping};
 ghost use Rattle.control_members.specs.Names.{is_member_name};
 ghost use Rattle.control_members.specs.Members.{AreInOrder, names_of, member_node};
@@ -74,12 +75,9 @@ fn names_among(alloc: Global, owner: &Text, entries: &[Text]) -> Result<Texts, A
 /// The names of the control files that are stored with a package, in order.
 pub fn stored_names<H: Host>(alloc: Global, host: &mut H, owner: &Text) -> Result<Texts, HostFault>
     requires named { is_package_name owner.now ≡ true }
-    ensures stored { Tells result (λ names w. AreStoredNames w owner.now names) (H.state host.old)
+    ensures looks { Looks result (λ names w. AreStoredNames w owner.now names) (H.state host.old)
         (H.state host.new) }
     ensures members { IfOk result AreMemberNames }
-    ensures reads { Reads (H.state host.old) (H.state host.new) }
-    ensures silent { Silent (H.state host.old) (H.state host.new) }
-    ensures counts { Counts (H.state host.old) (H.state host.new) result }
 {
     let info = RootPath::from_str(alloc, INFO)?;
     let listing = host.list(&info)?;

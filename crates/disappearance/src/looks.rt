@@ -1,6 +1,7 @@
 // Whether a package disappears.
 ghost use Rattle.std.specs.Prelude.{◌≡◌, ◌↔◌, IfOk, IsTrue};
-ghost use Rattle.host_core.specs.Host.{Counts, Reads, Silent, Tells};
+ghost use Rattle.host_core.specs.Host.{Counts, Reads, Silent};
+ghost use Rattle.host_core.specs.Looks.{Looks};
 ghost use Rattle.host_core.specs.World.{is_directory as is_directory_node};
 ghost use Rattle.diversions.specs.Places.{place};
 ghost use Rattle.diversions.specs.Sights.{is_directory_kind};
@@ -51,12 +52,9 @@ fn is_directory_at<H: Host>(
     name: &Text,
     path: &RootPath,
 ) -> Result<bool, HostFault>
-    ensures found { Tells result
+    ensures looks { Looks result
         (λ is w. is ≡ is_directory_node (w (place diversions.now.entries name.now path.now)))
         (H.state host.old) (H.state host.new) }
-    ensures reads { Reads (H.state host.old) (H.state host.new) }
-    ensures silent { Silent (H.state host.old) (H.state host.new) }
-    ensures counts { Counts (H.state host.old) (H.state host.new) result }
 {
     let at = diversions.place(name, path)?;
     let kind = host.kind(&at)?;
@@ -71,12 +69,9 @@ fn are_directories<H: Host>(
     name: &Text,
     paths: &[RootPath],
 ) -> Result<bool, HostFault>
-    ensures found { Tells result
+    ensures looks { Looks result
         (λ are w. are ≡ are_directories diversions.now.entries name.now w paths.now)
         (H.state host.old) (H.state host.new) }
-    ensures reads { Reads (H.state host.old) (H.state host.new) }
-    ensures silent { Silent (H.state host.old) (H.state host.new) }
-    ensures counts { Counts (H.state host.old) (H.state host.new) result }
 {
     for path in paths {
         let stands = is_directory_at(host, diversions, name, path)?;

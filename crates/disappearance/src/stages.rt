@@ -1,7 +1,8 @@
 // The stages by which a package goes.
 ghost use Rattle.std.specs.Prelude.{◌≡◌, [], ◌∷◌, List, None, true, IfOk, is_some, map};
 ghost use Rattle.texts.specs.PackageNames.{is_package_name};
-ghost use Rattle.host_core.specs.Host.{Counts, Reads, Silent, Tells};
+ghost use Rattle.host_core.specs.Host.{Counts, Reads, Silent};
+ghost use Rattle.host_core.specs.Looks.{Looks};
 ghost use Rattle.host_core.specs.declared.call.Script.TheVariants.{Postrm};
 ghost use Rattle.administration.specs.Places.{script_path as stored_path};
 ghost use Rattle.removal_engine.specs.Scripts.{row_of};
@@ -24,11 +25,8 @@ use version_order::Version;
 // Whether the postrm is stored with a package.
 fn has_postrm<H: Host>(alloc: Global, host: &mut H, name: &Text) -> Result<bool, HostFault>
     requires named { is_package_name name.now ≡ true }
-    ensures found { Tells result (λ stored w. stored ≡ is_some (w (stored_path name.now Postrm)))
+    ensures looks { Looks result (λ stored w. stored ≡ is_some (w (stored_path name.now Postrm)))
         (H.state host.old) (H.state host.new) }
-    ensures reads { Reads (H.state host.old) (H.state host.new) }
-    ensures silent { Silent (H.state host.old) (H.state host.new) }
-    ensures counts { Counts (H.state host.old) (H.state host.new) result }
 {
     let path = script_path(alloc, name, Script::Postrm)?;
     Ok(host.kind(&path)?.is_some())

@@ -1,7 +1,7 @@
 // What stands where a node is to be moved.
 ghost use Rattle.std.specs.Prelude.{◌≡◌, IfOk};
 ghost use Rattle.host_core.specs.World.{kind_of};
-ghost use Rattle.host_core.specs.Host.{Counts, Reads, Silent, Tells};
+ghost use Rattle.host_core.specs.Looks.{Looks};
 ghost use Rattle.diversions.specs.Names.{front_of};
 ghost use Rattle.diversions.specs.Sights.{sight_of};
 
@@ -35,11 +35,8 @@ fn directory_of(alloc: Global, path: &ShipPath) -> Result<RootPath, AllocError>
 }
 
 fn kind_at<H: Host>(host: &mut H, path: &ShipPath) -> Result<Option<Kind>, HostFault>
-    ensures found { Tells result (λ kind w. kind ≡ kind_of (w path.now)) (H.state host.old)
+    ensures looks { Looks result (λ kind w. kind ≡ kind_of (w path.now)) (H.state host.old)
         (H.state host.new) }
-    ensures reads { Reads (H.state host.old) (H.state host.new) }
-    ensures silent { Silent (H.state host.old) (H.state host.new) }
-    ensures counts { Counts (H.state host.old) (H.state host.new) result }
 {
     let place = path.at()?;
     host.kind(&place)
@@ -50,11 +47,8 @@ fn kind_above<H: Host>(
     host: &mut H,
     path: &ShipPath,
 ) -> Result<Option<Kind>, HostFault>
-    ensures found { Tells result (λ kind w. kind ≡ kind_of (w (front_of path.now)))
+    ensures looks { Looks result (λ kind w. kind ≡ kind_of (w (front_of path.now)))
         (H.state host.old) (H.state host.new) }
-    ensures reads { Reads (H.state host.old) (H.state host.new) }
-    ensures silent { Silent (H.state host.old) (H.state host.new) }
-    ensures counts { Counts (H.state host.old) (H.state host.new) result }
 {
     let directory = directory_of(alloc, path)?;
     host.kind(&directory)
@@ -68,11 +62,8 @@ pub(crate) fn look_around<H: Host>(
     from: &ShipPath,
     to: &ShipPath,
 ) -> Result<Sight, HostFault>
-    ensures found { Tells result (λ sight w. sight ≡ sight_of w from.now to.now) (H.state host.old)
+    ensures looks { Looks result (λ sight w. sight ≡ sight_of w from.now to.now) (H.state host.old)
         (H.state host.new) }
-    ensures reads { Reads (H.state host.old) (H.state host.new) }
-    ensures silent { Silent (H.state host.old) (H.state host.new) }
-    ensures counts { Counts (H.state host.old) (H.state host.new) result }
 {
     let there = kind_at(host, from)?;
     let taken = kind_at(host, to)?;

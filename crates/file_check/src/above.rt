@@ -3,7 +3,7 @@ ghost use Rattle.std.specs.Prelude.{◌≡◌, ◌≢◌, ◌<◌, ℕ, ◌++◌
 ghost use Rattle.std.specs.BTreeSet.{contains_text};
 ghost use Rattle.host_core.specs.Paths.{is_path};
 ghost use Rattle.host_core.specs.World.{kind_of};
-ghost use Rattle.host_core.specs.Host.{Counts, Reads, Silent, Tells};
+ghost use Rattle.host_core.specs.Looks.{Looks};
 ghost use Rattle.diversions.specs.Sights.{is_directory_kind};
 ghost use Rattle.file_check.specs.Above.{IsAbove, answer_of, is_link_kind};
 
@@ -29,11 +29,8 @@ fn cut_last(path: &str) -> Option<(&str, &str)>
 
 fn kind_at<H: Host>(alloc: Global, host: &mut H, path: &str) -> Result<Option<Kind>, HostFault>
     requires { is_path path.now ≡ true }
-    ensures found { Tells result (λ kind w. kind ≡ kind_of (w path.now)) (H.state host.old)
+    ensures looks { Looks result (λ kind w. kind ≡ kind_of (w path.now)) (H.state host.old)
         (H.state host.new) }
-    ensures reads { Reads (H.state host.old) (H.state host.new) }
-    ensures silent { Silent (H.state host.old) (H.state host.new) }
-    ensures counts { Counts (H.state host.old) (H.state host.new) result }
 {
     let path = RootPath::from_str(alloc, path)?;
     host.kind(&path)
@@ -85,11 +82,8 @@ pub(crate) fn look_above<H: Host>(
     place: &str,
 ) -> Result<Above, HostFault>
     requires { is_path place.now ≡ true }
-    ensures above { Tells result (λ above w. IsAbove (contains_text made.now) w place.now above)
+    ensures looks { Looks result (λ above w. IsAbove (contains_text made.now) w place.now above)
         (H.state host.old) (H.state host.new) }
-    ensures reads { Reads (H.state host.old) (H.state host.new) }
-    ensures silent { Silent (H.state host.old) (H.state host.new) }
-    ensures counts { Counts (H.state host.old) (H.state host.new) result }
 {
     let mut rest = place;
     let mut lacking = false;

@@ -1,7 +1,8 @@
 // Shipped paths, one after another.
 ghost use Rattle.std.specs.Prelude.{◌≡◌, false, MatchOption, IfOk, IfNone};
 ghost use Rattle.std.specs.BTreeSet.{contains_text};
-ghost use Rattle.host_core.specs.Host.{Counts, Needs, Reads, Silent, Tells};
+ghost use Rattle.host_core.specs.Host.{Needs};
+ghost use Rattle.host_core.specs.Looks.{Looks};
 ghost use Rattle.package_files.specs.Files.{Each};
 ghost use Rattle.package_files.specs.Free.{IsSeen};
 ghost use Rattle.file_check.specs.Index.{AllOutside};
@@ -26,7 +27,7 @@ fn check_one<H: Host>(
     shipped: &Work,
 ) -> Result<Option<StepFault>, HostFault>
     requires seen { Needs (H.state host.old) (λ w. IsSeen w shipped.now) }
-    ensures found { Tells result
+    ensures looks { Looks result
         (λ found w. MatchOption found
         (IsSound owning.now (contains_text index.now.made) (contains_text index.now.twice) w
         shipped.now)
@@ -35,9 +36,6 @@ fn check_one<H: Host>(
         (H.state host.old) (H.state host.new) }
     ensures apart { IfOk result
         (λ found. IfNone found (contains_text index.now.twice shipped.now.place ≡ false)) }
-    ensures reads { Reads (H.state host.old) (H.state host.new) }
-    ensures silent { Silent (H.state host.old) (H.state host.new) }
-    ensures counts { Counts (H.state host.old) (H.state host.new) result }
 {
     shipped.place.law();
     let above = look_above(alloc, host, &index.made, shipped.place.as_str())?;
@@ -54,7 +52,7 @@ pub(crate) fn check_each<H: Host>(
     works: &[Work],
 ) -> Result<Option<StepFault>, HostFault>
     requires seen { Needs (H.state host.old) (λ w. Each (IsSeen w) works.now) }
-    ensures found { Tells result
+    ensures looks { Looks result
         (λ found w. MatchOption found
         (AreSound owning.now (contains_text index.now.made) (contains_text index.now.twice) w
         works.now)
@@ -63,9 +61,6 @@ pub(crate) fn check_each<H: Host>(
         (H.state host.old) (H.state host.new) }
     ensures apart { IfOk result
         (λ found. IfNone found (AllOutside (contains_text index.now.twice) works.now)) }
-    ensures reads { Reads (H.state host.old) (H.state host.new) }
-    ensures silent { Silent (H.state host.old) (H.state host.new) }
-    ensures counts { Counts (H.state host.old) (H.state host.new) result }
 {
     for one in works {
         if let Some(fault) = check_one(alloc, host, owning, index, one)? {

@@ -1,7 +1,8 @@
 // What stands at the place of a shipped path and at the names beside it, and which of it is in the way.
 ghost use Rattle.std.specs.Prelude.{◌≡◌};
 ghost use Rattle.host_core.specs.World.{kind_of};
-ghost use Rattle.host_core.specs.Host.{Counts, Needs, Reads, Silent, Tells};
+ghost use Rattle.host_core.specs.Host.{Needs};
+ghost use Rattle.host_core.specs.Looks.{Looks};
 ghost use Rattle.package_files.specs.Free.{IsSeen};
 ghost use Rattle.file_check.specs.Ways.{at_names, in_way, in_way_by, is_diverted, sight_of};
 
@@ -54,11 +55,8 @@ pub(crate) fn is_in_way(shipped: &Work, sight: Sight) -> bool
 // What stands at the place, which for all but a conffile is the target.
 fn kind_at_place<H: Host>(host: &mut H, shipped: &Work) -> Result<Option<Kind>, HostFault>
     requires seen { Needs (H.state host.old) (λ w. IsSeen w shipped.now) }
-    ensures found { Tells result (λ kind w. kind ≡ kind_of (w shipped.now.place)) (H.state host.old)
+    ensures looks { Looks result (λ kind w. kind ≡ kind_of (w shipped.now.place)) (H.state host.old)
         (H.state host.new) }
-    ensures reads { Reads (H.state host.old) (H.state host.new) }
-    ensures silent { Silent (H.state host.old) (H.state host.new) }
-    ensures counts { Counts (H.state host.old) (H.state host.new) result }
 {
     if shipped.target.is(&shipped.place) {
         return Ok(shipped.had);
@@ -70,11 +68,8 @@ fn kind_at_place<H: Host>(host: &mut H, shipped: &Work) -> Result<Option<Kind>, 
 #[tactic(auto, using(host_core::proofs::Moments::reads_then))]
 pub(crate) fn look_around<H: Host>(host: &mut H, shipped: &Work) -> Result<Sight, HostFault>
     requires seen { Needs (H.state host.old) (λ w. IsSeen w shipped.now) }
-    ensures found { Tells result (λ sight w. sight ≡ sight_of w shipped.now) (H.state host.old)
+    ensures looks { Looks result (λ sight w. sight ≡ sight_of w shipped.now) (H.state host.old)
         (H.state host.new) }
-    ensures reads { Reads (H.state host.old) (H.state host.new) }
-    ensures silent { Silent (H.state host.old) (H.state host.new) }
-    ensures counts { Counts (H.state host.old) (H.state host.new) result }
 {
     let place = kind_at_place(host, shipped)?;
     let backup = host.kind(&shipped.backup)?;

@@ -1,7 +1,8 @@
 // The first step fault of the files of a package, or none.
 ghost use Rattle.std.specs.Prelude.{◌≡◌, IfOk, IfNone, IfSome, MatchOption};
 ghost use Rattle.std.specs.List.{IsDistinct};
-ghost use Rattle.host_core.specs.Host.{Counts, Needs, Reads, Silent, Tells};
+ghost use Rattle.host_core.specs.Host.{Needs, Tells};
+ghost use Rattle.host_core.specs.Looks.{Looks};
 ghost use Rattle.package_files.specs.Files.{Each};
 ghost use Rattle.package_files.specs.Free.{IsFreeIn, IsSeen};
 ghost use Rattle.package_files.specs.Names.{IsHomed, IsNamed};
@@ -29,14 +30,11 @@ fn check_seen<H: Host>(
     works: &[Work],
 ) -> Result<Option<StepFault>, HostFault>
     requires seen { Needs (H.state host.old) (λ w. Each (IsSeen w) works.now) }
-    ensures found { Tells result
+    ensures looks { Looks result
         (λ found w.
         MatchOption found (AllSound owning.now works.now w) (IsFirstFault owning.now works.now w))
         (H.state host.old) (H.state host.new) }
     ensures distinct { IfOk result (λ found. IfNone found (IsDistinct is_one_place works.now)) }
-    ensures reads { Reads (H.state host.old) (H.state host.new) }
-    ensures silent { Silent (H.state host.old) (H.state host.new) }
-    ensures counts { Counts (H.state host.old) (H.state host.new) result }
 {
     let index = Index::of_works(alloc, works)?;
     check_each(alloc, host, owning, &index, works)
@@ -67,14 +65,11 @@ pub fn check<H: Host>(
         w))
         (H.state host.old) (H.state host.new) }
     ensures distinct { IfOk result (λ found. IfNone found (IsDistinct is_one_place works.new)) }
-    ensures fault { Tells result
+    ensures looks { Looks result
         (λ found w. IfSome found
         (IsFirstFault (owning diversions.now.entries lists.now.lists yields.now incoming.now)
         works.old w))
         (H.state host.old) (H.state host.new) }
-    ensures reads { Reads (H.state host.old) (H.state host.new) }
-    ensures silent { Silent (H.state host.old) (H.state host.new) }
-    ensures counts { Counts (H.state host.old) (H.state host.new) result }
 {
     look_at_targets(host, works)?;
     let owning = Owning {

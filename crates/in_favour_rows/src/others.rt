@@ -1,6 +1,6 @@
 // The rows of other packages.
 ghost use Rattle.std.specs.Prelude.{◌≡◌, [], IfOk, OnOk, map};
-ghost use Rattle.host_core.specs.Host.{Counts, Reads, Silent, Tells};
+ghost use Rattle.host_core.specs.Looks.{Looks};
 ghost use Rattle.status_records.specs.Records.{AreApart, IsWithout};
 ghost use Rattle.unpack_relations.specs.Checks as checks;
 ghost use Rattle.unpack_rows.specs.EndStates.{AreRecorded};
@@ -30,11 +30,8 @@ fn other_package<H: Host>(
     ensures own { IfOk result (λ other. other.row.owner ≡ OfPackage entry.now.«record».name) }
     ensures shaped { IfOk result (λ other. (stored : WhichAreStored)
         × (other ≡ package_with incoming.now.name incoming.now.version stored entry.now)) }
-    ensures row { Tells result (λ other w. other ≡ other_package incoming.now.name
+    ensures looks { Looks result (λ other w. other ≡ other_package incoming.now.name
         incoming.now.version w entry.now) (H.state host.old) (H.state host.new) }
-    ensures reads { Reads (H.state host.old) (H.state host.new) }
-    ensures silent { Silent (H.state host.old) (H.state host.new) }
-    ensures counts { Counts (H.state host.old) (H.state host.new) result }
 {
     let stored = look_for_scripts(alloc, host, &entry.record.name)?;
     Ok(OtherPackage {
@@ -55,11 +52,8 @@ fn push_others<H: Host>(
     ensures own { OnOk result (AreOwn others.new.items) }
     ensures shaped { OnOk result (AreRowsOf incoming.now.name incoming.now.version entries.now
         others.new.items) }
-    ensures rows { Tells result (λ done w. others.new.items ≡ map (other_package incoming.now.name
+    ensures looks { Looks result (λ done w. others.new.items ≡ map (other_package incoming.now.name
         incoming.now.version w) entries.now) (H.state host.old) (H.state host.new) }
-    ensures reads { Reads (H.state host.old) (H.state host.new) }
-    ensures silent { Silent (H.state host.old) (H.state host.new) }
-    ensures counts { Counts (H.state host.old) (H.state host.new) result }
 {
     for entry in entries {
         others.push(other_package(alloc, host, incoming, entry)?)?;
@@ -77,7 +71,7 @@ pub fn rows_beside<H: Host>(
     beside: &Beside,
 ) -> Result<Vec<OtherPackage>, HostFault>
     requires { checks.AreApart incoming.now.name database.now.records beside.now }
-    ensures rows { Tells result (λ others w. AreRowsBeside incoming.now.name incoming.now.version
+    ensures looks { Looks result (λ others w. AreRowsBeside incoming.now.name incoming.now.version
         database.now.records beside.now w others.items) (H.state host.old) (H.state host.new) }
     ensures shaped { IfOk result (λ others. AreRowsOf incoming.now.name incoming.now.version
         (entries_of database.now.records beside.now) others.items) }
@@ -87,9 +81,6 @@ pub fn rows_beside<H: Host>(
     ensures unnamed { IfOk result (λ others. IsWithout incoming.now.name
         (records_of others.items)) }
     ensures apart { IfOk result (λ others. AreApart (records_of others.items)) }
-    ensures reads { Reads (H.state host.old) (H.state host.new) }
-    ensures silent { Silent (H.state host.old) (H.state host.new) }
-    ensures counts { Counts (H.state host.old) (H.state host.new) result }
 {
     let entries = entries_of(alloc, database, beside)?;
     let mut others = Vec::new(alloc);

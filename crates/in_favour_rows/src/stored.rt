@@ -1,7 +1,7 @@
 // Which scripts of another package are stored.
 ghost use Rattle.std.specs.Prelude.{◌≡◌, is_some, true};
 ghost use Rattle.texts.specs.PackageNames.{is_package_name};
-ghost use Rattle.host_core.specs.Host.{Counts, Reads, Silent, Tells};
+ghost use Rattle.host_core.specs.Looks.{Looks};
 ghost use Rattle.administration.specs.Places.{script_path as stored_path};
 ghost use Rattle.in_favour_rows.specs.Rows.{stored_in};
 
@@ -25,11 +25,8 @@ fn is_stored<H: Host>(
     script: Script,
 ) -> Result<bool, HostFault>
     requires named { is_package_name name.now ≡ true }
-    ensures found { Tells result (λ is w. is ≡ is_some (w (stored_path name.now script)))
+    ensures looks { Looks result (λ is w. is ≡ is_some (w (stored_path name.now script)))
         (H.state host.old) (H.state host.new) }
-    ensures reads { Reads (H.state host.old) (H.state host.new) }
-    ensures silent { Silent (H.state host.old) (H.state host.new) }
-    ensures counts { Counts (H.state host.old) (H.state host.new) result }
 {
     let path = script_path(alloc, name, script)?;
     Ok(host.kind(&path)?.is_some())
@@ -43,11 +40,8 @@ pub(crate) fn look_for_scripts<H: Host>(
     name: &Text,
 ) -> Result<Stored, HostFault>
     requires named { is_package_name name.now ≡ true }
-    ensures found { Tells result (λ stored w. stored ≡ stored_in w name.now) (H.state host.old)
+    ensures looks { Looks result (λ stored w. stored ≡ stored_in w name.now) (H.state host.old)
         (H.state host.new) }
-    ensures reads { Reads (H.state host.old) (H.state host.new) }
-    ensures silent { Silent (H.state host.old) (H.state host.new) }
-    ensures counts { Counts (H.state host.old) (H.state host.new) result }
 {
     let prerm = is_stored(alloc, host, name, Script::Prerm)?;
     let postinst = is_stored(alloc, host, name, Script::Postinst)?;

@@ -1,6 +1,7 @@
 // The administration as a whole, part by part in the order in which they are opened.
 ghost use Rattle.std.specs.Prelude.{◌≡◌, ◌∷◌, [], true, false, IsTrue, Some, IfOk, OnOk, MatchBool};
-ghost use Rattle.host_core.specs.Host.{AtEachMoment, Counts, Gives, Leaves, Needs, Reads, Silent, Tells};
+ghost use Rattle.host_core.specs.Host.{AtEachMoment, Gives, Leaves, Needs, Reads, Silent};
+ghost use Rattle.host_core.specs.Looks.{Looks};
 ghost use Rattle.host_core.specs.Paths.{is_path};
 ghost use Rattle.host_core.specs.World.{HasParent, World, IsDirectory};
 ghost use Rattle.administration.specs.Fault.{CountsAdministration};
@@ -65,12 +66,9 @@ fn make_way<H: Host>(alloc: Global, host: &mut H, place: &str) -> Result<(), Adm
 
 // Whether a directory stands there.
 fn is_directory<H: Host>(host: &mut H, path: &RootPath) -> Result<bool, HostFault>
-    ensures found { Tells result
+    ensures looks { Looks result
         (λ there w. MatchBool there (IsDirectory (w path.now)) (NoDirectory (w path.now)))
         (H.state host.old) (H.state host.new) }
-    ensures reads { Reads (H.state host.old) (H.state host.new) }
-    ensures silent { Silent (H.state host.old) (H.state host.new) }
-    ensures counts { Counts (H.state host.old) (H.state host.new) result }
 {
     match look(host, path)? {
         Standing::Directory => Ok(true),

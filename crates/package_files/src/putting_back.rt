@@ -1,7 +1,8 @@
 // Files that were written are put back, the last first (Policy 6.6, the unwinding of an unpack).
 ghost use Rattle.std.specs.Prelude.{◌≡◌, ◌↔◌, ◌⊎◌, ◌∷◌, [], true, false, IsTrue, Some};
 ghost use Rattle.host_core.specs.World.{IsBare, is_directory};
-ghost use Rattle.host_core.specs.Host.{AtEachMoment, Counts, Leaves, Needs, Reads, Silent, Tells};
+ghost use Rattle.host_core.specs.Host.{AtEachMoment, Counts, Leaves, Needs, Silent};
+ghost use Rattle.host_core.specs.Looks.{Looks};
 ghost use Rattle.package_files.specs.Files.{Each};
 ghost use Rattle.package_files.specs.Names.{AllInOrder, IsNamed};
 ghost use Rattle.package_files.specs.Back.{CanGoBack, CanRestore, GoesBack, IsGoingBack, MakesDirectory, restored};
@@ -11,11 +12,8 @@ use host_core::{Host, HostFault, Kind, Node, RootPath};
 
 /// Whether nothing is below a directory.
 fn is_bare<H: Host>(host: &mut H, path: &RootPath) -> Result<bool, HostFault>
-    ensures found { Tells result (λ bare w. IsTrue bare ↔ IsBare w path.now) (H.state host.old)
+    ensures looks { Looks result (λ bare w. IsTrue bare ↔ IsBare w path.now) (H.state host.old)
         (H.state host.new) }
-    ensures reads { Reads (H.state host.old) (H.state host.new) }
-    ensures silent { Silent (H.state host.old) (H.state host.new) }
-    ensures counts { Counts (H.state host.old) (H.state host.new) result }
 {
     let listing = host.list(path)?;
     if listing.bad {

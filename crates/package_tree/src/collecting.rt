@@ -1,6 +1,7 @@
 // The ship map of a tree.
 ghost use Rattle.std.specs.Prelude.{◌≡◌, ◌≤◌, ◌++◌, ◌∷◌, [], IfNone, IfOk, OnOk, IsTrue, MatchBool, MatchOption, Some, length};
-ghost use Rattle.host_core.specs.Host.{Counts, Needs, Reads, Silent, Tells};
+ghost use Rattle.host_core.specs.Host.{Needs};
+ghost use Rattle.host_core.specs.Looks.{Looks};
 ghost use Rattle.host_core.specs.declared.node.Node.{Node as ANode};
 ghost use Rattle.package_tree.specs.ShipMap.{paths_of, AreFiles, IsLarge, IsTooLarge};
 ghost use Rattle.package_tree.specs.Shipped.{AreShipped, HasNoPath, IsFirstPath};
@@ -55,7 +56,7 @@ fn add<H: Host>(
     path: &RootPath,
     files: &mut Vec<Shipped>,
 ) -> Result<bool, HostFault>
-    ensures found { Tells result
+    ensures looks { Looks result
         (λ large w. MatchBool large (IsLarge (w path.now))
         ((IsLarge (w path.now) → ⊥)
         × ((node : ANode) × (w path.now ≡ Some node)
@@ -65,9 +66,6 @@ fn add<H: Host>(
         (λ large. MatchBool large (files.new.items ≡ files.old.items)
         ((node : ANode)
         × (files.new.items ≡ files.old.items ++ record { path = path.now; node = node } ∷ []))) }
-    ensures reads { Reads (H.state host.old) (H.state host.new) }
-    ensures silent { Silent (H.state host.old) (H.state host.new) }
-    ensures counts { Counts (H.state host.old) (H.state host.new) result }
 {
     let node = host.node(path)?;
     if is_large(&node) {
@@ -88,16 +86,13 @@ pub(crate) fn collect<H: Host>(
 ) -> Result<Option<RootPath>, HostFault>
     requires empty { files.old.items ≡ [] }
     requires shipped { Needs (H.state host.old) (λ w. AreShipped w paths.now) }
-    ensures found { Tells result
+    ensures looks { Looks result
         (λ large w. MatchOption large (AreFiles w files.new.items × HasNoPath (IsTooLarge w))
         (IsFirstPath (IsTooLarge w)))
         (H.state host.old) (H.state host.new) }
     ensures whole { IfOk result
         (λ large.
         IfNone large ((paths_of files.new.items ≡ paths.now) × (length files.new.items ≤ 65536))) }
-    ensures reads { Reads (H.state host.old) (H.state host.new) }
-    ensures silent { Silent (H.state host.old) (H.state host.new) }
-    ensures counts { Counts (H.state host.old) (H.state host.new) result }
 {
     for (index, path) in paths.iter().enumerate() {
         if index >= MOST_PATHS {

@@ -1,6 +1,7 @@
 // Lines of `DEBIAN/conffiles` that don't fit what the package ships.
 ghost use Rattle.std.specs.Prelude.{◌≡◌, ◌↔◌, IfOk, IsTrue, MatchBool, MatchOption, Some, Contains};
-ghost use Rattle.host_core.specs.Host.{Counts, Needs, Reads, Silent, Tells};
+ghost use Rattle.host_core.specs.Host.{Needs};
+ghost use Rattle.host_core.specs.Looks.{Looks};
 ghost use Rattle.host_core.specs.declared.node.Kind.{Kind as AKind};
 ghost use Rattle.package_tree.specs.Conffiles.{HasNoEntry};
 ghost use Rattle.package_tree.specs.ConffileFaults.{IsAstray, IsFirstAstray, IsNameOf, IsOfBoth, named_by};
@@ -55,12 +56,9 @@ fn is_file(kind: Option<Kind>) -> bool
 fn ships_file<H: Host>(host: &mut H, paths: &[RootPath], path: &[u8]) -> Result<bool, HostFault>
     requires order { AreInOrder paths.now }
     requires shipped { Needs (H.state host.old) (λ w. AreShipped w paths.now) }
-    ensures found { Tells result
+    ensures looks { Looks result
         (λ is w. MatchBool is (ShipsFile w path.now) (ShipsFile w path.now → ⊥)) (H.state host.old)
         (H.state host.new) }
-    ensures reads { Reads (H.state host.old) (H.state host.new) }
-    ensures silent { Silent (H.state host.old) (H.state host.new) }
-    ensures counts { Counts (H.state host.old) (H.state host.new) result }
 {
     match find(paths, path) {
         Some(found) => Ok(is_file(host.kind(found)?)),
@@ -87,12 +85,9 @@ fn is_astray<H: Host>(
 ) -> Result<bool, HostFault>
     requires order { AreInOrder paths.now }
     requires shipped { Needs (H.state host.old) (λ w. AreShipped w paths.now) }
-    ensures found { Tells result
+    ensures looks { Looks result
         (λ astray w. MatchBool astray (IsAstray w entry.now) (IsAstray w entry.now → ⊥))
         (H.state host.old) (H.state host.new) }
-    ensures reads { Reads (H.state host.old) (H.state host.new) }
-    ensures silent { Silent (H.state host.old) (H.state host.new) }
-    ensures counts { Counts (H.state host.old) (H.state host.new) result }
 {
     match entry {
         Entry::Blank => Ok(false),
@@ -134,13 +129,10 @@ pub(crate) fn first_astray<H: Host>(
 ) -> Result<Option<LineName>, HostFault>
     requires order { AreInOrder paths.now }
     requires shipped { Needs (H.state host.old) (λ w. AreShipped w paths.now) }
-    ensures found { Tells result
+    ensures looks { Looks result
         (λ found w.
         MatchOption found (HasNoEntry (IsAstray w) entries.now) (IsFirstAstray w entries.now))
         (H.state host.old) (H.state host.new) }
-    ensures reads { Reads (H.state host.old) (H.state host.new) }
-    ensures silent { Silent (H.state host.old) (H.state host.new) }
-    ensures counts { Counts (H.state host.old) (H.state host.new) result }
 {
     for (index, entry) in entries.iter().enumerate() {
         if is_astray(alloc, host, paths, entry)? {

@@ -3,7 +3,8 @@ ghost use Rattle.std.specs.Prelude.{◌≡◌, ◌&&◌, ◌||◌, ◌++◌, ◌
 ghost use Rattle.std.specs.List.{list_any};
 ghost use Rattle.std.specs.Str.{bytes_eq};
 ghost use Rattle.std.specs.BTreeSet.{contains_text};
-ghost use Rattle.host_core.specs.Host.{Counts, Leaves, Reads, Silent, Tells};
+ghost use Rattle.host_core.specs.Host.{Counts, Leaves, Reads, Silent};
+ghost use Rattle.host_core.specs.Looks.{Looks};
 ghost use Rattle.host_core.specs.declared.node.Node.{Node as ANode};
 ghost use Rattle.package_tree.specs.OtherNames.{is_other_name};
 ghost use Rattle.package_tree.specs.OtherFiles.{names_of, control_member, AreOthers, AreOthersOf, HasTakenOther};
@@ -140,13 +141,10 @@ fn listed<H: Host>(
     requires { directory.now ≡ codes "/DEBIAN" }
     ensures named { IfOk result
         (λ names. (q : List ℕ) → contains_text names q ≡ true → is_other_name q ≡ true) }
-    ensures found { Tells result
+    ensures looks { Looks result
         (λ names w. (q : List ℕ) → is_other_name q ≡ true → IsSome (w (directory.now ++ 47 ∷ q))
         → contains_text names q ≡ true)
         (H.state host.old) (H.state host.new) }
-    ensures reads { Reads (H.state host.old) (H.state host.new) }
-    ensures silent { Silent (H.state host.old) (H.state host.new) }
-    ensures counts { Counts (H.state host.old) (H.state host.new) result }
 {
     let listing = host.list(directory)?;
     Ok(other_names(alloc, listing.names.as_slice())?)

@@ -5,6 +5,7 @@ ghost use Rattle.control_fields.specs.Grammar.{lines_of};
 ghost use Rattle.host_core.specs.Paths.{is_path};
 ghost use Rattle.host_core.specs.World.{World};
 ghost use Rattle.host_core.specs.Host.{Counts, Leaves, Needs, Reads, Silent, Tells};
+ghost use Rattle.host_core.specs.Looks.{Looks};
 ghost use Rattle.host_core.specs.declared.call.Script.{Script as AScript};
 ghost use Rattle.host_core.specs.declared.node.Access.{Access};
 ghost use Rattle.administration.specs.Scripts.{script_of, file_of};
@@ -99,11 +100,8 @@ fn lists_shipped(listing: &Listing) -> bool
 
 // Whether something beside `DEBIAN` stands at the root.
 fn ships<H: Host>(alloc: Global, host: &mut H) -> Result<bool, HostFault>
-    ensures found { Tells result (λ ships w. IsTrue ships ↔ Ships w) (H.state host.old)
+    ensures looks { Looks result (λ ships w. IsTrue ships ↔ Ships w) (H.state host.old)
         (H.state host.new) }
-    ensures reads { Reads (H.state host.old) (H.state host.new) }
-    ensures silent { Silent (H.state host.old) (H.state host.new) }
-    ensures counts { Counts (H.state host.old) (H.state host.new) result }
 {
     let root = RootPath::from_str(alloc, "")?;
     let listing = host.list(&root)?;
@@ -113,11 +111,8 @@ fn ships<H: Host>(alloc: Global, host: &mut H) -> Result<bool, HostFault>
 // What stands at a path of the tree.
 fn node_at<H: Host>(alloc: Global, host: &mut H, path: &str) -> Result<Option<Node>, HostFault>
     requires { is_path path.now ≡ true }
-    ensures found { Tells result (λ node w. node ≡ w path.now) (H.state host.old)
+    ensures looks { Looks result (λ node w. node ≡ w path.now) (H.state host.old)
         (H.state host.new) }
-    ensures reads { Reads (H.state host.old) (H.state host.new) }
-    ensures silent { Silent (H.state host.old) (H.state host.new) }
-    ensures counts { Counts (H.state host.old) (H.state host.new) result }
 {
     let path = RootPath::from_str(alloc, path)?;
     host.node(&path)

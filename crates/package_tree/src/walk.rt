@@ -3,7 +3,8 @@ ghost use Rattle.std.specs.Prelude.{◌≡◌, ◌||◌, ◌&&◌, not, List, �
 ghost use Rattle.host_core.specs.declared.node.Kind.{Kind as AKind};
 ghost use Rattle.package_tree.specs.declared.walk.Sight.{Sight as ASight};
 ghost use Rattle.std.specs.BTreeSet.{contains_text};
-ghost use Rattle.host_core.specs.Host.{Counts, Needs, Reads, Silent, Tells};
+ghost use Rattle.host_core.specs.Host.{Counts, Needs, Reads, Silent};
+ghost use Rattle.host_core.specs.Looks.{Looks};
 ghost use Rattle.host_core.specs.Paths.{is_below_administration};
 ghost use Rattle.administration.specs.Directories.{HasBadName};
 ghost use Rattle.package_tree.specs.Shipped.{is_control, AreInOrder, ArePathTexts, AreShipped, HasNoPath, IsBadBeside, IsFirstPath};
@@ -120,14 +121,11 @@ fn look<H: Host>(
     todo: &mut BTreeSet<String>,
 ) -> Result<Sight, HostFault>
     requires there { Needs (H.state host.old) (λ w. IsSome (w path.now)) }
-    ensures found { Tells result
+    ensures looks { Looks result
         (λ sight w. HasLooked w path.now (contains_text todo.old) (contains_text todo.new) sight)
         (H.state host.old) (H.state host.new) }
     ensures children { OnOk result
         (AreChildren path.now (contains_text todo.old) (contains_text todo.new)) }
-    ensures reads { Reads (H.state host.old) (H.state host.new) }
-    ensures silent { Silent (H.state host.old) (H.state host.new) }
-    ensures counts { Counts (H.state host.old) (H.state host.new) result }
 {
     if !has_room(path.as_str()) {
         return Ok(Sight::Bad);

@@ -2,7 +2,7 @@
 ghost use Rattle.std.specs.Prelude.{◌≡◌, true, is_some};
 ghost use Rattle.std.specs.Option.{option_copied};
 ghost use Rattle.texts.specs.PackageNames.{is_package_name};
-ghost use Rattle.host_core.specs.Host.{Counts, Reads, Silent, Tells};
+ghost use Rattle.host_core.specs.Looks.{Looks};
 ghost use Rattle.host_core.specs.declared.call.Script.{Script as AScript};
 ghost use Rattle.administration.specs.Places.{script_path as stored_path};
 ghost use Rattle.unpack_rows.specs.ForwardRows.{is_present};
@@ -23,12 +23,9 @@ fn is_stored<H: Host>(
     script: Script,
 ) -> Result<bool, HostFault>
     requires named { is_package_name name.now ≡ true }
-    ensures found { Tells result
+    ensures looks { Looks result
         (λ is w. is ≡ is_some (w (stored_path name.now script)))
         (H.state host.old) (H.state host.new) }
-    ensures reads { Reads (H.state host.old) (H.state host.new) }
-    ensures silent { Silent (H.state host.old) (H.state host.new) }
-    ensures counts { Counts (H.state host.old) (H.state host.new) result }
 {
     let path = script_path(alloc, name, script)?;
     Ok(host.kind(&path)?.is_some())
@@ -43,13 +40,10 @@ fn look_for_two<H: Host>(
     second: Script,
 ) -> Result<(bool, bool), HostFault>
     requires named { is_package_name name.now ≡ true }
-    ensures found { Tells result
+    ensures looks { Looks result
         (λ both w. (both.0 ≡ is_some (w (stored_path name.now first)))
         × (both.1 ≡ is_some (w (stored_path name.now second))))
         (H.state host.old) (H.state host.new) }
-    ensures reads { Reads (H.state host.old) (H.state host.new) }
-    ensures silent { Silent (H.state host.old) (H.state host.new) }
-    ensures counts { Counts (H.state host.old) (H.state host.new) result }
 {
     let one = is_stored(alloc, host, name, first)?;
     let other = is_stored(alloc, host, name, second)?;
@@ -59,13 +53,10 @@ fn look_for_two<H: Host>(
 #[tactic(auto, using(host_core::proofs::Moments::reads_then))]
 fn look_for_scripts<H: Host>(alloc: Global, host: &mut H, name: &Text) -> Result<Present, HostFault>
     requires named { is_package_name name.now ≡ true }
-    ensures found { Tells result
+    ensures looks { Looks result
         (λ stored w. (script : AScript)
         → is_present stored script ≡ is_some (w (stored_path name.now script)))
         (H.state host.old) (H.state host.new) }
-    ensures reads { Reads (H.state host.old) (H.state host.new) }
-    ensures silent { Silent (H.state host.old) (H.state host.new) }
-    ensures counts { Counts (H.state host.old) (H.state host.new) result }
 {
     let (preinst, postinst) = look_for_two(alloc, host, name, Script::Preinst, Script::Postinst)?;
     let (prerm, postrm) = look_for_two(alloc, host, name, Script::Prerm, Script::Postrm)?;
@@ -85,12 +76,9 @@ pub(crate) fn stored_scripts<H: Host>(
     found: Option<&Record>,
 ) -> Result<Present, HostFault>
     requires named { is_package_name name.now ≡ true }
-    ensures seen { Tells result
+    ensures looks { Looks result
         (λ stored w. IsSeen (option_copied found.entry) name.now w stored)
         (H.state host.old) (H.state host.new) }
-    ensures reads { Reads (H.state host.old) (H.state host.new) }
-    ensures silent { Silent (H.state host.old) (H.state host.new) }
-    ensures counts { Counts (H.state host.old) (H.state host.new) result }
 {
     if found.is_some() {
         return look_for_scripts(alloc, host, name);

@@ -2,7 +2,8 @@
 ghost use Rattle.std.specs.Prelude.{◌≡◌, ◌≤◌, ◌++◌, IfOk, IfNone, OnOk, MatchOption, false, true, length};
 ghost use Rattle.std.specs.List.{IsDistinct};
 ghost use Rattle.std.specs.List.Sorted.{IsPermutation};
-ghost use Rattle.host_core.specs.Host.{AtEachMoment, Counts, Gives, Leaves, Needs, Reads, Silent, Tells};
+ghost use Rattle.host_core.specs.Host.{AtEachMoment, Counts, Gives, Leaves, Needs, Silent, Tells};
+ghost use Rattle.host_core.specs.Looks.{Looks};
 ghost use Rattle.texts.specs.PackageNames.{is_package_name};
 ghost use Rattle.administration.specs.Places.{list_path};
 ghost use Rattle.file_check.specs.Clashes.{owning};
@@ -70,15 +71,12 @@ fn check_works<H: Host>(
         works.new.items)) (H.state host.old) (H.state host.new) }
     ensures distinct { IfOk result
         (λ found. IfNone found (IsDistinct is_one_place works.new.items)) }
-    ensures judged { Tells result (λ found w. MatchOption found
+    ensures looks { Looks result (λ found w. MatchOption found
         (AllSound (owning diversions.now.entries lists.now.lists rows.now.yields
         (own_name rows.now.found rows.now.incoming)) works.old.items w)
         (IsFirstFault (owning diversions.now.entries lists.now.lists rows.now.yields
         (own_name rows.now.found rows.now.incoming)) works.old.items w)) (H.state host.old)
         (H.state host.new) }
-    ensures reads { Reads (H.state host.old) (H.state host.new) }
-    ensures silent { Silent (H.state host.old) (H.state host.new) }
-    ensures counts { Counts (H.state host.old) (H.state host.new) result }
 {
     check(
         alloc,

@@ -1,4 +1,4 @@
-use Rattle.std.proofs.Common.{◌<◌, ◌++◌, ◌∷◌, [], List, length, take, sym, ap, subst, ◌∙◌}
+use Rattle.std.proofs.Common.{rules, ◌<◌, ◌++◌, ◌∷◌, [], List, length, take, sym, ap, subst, ◌∙◌}
 use Rattle.std.specs.List.{All}
 use Rattle.std.proofs.lemmas.List.{map-append, take_more}
 use Rattle.std.proofs.lemmas.List.Elements.{All-push}
@@ -9,11 +9,21 @@ use Rattle.conffiles.specs.declared.entries.Settled.{Settled}
 use Rattle.configure_engine.specs.Decided.{decided_paths, IsDecidedOf}
 use Rattle.configure_engine.proofs.decisions.decide_each.Goals as goal
 
-pub returns-in_err-decide_one-clause-reads : goal.returns-in_err-decide_one-clause-reads
-returns-in_err-decide_one-clause-reads g c = reads_then _ _ _ c.loop-path.invariant.reads c.decide_one.ensures.reads
+pub returns-in_err-decide_one-clause-looks : goal.returns-in_err-decide_one-clause-looks
+returns-in_err-decide_one-clause-looks g c = record {
+  found = search rules;
+  reads = reads_then _ _ _ c.loop-path.invariant.reads c.decide_one.ensures.looks.reads;
+  silent = search rules;
+  counts = search rules;
+}
 
-pub returns-in_err-push-clause-reads : goal.returns-in_err-push-clause-reads
-returns-in_err-push-clause-reads g c = reads_then _ _ _ c.loop-path.invariant.reads c.decide_one.ensures.reads
+pub returns-in_err-push-clause-looks : goal.returns-in_err-push-clause-looks
+returns-in_err-push-clause-looks g c = record {
+  found = search rules;
+  reads = reads_then _ _ _ c.loop-path.invariant.reads c.decide_one.ensures.looks.reads;
+  silent = search rules;
+  counts = search rules;
+}
 
 pub loop-path-preserved : goal.loop-path-preserved
 loop-path-preserved g c =
@@ -29,8 +39,8 @@ loop-path-preserved g c =
       paths = ap decided_paths c.in_ok-push.ensures.items ∙ map-append (λ (x : Settled). x.path) c.loop-path.list.items (e ∷ [])
           ∙ ap (λ (l : List Path). l ++ e.path ∷ []) before.paths ∙ ap (λ (p : Path). take i paths ++ p ∷ []) (c.in_ok-decide_one.ensures.path ∙ c.path-item.is) ∙ sym (take_more paths i c.path-item.result lt);
       each = λ h. subst (All (IsDecidedOf r policy w)) (sym c.in_ok-push.ensures.items)
-          (All-push (IsDecidedOf r policy w) c.loop-path.list.items e (before.each (c.decide_one.ensures.silent.honest h)) (subst (λ (v : World). IsDecidedOf r policy v e) before.reads.world (c.in_ok-decide_one.ensures.decided h)));
-      reads = reads_then _ _ _ before.reads c.decide_one.ensures.reads;
-      silent = silent_then _ _ _ before.silent c.decide_one.ensures.silent;
-      counts = c.in_ok-decide_one.ensures.counts ∙ before.counts;
+          (All-push (IsDecidedOf r policy w) c.loop-path.list.items e (before.each (c.decide_one.ensures.looks.silent.honest h)) (subst (λ (v : World). IsDecidedOf r policy v e) before.reads.world (c.in_ok-decide_one.ensures.looks.found h)));
+      reads = reads_then _ _ _ before.reads c.decide_one.ensures.looks.reads;
+      silent = silent_then _ _ _ before.silent c.decide_one.ensures.looks.silent;
+      counts = c.in_ok-decide_one.ensures.looks.counts ∙ before.counts;
     }

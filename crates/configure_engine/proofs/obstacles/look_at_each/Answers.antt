@@ -1,4 +1,4 @@
-use Rattle.std.proofs.Common.{◌≡◌, ◌<◌, ◌+◌, None, length, take, sym, subst, ◌∙◌}
+use Rattle.std.proofs.Common.{rules, ◌≡◌, ◌<◌, ◌+◌, None, length, take, sym, subst, ◌∙◌}
 use Rattle.std.specs.List.{All}
 use Rattle.std.proofs.lemmas.List.{take_all}
 use Rattle.std.proofs.lemmas.List.Elements.{All-more}
@@ -11,8 +11,13 @@ use Rattle.configure_engine.proofs.Least.{least_more, least_passed, still_some}
 use Rattle.configure_engine.proofs.obstacles.look_at_each.Goals as goal
 use Rattle.configure_engine.proofs.obstacles.look_at_each.Goals.{in-Some, in_default}
 
-pub returns-in_err-found-clause-reads : goal.returns-in_err-found-clause-reads
-returns-in_err-found-clause-reads g c = reads_then _ _ _ c.loop-path.invariant.reads c.find_obstacle.ensures.reads
+pub returns-in_err-found-clause-looks : goal.returns-in_err-found-clause-looks
+returns-in_err-found-clause-looks g c = record {
+  found = search rules;
+  reads = reads_then _ _ _ c.loop-path.invariant.reads c.find_obstacle.ensures.looks.reads;
+  silent = search rules;
+  counts = search rules;
+}
 
 pub loop-path-preserved : goal.loop-path-preserved
 loop-path-preserved g c =
@@ -22,7 +27,7 @@ loop-path-preserved g c =
     let i = c.loop-path.path-index in
     let paths = c.args.paths.now in
     let lt : i < length paths = c.loop-path-test.true in
-    let falls = c.find_obstacle.ensures.silent.honest in
+    let falls = c.find_obstacle.ensures.looks.silent.honest in
     record {
       found = λ h.
           let told = subst (λ (v : World). c.in_ok-found.field-0 ≡ obstacle_of v (ordered_names x)) before.reads.world (c.in_ok-found.ensures.found h) in
@@ -36,8 +41,8 @@ loop-path-preserved g c =
             | in-Some b ↦ absurd (still_some c.loop-path.least b.in-Some.found (sym (b.least-is ∙ b.keep_lesser.ensures) ∙ none))
             | in_default b ↦ All-more (λ (p : Path). CanSettle p w) paths i x lt (before.clear (falls h) (sym b.least-is ∙ none)) (subst (λ (p : Path). CanSettle p w) c.path-item.is (can b.in_default.is))
           ];
-      reads = reads_then _ _ _ before.reads c.find_obstacle.ensures.reads;
-      silent = silent_then _ _ _ before.silent c.find_obstacle.ensures.silent;
+      reads = reads_then _ _ _ before.reads c.find_obstacle.ensures.looks.reads;
+      silent = silent_then _ _ _ before.silent c.find_obstacle.ensures.looks.silent;
       counts = c.in_ok-found.ensures.counts ∙ before.counts;
     }
 

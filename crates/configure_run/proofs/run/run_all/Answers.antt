@@ -18,46 +18,46 @@ use Rattle.configure_run.proofs.Units.{no_calls}
 use Rattle.configure_run.proofs.run.run_all.Goals as goal
 
 pub run_and_renew-requires-clause-order : goal.run_and_renew-requires-clause-order
-run_and_renew-requires-clause-order g c = order_read (held_by c.args.administration.now c.args.diversions.now) (g.H.Host.state c.args.host.now) (g.H.Host.state c.begun.new.host) c.begun.ensures.reads c.requires.order
+run_and_renew-requires-clause-order g c = order_read (held_by c.args.administration.now c.args.diversions.now) (g.H.Host.state c.args.host.now) (g.H.Host.state c.begun.new.host) c.begun.ensures.looks.reads c.requires.order
 
 pub returns-in-Ok-run_and_renew-clause-ok : goal.returns-in-Ok-run_and_renew-clause-ok
-returns-in-Ok-run_and_renew-clause-ok g c = record { first = c.refuse_first.new.units.items; refused = c.in-Ok.ensures.ok; silent = (has c.in-Ok-begun.silent.items); start = c.in-Ok-begun.queue; looked = (g.H.Host.state c.begun.new.host); begins = (record { begun = c.in-Ok-begun.ensures.begun; looks = c.begun.ensures.reads; quiet = c.begun.ensures.silent; seen = c.in-Ok-begun.ensures.seen }); turns = c.in-Ok-run_and_renew.ensures.ok }
+returns-in-Ok-run_and_renew-clause-ok g c = record { first = c.refuse_first.new.units.items; refused = c.in-Ok.ensures.ok; silent = (has c.in-Ok-begun.silent.items); start = c.in-Ok-begun.queue; looked = (g.H.Host.state c.begun.new.host); begins = (record { begun = c.in-Ok-begun.ensures.begun; looks = c.begun.ensures.looks.reads; quiet = c.begun.ensures.looks.silent; seen = c.in-Ok-begun.ensures.seen }); turns = c.in-Ok-run_and_renew.ensures.ok }
 
 pub returns-in-Ok-run_and_renew-clause-answered : goal.returns-in-Ok-run_and_renew-clause-answered
-returns-in-Ok-run_and_renew-clause-answered g c = answered_then (g.H.Host.state c.args.host.now) (g.H.Host.state c.begun.new.host) (g.H.Host.state c.run_and_renew.new.host) (inr c.begun.ensures.reads) c.in-Ok-run_and_renew.ensures.answered
+returns-in-Ok-run_and_renew-clause-answered g c = answered_then (g.H.Host.state c.args.host.now) (g.H.Host.state c.begun.new.host) (g.H.Host.state c.run_and_renew.new.host) (inr c.begun.ensures.looks.reads) c.in-Ok-run_and_renew.ensures.answered
 
 pub returns-in-Ok-run_and_renew-clause-told : goal.returns-in-Ok-run_and_renew-clause-told
-returns-in-Ok-run_and_renew-clause-told g c = tells_then (g.H.Host.state c.args.host.now) (g.H.Host.state c.begun.new.host) (g.H.Host.state c.run_and_renew.new.host) [] (calls_of c.refuse_first.new.units.items) (calls_of c.run_and_renew.new.units.items) (tells_silent (g.H.Host.state c.args.host.now) (g.H.Host.state c.begun.new.host) [] (calls_of c.refuse_first.new.units.items) c.begun.ensures.silent (refused_calls (early_refusals c.args.administration.now.database.records (each_once c.args.names.now)) c.refuse_first.new.units.items c.in-Ok.ensures.ok)) c.in-Ok-run_and_renew.ensures.told
+returns-in-Ok-run_and_renew-clause-told g c = tells_then (g.H.Host.state c.args.host.now) (g.H.Host.state c.begun.new.host) (g.H.Host.state c.run_and_renew.new.host) [] (calls_of c.refuse_first.new.units.items) (calls_of c.run_and_renew.new.units.items) (tells_silent (g.H.Host.state c.args.host.now) (g.H.Host.state c.begun.new.host) [] (calls_of c.refuse_first.new.units.items) c.begun.ensures.looks.silent (refused_calls (early_refusals c.args.administration.now.database.records (each_once c.args.names.now)) c.refuse_first.new.units.items c.in-Ok.ensures.ok)) c.in-Ok-run_and_renew.ensures.told
 
 pub returns-in-Ok-run_and_renew-clause-any_moment : goal.returns-in-Ok-run_and_renew-clause-any_moment
-returns-in-Ok-run_and_renew-clause-any_moment g c = since_run c.args.names.now c.args.policy (held_by c.args.administration.now c.args.diversions.now) (has c.in-Ok-begun.silent.items) c.in-Ok-begun.queue (g.H.Host.state c.args.host.now) (g.H.Host.state c.begun.new.host) (g.H.Host.state c.run_and_renew.new.host) (record { begun = c.in-Ok-begun.ensures.begun; looks = c.begun.ensures.reads; quiet = c.begun.ensures.silent; seen = c.in-Ok-begun.ensures.seen }) c.run_and_renew.ensures.any_moment
+returns-in-Ok-run_and_renew-clause-any_moment g c = since_run c.args.names.now c.args.policy (held_by c.args.administration.now c.args.diversions.now) (has c.in-Ok-begun.silent.items) c.in-Ok-begun.queue (g.H.Host.state c.args.host.now) (g.H.Host.state c.begun.new.host) (g.H.Host.state c.run_and_renew.new.host) (record { begun = c.in-Ok-begun.ensures.begun; looks = c.begun.ensures.looks.reads; quiet = c.begun.ensures.looks.silent; seen = c.in-Ok-begun.ensures.seen }) c.run_and_renew.ensures.any_moment
 
 pub returns-in-Ok-run_and_renew-clause-no_fault : goal.returns-in-Ok-run_and_renew-clause-no_fault
 returns-in-Ok-run_and_renew-clause-no_fault g c = c.in-Ok-run_and_renew.ensures.no_fault ∙ c.in-Ok-begun.ensures.counts
 
 pub returns-in-Err-run_and_renew-clause-err : goal.returns-in-Err-run_and_renew-clause-err
-returns-in-Err-run_and_renew-clause-err g c = HasRun.turning c.refuse_first.new.units.items c.in-Ok.ensures.ok (has c.in-Ok-begun.silent.items) c.in-Ok-begun.queue (g.H.Host.state c.begun.new.host) (record { begun = c.in-Ok-begun.ensures.begun; looks = c.begun.ensures.reads; quiet = c.begun.ensures.silent; seen = c.in-Ok-begun.ensures.seen }) c.in-Err-run_and_renew.ensures.err
+returns-in-Err-run_and_renew-clause-err g c = HasRun.turning c.refuse_first.new.units.items c.in-Ok.ensures.ok (has c.in-Ok-begun.silent.items) c.in-Ok-begun.queue (g.H.Host.state c.begun.new.host) (record { begun = c.in-Ok-begun.ensures.begun; looks = c.begun.ensures.looks.reads; quiet = c.begun.ensures.looks.silent; seen = c.in-Ok-begun.ensures.seen }) c.in-Err-run_and_renew.ensures.err
 
 pub returns-in-Err-run_and_renew-clause-told_broken : goal.returns-in-Err-run_and_renew-clause-told_broken
-returns-in-Err-run_and_renew-clause-told_broken g c = tells_then (g.H.Host.state c.args.host.now) (g.H.Host.state c.begun.new.host) (g.H.Host.state c.run_and_renew.new.host) [] (calls_of c.refuse_first.new.units.items) (calls_of c.run_and_renew.new.units.items ++ c.in-Err-run_and_renew.unit.calls.items) (tells_silent (g.H.Host.state c.args.host.now) (g.H.Host.state c.begun.new.host) [] (calls_of c.refuse_first.new.units.items) c.begun.ensures.silent (refused_calls (early_refusals c.args.administration.now.database.records (each_once c.args.names.now)) c.refuse_first.new.units.items c.in-Ok.ensures.ok)) c.in-Err-run_and_renew.ensures.told_broken
+returns-in-Err-run_and_renew-clause-told_broken g c = tells_then (g.H.Host.state c.args.host.now) (g.H.Host.state c.begun.new.host) (g.H.Host.state c.run_and_renew.new.host) [] (calls_of c.refuse_first.new.units.items) (calls_of c.run_and_renew.new.units.items ++ c.in-Err-run_and_renew.unit.calls.items) (tells_silent (g.H.Host.state c.args.host.now) (g.H.Host.state c.begun.new.host) [] (calls_of c.refuse_first.new.units.items) c.begun.ensures.looks.silent (refused_calls (early_refusals c.args.administration.now.database.records (each_once c.args.names.now)) c.refuse_first.new.units.items c.in-Ok.ensures.ok)) c.in-Err-run_and_renew.ensures.told_broken
 
 pub returns-in-Err-run_and_renew-clause-any_moment : goal.returns-in-Err-run_and_renew-clause-any_moment
-returns-in-Err-run_and_renew-clause-any_moment g c = since_run c.args.names.now c.args.policy (held_by c.args.administration.now c.args.diversions.now) (has c.in-Ok-begun.silent.items) c.in-Ok-begun.queue (g.H.Host.state c.args.host.now) (g.H.Host.state c.begun.new.host) (g.H.Host.state c.run_and_renew.new.host) (record { begun = c.in-Ok-begun.ensures.begun; looks = c.begun.ensures.reads; quiet = c.begun.ensures.silent; seen = c.in-Ok-begun.ensures.seen }) c.run_and_renew.ensures.any_moment
+returns-in-Err-run_and_renew-clause-any_moment g c = since_run c.args.names.now c.args.policy (held_by c.args.administration.now c.args.diversions.now) (has c.in-Ok-begun.silent.items) c.in-Ok-begun.queue (g.H.Host.state c.args.host.now) (g.H.Host.state c.begun.new.host) (g.H.Host.state c.run_and_renew.new.host) (record { begun = c.in-Ok-begun.ensures.begun; looks = c.begun.ensures.looks.reads; quiet = c.begun.ensures.looks.silent; seen = c.in-Ok-begun.ensures.seen }) c.run_and_renew.ensures.any_moment
 
 pub returns-in-Err-run_and_renew-clause-counts : goal.returns-in-Err-run_and_renew-clause-counts
 returns-in-Err-run_and_renew-clause-counts g c = counts_from c.in-Err-run_and_renew.unit.reply (g.H.Host.state c.args.host.now) (g.H.Host.state c.begun.new.host) (g.H.Host.state c.run_and_renew.new.host) c.in-Ok-begun.ensures.counts c.in-Err-run_and_renew.ensures.counts
 
 pub returns-in-Err-begun-clause-err : goal.returns-in-Err-begun-clause-err
-returns-in-Err-begun-clause-err g c = HasRun.refusing (all_refused (early_refusals c.args.administration.now.database.records (each_once c.args.names.now)) c.refuse_first.new.units.items c.in-Ok.ensures.ok) c.begun.ensures.reads (record { broken = broken_by _ c.broken.result.reply c.broken.ensures.reply; untouched = c.broken.ensures.touched; none = record { silent = c.begun.ensures.silent; told = (c.broken.ensures.told ∙ c.new.ensures.items) } })
+returns-in-Err-begun-clause-err g c = HasRun.refusing (all_refused (early_refusals c.args.administration.now.database.records (each_once c.args.names.now)) c.refuse_first.new.units.items c.in-Ok.ensures.ok) c.begun.ensures.looks.reads (record { broken = broken_by _ c.broken.result.reply c.broken.ensures.reply; untouched = c.broken.ensures.touched; none = record { silent = c.begun.ensures.looks.silent; told = (c.broken.ensures.told ∙ c.new.ensures.items) } })
 
 pub returns-in-Err-begun-clause-told_broken : goal.returns-in-Err-begun-clause-told_broken
-returns-in-Err-begun-clause-told_broken g c = tells_no_more (g.H.Host.state c.args.host.now) (g.H.Host.state c.begun.new.host) [] (calls_of c.refuse_first.new.units.items) c.broken.result.calls.items (tells_silent (g.H.Host.state c.args.host.now) (g.H.Host.state c.begun.new.host) [] (calls_of c.refuse_first.new.units.items) c.begun.ensures.silent (refused_calls (early_refusals c.args.administration.now.database.records (each_once c.args.names.now)) c.refuse_first.new.units.items c.in-Ok.ensures.ok)) (c.broken.ensures.told ∙ c.new.ensures.items)
+returns-in-Err-begun-clause-told_broken g c = tells_no_more (g.H.Host.state c.args.host.now) (g.H.Host.state c.begun.new.host) [] (calls_of c.refuse_first.new.units.items) c.broken.result.calls.items (tells_silent (g.H.Host.state c.args.host.now) (g.H.Host.state c.begun.new.host) [] (calls_of c.refuse_first.new.units.items) c.begun.ensures.looks.silent (refused_calls (early_refusals c.args.administration.now.database.records (each_once c.args.names.now)) c.refuse_first.new.units.items c.in-Ok.ensures.ok)) (c.broken.ensures.told ∙ c.new.ensures.items)
 
 pub returns-in-Err-begun-clause-any_moment : goal.returns-in-Err-begun-clause-any_moment
-returns-in-Err-begun-clause-any_moment g c = since_run_reads c.args.names.now c.args.policy (held_by c.args.administration.now c.args.diversions.now) (g.H.Host.state c.args.host.now) (g.H.Host.state c.begun.new.host) c.begun.ensures.reads
+returns-in-Err-begun-clause-any_moment g c = since_run_reads c.args.names.now c.args.policy (held_by c.args.administration.now c.args.diversions.now) (g.H.Host.state c.args.host.now) (g.H.Host.state c.begun.new.host) c.begun.ensures.looks.reads
 
 pub returns-in-Err-begun-clause-counts : goal.returns-in-Err-begun-clause-counts
-returns-in-Err-begun-clause-counts g c = counts_broken_by c.begun.result c.in-Err-begun.fault c.broken.result.reply (g.H.Host.state c.args.host.now) (g.H.Host.state c.begun.new.host) c.in-Err-begun.is (c.broken.ensures.reply ∙ ap Broken c.breakage_of.ensures) c.begun.ensures.counts
+returns-in-Err-begun-clause-counts g c = counts_broken_by c.begun.result c.in-Err-begun.fault c.broken.result.reply (g.H.Host.state c.args.host.now) (g.H.Host.state c.begun.new.host) c.in-Err-begun.is (c.broken.ensures.reply ∙ ap Broken c.breakage_of.ensures) c.begun.ensures.looks.counts
 
 pub returns-in-Err-begun-clause-not_closed : goal.returns-in-Err-begun-clause-not_closed
 returns-in-Err-begun-clause-not_closed g c = fault_not_closed c.in-Err-begun.fault c.broken.result.reply (c.broken.ensures.reply ∙ ap Broken c.breakage_of.ensures)
@@ -81,14 +81,14 @@ pub returns-in-Ok-run_and_renew-clause-watched : goal.returns-in-Ok-run_and_rene
 returns-in-Ok-run_and_renew-clause-watched g c =
     told_added g.W.Watcher.tells (g.H.Host.state c.args.host.now) (g.H.Host.state c.begun.new.host) c.args.watcher.now c.refuse_first.new.watcher c.run_and_renew.new.watcher c.args.units.now.items c.refuse_first.new.units.items c.run_and_renew.new.units.items
     c.refuse_first.ensures.watched
-    (tells_silent (g.H.Host.state c.args.host.now) (g.H.Host.state c.begun.new.host) (calls_of c.args.units.now.items) (calls_of c.refuse_first.new.units.items) c.begun.ensures.silent
+    (tells_silent (g.H.Host.state c.args.host.now) (g.H.Host.state c.begun.new.host) (calls_of c.args.units.now.items) (calls_of c.refuse_first.new.units.items) c.begun.ensures.looks.silent
     (refused_calls (early_refusals c.args.administration.now.database.records (each_once c.args.names.now)) c.refuse_first.new.units.items c.in-Ok.ensures.ok ∙ sym (ap calls_of c.requires.none)))
-    (inr c.begun.ensures.reads) c.run_and_renew.ensures.watched
+    (inr c.begun.ensures.looks.reads) c.run_and_renew.ensures.watched
 
 pub returns-in-Err-run_and_renew-clause-watched : goal.returns-in-Err-run_and_renew-clause-watched
 returns-in-Err-run_and_renew-clause-watched g c =
     told_added g.W.Watcher.tells (g.H.Host.state c.args.host.now) (g.H.Host.state c.begun.new.host) c.args.watcher.now c.refuse_first.new.watcher c.run_and_renew.new.watcher c.args.units.now.items c.refuse_first.new.units.items c.run_and_renew.new.units.items
     c.refuse_first.ensures.watched
-    (tells_silent (g.H.Host.state c.args.host.now) (g.H.Host.state c.begun.new.host) (calls_of c.args.units.now.items) (calls_of c.refuse_first.new.units.items) c.begun.ensures.silent
+    (tells_silent (g.H.Host.state c.args.host.now) (g.H.Host.state c.begun.new.host) (calls_of c.args.units.now.items) (calls_of c.refuse_first.new.units.items) c.begun.ensures.looks.silent
     (refused_calls (early_refusals c.args.administration.now.database.records (each_once c.args.names.now)) c.refuse_first.new.units.items c.in-Ok.ensures.ok ∙ sym (ap calls_of c.requires.none)))
-    (inr c.begun.ensures.reads) c.run_and_renew.ensures.watched
+    (inr c.begun.ensures.looks.reads) c.run_and_renew.ensures.watched

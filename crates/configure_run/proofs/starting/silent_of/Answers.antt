@@ -4,11 +4,21 @@ use Rattle.configure_run.specs.Starting.{is_silent}
 use Rattle.configure_run.proofs.Silence.{silent_more}
 use Rattle.configure_run.proofs.starting.silent_of.Goals as goal
 
-pub returns-in_err-is_silent_at-clause-reads : goal.returns-in_err-is_silent_at-clause-reads
-returns-in_err-is_silent_at-clause-reads g c = reads_then _ _ _ c.loop-entry.invariant.reads c.is_silent_at.ensures.reads
+pub returns-in_err-is_silent_at-clause-looks : goal.returns-in_err-is_silent_at-clause-looks
+returns-in_err-is_silent_at-clause-looks g c = record {
+  found = search rules;
+  reads = reads_then _ _ _ c.loop-entry.invariant.reads c.is_silent_at.ensures.looks.reads;
+  silent = search rules;
+  counts = search rules;
+}
 
-pub returns-in_err-push-clause-reads : goal.returns-in_err-push-clause-reads
-returns-in_err-push-clause-reads g c = reads_then _ _ _ c.loop-entry.invariant.reads c.is_silent_at.ensures.reads
+pub returns-in_err-push-clause-looks : goal.returns-in_err-push-clause-looks
+returns-in_err-push-clause-looks g c = record {
+  found = search rules;
+  reads = reads_then _ _ _ c.loop-entry.invariant.reads c.is_silent_at.ensures.looks.reads;
+  silent = search rules;
+  counts = search rules;
+}
 
 pub loop-entry-preserved : goal.loop-entry-preserved
 loop-entry-preserved g c =
@@ -16,9 +26,9 @@ loop-entry-preserved g c =
     let entry = c.entry-item.result in
     record {
       so_far = λ honest. silent_more (g.H.Host.state c.args.host.now).world c.args.names.now c.args.records.now c.loop-entry.entry-index entry c.loop-entry.set.items c.push.new.self.items c.in_ok-is_silent_at.field-0 c.entry-item.is
-          (inv.so_far (c.is_silent_at.ensures.reads.honest honest))
-          (λ wait. c.in_ok-is_silent_at.ensures.found honest wait ∙ ap (λ w. is_silent w entry.name) inv.reads.world) (search rules);
-      reads = reads_then _ _ _ inv.reads c.is_silent_at.ensures.reads;
-      silent = silent_then _ _ _ inv.silent c.is_silent_at.ensures.silent;
-      faults_same = c.in_ok-is_silent_at.ensures.counts ∙ inv.faults_same;
+          (inv.so_far (c.is_silent_at.ensures.looks.reads.honest honest))
+          (λ wait. c.in_ok-is_silent_at.ensures.looks.found honest wait ∙ ap (λ w. is_silent w entry.name) inv.reads.world) (search rules);
+      reads = reads_then _ _ _ inv.reads c.is_silent_at.ensures.looks.reads;
+      silent = silent_then _ _ _ inv.silent c.is_silent_at.ensures.looks.silent;
+      faults_same = c.in_ok-is_silent_at.ensures.looks.counts ∙ inv.faults_same;
     }

@@ -1,4 +1,4 @@
-use Rattle.std.proofs.Common.{◌≡◌, ℕ, List, Option, Some, None, ◌∙◌}
+use Rattle.std.proofs.Common.{rules, ◌≡◌, ℕ, List, Option, Some, None, ◌∙◌}
 use Rattle.std.specs.List.{All}
 use Rattle.conffiles.specs.Settling.{CanSettle}
 use Rattle.configure_engine.specs.Obstacles.{IsObstacle, names_of_all}
@@ -15,12 +15,17 @@ unreachable-requires g c =
     let e : None ≡ Some c.requires.waits.entry = none ∙ c.requires.waits.found in
     cc
 
-pub returns-clause-found : goal.returns-clause-found
-returns-clause-found g c honest =
-    let w = (g.H.Host.state c.args.host.now).world in
-    let entry = c.in-Some.entry.now in
-    ok_so c.obstacle.result (λ (found : Option (List ℕ)). IsObstacle w (names_of_all (settling_paths entry)) found) (λ found. HasObstacle c.args.database.now.records c.args.name.now w found)
-    (λ found is. obstacle_is c.args.database.now.records c.args.name.now w entry found c.in-Some.ensures is) (c.obstacle.ensures.found honest)
+pub returns-clause-looks : goal.returns-clause-looks
+returns-clause-looks g c honest = record {
+  found =
+      let w = (g.H.Host.state c.args.host.now).world in
+      let entry = c.in-Some.entry.now in
+      ok_so c.obstacle.result (λ (found : Option (List ℕ)). IsObstacle w (names_of_all (settling_paths entry)) found) (λ found. HasObstacle c.args.database.now.records c.args.name.now w found)
+      (λ found is. obstacle_is c.args.database.now.records c.args.name.now w entry found c.in-Some.ensures is) (c.obstacle.ensures.looks.found honest);
+  reads = search rules;
+  silent = search rules;
+  counts = search rules;
+}
 
 pub returns-clause-clear : goal.returns-clause-clear
 returns-clause-clear g c honest =

@@ -1,4 +1,4 @@
-use Rattle.std.proofs.Common.{sym, ◌∙◌, arith}
+use Rattle.std.proofs.Common.{rules, sym, ◌∙◌, arith}
 use Rattle.host_core.proofs.Moments.{reads_then, silent_then}
 use Rattle.disappearance.proofs.Directories.{directories_all, directories_more, directories_stop}
 use Rattle.disappearance.proofs.looks.are_directories.Goals as goal
@@ -9,22 +9,32 @@ loop-path-preserved g c =
     let w = (g.H.Host.state c.args.host.now).world in
     let v = (g.H.Host.state c.loop-path.host).world in
     record {
-      found = λ h. directories_more c.args.diversions.now.entries c.args.name.now w c.args.paths.now c.loop-path.path-index c.path-item.result c.loop-path-test.true c.path-item.is v before.reads.world c.in_ok-stands.stands (c.in_ok-stands.ensures.found h)
-          c.if-not-stands.false (before.found (c.is_directory_at.ensures.silent.honest h));
-      reads = reads_then _ _ _ before.reads c.is_directory_at.ensures.reads;
-      silent = silent_then _ _ _ before.silent c.is_directory_at.ensures.silent;
-      counts = c.in_ok-stands.ensures.counts ∙ before.counts;
+      found = λ h. directories_more c.args.diversions.now.entries c.args.name.now w c.args.paths.now c.loop-path.path-index c.path-item.result c.loop-path-test.true c.path-item.is v before.reads.world c.in_ok-stands.stands (c.in_ok-stands.ensures.looks.found h)
+          c.if-not-stands.false (before.found (c.is_directory_at.ensures.looks.silent.honest h));
+      reads = reads_then _ _ _ before.reads c.is_directory_at.ensures.looks.reads;
+      silent = silent_then _ _ _ before.silent c.is_directory_at.ensures.looks.silent;
+      counts = c.in_ok-stands.ensures.looks.counts ∙ before.counts;
     }
 
-pub returns-then-not-stands-clause-found : goal.returns-then-not-stands-clause-found
-returns-then-not-stands-clause-found g c = λ h.
-    let before = c.loop-path.invariant in
-    let w = (g.H.Host.state c.args.host.now).world in
-    let v = (g.H.Host.state c.loop-path.host).world in
-    sym (directories_stop c.args.diversions.now.entries c.args.name.now w c.args.paths.now c.loop-path.path-index c.path-item.result c.loop-path-test.true c.path-item.is v before.reads.world c.in_ok-stands.stands (c.in_ok-stands.ensures.found h)
-    c.if-not-stands.true)
+pub returns-then-not-stands-clause-looks : goal.returns-then-not-stands-clause-looks
+returns-then-not-stands-clause-looks g c = record {
+  found = λ h.
+      let before = c.loop-path.invariant in
+      let w = (g.H.Host.state c.args.host.now).world in
+      let v = (g.H.Host.state c.loop-path.host).world in
+      sym (directories_stop c.args.diversions.now.entries c.args.name.now w c.args.paths.now c.loop-path.path-index c.path-item.result c.loop-path-test.true c.path-item.is v before.reads.world c.in_ok-stands.stands (c.in_ok-stands.ensures.looks.found h)
+      c.if-not-stands.true);
+  reads = search (rules, reads_then);
+  silent = search rules;
+  counts = search rules;
+}
 
-pub returns-clause-found : goal.returns-clause-found
-returns-clause-found g c = λ h.
-    let w = (g.H.Host.state c.args.host.now).world in
-    sym (directories_all c.args.diversions.now.entries c.args.name.now w c.args.paths.now c.loop-path.path-index (omega (arith, c.loop-path-test.false)) (c.loop-path.invariant.found h))
+pub returns-clause-looks : goal.returns-clause-looks
+returns-clause-looks g c = record {
+  found = λ h.
+      let w = (g.H.Host.state c.args.host.now).world in
+      sym (directories_all c.args.diversions.now.entries c.args.name.now w c.args.paths.now c.loop-path.path-index (omega (arith, c.loop-path-test.false)) (c.loop-path.invariant.found h));
+  reads = search (rules, reads_then);
+  silent = search rules;
+  counts = search rules;
+}

@@ -14,4 +14,4 @@ pub returns-clause-plan : goal.returns-clause-plan
 returns-clause-plan g c = λ lists.
     let found = sym c.get.ensures ∙ ap option_copied c.unwrap-entry.ensures in
     plan_is c.args.incoming.now c.args.version.now c.args.name.now (record { records = c.args.database.now.records; lists = lists }) _ _ c.unwrap-entry.result.now found c.in_ok-stored.stored c.in_ok-plan.plan.call.items c.in_ok-plan.plan.gone.items
-    c.in_ok-stored.ensures.found c.in_ok-plan.ensures.calls c.in_ok-plan.ensures.goes
+    c.in_ok-stored.ensures.looks.found c.in_ok-plan.ensures.calls c.in_ok-plan.ensures.goes

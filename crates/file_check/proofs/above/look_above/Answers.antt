@@ -12,26 +12,38 @@ use Rattle.file_check.proofs.above.look_above.Goals as goal
 pub kind_at-requires : goal.kind_at-requires
 kind_at-requires g c = front_is_path c.in-Some.front.now c.in-Some.field-0-1.now (ap is_path (sym c.in-Some.ensures.0) ∙ c.loop-front.invariant.path)
 
-pub returns-in_err-kind-clause-reads : goal.returns-in_err-kind-clause-reads
-returns-in_err-kind-clause-reads g c = reads_then _ _ _ c.loop-front.invariant.reads c.kind_at.ensures.reads
+pub returns-in_err-kind-clause-looks : goal.returns-in_err-kind-clause-looks
+returns-in_err-kind-clause-looks g c = record {
+  found = search rules;
+  reads = reads_then _ _ _ c.loop-front.invariant.reads c.kind_at.ensures.looks.reads;
+  silent = search rules;
+  counts = search rules;
+}
 
-pub returns-then-is_directory-clause-above : goal.returns-then-is_directory-clause-above
-returns-then-is_directory-clause-above g c = λ h.
-    let inv = c.loop-front.invariant in
-    let made = contains_text c.args.made.now in
-    let w = (g.H.Host.state c.args.host.now).world in
-    let front = c.in-Some.front.now in
-    let cut = c.in-Some.ensures in
-    let h0 = c.kind_at.ensures.silent.honest h in
-    let dir : IsDirectory (w front) = subst (λ (v : World). IsDirectory (v front)) inv.reads.world (dir_is _ (ap is_directory_kind (sym (c.in_ok-kind.ensures.found h)) ∙ sym c.is_directory.ensures ∙ c.if-is_directory.true)) in
-    subst (IsAbove made w c.args.place.now) (sym c.answer.ensures)
-    (looked_directory made w c.args.place.now c.loop-front.rest.now c.loop-front.lacking (inv.looking h0) front c.in-Some.field-0-1.now cut.0 cut.1 (g.H.Host.tree c.args.host.now (inv.silent.honest h0)) dir)
+pub returns-then-is_directory-clause-looks : goal.returns-then-is_directory-clause-looks
+returns-then-is_directory-clause-looks g c = record {
+  found = λ h.
+      let inv = c.loop-front.invariant in
+      let made = contains_text c.args.made.now in
+      let w = (g.H.Host.state c.args.host.now).world in
+      let front = c.in-Some.front.now in
+      let cut = c.in-Some.ensures in
+      let h0 = c.kind_at.ensures.looks.silent.honest h in
+      let dir : IsDirectory (w front) = subst (λ (v : World). IsDirectory (v front)) inv.reads.world (dir_is _ (ap is_directory_kind (sym (c.in_ok-kind.ensures.looks.found h)) ∙ sym c.is_directory.ensures ∙ c.if-is_directory.true)) in
+      subst (IsAbove made w c.args.place.now) (sym c.answer.ensures)
+      (looked_directory made w c.args.place.now c.loop-front.rest.now c.loop-front.lacking (inv.looking h0) front c.in-Some.field-0-1.now cut.0 cut.1 (g.H.Host.tree c.args.host.now (inv.silent.honest h0)) dir);
+  reads = reads_then _ _ _ c.loop-front.invariant.reads c.kind_at.ensures.looks.reads;
+  silent = search rules;
+  counts = search rules;
+}
 
-pub returns-then-is_directory-clause-reads : goal.returns-then-is_directory-clause-reads
-returns-then-is_directory-clause-reads g c = reads_then _ _ _ c.loop-front.invariant.reads c.kind_at.ensures.reads
-
-pub returns-then-is_link-clause-reads : goal.returns-then-is_link-clause-reads
-returns-then-is_link-clause-reads g c = reads_then _ _ _ c.loop-front.invariant.reads c.kind_at.ensures.reads
+pub returns-then-is_link-clause-looks : goal.returns-then-is_link-clause-looks
+returns-then-is_link-clause-looks g c = record {
+  found = search rules;
+  reads = reads_then _ _ _ c.loop-front.invariant.reads c.kind_at.ensures.looks.reads;
+  silent = search rules;
+  counts = search rules;
+}
 
 pub loop-front-preserved : goal.loop-front-preserved
 loop-front-preserved g c =
@@ -44,20 +56,25 @@ loop-front-preserved g c =
       text = search rules;
       path = front_is_path front c.in-Some.field-0-1.now (ap is_path (sym cut.0) ∙ inv.path);
       looking = λ h.
-          let found = c.in_ok-kind.ensures.found h in
+          let found = c.in_ok-kind.ensures.looks.found h in
           subst (IsLooking made old.world c.args.place.now front) (sym c.lacks-lacking.ensures)
-          (looked_on made old.world c.args.place.now c.loop-front.rest.now c.loop-front.lacking (inv.looking (c.kind_at.ensures.silent.honest h)) front c.in-Some.field-0-1.now cut.0 cut.1
+          (looked_on made old.world c.args.place.now c.loop-front.rest.now c.loop-front.lacking (inv.looking (c.kind_at.ensures.looks.silent.honest h)) front c.in-Some.field-0-1.now cut.0 cut.1
           (subst (λ (v : World). IsDirectory (v front) → ⊥) inv.reads.world (no_dir _ (ap is_directory_kind (sym found) ∙ sym c.is_directory.ensures ∙ c.if-is_directory.false)))
           (subst (λ (v : World). IsLink (v front) → ⊥) inv.reads.world (no_link _ (ap is_link_kind (sym found) ∙ sym c.is_link.ensures ∙ c.if-is_link.false))));
-      reads = reads_then _ _ _ inv.reads c.kind_at.ensures.reads;
-      silent = silent_then _ _ _ inv.silent c.kind_at.ensures.silent;
-      counts = c.in_ok-kind.ensures.counts ∙ inv.counts;
+      reads = reads_then _ _ _ inv.reads c.kind_at.ensures.looks.reads;
+      silent = silent_then _ _ _ inv.silent c.kind_at.ensures.looks.silent;
+      counts = c.in_ok-kind.ensures.looks.counts ∙ inv.counts;
     }
 
-pub returns-clause-above : goal.returns-clause-above
-returns-clause-above g c = λ h.
-    let inv = c.loop-front.invariant in
-    let made = contains_text c.args.made.now in
-    let w = (g.H.Host.state c.args.host.now).world in
-    subst (IsAbove made w c.args.place.now) (sym c.answer-2.ensures)
-    (looked_all made w c.args.place.now c.loop-front.rest.now c.loop-front.lacking (inv.looking h) c.in_default.ensures)
+pub returns-clause-looks : goal.returns-clause-looks
+returns-clause-looks g c = record {
+  found = λ h.
+      let inv = c.loop-front.invariant in
+      let made = contains_text c.args.made.now in
+      let w = (g.H.Host.state c.args.host.now).world in
+      subst (IsAbove made w c.args.place.now) (sym c.answer-2.ensures)
+      (looked_all made w c.args.place.now c.loop-front.rest.now c.loop-front.lacking (inv.looking h) c.in_default.ensures);
+  reads = search rules;
+  silent = search rules;
+  counts = search rules;
+}

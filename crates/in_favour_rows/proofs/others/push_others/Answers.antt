@@ -1,4 +1,4 @@
-use Rattle.std.proofs.Common.{◌≡◌, ◌<◌, length, ap, subst, sym, ◌∙◌}
+use Rattle.std.proofs.Common.{rules, ◌≡◌, ◌<◌, length, ap, subst, sym, ◌∙◌}
 use Rattle.std.proofs.lemmas.List.{map-append}
 use Rattle.host_core.specs.World.{World}
 use Rattle.host_core.proofs.Moments.{reads_then, silent_then}
@@ -10,11 +10,21 @@ use Rattle.in_favour_rows.specs.declared.entries.Entry.{Entry}
 use Rattle.in_favour_rows.proofs.Pushed.{mapped_more, own_more, shaped_more}
 use Rattle.in_favour_rows.proofs.others.push_others.Goals as goal
 
-pub returns-in_err-other_package-clause-reads : goal.returns-in_err-other_package-clause-reads
-returns-in_err-other_package-clause-reads g c = reads_then _ _ _ c.loop-entry.invariant.reads c.other_package.ensures.reads
+pub returns-in_err-other_package-clause-looks : goal.returns-in_err-other_package-clause-looks
+returns-in_err-other_package-clause-looks g c = record {
+  found = search rules;
+  reads = reads_then _ _ _ c.loop-entry.invariant.reads c.other_package.ensures.looks.reads;
+  silent = search rules;
+  counts = search rules;
+}
 
-pub returns-in_err-push-clause-reads : goal.returns-in_err-push-clause-reads
-returns-in_err-push-clause-reads g c = reads_then _ _ _ c.loop-entry.invariant.reads c.other_package.ensures.reads
+pub returns-in_err-push-clause-looks : goal.returns-in_err-push-clause-looks
+returns-in_err-push-clause-looks g c = record {
+  found = search rules;
+  reads = reads_then _ _ _ c.loop-entry.invariant.reads c.other_package.ensures.looks.reads;
+  silent = search rules;
+  counts = search rules;
+}
 
 pub loop-entry-preserved : goal.loop-entry-preserved
 loop-entry-preserved g c =
@@ -36,9 +46,9 @@ loop-entry-preserved g c =
       shaped = rw pushed (shaped_more name version entries i e made o lt c.entry-item.is (c.in_ok-other_package.ensures.shaped) before.shaped);
       rows = λ h.
           rw pushed (mapped_more (other_package name version w) entries i e made o lt c.entry-item.is
-          (subst (λ (v : World). o ≡ other_package name version v e) before.reads.world (c.in_ok-other_package.ensures.row h))
-          (before.rows (c.other_package.ensures.silent.honest h)));
-      reads = reads_then _ _ _ before.reads c.other_package.ensures.reads;
-      silent = silent_then _ _ _ before.silent c.other_package.ensures.silent;
-      counts = c.in_ok-other_package.ensures.counts ∙ before.counts;
+          (subst (λ (v : World). o ≡ other_package name version v e) before.reads.world (c.in_ok-other_package.ensures.looks.found h))
+          (before.rows (c.other_package.ensures.looks.silent.honest h)));
+      reads = reads_then _ _ _ before.reads c.other_package.ensures.looks.reads;
+      silent = silent_then _ _ _ before.silent c.other_package.ensures.looks.silent;
+      counts = c.in_ok-other_package.ensures.looks.counts ∙ before.counts;
     }

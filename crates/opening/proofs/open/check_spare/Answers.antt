@@ -9,12 +9,12 @@ returns-in_err-spare-clause-opens g c = λ h. stopped_memory (Spare c.args.place
 
 pub returns-in_err-is_directory-clause-opens : goal.returns-in_err-is_directory-clause-opens
 returns-in_err-is_directory-clause-opens g c = λ h.
-    stopped_read (Spare c.args.place.now ∷ []) _ c.from_residual-in_err-is_directory.result _ _ c.from_residual-in_err-is_directory.ensures.1 c.is_directory.ensures.reads.world
+    stopped_read (Spare c.args.place.now ∷ []) _ c.from_residual-in_err-is_directory.result _ _ c.from_residual-in_err-is_directory.ensures.1 c.is_directory.ensures.looks.reads.world
 
 pub returns-then-branch-clause-opens : goal.returns-then-branch-clause-opens
 returns-then-branch-clause-opens g c = λ h.
-    spare_taken _ c.args.place.now _ _ _ c.in_ok-spare.ensures (search rules) c.is_directory.ensures.reads.world (MatchBool-at_true _ _ c.if-branch.true (c.in_ok-is_directory.ensures.found h))
+    spare_taken _ c.args.place.now _ _ _ c.in_ok-spare.ensures (search rules) c.is_directory.ensures.looks.reads.world (MatchBool-at_true _ _ c.if-branch.true (c.in_ok-is_directory.ensures.looks.found h))
 
 pub returns-clause-opens : goal.returns-clause-opens
 returns-clause-opens g c = λ h.
-    spare_fine _ c.args.place.now _ _ c.in_ok-spare.ensures c.is_directory.ensures.reads.world (MatchBool-at_false _ _ c.if-branch.false (c.in_ok-is_directory.ensures.found h))
+    spare_fine _ c.args.place.now _ _ c.in_ok-spare.ensures c.is_directory.ensures.looks.reads.world (MatchBool-at_false _ _ c.if-branch.false (c.in_ok-is_directory.ensures.looks.found h))

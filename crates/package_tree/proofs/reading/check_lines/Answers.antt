@@ -10,14 +10,14 @@ use Rattle.package_tree.proofs.reading.check_lines.Goals as goal
 pub returns-in-Some-clause-fault : goal.returns-in-Some-clause-fault
 returns-in-Some-clause-fault g c = λ h.
     let w = (g.H.Host.state c.args.host.now).world in
-    let mid = c.first_astray.ensures.silent.honest h in
+    let mid = c.first_astray.ensures.looks.silent.honest h in
     let told : IsFirstAstray w c.as_slice.result.now c.in-Some.name = subst (Astray w c.as_slice.result.now) c.in-Some.is (c.in_ok-name.ensures.found h) in
     inl (c.requires.control mid, (c.requires.good mid).0, subst (λ (l : List Entry). IsFirstAstray w l c.in-Some.name) (c.as_slice.ensures.value ∙ (c.requires.lines mid).entries) told)
 
 pub returns-in-Some-2-clause-fault : goal.returns-in-Some-2-clause-fault
 returns-in-Some-2-clause-fault g c = λ h.
     let w = (g.H.Host.state c.args.host.now).world in
-    let mid = c.first_astray.ensures.silent.honest h in
+    let mid = c.first_astray.ensures.looks.silent.honest h in
     let good = c.requires.good mid in
     let lines = c.requires.lines mid in
     let none : HasNoEntry (IsAstray w) c.as_slice.result.now = subst (Astray w c.as_slice.result.now) c.in_default.is (c.in_ok-name.ensures.found h) in
@@ -33,7 +33,7 @@ returns-in-Some-2-clause-fault g c = λ h.
 pub returns-in-Some-first_odd-clause-fault : goal.returns-in-Some-first_odd-clause-fault
 returns-in-Some-first_odd-clause-fault g c = λ h.
     let w = (g.H.Host.state c.args.host.now).world in
-    let mid = c.first_astray.ensures.silent.honest h in
+    let mid = c.first_astray.ensures.looks.silent.honest h in
     let good = c.requires.good mid in
     let lines = c.requires.lines mid in
     let none : HasNoEntry (IsAstray w) c.as_slice.result.now = subst (Astray w c.as_slice.result.now) c.in_default.is (c.in_ok-name.ensures.found h) in
@@ -50,7 +50,7 @@ returns-in-Some-first_odd-clause-fault g c = λ h.
 pub returns-in-None-clause-good : goal.returns-in-None-clause-good
 returns-in-None-clause-good g c = λ h.
     let w = (g.H.Host.state c.args.host.now).world in
-    let mid = c.first_astray.ensures.silent.honest h in
+    let mid = c.first_astray.ensures.looks.silent.honest h in
     let good = c.requires.good mid in
     let lines = c.requires.lines mid in
     let none : HasNoEntry (IsAstray w) c.as_slice.result.now = subst (Astray w c.as_slice.result.now) c.in_default.is (c.in_ok-name.ensures.found h) in

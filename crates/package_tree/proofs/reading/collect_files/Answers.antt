@@ -5,7 +5,7 @@ use Rattle.package_tree.proofs.reading.collect_files.Goals as goal
 pub returns-in-Some-clause-fault : goal.returns-in-Some-clause-fault
 returns-in-Some-clause-fault g c = λ h.
     let w = (g.H.Host.state c.args.host.now).world in
-    let mid = c.collect.ensures.silent.honest h in
+    let mid = c.collect.ensures.looks.silent.honest h in
     inl (c.requires.control mid, (c.requires.shipped mid).0, c.requires.lines mid, subst (Large w c.collect.new.files.items) c.in-Some.is (c.in_ok-path.ensures.found h))
 
 pub returns-in-None-clause-found : goal.returns-in-None-clause-found

@@ -27,14 +27,14 @@ pub returns-in_err-look_at-5-clause-reads : goal.returns-in_err-look_at-5-clause
 returns-in_err-look_at-5-clause-reads g c = c.look_at.ensures.reads ⨾ c.look_at-2.ensures.reads ⨾ c.look_at-3.ensures.reads ⨾ c.look_at-4.ensures.reads ⨾ c.look_at-5.ensures.reads
 
 pub returns-in_err-contents-clause-reads : goal.returns-in_err-contents-clause-reads
-returns-in_err-contents-clause-reads g c = c.look_at.ensures.reads ⨾ c.look_at-2.ensures.reads ⨾ c.look_at-3.ensures.reads ⨾ c.look_at-4.ensures.reads ⨾ c.look_at-5.ensures.reads ⨾ c.ships.ensures.reads
+returns-in_err-contents-clause-reads g c = c.look_at.ensures.reads ⨾ c.look_at-2.ensures.reads ⨾ c.look_at-3.ensures.reads ⨾ c.look_at-4.ensures.reads ⨾ c.look_at-5.ensures.reads ⨾ c.ships.ensures.looks.reads
 
 pub returns-clause-reads : goal.returns-clause-reads
-returns-clause-reads g c = c.look_at.ensures.reads ⨾ c.look_at-2.ensures.reads ⨾ c.look_at-3.ensures.reads ⨾ c.look_at-4.ensures.reads ⨾ c.look_at-5.ensures.reads ⨾ c.ships.ensures.reads
+returns-clause-reads g c = c.look_at.ensures.reads ⨾ c.look_at-2.ensures.reads ⨾ c.look_at-3.ensures.reads ⨾ c.look_at-4.ensures.reads ⨾ c.look_at-5.ensures.reads ⨾ c.ships.ensures.looks.reads
 
 pub returns-clause-found : goal.returns-clause-found
 returns-clause-found g c = λ h.
-    let honest-5 = c.ships.ensures.silent.honest h in
+    let honest-5 = c.ships.ensures.looks.silent.honest h in
     let honest-4 = c.look_at-5.ensures.silent.honest honest-5 in
     let honest-3 = c.look_at-4.ensures.silent.honest honest-4 in
     let honest-2 = c.look_at-3.ensures.silent.honest honest-3 in

@@ -49,7 +49,7 @@ returns-then-is_bad-clause-found g c = λ h.
       above = above_text text c.pop_first.new.self c.in-Some.ensures.all_above;
     } in
     path_bad (g.H.Host.state c.args.host.now).world (g.H.Host.state c.loop.host).world c.loop.found.items c.new-path.result (string_bytes text) (contains_text c.loop.todo) (contains_text c.pop_first.new.self) (contains_text c.look.new.todo)
-    c.in_ok-sight.sight c.is_bad.result c.loop.invariant.reads.world c.new-path.ensures (c.loop.invariant.amid (c.look.ensures.silent.honest h)) took c.if-is_bad.true c.is_bad.ensures (c.in_ok-sight.ensures.found h)
+    c.in_ok-sight.sight c.is_bad.result c.loop.invariant.reads.world c.new-path.ensures (c.loop.invariant.amid (c.look.ensures.looks.silent.honest h)) took c.if-is_bad.true c.is_bad.ensures (c.in_ok-sight.ensures.looks.found h)
 
 pub loop-preserved : goal.loop-preserved
 loop-preserved g c =
@@ -70,14 +70,14 @@ loop-preserved g c =
     let takes : Takes found path sight next = subst (λ (p : Path). Takes found p sight next) c.new-path.ensures c.in_ok-take.ensures in
     record {
       amid = λ h.
-          (let before = c.look.ensures.silent.honest h in
+          (let before = c.look.ensures.looks.silent.honest h in
           path_fine (g.H.Host.state c.args.host.now).world (g.H.Host.state c.loop.host).world found next c.new-path.result path todo rest later sight c.is_bad.result
           (g.H.Host.tree c.args.host.now (c.loop.invariant.silent.honest before)) c.loop.invariant.reads.world c.new-path.ensures (c.loop.invariant.amid before) c.loop.invariant.orderly took c.if-is_bad.false c.is_bad.ensures
-          (c.in_ok-sight.ensures.found h) c.in_ok-sight.ensures.children c.in_ok-take.ensures);
+          (c.in_ok-sight.ensures.looks.found h) c.in_ok-sight.ensures.children c.in_ok-take.ensures);
       orderly = orderly_next found next path todo rest later sight c.loop.invariant.orderly took children takes;
       texts = texts_next found next path sight c.loop.invariant.texts (IsUtf8-string_bytes text) (c.loop.invariant.orderly.paths path c.in-Some.ensures.member) takes;
       order = in_order_next found next path todo rest sight c.loop.invariant.orderly c.loop.invariant.order took takes;
-      reads = reads_then _ _ _ c.loop.invariant.reads c.look.ensures.reads;
+      reads = reads_then _ _ _ c.loop.invariant.reads c.look.ensures.looks.reads;
       silent = search rules;
       counts = search rules;
     }

@@ -19,4 +19,4 @@ pub apply-requires-clause-can : goal.apply-requires-clause-can
 apply-requires-clause-can c = λ h.
     let items : c.as_slice.result.now ≡ c.new.result ∷ [] = search rules in
     let none : c.in_ok-obstacle.obstacle ≡ None = none_found c.in_ok-obstacle.obstacle (search rules) in
-    all_one _ c.args.path c.new.result _ items c.new.ensures.path (subst (CanSettle c.args.path) (sym c.find_obstacle.ensures.reads.world) (c.in_ok-obstacle.ensures.clear h none))
+    all_one _ c.args.path c.new.result _ items c.new.ensures.path (subst (CanSettle c.args.path) (sym c.find_obstacle.ensures.looks.reads.world) (c.in_ok-obstacle.ensures.clear h none))

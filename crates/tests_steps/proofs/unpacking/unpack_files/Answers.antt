@@ -12,10 +12,10 @@ use Rattle.file_check.proofs.Permuting.{amid_here, written_back, rearranged, wri
 use Rattle.tests_steps.proofs.unpacking.unpack_files.Goals as goal
 
 pub returns-in_err-found-clause-any_moment : goal.returns-in_err-found-clause-any_moment
-returns-in_err-found-clause-any_moment g c = since_reads _ _ _ c.check.ensures.reads (λ fs failed. amid_here _ _)
+returns-in_err-found-clause-any_moment g c = since_reads _ _ _ c.check.ensures.looks.reads (λ fs failed. amid_here _ _)
 
 pub returns-in-Some-clause-any_moment : goal.returns-in-Some-clause-any_moment
-returns-in-Some-clause-any_moment g c = since_reads _ _ _ c.check.ensures.reads (λ fs failed. amid_here _ _)
+returns-in-Some-clause-any_moment g c = since_reads _ _ _ c.check.ensures.looks.reads (λ fs failed. amid_here _ _)
 
 pub write_works-requires-clause-named : goal.write_works-requires-clause-named
 write_works-requires-clause-named g c =
@@ -36,8 +36,8 @@ returns-in_err-write_works-clause-any_moment g c =
     let old = g.H.Host.state c.args.host.now in
     let mid = g.H.Host.state c.check.new.host in
     let end = g.H.Host.state c.write_works.new.host in
-    since_then (λ so_far. IsAmid new old.world old.world) old mid end (since_reads (λ so_far. IsAmid new old.world old.world) old mid c.check.ensures.reads (λ fs failed. amid_here new old.world))
-    (subst (λ (v : World). Since (λ so_far. IsAmid new v v) mid end) c.check.ensures.reads.world c.write_works.ensures.any_moment)
+    since_then (λ so_far. IsAmid new old.world old.world) old mid end (since_reads (λ so_far. IsAmid new old.world old.world) old mid c.check.ensures.looks.reads (λ fs failed. amid_here new old.world))
+    (subst (λ (v : World). Since (λ so_far. IsAmid new v v) mid end) c.check.ensures.looks.reads.world c.write_works.ensures.any_moment)
 
 pub returns-clause-works : goal.returns-clause-works
 returns-clause-works g c =
@@ -56,7 +56,7 @@ returns-clause-ready g c = λ h.
     let h1 = c.write_works.ensures.silent.honest h in
     written_from c.check.new.works new w end (subst (λ (l : List Work). IsPermutation l new) back c.write_works.ensures.works)
     (none_told c.in_ok-found.found _ c.in_default.is (c.in_ok-found.ensures.free h1)) (none_told c.in_ok-found.found _ c.in_default.is (c.in_ok-found.ensures.seen h1))
-    (subst (λ (v : World). Written new v end) c.check.ensures.reads.world (c.in_ok-write_works.ensures.written h))
+    (subst (λ (v : World). Written new v end) c.check.ensures.looks.reads.world (c.in_ok-write_works.ensures.written h))
 
 pub returns-clause-any_moment : goal.returns-clause-any_moment
 returns-clause-any_moment g c =
@@ -64,5 +64,5 @@ returns-clause-any_moment g c =
     let old = g.H.Host.state c.args.host.now in
     let mid = g.H.Host.state c.check.new.host in
     let end = g.H.Host.state c.write_works.new.host in
-    since_then (λ so_far. IsAmid new old.world old.world) old mid end (since_reads (λ so_far. IsAmid new old.world old.world) old mid c.check.ensures.reads (λ fs failed. amid_here new old.world))
-    (subst (λ (v : World). Since (λ so_far. IsAmid new v v) mid end) c.check.ensures.reads.world c.write_works.ensures.any_moment)
+    since_then (λ so_far. IsAmid new old.world old.world) old mid end (since_reads (λ so_far. IsAmid new old.world old.world) old mid c.check.ensures.looks.reads (λ fs failed. amid_here new old.world))
+    (subst (λ (v : World). Since (λ so_far. IsAmid new v v) mid end) c.check.ensures.looks.reads.world c.write_works.ensures.any_moment)

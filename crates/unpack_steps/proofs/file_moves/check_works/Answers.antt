@@ -44,14 +44,19 @@ returns-clause-distinct g c =
     let back = written_back c.args.works.now.len c.args.works.now.items c.check.new.works (search rules) same in
     subst (λ (l : List Work). IfOk c.check.result (λ found. IfNone found (IsDistinct is_one_place l))) (sym back) c.check.ensures.distinct
 
-pub returns-clause-judged : goal.returns-clause-judged
-returns-clause-judged g c = λ h.
-    let entries = c.args.diversions.now.entries in
-    let lists = c.args.lists.now.lists in
-    let w = (g.H.Host.state c.args.host.now).world in
-    let xs = c.args.works.now.items in
-    let same = subst (λ (ys : List Work). IsSameBut ys c.check.new.works) c.as_mut_slice.ensures.value c.check.ensures.same_works in
-    let is : owning entries lists c.as_slice.result.now c.name.result.now ≡ owning entries lists c.args.rows.now.yields (own_name c.args.rows.now.found c.args.rows.now.incoming) = λ i. owning entries lists (c.as_slice.ensures i) (c.name.ensures i) in
-    subst (λ (o : Owning). IfOk c.check.result (λ found. MatchOption found (AllSound o xs w) (IsFirstFault o xs w))) is
-    (judged_by (owning entries lists c.as_slice.result.now c.name.result.now) w xs c.check.new.works c.check.result same (c.check.ensures.sound h)
-    (subst (λ (ys : List Work). IfOk c.check.result (λ found. IfSome found (IsFirstFault (owning entries lists c.as_slice.result.now c.name.result.now) ys w))) c.as_mut_slice.ensures.value (c.check.ensures.fault h)))
+pub returns-clause-looks : goal.returns-clause-looks
+returns-clause-looks g c = record {
+  found = λ h.
+      let entries = c.args.diversions.now.entries in
+      let lists = c.args.lists.now.lists in
+      let w = (g.H.Host.state c.args.host.now).world in
+      let xs = c.args.works.now.items in
+      let same = subst (λ (ys : List Work). IsSameBut ys c.check.new.works) c.as_mut_slice.ensures.value c.check.ensures.same_works in
+      let is : owning entries lists c.as_slice.result.now c.name.result.now ≡ owning entries lists c.args.rows.now.yields (own_name c.args.rows.now.found c.args.rows.now.incoming) = λ i. owning entries lists (c.as_slice.ensures i) (c.name.ensures i) in
+      subst (λ (o : Owning). IfOk c.check.result (λ found. MatchOption found (AllSound o xs w) (IsFirstFault o xs w))) is
+      (judged_by (owning entries lists c.as_slice.result.now c.name.result.now) w xs c.check.new.works c.check.result same (c.check.ensures.sound h)
+      (subst (λ (ys : List Work). IfOk c.check.result (λ found. IfSome found (IsFirstFault (owning entries lists c.as_slice.result.now c.name.result.now) ys w))) c.as_mut_slice.ensures.value (c.check.ensures.looks.found h)));
+  reads = search rules;
+  silent = search rules;
+  counts = search rules;
+}
