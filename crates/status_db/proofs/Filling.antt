@@ -1,14 +1,9 @@
 -- A table that is filled from a list of records.
-use Rattle.std.proofs.Common.{◌≡◌, inl, inr, ℕ, suc, ◌+◌, ◌-◌, ◌<◌, Bool, true, false, cond, List, [], ◌∷◌, ◌++◌, length, get_or, Option, Some, None, refl, sym, ap, subst, ◌∙◌, arith}
+use Rattle.std.proofs.Common.{◌≡◌, ℕ, Bool, true, false, cond, List, [], ◌∷◌, ◌++◌, Option, Some, None, refl, sym, ap, subst, ◌∙◌}
 use Rattle.std.specs.Str.{bytes_eq}
 use Rattle.status_records.specs.declared.record.Record.{Record}
-use Rattle.status_db.specs.Order.{AreInOrder, IsBefore, names_of}
 use Rattle.status_records.specs.Records.{AreStanding, record_in, put_record}
 use Rattle.status_records.specs.Words.{is_not_installed}
-use Rattle.std.specs.Ordering.{nat_cmp, is_lt}
-use Rattle.std.specs.Cmp.Lexicographic.{slice_cmp}
-use Rattle.std.proofs.lemmas.Bool.{cases_eq}
-use Rattle.status_db.proofs.Ordered.{before_all_then, name_at, told_before}
 use Rattle.status_records.proofs.Tables.{record_in-put_record}
 
 -- the first, or else the second
@@ -55,26 +50,3 @@ standing_last left r items is all = back left (subst AreStanding is all)
     back : (xs : List Record) → AreStanding (xs ++ r ∷ []) → is_not_installed r.state ≡ false
     back [] all = all.0
     back (x ∷ xs) all = back xs all.1
-
--- each record is before the next one
-pub adjacent_order : (rs : List Record) → ((k : ℕ) → k + 1 < length rs → IsBefore (get_or (names_of rs) k []) (get_or (names_of rs) (k + 1) [])) → AreInOrder rs
-adjacent_order [] each = tt
-adjacent_order (x ∷ []) each = (tt, tt)
-adjacent_order (x ∷ y ∷ rs) each =
-    let less : IsBefore x.name y.name = each 0 (omega arith) in
-    let rest : AreInOrder (y ∷ rs) = adjacent_order (y ∷ rs) (λ k lt. subst (λ (m : ℕ). IsBefore (get_or (names_of (y ∷ rs)) k []) (get_or (names_of (x ∷ y ∷ rs)) m [])) (sym (next k)) (each (suc k) (omega (arith, lt)))) in
-    ((less, before_all_then x.name y.name rs less rest.0), rest)
-  where
-    next : (k : ℕ) → suc (k + 1) ≡ suc k + 1
-    next k = omega arith
-
-pub adjacent_more : (rs : List Record) (at : ℕ) (x y : Record) → at < length rs → 0 < at → ((k : ℕ) → k + 1 < at → IsBefore (get_or (names_of rs) k []) (get_or (names_of rs) (k + 1) [])) → x ≡ get_or rs (at - 1) x → y ≡ get_or rs at y
-    → is_lt (slice_cmp nat_cmp x.name y.name) ≡ true → (k : ℕ) → k + 1 < at + 1 → IsBefore (get_or (names_of rs) k []) (get_or (names_of rs) (k + 1) [])
-adjacent_more rs at x y lt some before is_x is_y less k small = elim (cases_eq (k + 1) at) [
-  | inl e ↦
-      let here : k ≡ at - 1 = omega (arith, e) in
-      let first : get_or (names_of rs) k [] ≡ x.name = ap (λ (m : ℕ). get_or (names_of rs) m []) here ∙ name_at rs (at - 1) x (omega (arith, lt)) is_x in
-      let second : get_or (names_of rs) (k + 1) [] ≡ y.name = ap (λ (m : ℕ). get_or (names_of rs) m []) e ∙ name_at rs at y lt is_y in
-      subst (λ (n : List ℕ). IsBefore n (get_or (names_of rs) (k + 1) [])) (sym first) (subst (λ (n : List ℕ). IsBefore x.name n) (sym second) (told_before (slice_cmp nat_cmp x.name y.name) less))
-  | inr ne ↦ before k (omega (arith, small, ne))
-]

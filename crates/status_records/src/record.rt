@@ -13,6 +13,7 @@ ghost use Rattle.status_records.specs.Writable.{IsWritable};
 use crate::conffile_lists::{ConffileEntries, PendingDigests};
 use crate::words::{Flag, State, Want};
 use control_fields::Paragraph;
+use name_tables::Named;
 use std::alloc::{AllocError, Global};
 use texts::Text;
 use version_order::Version;
@@ -35,6 +36,14 @@ pub struct Record {
     pub fields: Paragraph,
     pub ghost writable: { ∥ IsWritable name fields ∥₁ },
     pub ghost current: { is_installed state && is_some config_version ≡ false },
+}
+
+impl Named for Record {
+    ghost called = { λ r. r.name };
+
+    fn name(&self) -> &Text {
+        &self.name
+    }
 }
 
 fn is_own(name: &[u8]) -> bool
