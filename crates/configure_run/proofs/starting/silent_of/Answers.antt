@@ -4,20 +4,24 @@ use Rattle.configure_run.specs.Starting.{is_silent}
 use Rattle.configure_run.proofs.Silence.{silent_more}
 use Rattle.configure_run.proofs.starting.silent_of.Goals as goal
 
-pub returns-in_err-is_silent_at-clause-looks : goal.returns-in_err-is_silent_at-clause-looks
-returns-in_err-is_silent_at-clause-looks g c = record {
-  found = search rules;
-  reads = reads_then _ _ _ c.loop-entry.invariant.reads c.is_silent_at.ensures.looks.reads;
-  silent = search rules;
-  counts = search rules;
+pub returns-in_err-is_silent_at : goal.returns-in_err-is_silent_at
+returns-in_err-is_silent_at g c = record {
+  looks = record {
+    found = search rules;
+    reads = reads_then _ _ _ c.loop-entry.invariant.reads c.is_silent_at.ensures.looks.reads;
+    silent = search rules;
+    counts = search rules;
+  };
 }
 
-pub returns-in_err-push-clause-looks : goal.returns-in_err-push-clause-looks
-returns-in_err-push-clause-looks g c = record {
-  found = search rules;
-  reads = reads_then _ _ _ c.loop-entry.invariant.reads c.is_silent_at.ensures.looks.reads;
-  silent = search rules;
-  counts = search rules;
+pub returns-in_err-push : goal.returns-in_err-push
+returns-in_err-push g c = record {
+  looks = record {
+    found = search rules;
+    reads = reads_then _ _ _ c.loop-entry.invariant.reads c.is_silent_at.ensures.looks.reads;
+    silent = search rules;
+    counts = search rules;
+  };
 }
 
 pub loop-entry-preserved : goal.loop-entry-preserved

@@ -16,25 +16,29 @@ loop-path-preserved g c =
       counts = c.in_ok-stands.ensures.looks.counts ∙ before.counts;
     }
 
-pub returns-then-not-stands-clause-looks : goal.returns-then-not-stands-clause-looks
-returns-then-not-stands-clause-looks g c = record {
-  found = λ h.
-      let before = c.loop-path.invariant in
-      let w = (g.H.Host.state c.args.host.now).world in
-      let v = (g.H.Host.state c.loop-path.host).world in
-      sym (directories_stop c.args.diversions.now.entries c.args.name.now w c.args.paths.now c.loop-path.path-index c.path-item.result c.loop-path-test.true c.path-item.is v before.reads.world c.in_ok-stands.stands (c.in_ok-stands.ensures.looks.found h)
-      c.if-not-stands.true);
-  reads = search (rules, reads_then);
-  silent = search rules;
-  counts = search rules;
+pub returns-then-not-stands : goal.returns-then-not-stands
+returns-then-not-stands g c = record {
+  looks = record {
+    found = λ h.
+        let before = c.loop-path.invariant in
+        let w = (g.H.Host.state c.args.host.now).world in
+        let v = (g.H.Host.state c.loop-path.host).world in
+        sym (directories_stop c.args.diversions.now.entries c.args.name.now w c.args.paths.now c.loop-path.path-index c.path-item.result c.loop-path-test.true c.path-item.is v before.reads.world c.in_ok-stands.stands (c.in_ok-stands.ensures.looks.found h)
+        c.if-not-stands.true);
+    reads = search (rules, reads_then);
+    silent = search rules;
+    counts = search rules;
+  };
 }
 
-pub returns-clause-looks : goal.returns-clause-looks
-returns-clause-looks g c = record {
-  found = λ h.
-      let w = (g.H.Host.state c.args.host.now).world in
-      sym (directories_all c.args.diversions.now.entries c.args.name.now w c.args.paths.now c.loop-path.path-index (omega (arith, c.loop-path-test.false)) (c.loop-path.invariant.found h));
-  reads = search (rules, reads_then);
-  silent = search rules;
-  counts = search rules;
+pub returns : goal.returns
+returns g c = record {
+  looks = record {
+    found = λ h.
+        let w = (g.H.Host.state c.args.host.now).world in
+        sym (directories_all c.args.diversions.now.entries c.args.name.now w c.args.paths.now c.loop-path.path-index (omega (arith, c.loop-path-test.false)) (c.loop-path.invariant.found h));
+    reads = search (rules, reads_then);
+    silent = search rules;
+    counts = search rules;
+  };
 }

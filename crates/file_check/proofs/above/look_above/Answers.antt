@@ -12,37 +12,43 @@ use Rattle.file_check.proofs.above.look_above.Goals as goal
 pub kind_at-requires : goal.kind_at-requires
 kind_at-requires g c = front_is_path c.in-Some.front.now c.in-Some.field-0-1.now (ap is_path (sym c.in-Some.ensures.0) ∙ c.loop-front.invariant.path)
 
-pub returns-in_err-kind-clause-looks : goal.returns-in_err-kind-clause-looks
-returns-in_err-kind-clause-looks g c = record {
-  found = search rules;
-  reads = reads_then _ _ _ c.loop-front.invariant.reads c.kind_at.ensures.looks.reads;
-  silent = search rules;
-  counts = search rules;
+pub returns-in_err-kind : goal.returns-in_err-kind
+returns-in_err-kind g c = record {
+  looks = record {
+    found = search rules;
+    reads = reads_then _ _ _ c.loop-front.invariant.reads c.kind_at.ensures.looks.reads;
+    silent = search rules;
+    counts = search rules;
+  };
 }
 
-pub returns-then-is_directory-clause-looks : goal.returns-then-is_directory-clause-looks
-returns-then-is_directory-clause-looks g c = record {
-  found = λ h.
-      let inv = c.loop-front.invariant in
-      let made = contains_text c.args.made.now in
-      let w = (g.H.Host.state c.args.host.now).world in
-      let front = c.in-Some.front.now in
-      let cut = c.in-Some.ensures in
-      let h0 = c.kind_at.ensures.looks.silent.honest h in
-      let dir : IsDirectory (w front) = subst (λ (v : World). IsDirectory (v front)) inv.reads.world (dir_is _ (ap is_directory_kind (sym (c.in_ok-kind.ensures.looks.found h)) ∙ sym c.is_directory.ensures ∙ c.if-is_directory.true)) in
-      subst (IsAbove made w c.args.place.now) (sym c.answer.ensures)
-      (looked_directory made w c.args.place.now c.loop-front.rest.now c.loop-front.lacking (inv.looking h0) front c.in-Some.field-0-1.now cut.0 cut.1 (g.H.Host.tree c.args.host.now (inv.silent.honest h0)) dir);
-  reads = reads_then _ _ _ c.loop-front.invariant.reads c.kind_at.ensures.looks.reads;
-  silent = search rules;
-  counts = search rules;
+pub returns-then-is_directory : goal.returns-then-is_directory
+returns-then-is_directory g c = record {
+  looks = record {
+    found = λ h.
+        let inv = c.loop-front.invariant in
+        let made = contains_text c.args.made.now in
+        let w = (g.H.Host.state c.args.host.now).world in
+        let front = c.in-Some.front.now in
+        let cut = c.in-Some.ensures in
+        let h0 = c.kind_at.ensures.looks.silent.honest h in
+        let dir : IsDirectory (w front) = subst (λ (v : World). IsDirectory (v front)) inv.reads.world (dir_is _ (ap is_directory_kind (sym (c.in_ok-kind.ensures.looks.found h)) ∙ sym c.is_directory.ensures ∙ c.if-is_directory.true)) in
+        subst (IsAbove made w c.args.place.now) (sym c.answer.ensures)
+        (looked_directory made w c.args.place.now c.loop-front.rest.now c.loop-front.lacking (inv.looking h0) front c.in-Some.field-0-1.now cut.0 cut.1 (g.H.Host.tree c.args.host.now (inv.silent.honest h0)) dir);
+    reads = reads_then _ _ _ c.loop-front.invariant.reads c.kind_at.ensures.looks.reads;
+    silent = search rules;
+    counts = search rules;
+  };
 }
 
-pub returns-then-is_link-clause-looks : goal.returns-then-is_link-clause-looks
-returns-then-is_link-clause-looks g c = record {
-  found = search rules;
-  reads = reads_then _ _ _ c.loop-front.invariant.reads c.kind_at.ensures.looks.reads;
-  silent = search rules;
-  counts = search rules;
+pub returns-then-is_link : goal.returns-then-is_link
+returns-then-is_link g c = record {
+  looks = record {
+    found = search rules;
+    reads = reads_then _ _ _ c.loop-front.invariant.reads c.kind_at.ensures.looks.reads;
+    silent = search rules;
+    counts = search rules;
+  };
 }
 
 pub loop-front-preserved : goal.loop-front-preserved
@@ -66,15 +72,17 @@ loop-front-preserved g c =
       counts = c.in_ok-kind.ensures.looks.counts ∙ inv.counts;
     }
 
-pub returns-clause-looks : goal.returns-clause-looks
-returns-clause-looks g c = record {
-  found = λ h.
-      let inv = c.loop-front.invariant in
-      let made = contains_text c.args.made.now in
-      let w = (g.H.Host.state c.args.host.now).world in
-      subst (IsAbove made w c.args.place.now) (sym c.answer-2.ensures)
-      (looked_all made w c.args.place.now c.loop-front.rest.now c.loop-front.lacking (inv.looking h) c.in_default.ensures);
-  reads = search rules;
-  silent = search rules;
-  counts = search rules;
+pub returns : goal.returns
+returns g c = record {
+  looks = record {
+    found = λ h.
+        let inv = c.loop-front.invariant in
+        let made = contains_text c.args.made.now in
+        let w = (g.H.Host.state c.args.host.now).world in
+        subst (IsAbove made w c.args.place.now) (sym c.answer-2.ensures)
+        (looked_all made w c.args.place.now c.loop-front.rest.now c.loop-front.lacking (inv.looking h) c.in_default.ensures);
+    reads = search rules;
+    silent = search rules;
+    counts = search rules;
+  };
 }

@@ -16,13 +16,15 @@ all_four name w v stored same a b c d Postinst = b
 all_four name w v stored same a b c d Prerm = c ∙ ap (λ (x : World). is_some (x (script_path name Prerm))) same
 all_four name w v stored same a b c d Postrm = d ∙ ap (λ (x : World). is_some (x (script_path name Postrm))) same
 
-pub returns-clause-looks : goal.returns-clause-looks
-returns-clause-looks g c = record {
-  found = λ h script.
-      let first = c.in_ok-preinst.ensures.found (c.look_for_two-2.ensures.looks.reads.honest h) in
-      let second = c.in_ok-prerm.ensures.found h in
-      all_four c.args.name.now (g.H.Host.state c.args.host.now).world (g.H.Host.state c.look_for_two.new.host).world _ c.look_for_two.ensures.looks.reads.world first.0 first.1 second.0 second.1 script;
-  reads = search (rules, reads_then);
-  silent = search rules;
-  counts = search rules;
+pub returns : goal.returns
+returns g c = record {
+  looks = record {
+    found = λ h script.
+        let first = c.in_ok-preinst.ensures.found (c.look_for_two-2.ensures.looks.reads.honest h) in
+        let second = c.in_ok-prerm.ensures.found h in
+        all_four c.args.name.now (g.H.Host.state c.args.host.now).world (g.H.Host.state c.look_for_two.new.host).world _ c.look_for_two.ensures.looks.reads.world first.0 first.1 second.0 second.1 script;
+    reads = search (rules, reads_then);
+    silent = search rules;
+    counts = search rules;
+  };
 }
