@@ -5,7 +5,7 @@ use Rattle.host_core.specs.World.{World}
 use Rattle.diversions.specs.Targets.{owner_name}
 use Rattle.diversions.specs.declared.entry.Diversion.{Diversion}
 use Rattle.undo_rows.specs.declared.fall.StepFault.{StepFault}
-use Rattle.undo_rows.specs.declared.fall.StepFault.TheVariants.{LinkParent, NoParent, DirInWay, Clash, DiversionTarget}
+use Rattle.undo_rows.specs.declared.fall.StepFault.TheVariants.{LinkParent, NoParent, DirInWay, Clash, DiversionTarget, Declined}
 use Rattle.package_files.specs.declared.work.Work.{Work}
 use Rattle.file_check.specs.declared.above.Above.{Above}
 use Rattle.file_check.specs.declared.above.Above.TheVariants as above
@@ -24,7 +24,8 @@ module _ (o : Owning) (made twice : Path → Bool) (w : World) where
     pub target : diversion_to o s ≡ None
 
   -- The fault of a path, told by its shipped path: a parent is a link; none is, and one is no directory and becomes none; a
-  -- directory is in the way; it clashes; another path is diverted to it. The first of these is told.
+  -- directory is in the way; it clashes; another path is diverted to it. The first of these is told. That a step is declined is seen
+  -- when it is made.
   abbrev pub IsFaultOf : Work → StepFault → Type 0
   IsFaultOf s (LinkParent p) = (p ≡ s.path) × HasLink w s.place
   IsFaultOf s (NoParent p) = (p ≡ s.path) × (HasLink w s.place → ⊥) × Lacks made w s.place
@@ -32,6 +33,7 @@ module _ (o : Owning) (made twice : Path → Bool) (w : World) where
   IsFaultOf s (Clash p owner) = (p ≡ s.path) × IsClear made w s.place × (in_way_at w s ≡ false) × (clash_at o twice w s ≡ Some owner)
   IsFaultOf s (DiversionTarget p diverter) =
       (p ≡ s.path) × IsClear made w s.place × (in_way_at w s ≡ false) × (clash_at o twice w s ≡ None) × IsTargetOf o s diverter
+  IsFaultOf s (Declined p) = ⊥
 
   abbrev pub AreSound : List Work → Type 0
   AreSound [] = Unit {0}

@@ -85,6 +85,25 @@ pub record PutBack (works : List Work) (old mid new : World) : Type 0 where
   pub each : Each (HasPutBack old new) works
   pub rest : (q : Path) → Each (λ x. Misses x q) works → new q ≡ mid q
 
+-- at a reserved name stands what stood there, or what is left of it
+abbrev pub IsSpared : Option Node → Option Node → Type 0
+IsSpared old new = (new ≡ old) ⊎ (new ≡ cleared old)
+
+-- the path isn't written: its target is as it was
+pub record IsUnwritten (old new : World) (x : Work) : Type 0 where
+  pub target : new x.target ≡ old x.target
+  pub backup : IsSpared (old x.backup) (new x.backup)
+
+-- nothing is left of what was begun of it, but a directory that stays
+pub record HasUndone (old new : World) (x : Work) : Type 0 where
+  pub is : IsUnwritten old new x ⊎ Stays old new x
+  pub fresh : IsSpared (old x.fresh) (new x.fresh)
+
+-- a step of one of these paths was declined; those that were written are put back, and all else is as before
+pub record Undone (works : List Work) (old new : World) : Type 0 where
+  pub each : Each (HasUndone old new) works
+  pub rest : (q : Path) → Each (λ x. Misses x q) works → new q ≡ old q
+
 -- the shipped node stands there; the access of a directory is set last
 abbrev pub IsShown : Node → Option Node → Type 0
 IsShown (File b m) there = there ≡ Some (File b m)

@@ -3,6 +3,7 @@ use Rattle.std.specs.Prelude.{◌≡◌, ℕ, ◌+◌, ◌<◌, List, [], ◌∷
 use Rattle.undo_rows.specs.declared.rows.Owner.{Owner}
 use Rattle.undo_rows.specs.declared.rows.Row.{Row}
 use Rattle.undo_rows.specs.declared.fall.StepFault.{StepFault}
+use Rattle.undo_rows.specs.declared.fall.StepFault.TheVariants.{LinkParent, NoParent, DirInWay, Clash, DiversionTarget, Declined}
 use Rattle.undo_rows.specs.declared.fall.Fall.{Fall}
 use Rattle.undo_rows.specs.declared.failed.Failed.{Failed}
 
@@ -13,6 +14,16 @@ pub data Place : Type 0 where
   Ready : (row : ℕ) → Place
   -- it turned back there, the rows from this one on are undone, and these undo calls have failed
   Back : (row : ℕ) (fall : Fall) (failed : List Failed) → Place
+
+-- a step of the files was declined: some were written, and put back
+abbrev pub is_declined : Option StepFault → Bool
+is_declined None = false
+is_declined (Some (LinkParent path)) = false
+is_declined (Some (NoParent path)) = false
+is_declined (Some (DirInWay path)) = false
+is_declined (Some (Clash path owner)) = false
+is_declined (Some (DiversionTarget path diverter)) = false
+is_declined (Some (Declined path)) = true
 
 -- where a row of calls leads to, which has succeeded or not
 abbrev pub called : ℕ → Bool → Place

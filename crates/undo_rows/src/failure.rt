@@ -34,6 +34,7 @@ fn fault_copy(fault: &StepFault) -> Result<StepFault, AllocError>
         StepFault::DiversionTarget(path, diverter) => {
             Ok(StepFault::DiversionTarget(path.copy()?, name_copy(diverter)?))
         }
+        StepFault::Declined(path) => Ok(StepFault::Declined(path.copy()?)),
     }
 }
 

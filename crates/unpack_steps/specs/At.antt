@@ -1,14 +1,15 @@
 -- What holds while the rows of an unpack run: at each place of the run, and at each moment.
-use Rattle.std.specs.Prelude.{◌≡◌, ◌<◌, ◌≤◌, ◌+◌, ℕ, Bool, false, IsTrue, List, ◌++◌, Option, Some, None, is_some, length, not}
+use Rattle.std.specs.Prelude.{◌≡◌, ◌<◌, ◌≤◌, ◌+◌, ℕ, Bool, false, IsTrue, List, ◌++◌, Option, Some, None, is_some, length, not, Contains}
 use Rattle.host_core.specs.Paths.{Path}
 use Rattle.host_core.specs.World.{World, Change}
 use Rattle.host_core.specs.Events.{Event, Ran, changes_of, scripts_of}
 use Rattle.host_core.specs.Host.{State, Falls, calls, finished}
 use Rattle.administration.specs.Places.{list_path}
 use Rattle.undo_rows.specs.declared.fall.StepFault.{StepFault}
+use Rattle.undo_rows.specs.declared.fall.StepFault.TheVariants.{LinkParent, NoParent, DirInWay, Clash, DiversionTarget, Declined}
 use Rattle.undo_rows.specs.Place.{Place, Forward, Ready, Back}
 use Rattle.control_members.specs.Stored.{IsMembersReady}
-use Rattle.file_check.specs.Clashes.{owning}
+use Rattle.file_check.specs.Clashes.{Owning, owning}
 use Rattle.file_check.specs.Sound.{AllSound, IsFirstFault}
 use Rattle.file_lists.specs.Filed.{Filed}
 use Rattle.file_lists.specs.Writing.{IsListReady, list_file}
@@ -20,7 +21,7 @@ use Rattle.status_db.specs.Held.{CanOpenRecords, HasRecords, IsKept}
 use Rattle.status_db.specs.Recorded.{Recorded}
 use Rattle.status_records.specs.Records.{record_in}
 use Rattle.status_records.specs.declared.record.Record.{Record}
-use Rattle.listed_files.specs.Listing.{MayList, MayUnlist}
+use Rattle.listed_files.specs.Listing.{MayTurnBack, MayUnlist}
 use Rattle.unpack_rows.specs.Kinds.{own_of}
 use Rattle.unpack_rows.specs.Notes.{half_installed, noted, notes_at}
 use Rattle.unpack_rows.specs.Stages.{Stage, Unwritten, Wrote, Restored, stage_of}
@@ -97,10 +98,19 @@ pub record IsAt (t : Task) (gone : Bool) (g : Holding) (s : State) (place : Plac
 abbrev pub At : Task → Holding → State → Place → Type 0
 At t g s place = IsAt t (has_gone t place) g s place
 
--- the step fault of the shipped paths in a world, or none
+-- The step fault of the shipped paths in a world, or none. Where none has one a step of any of them may be declined: that is an
+-- outcome, as a script's is.
+abbrev pub IsStepFault : Owning → List Work → World → StepFault → Type 0
+IsStepFault o works w (LinkParent path) = IsFirstFault o works w (LinkParent path)
+IsStepFault o works w (NoParent path) = IsFirstFault o works w (NoParent path)
+IsStepFault o works w (DirInWay path) = IsFirstFault o works w (DirInWay path)
+IsStepFault o works w (Clash path owner) = IsFirstFault o works w (Clash path owner)
+IsStepFault o works w (DiversionTarget path diverter) = IsFirstFault o works w (DiversionTarget path diverter)
+IsStepFault o works w (Declined path) = AllSound o works w × ((x : Work) × Contains works x × (path ≡ x.path))
+
 abbrev pub HasFault : Task → World → Option StepFault → Type 0
 HasFault t w None = AllSound (owning t.entries t.lists t.yields (name t)) t.works w
-HasFault t w (Some fault) = IsFirstFault (owning t.entries t.lists t.yields (name t)) t.works w fault
+HasFault t w (Some fault) = IsStepFault (owning t.entries t.lists t.yields (name t)) t.works w fault
 
 -- The step fault of the file row after all these calls of the host: that in a world to which those since the rows began, and
 -- notes, have led, and in which nothing is left of what stood under a name without a record.
@@ -122,7 +132,7 @@ IsMarked t table = record_in table (name t) ≡ Some (half_installed (own_of t.f
 pub data IsAmid (t : Task) (table : List Record) (change : Change) (now : World) : Type 0 where
   untouched : Follows t.places change t.start.world now → IsAmid t table change now
   writing : (works : List Work) (found : World) → IsRearranged t.works works → IsMarked t table
-      → Follows t.places change t.start.world found → MayList (list_path (name t)) (list_file t.union) works found now → IsAmid t table change now
+      → Follows t.places change t.start.world found → MayTurnBack (list_path (name t)) (list_file t.union) (list_file t.listed) works found now → IsAmid t table change now
   written : (works : List Work) → IsRearranged t.works works → IsMarked t table → HasFiles t works change now → IsAmid t table change now
   going_back : (works : List Work) (last : World) → IsRearranged t.works works → IsMarked t table
       → HasFiles t works change last → MayUnlist (list_path (name t)) (list_file t.listed) works last now → IsAmid t table change now

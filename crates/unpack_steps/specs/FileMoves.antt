@@ -6,7 +6,7 @@ use Rattle.host_core.specs.declared.node.Node.{Node}
 use Rattle.file_check.specs.Rearranged.{IsRearranged}
 use Rattle.package_files.specs.Free.{IsWrittenFrom}
 use Rattle.package_files.specs.declared.work.Work.{Work}
-use Rattle.listed_files.specs.Listing.{HasListed, MayList}
+use Rattle.listed_files.specs.Listing.{HasListed, MayTurnBack}
 
 abbrev pub places_of : List Work → List Path
 places_of works = map (λ (x : Work). x.place) works
@@ -16,9 +16,10 @@ pub record HasWrittenRow (list : Path) (node : Node) (works : List Work) (old ne
   pub listed : HasListed list node works old new
   pub from : IsWrittenFrom works listed.mid new
 
--- at each moment: nothing was done, or the list and the files are being written, the works in some order
-abbrev pub MayWriteRow : Path → Node → List Work → World → World → Type 0
-MayWriteRow list node works old now = (now ≡ old) ⊎ ((ordered : List Work) × IsRearranged works ordered × MayList list node ordered old now)
+-- at each moment: nothing was done, or the list and the files are being written, and put back where a step is declined, the works
+-- in some order
+abbrev pub MayWriteRow : Path → (union listed : Node) → List Work → World → World → Type 0
+MayWriteRow list union listed works old now = (now ≡ old) ⊎ ((ordered : List Work) × IsRearranged works ordered × MayTurnBack list union listed ordered old now)
 
 -- without the last of these places, one for each work
 abbrev pub places_before : List Path → List Work → List Path

@@ -1,5 +1,5 @@
 -- How the world came about while rows run: script calls and notes, and the moves of the file row.
-use Rattle.std.specs.Prelude.{◌≡◌, false, List, ◌++◌}
+use Rattle.std.specs.Prelude.{◌≡◌, ◌⊎◌, false, List, ◌++◌}
 use Rattle.host_core.specs.Paths.{Path}
 use Rattle.host_core.specs.World.{World, Change, Avoids, IsDirectory, changed, is_kept}
 use Rattle.administration.specs.Places.{home_path, list_path}
@@ -10,7 +10,7 @@ use Rattle.package_files.specs.Names.{AllInOrder, IsNamed}
 use Rattle.package_files.specs.declared.work.Work.{Work}
 use Rattle.file_check.specs.Rearranged.{IsRearranged}
 use Rattle.status_db.specs.Held.{is_record_place}
-use Rattle.listed_files.specs.Listing.{HasListed, HasUnlisted}
+use Rattle.listed_files.specs.Listing.{HasListed, HasTurnedBack, HasUnlisted}
 use Rattle.unpack_rows.specs.Stages.{Stage, Unwritten, Wrote, Restored}
 use Rattle.unpack_steps.specs.Task.{Task, name, all_places}
 
@@ -33,15 +33,26 @@ pub record HasFiles (t : Task) (works : List Work) (change : Change) (now : Worl
   pub from : IsWrittenFrom works listed.mid written
   pub since : Follows (all_places t) late written now
 
--- They were put back, and then the old list was written; only calls and notes came since.
+-- they were written, put back, and then the old list was written
+pub record HasPutAll (t : Task) (works : List Work) (change : Change) (back : World) : Type 0 where
+  pub last : World
+  pub files : HasFiles t works change last
+  pub unlisted : HasUnlisted (list_path (name t)) (list_file t.listed) works last back
+
+-- A step of them was declined: what had been written was put back at once, and then the old list was written.
+pub record HasTurned (t : Task) (works : List Work) (change : Change) (back : World) : Type 0 where
+  pub found : World
+  pub before : Follows t.places change t.start.world found
+  pub home : IsDirectory (found home_path)
+  pub turned : HasTurnedBack (list_path (name t)) (list_file t.union) (list_file t.listed) works found back
+
+-- They are put back, and the old list is written; only calls and notes came since.
 pub record HasGoneBack (t : Task) (works : List Work) (change : Change) (now : World) : Type 0 where
   pub early : Change
   pub late : Change
   pub changes : change ≡ early ++ late
-  pub last : World
   pub back : World
-  pub files : HasFiles t works early last
-  pub unlisted : HasUnlisted (list_path (name t)) (list_file t.listed) works last back
+  pub put : HasPutAll t works early back ⊎ HasTurned t works early back
   pub since : Follows t.places late back now
 
 -- the world in each stage of the files
