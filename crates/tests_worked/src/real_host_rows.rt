@@ -106,6 +106,7 @@ fn fault_text(fault: HostFault) -> &'static str {
     match fault {
         HostFault::Device => "Device",
         HostFault::NoMemory => "NoMemory",
+        HostFault::Declined => "Declined",
     }
 }
 
