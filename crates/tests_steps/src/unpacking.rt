@@ -1,5 +1,5 @@
 // The file row of an unpack: the check of all paths comes before the first is written.
-ghost use Rattle.std.specs.Prelude.{◌≡◌, ◌<◌, OnOk, IfOk, IfNone, IfSome, length};
+ghost use Rattle.std.specs.Prelude.{◌≡◌, ◌<◌, None, IfOk, IfNone, IfSome, length};
 ghost use Rattle.std.specs.List.{IsDistinct};
 ghost use Rattle.std.specs.List.Sorted.{IsPermutation};
 ghost use Rattle.host_core.specs.Host.{AtEachMoment, Counts, Gives, Needs, Silent};
@@ -14,7 +14,7 @@ use file_check::{check, order_works};
 use file_lists::FileLists;
 use host_core::{Host, HostFault};
 use package_files::{Work, write_files};
-use std::alloc::Global;
+use std::alloc::{AllocError, Global};
 use texts::Text;
 use undo_rows::StepFault;
 
@@ -38,6 +38,17 @@ fn write_works<H: Host>(host: &mut H, works: &mut Vec<Work>) -> Result<Option<us
 {
     order_works(works);
     write_files(host, works.as_slice())
+}
+
+// The fault of a work of which a step was declined.
+fn fault_at(works: &[Work], declined: Option<usize>) -> Result<Option<StepFault>, AllocError>
+    requires { IfSome declined (λ k. k < length works.now) }
+    ensures { IfOk result (λ found. IfNone found (declined ≡ None)) }
+{
+    match declined {
+        Some(index) => Ok(Some(StepFault::Declined(works[index].path.copy()?))),
+        None => Ok(None),
+    }
 }
 
 /// Checks a package's paths, given in path order, and writes all of them, or none where one has a step fault or a step of one is
@@ -78,8 +89,6 @@ pub fn unpack_files<H: Host>(
     if let Some(fault) = found {
         return Ok(Some(fault));
     }
-    match write_works(host, works)? {
-        Some(declined) => Ok(Some(StepFault::Declined(works[declined].path.copy()?))),
-        None => Ok(None),
-    }
+    let declined = write_works(host, works)?;
+    Ok(fault_at(works.as_slice(), declined)?)
 }
