@@ -4,7 +4,7 @@ use Rattle.administration.specs.Files.{NoDirectory}
 use Rattle.administration.specs.Places.{temporary}
 use Rattle.status_db.specs.Notes.{below_limit}
 use Rattle.status_db.proofs.NotedWorlds.{note_parent, replacing_not}
-use Rattle.status_db.proofs.noting.write_note.Goals as goal
+use Rattle.status_db.proofs.noting.replace_note.Goals as goal
 
 pub returns-in_err-path-clause-any_moment : goal.returns-in_err-path-clause-any_moment
 returns-in_err-path-clause-any_moment g c = replacing_not c.args.number (below_limit c.args.number c.requires.number) c.args.node.now _ c.requires.unblocked
