@@ -3,7 +3,8 @@ use Rattle.std.specs.Prelude.{Result, Ok, Err, OnOk, IsTrue}
 use Rattle.std.proofs.Common.{sym, subst}
 use Rattle.host_core.specs.World.{World, Barrier}
 use Rattle.host_core.specs.Host.{State, AtEachMoment, Does, Leaves, Needs, Silent}
-use Rattle.host_core.proofs.Barriers.{barrier_world, since_to_disk}
+use Rattle.host_core.specs.Loss.{IsOnDisk}
+use Rattle.host_core.proofs.Barriers.{barrier_world, on_disk, since_to_disk}
 use Rattle.host_core.proofs.Moments.{since_then, since_weaker_if}
 use Rattle.host_core.specs.declared.fault.HostFault.{HostFault}
 
@@ -33,3 +34,7 @@ pub left_between : {T U : Type 0} (first : Result T HostFault) (last : Result U 
 left_between first last a b c d P does silent left then quiet = λ h.
     let h_c = quiet.honest h in
     always last (subst (P a.world) (sym (barrier_world last c d then h)) (subst (λ w. P w c.world) (barrier_world first a b does (silent.honest h_c)) (left h_c)))
+
+pub disk_behind : {T : Type 0} (result : Result T HostFault) (a b : State) → Does Barrier a b result → OnOk result (IsOnDisk b.events)
+disk_behind (Ok x) a b does = on_disk a b does
+disk_behind (Err e) a b does = tt
