@@ -46,6 +46,53 @@ pub struct Plan {
     pub commit: PlannedCommit,
 }
 
+// The plan of these parts.
+fn plan_from(calls: OwnCalls, files: OwnFiles) -> Plan
+    ensures planned { planned result ≡ record {
+      found = calls.records.found;
+      incoming = calls.records.incoming;
+      fresh = calls.records.fresh;
+      rows = calls.rows.rows.items;
+      kinds = calls.rows.kinds.items;
+      others = calls.rows.others.items;
+      works = files.contents.works.items;
+      listed = files.changes.listed;
+      union = files.changes.union;
+      new_list = files.changes.new_list;
+      leaving = files.changes.leaving.items;
+      names = files.contents.names.items;
+      members = files.contents.members;
+    } }
+    ensures yields { result.rows.yields ≡ calls.yields }
+{
+    let OwnCalls {
+        records,
+        rows,
+        yields,
+    } = calls;
+    let OwnFiles { changes, contents } = files;
+    Plan {
+        rows: Rows {
+            found: records.found,
+            incoming: records.incoming,
+            kinds: rows.kinds,
+            others: rows.others,
+            yields,
+            listed: changes.listed,
+            union: changes.union,
+        },
+        works: contents.works,
+        calls: rows.rows,
+        commit: PlannedCommit {
+            fresh: records.fresh,
+            new_list: changes.new_list,
+            leaving: changes.leaving,
+            names: contents.names,
+            members: contents.members,
+        },
+    }
+}
+
 /// What an unpack of a tree is going to do, by the records, the lists and the diversions; `stored`
 /// are the scripts of the old version, `others` the packages that have rows beside it or yield to
 /// it. The tree is used up, and none of its files is copied. Where the package lists many paths,
@@ -76,30 +123,5 @@ pub fn plan_of(
     let calls = own_calls(alloc, &incoming, database, found, stored, others)?;
     let fresh = &calls.records.fresh;
     let files = own_files(alloc, lists, diversions, incoming, found, fresh)?;
-    let OwnCalls {
-        records,
-        rows,
-        yields,
-    } = calls;
-    let OwnFiles { changes, contents } = files;
-    Ok(Plan {
-        rows: Rows {
-            found: records.found,
-            incoming: records.incoming,
-            kinds: rows.kinds,
-            others: rows.others,
-            yields,
-            listed: changes.listed,
-            union: changes.union,
-        },
-        works: contents.works,
-        calls: rows.rows,
-        commit: PlannedCommit {
-            fresh: records.fresh,
-            new_list: changes.new_list,
-            leaving: changes.leaving,
-            names: contents.names,
-            members: contents.members,
-        },
-    })
+    Ok(plan_from(calls, files))
 }
