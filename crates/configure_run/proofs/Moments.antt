@@ -54,6 +54,7 @@ faults_quiet (Did s ∷ es) all = absurd all
 faults_quiet (Event.Finished ran ∷ es) all = absurd all
 faults_quiet (Event.Cut call change ∷ es) all = absurd all
 faults_quiet (Failed ∷ es) all = faults_quiet es all
+faults_quiet (Event.Denied path ∷ es) all = absurd all
 
 -- only looked
 pub since_still : (s t : State) → Reads s t → Since (IsStill s.world) s t
