@@ -13,6 +13,7 @@ returns-clause-ok g c =
       is = not_broken unit.result.reply c.is_broken.result c.if-is_broken.false c.is_broken.ensures unit.ensures.unit;
       moments = unit.ensures.any_moment;
       answered = not_broken unit.result.reply c.is_broken.result c.if-is_broken.false c.is_broken.ensures unit.ensures.answered;
+      counts = unit.ensures.counts;
     }
 
 pub returns-clause-order : goal.returns-clause-order
