@@ -145,3 +145,5 @@ counts_told U a b Device (Err NoMemory) is counts = absurd cc
 counts_told U a b Device (Err Declined) is counts = absurd cc
 counts_told U a b NoMemory (Err NoMemory) is counts = counts
 counts_told U a b Declined (Err Declined) is counts = counts
+counts_told U a b NoMemory (Err Declined) is counts = absurd cc
+counts_told U a b Declined (Err NoMemory) is counts = absurd cc
