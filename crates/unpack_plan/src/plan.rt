@@ -3,11 +3,9 @@ ghost use Rattle.std.specs.Prelude.{◌≡◌, ◌++◌, IfOk};
 ghost use Rattle.unpack_commit.specs.Takeover.{yields_of};
 ghost use Rattle.unpack_plan.specs.Planned.{planned, IsPlanned};
 
-use crate::contents::contents_of;
-use crate::lists::own_changes;
-use crate::others::{Others, all_yields};
-use crate::records::own_records;
-use crate::rows::own_rows;
+use crate::calls::{OwnCalls, own_calls};
+use crate::files::{OwnFiles, own_files};
+use crate::others::Others;
 use control_members::Members;
 use diversions::Diversions;
 use file_lists::{FileLists, Paths};
@@ -74,34 +72,23 @@ pub fn plan_of(
     ensures yields { IfOk result (λ p. p.rows.yields
         ≡ yields_of database.now.records ++ others.yields) }
 {
-    let Others { packages, yields } = others;
-    let beside = yields.as_slice();
-    let all = all_yields(alloc, database, beside)?;
     let found = database.get(&incoming.name);
-    let records = own_records(alloc, &incoming, found)?;
-    let rows = own_rows(
-        alloc,
-        found,
-        &records.incoming,
-        stored,
-        &incoming.scripts,
-        packages,
-    )?;
-    let changes = own_changes(alloc, lists, diversions, &incoming, found, &records.fresh)?;
-    let contents = contents_of(
-        alloc,
-        diversions,
-        incoming,
-        found,
-        changes.leaving.as_slice(),
-    )?;
+    let calls = own_calls(alloc, &incoming, database, found, stored, others)?;
+    let fresh = &calls.records.fresh;
+    let files = own_files(alloc, lists, diversions, incoming, found, fresh)?;
+    let OwnCalls {
+        records,
+        rows,
+        yields,
+    } = calls;
+    let OwnFiles { changes, contents } = files;
     Ok(Plan {
         rows: Rows {
             found: records.found,
             incoming: records.incoming,
             kinds: rows.kinds,
             others: rows.others,
-            yields: all,
+            yields,
             listed: changes.listed,
             union: changes.union,
         },
