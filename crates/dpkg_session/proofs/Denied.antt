@@ -1,6 +1,6 @@
 -- A step that was declined, as a unit tells it.
 use Rattle.std.specs.Prelude.{IfOk, IfSome, is_some}
-use Rattle.std.proofs.Common.{◌≡◌, true, false, List, Option, Some, None, Result, Ok, Err, refl, sym, subst}
+use Rattle.std.proofs.Common.{◌≡◌, false, List, Option, Some, None, Result, Ok, Err, refl, subst}
 use Rattle.std.proofs.lemmas.Bool.{true≢false}
 use Rattle.host_core.specs.Host.{State, NoFault}
 use Rattle.host_core.specs.declared.call.Call.{Call}

@@ -20,7 +20,7 @@ use Rattle.unit_reports.specs.declared.report.Breakage.{Breakage}
 use Rattle.unit_reports.specs.declared.report.Breakage.TheVariants.{NoMemory, Closed}
 use Rattle.dpkg_session.specs.declared.report.Candidate.{Candidate}
 use Rattle.unit_reports.specs.declared.report.Reply.{Reply}
-use Rattle.unit_reports.specs.declared.report.Reply.TheVariants.{Done, Refused, Failed, Broken}
+use Rattle.unit_reports.specs.declared.report.Reply.TheVariants.{Refused, Broken}
 use Rattle.unit_reports.specs.declared.report.Unit.{Unit as AUnit}
 use Rattle.unit_reports.specs.Held.{Held}
 use Rattle.dpkg_session.specs.Run.{HasRun, IsAmidNext, IsBrokenNext, IsRun, RunsUnit}

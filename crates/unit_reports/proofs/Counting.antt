@@ -1,7 +1,7 @@
 -- What a unit's answer says of the faults of its host.
-use Rattle.std.proofs.Common.{◌≡◌, ◌+◌, ℕ, List, Option, Some, None, Err, refl, sym, ap, subst, ◌∙◌, arith}
+use Rattle.std.proofs.Common.{◌≡◌, ◌+◌, ℕ, Option, Some, None, Err, refl, sym, ap, subst, ◌∙◌, arith}
 use Rattle.host_core.proofs.Counted.{declined_then, no_fault_same, no_fault_since, no_fault_then}
-use Rattle.host_core.specs.Host.{State, Counts, HasDeclined, HasFailed, NoFault}
+use Rattle.host_core.specs.Host.{State, Counts, HasFailed, NoFault}
 use Rattle.host_core.specs.declared.fault.HostFault.{HostFault}
 use Rattle.host_core.specs.declared.fault.HostFault.TheVariants as host
 use Rattle.undo_rows.specs.declared.failure.Failure.{Failure}

@@ -1,4 +1,4 @@
-use Rattle.std.proofs.Common.{◌++◌, [], List, ap, inr, refl, subst, sym, ◌∙◌}
+use Rattle.std.proofs.Common.{◌++◌, [], ap, inr, sym, ◌∙◌}
 use Rattle.dependency_sets.specs.Sets.{has}
 use Rattle.unit_reports.specs.Held.{held_by}
 use Rattle.unit_reports.specs.Units.{calls_of}

@@ -1,4 +1,4 @@
-use Rattle.std.proofs.Common.{[], Some, inl, refl, subst, sym, true, false, ◌∙◌}
+use Rattle.std.proofs.Common.{[], Some, inl, refl, subst, sym, false, ◌∙◌}
 use Rattle.std.proofs.lemmas.Bool.{true≢false}
 use Rattle.std.specs.Prelude.{IfSome}
 use Rattle.dependency_check.specs.Waiting.{IsConfigurableNow, IsNextOfConfigurable}

@@ -1,4 +1,4 @@
-use Rattle.std.proofs.Common.{◌≤◌, ◌+◌, ◌++◌, ◌∷◌, [], ℕ, List, Option, Contains, length, take, drop, take_all, refl, sym, subst, ◌∙◌, arith}
+use Rattle.std.proofs.Common.{◌≤◌, ◌+◌, ◌++◌, ◌∷◌, [], ℕ, List, Option, Contains, length, take, drop, take_all, refl, sym, subst, arith}
 use Rattle.host_core.specs.declared.call.Call.{Call}
 use Rattle.unit_stages.specs.Holding.{holding, holding_of}
 use Rattle.conflict_removal.specs.Removals.{HaveBeenRemoved, HaveCalled}

@@ -1,4 +1,4 @@
-use Rattle.std.proofs.Common.{rules, sym, ◌∙◌, arith}
+use Rattle.std.proofs.Common.{rules, sym, arith}
 use Rattle.host_core.proofs.Moments.{reads_then, silent_then}
 use Rattle.disappearance.proofs.Directories.{directories_all, directories_more, directories_stop}
 use Rattle.disappearance.proofs.looks.are_directories.Goals as goal
