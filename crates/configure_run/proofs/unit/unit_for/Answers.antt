@@ -80,7 +80,7 @@ pub returns-in-Err-clause-any_moment : goal.returns-in-Err-clause-any_moment
 returns-in-Err-clause-any_moment g c = since_unit_reads c.args.policy c.args.name.now (held_by c.args.administration.now c.args.diversions.now) (g.H.Host.state c.args.host.now) (g.H.Host.state c.obstacle_of.new.host) c.obstacle_of.ensures.looks.reads
 
 pub returns-in-Err-clause-counts : goal.returns-in-Err-clause-counts
-returns-in-Err-clause-counts g c = counts_broken (Option (List ℕ)) c.in-Err.fault c.broken.result.reply (g.H.Host.state c.args.host.now) (g.H.Host.state c.obstacle_of.new.host) (c.broken.ensures.reply ∙ ap Broken c.breakage_of.ensures) c.in-Err.ensures.counts
+returns-in-Err-clause-counts g c = counts_broken (Option (List ℕ)) c.in-Err.fault c.broken.result.reply (g.H.Host.state c.args.host.now) (g.H.Host.state c.obstacle_of.new.host) (c.broken.ensures.reply ∙ ap Broken c.breakage_of.ensures) c.in-Err.ensures.looks.counts
 
 pub returns-in-Err-clause-not_closed : goal.returns-in-Err-clause-not_closed
 returns-in-Err-clause-not_closed g c = fault_not_closed c.in-Err.fault c.broken.result.reply (c.broken.ensures.reply ∙ ap Broken c.breakage_of.ensures)
