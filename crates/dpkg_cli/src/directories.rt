@@ -1,6 +1,6 @@
 // The directories of the real file system as hosts.
 ghost use Rattle.std.specs.Prelude.{◌≡◌, ◌≤◌, ◌<◌, [], ⊤, IfOk, IsErrOf, OnOk, is_some, true};
-ghost use Rattle.host_core.specs.declared.fault.HostFault.TheVariants.{Device};
+ghost use Rattle.host_core.specs.declared.fault.HostFault.TheVariants.{Declined, Device};
 ghost use Rattle.command_line.specs.declared.fault.RootFault.TheVariants.{Host as OfHost};
 
 use crate::architectures::Architectures;
@@ -144,20 +144,20 @@ impl<'a, D: Disk> Directories<'a, D> {
         ensures fresh { IfOk result (λ host. host.told.log.notes ≡ []) }
         ensures faults { self.old.faults ≤ self.new.faults }
         ensures cause { IsErrOf result Device → self.old.faults < self.new.faults }
+        ensures undeclined { IsErrOf result Declined → ⊥ }
     {
         if self.faults == u64::MAX {
             return Err(HostFault::NoMemory);
         }
         match FilesHost::open(self.rt, directory) {
             Ok(host) => Ok(host),
-            Err(HostFault::Device) => {
+            Err(HostFault::Device) | Err(HostFault::Declined) => {
                 self.line.clear();
                 tell_why(&self.rt, directory);
                 self.faults += 1;
                 Err(HostFault::Device)
             }
             Err(HostFault::NoMemory) => Err(HostFault::NoMemory),
-            Err(HostFault::Declined) => Err(HostFault::Declined),
         }
     }
 
@@ -166,6 +166,7 @@ impl<'a, D: Disk> Directories<'a, D> {
         ensures locked { OnOk result (is_some self.new.lock ≡ true) }
         ensures faults { self.old.faults ≤ self.new.faults }
         ensures cause { IsErrOf result (OfHost Device) → self.old.faults < self.new.faults }
+        ensures undeclined { IsErrOf result (OfHost Declined) → ⊥ }
     {
         if self.faults == u64::MAX {
             return Err(RootFault::Host(HostFault::NoMemory));
@@ -175,7 +176,7 @@ impl<'a, D: Disk> Directories<'a, D> {
                 self.lock = Some(lock);
                 Ok(())
             }
-            Err(RootFault::Host(HostFault::Device)) => {
+            Err(RootFault::Host(HostFault::Device)) | Err(RootFault::Host(HostFault::Declined)) => {
                 self.faults += 1;
                 Err(RootFault::Host(HostFault::Device))
             }
@@ -192,6 +193,7 @@ impl<'a, D: Disk> Directories<'a, D> {
         ensures fresh { IfOk result (λ host. host.told.log.notes ≡ []) }
         ensures faults { self.old.faults ≤ self.new.faults }
         ensures cause { IsErrOf result Device → self.old.faults < self.new.faults }
+        ensures undeclined { IsErrOf result Declined → ⊥ }
     {
         self.open(directory)
     }
