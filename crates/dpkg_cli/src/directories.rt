@@ -29,7 +29,7 @@ pub(crate) struct Directories<'a, D: Disk> {
     line: Line<'a>,
     /// How many trees were opened.
     trees: usize,
-    /// Of the root that was given back, if the device failed there.
+    /// Of the root that was given back, if the device failed there or a step was declined.
     failure: Option<Failure>,
     disk: PhantomData<D>,
 }
@@ -116,13 +116,13 @@ impl<'a, D: Disk> Directories<'a, D> {
         }
     }
 
-    // Tells a person of a fault of the device.
+    // Tells a person of a fault of the device, or of a step that was declined.
     fn tell(&self, failure: &Failure) {
         self.line.clear();
         tell_line(&self.rt, format!(in self.rt.alloc(); "{failure}"));
     }
 
-    /// Tells a person of a fault of the root, behind the program's own lines.
+    /// Tells a person what failed or was declined in the root, behind the program's own lines.
     pub(crate) fn tell_failure(&self) {
         if let Some(failure) = &self.failure {
             self.tell(failure);
@@ -182,6 +182,9 @@ impl<'a, D: Disk> Directories<'a, D> {
             }
             Err(RootFault::Host(HostFault::NoMemory)) => {
                 Err(RootFault::Host(HostFault::NoMemory))
+            }
+            Err(RootFault::Host(HostFault::Declined)) => {
+                Err(RootFault::Host(HostFault::Declined))
             }
             Err(RootFault::Locked) => Err(RootFault::Locked),
         }
