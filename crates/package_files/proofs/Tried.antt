@@ -1,6 +1,5 @@
 -- A path of which a step was declined: what is left of it, and that it goes.
-use Rattle.std.proofs.Common.{◌≡◌, ◌⊎◌, ◌<◌, Bool, true, false, [], ◌∷◌, Option, Some, None, IsTrue, Result, Ok, Err, inl, inr, refl, sym, ap, subst, ◌∙◌, arith}
-use Rattle.std.specs.Prelude.{IsSome}
+use Rattle.std.proofs.Common.{◌≡◌, Bool, true, false, [], ◌∷◌, Option, Some, None, IsTrue, Result, Ok, Err, inl, inr, refl, sym, ap, subst, ◌∙◌, arith}
 use Rattle.std.proofs.lemmas.Bool.{true≢false}
 use Rattle.host_core.specs.Paths.{Path}
 use Rattle.host_core.specs.World.{World, Step, Write, put, moved, HasParent, IsLoose, is_directory, kind_of}
@@ -18,15 +17,15 @@ use Rattle.host_core.specs.declared.node.Kind.{Kind}
 use Rattle.host_core.specs.declared.node.Kind.TheVariants as kind
 use Rattle.host_core.specs.declared.node.Node.{Node}
 use Rattle.host_core.specs.declared.node.Node.TheVariants.{File, Dir, Link}
-use Rattle.administration.specs.Files.{KeepsBeside, IsAside}
+use Rattle.administration.specs.Files.{IsAside}
 use Rattle.package_files.specs.declared.work.Work.{Work}
-use Rattle.package_files.specs.Files.{is_written, cleared, saved, Misses, IsAmid, between}
+use Rattle.package_files.specs.Files.{is_written, cleared, saved, IsAmid, between}
 use Rattle.package_files.specs.Free.{IsFree}
 use Rattle.package_files.specs.Names.{IsNamed}
 use Rattle.package_files.specs.Apart.{IsApart}
 use Rattle.package_files.specs.Steps.{IsCleared, AreCleared, KeepsBesideSpares, IsReady, IsSaved, OnDeclined, HasBegun, IsMadeRoom, HasTried, WasTriedFrom}
 use Rattle.package_files.proofs.WorkNames.{named_apart}
-use Rattle.package_files.proofs.Written.{kind_none, kind_file, kind_loose, cleared_again, free_loose, free_over_file, makes_over_file}
+use Rattle.package_files.proofs.Written.{kind_file, cleared_again, free_loose, free_over_file, makes_over_file}
 use Rattle.package_files.proofs.BackOne.{home_by_backup}
 use Rattle.package_files.proofs.OnePath.{amid_spares, over_vacant}
 
@@ -46,18 +45,11 @@ on_declined (Err Device) P Q so is = tt
 on_declined (Err NoMemory) P Q so is = tt
 on_declined (Err Declined) P Q so is = so is
 
--- what holds in any case
-pub if_declined : {T : Type 0} (result : Result T HostFault) (P : Type 0) → P → OnDeclined result P
-if_declined (Ok x) P is = tt
-if_declined (Err Device) P is = tt
-if_declined (Err NoMemory) P is = tt
-if_declined (Err Declined) P is = is
-
 -- the fault of a call that came after others that went well
-pub counts_fault : {T U : Type 0} (fault : HostFault) (a b c : State) → NoFault a b → Counts {T = T} b c (Err fault) → Counts {T = U} a c (Err fault)
-counts_fault Device a b c first second = record { once = omega (arith, first.faults, second.once); last = second.last }
-counts_fault NoMemory a b c first second = no_fault_then a b c first second
-counts_fault Declined a b c first second = declined_then a b c first second
+pub counts_fault : (T U : Type 0) (fault : HostFault) (a b c : State) → NoFault a b → Counts {T = T} b c (Err fault) → Counts {T = U} a c (Err fault)
+counts_fault T U Device a b c first second = record { once = omega (arith, first.faults, second.once); last = second.last }
+counts_fault T U NoMemory a b c first second = no_fault_then a b c first second
+counts_fault T U Declined a b c first second = declined_then a b c first second
 
 -- the spare names
 

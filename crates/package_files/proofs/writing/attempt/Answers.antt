@@ -1,4 +1,4 @@
-use Rattle.std.proofs.Common.{[], ◌∷◌, inl, sym, ap, ◌∙◌}
+use Rattle.std.proofs.Common.{[], ◌∷◌, sym, ap, ◌∙◌}
 use Rattle.host_core.specs.World.{kind_of}
 use Rattle.host_core.proofs.Moments.{since_then, since_weaker, since_weaker_if}
 use Rattle.package_files.specs.Files.{Written, IsAmid}

@@ -1,5 +1,4 @@
-use Rattle.std.proofs.Common.{◌+◌, ◌<◌, [], ◌∷◌, ◌++◌, Bool, take, drop, length, sym, subst, rules, arith}
-use Rattle.std.proofs.lemmas.List.{take_all}
+use Rattle.std.proofs.Common.{◌+◌, ◌<◌, [], ◌∷◌, ◌++◌, take, drop, length, sym, subst, rules, arith}
 use Rattle.host_core.proofs.Moments.{since_start, since_then, since_weaker_if}
 use Rattle.package_files.specs.Files.{Each, Written, IsAmid}
 use Rattle.package_files.specs.Free.{IsFreeIn}

@@ -1,4 +1,4 @@
-use Rattle.std.proofs.Common.{◌≡◌, ◌-◌, take, length, IsTrue}
+use Rattle.std.proofs.Common.{◌-◌, take, length, IsTrue}
 use Rattle.host_core.specs.Host.{AtEachMoment, Silent, NoFault}
 use Rattle.package_files.specs.Files.{Written, IsAmid}
 use Rattle.package_files.proofs.writing.write_files.Given as goal

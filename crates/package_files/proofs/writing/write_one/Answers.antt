@@ -1,4 +1,4 @@
-use Rattle.std.proofs.Common.{[], ◌∷◌, IsTrue, subst, rules}
+use Rattle.std.proofs.Common.{[], ◌∷◌, Bool, IsTrue, subst, rules}
 use Rattle.host_core.specs.World.{World}
 use Rattle.host_core.specs.Host.{Since}
 use Rattle.host_core.proofs.Moments.{since_reads, since_then, since_weaker_if}
@@ -80,5 +80,5 @@ returns-in-Err g c =
       denied = tt;
       any_moment = first;
       silent = search rules;
-      counts = counts_fault c.in-Err.fault old look mid c.in_ok-had.ensures.counts c.in-Err.ensures.counts;
+      counts = counts_fault (Unit {0}) Bool c.in-Err.fault old look mid c.in_ok-had.ensures.counts c.in-Err.ensures.counts;
     }
