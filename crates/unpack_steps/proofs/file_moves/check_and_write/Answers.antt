@@ -18,7 +18,7 @@ returns-in_err-found-clause-named g c =
 
 pub returns-in_err-found-clause-any_moment : goal.returns-in_err-found-clause-any_moment
 returns-in_err-found-clause-any_moment g c =
-    looking_moments (list_path (own_name c.args.rows.now.found c.args.rows.now.incoming)) (list_file c.args.rows.now.union) c.args.works.now.items (g.H.Host.state c.args.host.now) (g.H.Host.state c.check_works.new.host) c.check_works.ensures.looks.reads
+    looking_moments (list_path (own_name c.args.rows.now.found c.args.rows.now.incoming)) (list_file c.args.rows.now.union) (list_file c.args.rows.now.listed) c.args.works.now.items (g.H.Host.state c.args.host.now) (g.H.Host.state c.check_works.new.host) c.check_works.ensures.looks.reads
 
 pub returns-in-Some-clause-named : goal.returns-in-Some-clause-named
 returns-in-Some-clause-named g c =
@@ -26,7 +26,7 @@ returns-in-Some-clause-named g c =
 
 pub returns-in-Some-clause-any_moment : goal.returns-in-Some-clause-any_moment
 returns-in-Some-clause-any_moment g c =
-    looking_moments (list_path (own_name c.args.rows.now.found c.args.rows.now.incoming)) (list_file c.args.rows.now.union) c.args.works.now.items (g.H.Host.state c.args.host.now) (g.H.Host.state c.check_works.new.host) c.check_works.ensures.looks.reads
+    looking_moments (list_path (own_name c.args.rows.now.found c.args.rows.now.incoming)) (list_file c.args.rows.now.union) (list_file c.args.rows.now.listed) c.args.works.now.items (g.H.Host.state c.args.host.now) (g.H.Host.state c.check_works.new.host) c.check_works.ensures.looks.reads
 
 pub write_checked-requires-clause-named : goal.write_checked-requires-clause-named
 write_checked-requires-clause-named g c =
@@ -43,7 +43,7 @@ returns-in_err-write_checked-clause-named g c =
 
 pub returns-in_err-write_checked-clause-any_moment : goal.returns-in_err-write_checked-clause-any_moment
 returns-in_err-write_checked-clause-any_moment g c =
-    writing_moments (list_path (own_name c.args.rows.now.found c.args.rows.now.incoming)) (list_file c.args.rows.now.union) c.args.works.now.items (g.H.Host.state c.args.host.now) (g.H.Host.state c.check_works.new.host) c.check_works.ensures.looks.reads c.write_checked.new.works.items (g.H.Host.state c.write_checked.new.host)
+    writing_moments (list_path (own_name c.args.rows.now.found c.args.rows.now.incoming)) (list_file c.args.rows.now.union) (list_file c.args.rows.now.listed) c.args.works.now.items (g.H.Host.state c.args.host.now) (g.H.Host.state c.check_works.new.host) c.check_works.ensures.looks.reads c.write_checked.new.works.items (g.H.Host.state c.write_checked.new.host)
     (rearranged c.args.works.now.items c.check_works.new.works.items c.write_checked.new.works.items c.check_works.ensures.same_works c.write_checked.ensures.works) c.write_checked.ensures.any_moment
 
 pub returns-clause-works : goal.returns-clause-works
@@ -57,7 +57,7 @@ returns-clause-named g c =
 
 pub returns-clause-any_moment : goal.returns-clause-any_moment
 returns-clause-any_moment g c =
-    writing_moments (list_path (own_name c.args.rows.now.found c.args.rows.now.incoming)) (list_file c.args.rows.now.union) c.args.works.now.items (g.H.Host.state c.args.host.now) (g.H.Host.state c.check_works.new.host) c.check_works.ensures.looks.reads c.write_checked.new.works.items (g.H.Host.state c.write_checked.new.host)
+    writing_moments (list_path (own_name c.args.rows.now.found c.args.rows.now.incoming)) (list_file c.args.rows.now.union) (list_file c.args.rows.now.listed) c.args.works.now.items (g.H.Host.state c.args.host.now) (g.H.Host.state c.check_works.new.host) c.check_works.ensures.looks.reads c.write_checked.new.works.items (g.H.Host.state c.write_checked.new.host)
     (rearranged c.args.works.now.items c.check_works.new.works.items c.write_checked.new.works.items c.check_works.ensures.same_works c.write_checked.ensures.works) c.write_checked.ensures.any_moment
 
 pub returns-clause-written : goal.returns-clause-written
