@@ -2,7 +2,7 @@
 use Rattle.std.proofs.Common.{◌≡◌, ℕ, ◌+◌, ◌<◌, ◌≤◌, add-one, get_or, take, List, [], ◌∷◌, ◌++◌, map, length, drop, sym, ap, ◌∙◌, arith}
 use Rattle.std.proofs.lemmas.List.{map-append, take-append-drop, take_all}
 use Rattle.std.proofs.Math.Seq.{take-suc}
-use Rattle.host_core.specs.Events.{Event, denials_of}
+use Rattle.host_core.specs.Events.{denials_of}
 use Rattle.host_core.proofs.Counted.{denials_of-append}
 use Rattle.host_memory.specs.declared.done.Done.{Done}
 use Rattle.host_memory.specs.declared.done.Done.TheVariants as done

@@ -69,7 +69,10 @@ const OVER_CASE: Case = Case {
                 ("/usr/bin/n", "/usr/bin/n.dpkg-tmp"),
                 &[("", ""), ("new", "")],
             ),
-            (("/usr/lib", "/usr/lib/x"), &[("", ""), ("/", ""), ("/", "@y")]),
+            (
+                ("/usr/lib", "/usr/lib/x"),
+                &[("", ""), ("/", ""), ("/", "@y")],
+            ),
             (
                 ("/usr/bin/other", "/usr/bin/other.dpkg-tmp"),
                 &[("other", "")],
@@ -106,17 +109,17 @@ const OVER_CASE: Case = Case {
         (("/usr/bin/n", "/usr/bin/n.dpkg-inst"), &[("", "")]),
         (("/usr/lib", "/usr/lib/x"), &[("", "")]),
         (("/usr/lib/x.dpkg-inst", "/usr/lib/x.dpkg-tmp"), &[("", "")]),
-        (("/usr/bin/other", "/usr/bin/other.dpkg-tmp"), &[("other", "")]),
+        (
+            ("/usr/bin/other", "/usr/bin/other.dpkg-tmp"),
+            &[("other", "")],
+        ),
     ],
 };
 
 // A directory in the place of a file, and a file below it.
 const IN_PLACE: Package = Package {
     name: "alpha",
-    ships: &[
-        ("/opt", Ships::Directory),
-        ("/opt/b", Ships::File("new")),
-    ],
+    ships: &[("/opt", Ships::Directory), ("/opt/b", Ships::File("new"))],
     listing: &[],
     yields: &[],
 };
@@ -138,11 +141,7 @@ const IN_PLACE_CASE: Case = Case {
             (("/opt/b", "/opt/b.dpkg-tmp"), &[("", ""), ("new", "")]),
         ],
         again: Act::Write(&IN_PLACE),
-        left_again: &[
-            ("/opt", "/"),
-            ("/opt/b", "new"),
-            ("/opt/b.dpkg-inst", ""),
-        ],
+        left_again: &[("/opt", "/"), ("/opt/b", "new"), ("/opt/b.dpkg-inst", "")],
     },
     undone: &[
         (("/opt", "/opt.dpkg-tmp"), &[("a file", "")]),
@@ -199,12 +198,7 @@ fn judge(
 }
 
 // Writes the files while steps are declined, and writes them again.
-fn run(
-    alloc: Global,
-    case: &Case,
-    how: Break,
-    text: &mut String,
-) -> Result<usize, AllocError> {
+fn run(alloc: Global, case: &Case, how: Break, text: &mut String) -> Result<usize, AllocError> {
     let mut host = root_of(alloc, case.row.there)?;
     let answer = perform(alloc, &mut host, &case.row.act, how);
     let denials = host.denials();
@@ -223,11 +217,7 @@ fn check(rt: &(impl Abort + AllocGlobal), case: &Case, how: Break) -> Result<usi
 }
 
 // So many steps are made, one is declined, and each behind it in turn, until none is.
-fn decline_twice(
-    rt: &(impl Abort + AllocGlobal),
-    case: &Case,
-    before: usize,
-) -> Result<(), Fail> {
+fn decline_twice(rt: &(impl Abort + AllocGlobal), case: &Case, before: usize) -> Result<(), Fail> {
     for between in 0..LIMIT {
         if check(rt, case, Break::DeclineTwice(before, between))? < 2 {
             return Ok(());

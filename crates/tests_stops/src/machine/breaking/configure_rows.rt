@@ -1,6 +1,9 @@
 // A conffile that the administrator edited is settled, broken off: within an install, and within a configure whose postinst
 // fails. At each moment the conffile is as before or whole as shipped, and the same command finishes the work.
-use super::{ALONE, Again, Found, Moment, Row, SCRIPT, STATUS, decline_each_step, fail_at_each_read, fail_at_each_step, lose_at_each_step, lose_at_steps, stop_at_each_step};
+use super::{
+    ALONE, Again, Found, Moment, Row, SCRIPT, STATUS, decline_each_step, fail_at_each_read,
+    fail_at_each_step, lose_at_each_step, lose_at_steps, stop_at_each_step,
+};
 use crate::machine::{RootFile, TreeFile};
 use host_core::Outcome;
 use host_memory::Ending;

@@ -1,6 +1,9 @@
 // An install that removes a conflicting package, broken off: where it succeeds, and where the postrm of the removed package
 // fails. A path that both ship is never missing, and what was removed is done once the new package is unpacked.
-use super::{Again, Found, Moment, Row, SCRIPT, STATUS, decline_each_step, fail_at_each_read, fail_at_each_step, lose_at_steps, stop_at_each_step};
+use super::{
+    Again, Found, Moment, Row, SCRIPT, STATUS, decline_each_step, fail_at_each_read,
+    fail_at_each_step, lose_at_steps, stop_at_each_step,
+};
 use crate::machine::{RootFile, TreeFile};
 use host_core::Outcome;
 use host_memory::Ending;

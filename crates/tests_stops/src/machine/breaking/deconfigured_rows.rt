@@ -1,7 +1,10 @@
 // An upgrade that deconfigures two packages which it breaks, broken off: where it succeeds, and where its old postrm fails in
 // both ways and an undo fails, that of the package itself or that of a deconfigured one. What is found of each package is what
 // its own rows left, and a package that the upgrade doesn't name stays what it was.
-use super::{ALONE, Again, Found, Moment, Row, SCRIPT, STATUS, decline_each_step, fail_at_each_read, fail_at_each_step, lose_at_steps, stop_at_each_step};
+use super::{
+    ALONE, Again, Found, Moment, Row, SCRIPT, STATUS, decline_each_step, fail_at_each_read,
+    fail_at_each_step, lose_at_steps, stop_at_each_step,
+};
 use crate::machine::{RootFile, TreeFile};
 use host_core::Outcome;
 use host_memory::Ending;

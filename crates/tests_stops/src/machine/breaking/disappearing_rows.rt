@@ -1,8 +1,8 @@
 // An unpack that takes over all files of a package, which disappears, broken off: where its postrm succeeds, and where it
 // fails. A path that both ship is never missing. Once the list has lost its files the package stays, as a list of directories.
 use super::{
-    Again, Found, Moment, Row, SCRIPT, STATUS, decline_each_step, fail_at_each_read, fail_at_each_step,
-    lose_at_each_step, stop_at_each_step,
+    Again, Found, Moment, Row, SCRIPT, STATUS, decline_each_step, fail_at_each_read,
+    fail_at_each_step, lose_at_each_step, stop_at_each_step,
 };
 use crate::machine::{RootFile, TreeFile};
 use host_core::Outcome;

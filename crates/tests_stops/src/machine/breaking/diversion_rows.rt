@@ -1,6 +1,9 @@
 // Diversions of an installed package's file, added and taken away, broken off. At each step the table is that before or
 // after, and the file stands whole at its path or at the target; the same command then finishes the work.
-use super::{ALONE, Found, Moment, Row, STATUS, decline_each_step, fail_at_each_read, fail_at_each_step, lose_at_each_step, stop_at_each_step};
+use super::{
+    ALONE, Found, Moment, Row, STATUS, decline_each_step, fail_at_each_read, fail_at_each_step,
+    lose_at_each_step, stop_at_each_step,
+};
 use crate::machine::RootFile;
 use std::test::Fail;
 

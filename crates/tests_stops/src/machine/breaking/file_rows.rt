@@ -1,5 +1,8 @@
 // An upgrade of a package with files and scripts, broken off: where it succeeds, and where its old postrm fails in both ways.
-use super::{Break, LIMIT, told_declined, ALONE, Again, Found, Moment, Row, STATUS, decline_each_step, fail_at_each_read, fail_at_each_step, lose_at_steps, stop_at_each_step};
+use super::{
+    ALONE, Again, Break, Found, LIMIT, Moment, Row, STATUS, decline_each_step, fail_at_each_read,
+    fail_at_each_step, lose_at_steps, stop_at_each_step, told_declined,
+};
 use crate::machine::{RootFile, TreeFile, make_machine};
 use host_core::Outcome;
 use host_memory::Ending;
@@ -136,11 +139,22 @@ const UPGRADED_FILES: &[Found] = &[
     (FILE, &["new"]),
 ];
 
+// The record, its list and scripts, and the files are those of before.
+const AS_BEFORE: &[Found] = &[
+    (STATUS, &[INSTALLED]),
+    (LIST, &[OLD_LIST]),
+    (PRERM, &[OLD_SCRIPT]),
+    (BIN, &[OLD_NAMES]),
+    (FILE, &["old"]),
+];
+
+const UPGRADE: &str = "dpkg_cli unpack t";
+
 const UPGRADED: Row = Row {
     files: FILES,
     trees: TREES,
     endings: &[],
-    line: "dpkg_cli unpack t",
+    line: UPGRADE,
     found: FOUND,
     moments: MOMENTS,
     left: UPGRADED_FILES,
@@ -155,16 +169,10 @@ const UNWOUND: Row = Row {
     files: FILES,
     trees: TREES,
     endings: &[SUCCEEDS, SUCCEEDS, FAILS, FAILS],
-    line: "dpkg_cli unpack t",
+    line: UPGRADE,
     found: FOUND,
     moments: MOMENTS,
-    left: &[
-        (STATUS, &[INSTALLED]),
-        (LIST, &[OLD_LIST]),
-        (PRERM, &[OLD_SCRIPT]),
-        (BIN, &[OLD_NAMES]),
-        (FILE, &["old"]),
-    ],
+    left: AS_BEFORE,
     again: Again {
         refused: "",
         lines: &[],
@@ -177,7 +185,7 @@ const CUT_OFF: Row = Row {
     files: FILES,
     trees: TREES,
     endings: &[SUCCEEDS, SUCCEEDS, Ending::CutOff],
-    line: "dpkg_cli unpack t",
+    line: UPGRADE,
     found: FOUND,
     moments: MOMENTS,
     left: &[
@@ -281,10 +289,10 @@ fn upgraded_but(
 ) -> Result<Option<(String, String)>, AllocError> {
     let mut machine = make_machine(alloc, FILES, TREES, &[])?;
     machine.plan(Break::Decline(before))?;
-    let answer = machine.answer(UPGRADED.line)?;
+    let answer = machine.answer(UPGRADE)?;
     let mut text = String::new(alloc);
     if told_declined(answer.as_str()) == Some(path) {
-        machine.judge_files(UNWOUND.left, &mut text)?;
+        machine.judge_files(AS_BEFORE, &mut text)?;
     }
     if machine.ran(answer.as_str()).met {
         return Ok(Some((answer, text)));
@@ -293,11 +301,7 @@ fn upgraded_but(
 }
 
 // How often the upgrade fails for a path. It answers so each time, and leaves the old files and the record.
-fn count_failed(
-    rt: &(impl Abort + AllocGlobal),
-    path: &str,
-    wanted: &str,
-) -> Result<usize, Fail> {
+fn count_failed(rt: &(impl Abort + AllocGlobal), path: &str, wanted: &str) -> Result<usize, Fail> {
     let mut failed: usize = 0;
     for before in 0..LIMIT {
         let Some((answer, text)) = upgraded_but(rt.alloc(), before, path)? else {

@@ -1,6 +1,9 @@
 // A first unpack of a package with files, a conffile and scripts, and the unpack of a package whose file is diverted, broken
 // off. Wherever that was, the same tree is unpacked again, which leaves no reserved name and no unlisted file.
-use super::{ALONE, Found, Moment, Row, SCRIPT, STATUS, decline_each_step, fail_at_each_read, fail_at_each_step, lose_at_each_step, lose_at_steps, stop_at_each_step};
+use super::{
+    ALONE, Found, Moment, Row, SCRIPT, STATUS, decline_each_step, fail_at_each_read,
+    fail_at_each_step, lose_at_each_step, lose_at_steps, stop_at_each_step,
+};
 use crate::machine::{RootFile, TreeFile};
 use std::test::Fail;
 

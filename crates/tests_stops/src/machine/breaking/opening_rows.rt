@@ -1,6 +1,9 @@
 // The opening of a root whose directories are missing, or that has notes to merge, broken off: the records stay, and the next
 // opening makes what is missing and merges what is noted.
-use super::{ALONE, Found, Moment, OPENED, OPENING, Row, SCRIPT, STATUS, decline_each_step, fail_at_each_read, fail_at_each_step, lose_at_each_step, stop_at_each_step};
+use super::{
+    ALONE, Found, Moment, OPENED, OPENING, Row, SCRIPT, STATUS, decline_each_step,
+    fail_at_each_read, fail_at_each_step, lose_at_each_step, stop_at_each_step,
+};
 use std::test::Fail;
 
 const VICTOR: &str = "Package: victor\nStatus: install ok installed\nVersion: 1\n";

@@ -1,7 +1,10 @@
 // Removals and purges of a package with a conffile, broken off. The conffile stays whole until a purge takes it, what the
 // administrator put beside the package's file stays, and the same command, behind an unpack where the package is marked,
 // finishes the work.
-use super::{ALONE, Again, Found, Moment, Row, SCRIPT, STATUS, decline_each_step, fail_at_each_read, fail_at_each_step, lose_at_each_step, stop_at_each_step};
+use super::{
+    ALONE, Again, Found, Moment, Row, SCRIPT, STATUS, decline_each_step, fail_at_each_read,
+    fail_at_each_step, lose_at_each_step, stop_at_each_step,
+};
 use crate::machine::{RootFile, TreeFile};
 use host_core::Outcome;
 use host_memory::Ending;
