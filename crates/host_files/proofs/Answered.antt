@@ -58,8 +58,25 @@ adds_some later more changes old new (Err Declined) failed step all some = (late
 
 -- Something was made, and then this was added.
 
-more_made : (first : SystemCall) (rest later more : List SystemCall) → rest ≡ later ++ more → rest ++ first ∷ [] ≡ later ++ more ++ first ∷ []
+more_made : (first : SystemCall) (rest later more : List SystemCall) → rest ≡ later ++ more → rest ++ first ∷ [] ≡ later ++ (more ++ first ∷ [])
 more_made first rest later more is = ap (λ (l : List SystemCall). l ++ first ∷ []) is ∙ append_assoc later more (first ∷ [])
+
+first_behind : (call : SystemCall) (rest older old new : List SystemCall) → changes_in old ≡ call ∷ changes_in older → AddsFirst rest old new → AddsFirst (rest ++ call ∷ []) older new
+first_behind call rest older old new is adds =
+    (adds.0, adds.1 ++ call ∷ [], more_made call rest adds.0 adds.1 adds.2, adds.3 ∙ ap (λ (l : List SystemCall). adds.1 ++ l) is ∙ sym (append_assoc adds.1 (call ∷ []) (changes_in older)))
+
+-- what was added behind one call was added with it
+pub adds_behind : {T : Type 0} (call : SystemCall) (rest older old new : List SystemCall) (result : Result T HostFault) → changes_in old ≡ call ∷ changes_in older → IfErr result IsOfStep → Adds rest old new result → Adds (rest ++ call ∷ []) older new result
+adds_behind call rest older old new (Ok x) is step adds = adds ∙ ap (λ (l : List SystemCall). rest ++ l) is ∙ sym (append_assoc rest (call ∷ []) (changes_in older))
+adds_behind call rest older old new (Err Device) is step adds = first_behind call rest older old new is adds
+adds_behind call rest older old new (Err NoMemory) is step adds = absurd step
+adds_behind call rest older old new (Err Declined) is step adds = first_behind call rest older old new is adds
+
+-- the first of them were made where one failed or was declined
+pub adds_first : {T : Type 0} (rest old new : List SystemCall) (fault : HostFault) → IsOfStep fault → Adds {T = T} rest old new (Err fault) → AddsFirst rest old new
+adds_first rest old new Device step adds = adds
+adds_first rest old new NoMemory step adds = absurd step
+adds_first rest old new Declined step adds = adds
 
 -- a part of it failed
 pub made_some : (first undo : SystemCall) (rest old new : List SystemCall) → changes_in old ≡ first ∷ [] → AddsFirst rest old new → IsUnmade first undo (rest ++ first ∷ []) new
@@ -69,11 +86,11 @@ made_some first undo rest old new is adds =
 -- it was taken away
 pub taken_away : (first undo : SystemCall) (rest old new made : List SystemCall) → changes_in old ≡ first ∷ [] → AddsFirst rest old new → changes_in made ≡ undo ∷ changes_in new → IsTakenAway first undo (rest ++ first ∷ []) made
 taken_away first undo rest old new made is adds taken =
-    (adds.0, adds.1, more_made first rest adds.0 adds.1 adds.2, taken ∙ ap (λ (l : List SystemCall). undo ∷ l) (adds.3 ∙ ap (λ (l : List SystemCall). adds.1 ++ l) is))
+    (adds.0, adds.1, ap (λ (l : List SystemCall). l ++ first ∷ []) adds.2, taken ∙ ap (λ (l : List SystemCall). undo ∷ l) (adds.3 ∙ ap (λ (l : List SystemCall). adds.1 ++ l) is))
 
 -- and the last call of that ended so
 pub unmade : {T : Type 0} (first undo : SystemCall) (rest old new made : List SystemCall) (fault : HostFault) → IsOfStep fault → changes_in old ≡ first ∷ [] → AddsFirst rest old new → changes_in made ≡ undo ∷ changes_in new
-    → IsMakingBy {T = T} first undo (rest ++ first ∷ []) made (Err fault)
+    → IsMakingBy first undo (rest ++ first ∷ []) {T = T} made (Err fault)
 unmade first undo rest old new made Device step is adds taken = inr (taken_away first undo rest old new made is adds taken)
 unmade first undo rest old new made NoMemory step is adds taken = absurd step
 unmade first undo rest old new made Declined step is adds taken = inr (taken_away first undo rest old new made is adds taken)

@@ -33,9 +33,13 @@ abbrev pub access_calls : Bool → List ℕ → Access → List SystemCall
 access_calls true place access = ask.SetMode place access.mode ∷ ask.SetOwner place access.user access.group ∷ []
 access_calls false place access = ask.SetMode place access.mode ∷ []
 
+-- what gives a new file its bytes and its access
+abbrev pub fill_calls : Bool → List ℕ → List ℕ → Access → List SystemCall
+fill_calls owners place bytes access = access_calls owners place access ++ ask.Append bytes ∷ []
+
 -- what writes a file where nothing stands
 abbrev pub write_calls : Bool → List ℕ → List ℕ → Access → List SystemCall
-write_calls owners place bytes access = access_calls owners place access ++ ask.Append bytes ∷ ask.Create place ∷ []
+write_calls owners place bytes access = fill_calls owners place bytes access ++ ask.Create place ∷ []
 
 -- what makes a directory where nothing stands
 abbrev pub directory_calls : Bool → List ℕ → Access → List SystemCall

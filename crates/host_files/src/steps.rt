@@ -1,15 +1,15 @@
 // The steps of the device. Each makes its calls of the system once it has seen that the names above its paths are those
 // of directories, and of no link; all memory that it takes is taken before. What was begun of a step that is declined is taken away.
-ghost use Rattle.std.specs.Prelude.{◌≡◌, ◌⊎◌, ◌∷◌, ◌++◌, [], true, IfErr, IfOk, IsSome, IsTrue, OnErr, OnOk, Some, string_bytes};
+ghost use Rattle.std.specs.Prelude.{◌≡◌, ◌⊎◌, ◌∷◌, [], true, IfErr, IfOk, IsSome, IsTrue, OnErr, OnOk, Some, string_bytes};
 ghost use Rattle.host_core.specs.World.{IsFile};
 ghost use Rattle.host_core.specs.declared.fault.HostFault.TheVariants.{Device};
 ghost use Rattle.host_files.specs.Entries.{IsSettable};
 ghost use Rattle.host_files.specs.Faults.{IsOfStep, IsUndeclined};
 ghost use Rattle.host_files.specs.Places.{place_of};
-ghost use Rattle.host_files.specs.Shown.{Adds, IsBrought, IsLookedAt, IsMakingBy, IsRenamedBy, IsStepBy, IsSyncedBy, access_calls, directory_calls, write_calls};
+ghost use Rattle.host_files.specs.Shown.{Adds, IsBrought, IsLookedAt, IsMakingBy, IsRenamedBy, IsStepBy, IsSyncedBy, access_calls, directory_calls, fill_calls, write_calls};
 ghost use Rattle.host_files.specs.SystemCalls.{changes_in, Looks};
 ghost use Rattle.host_files.specs.declared.record.Asked.TheVariants.{Barrier, HardLink, MakeDir, MakeLink, Move, RemoveDir, Sync, Take, Write};
-ghost use Rattle.host_files.specs.declared.trace.SystemCall.TheVariants.{Append, Create, MakeDirectory, RemoveDirectory, Unlink};
+ghost use Rattle.host_files.specs.declared.trace.SystemCall.TheVariants.{Create, MakeDirectory, RemoveDirectory, Unlink};
 
 use crate::changed::Changed;
 use crate::disk::access_of;
@@ -90,8 +90,8 @@ fn fill_file(
     bytes: &[u8],
     access: Access,
 ) -> Result<(), HostFault>
-    ensures made { Adds (access_calls owners place.now access ++ Append bytes.now ∷ [])
-        system.old.trace.calls system.new.trace.calls result }
+    ensures made { Adds (fill_calls owners place.now bytes.now access) system.old.trace.calls
+        system.new.trace.calls result }
     ensures err { IfErr result IsOfStep }
 {
     system.append(bytes)?;
