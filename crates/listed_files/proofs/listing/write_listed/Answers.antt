@@ -104,8 +104,8 @@ returns-in_err-barrier-in-Some-clause-any_moment g c =
     let synced = to_disk P c.barrier-in-Some.result old fil bak filed c.barrier-in-Some.ensures.does in
     synced
 
-pub replace_list-in-Some-requires-clause-ready : goal.replace_list-in-Some-requires-clause-ready
-replace_list-in-Some-requires-clause-ready g c = λ h.
+pub replace_list-requires-in-Some-clause-ready : goal.replace_list-requires-in-Some-clause-ready
+replace_list-requires-in-Some-clause-ready g c = λ h.
     let old = g.H.Host.state c.args.host.now in
     let rep = g.H.Host.state c.replace_list.new.host in
     let bar = g.H.Host.state c.barrier.new.self in
@@ -145,8 +145,8 @@ returns-in_err-replace_list-in-Some-clause-any_moment g c =
     then_later P (IsReplacing list listed) old bak new synced
     (λ h now is. let h2 = c.replace_list-in-Some.ensures.silent.honest h in inr (bar.world, bak.world, replaced (c.write_files.ensures.silent.honest (c.barrier-in-Some.ensures.silent.honest h2)), back h2, is)) c.replace_list-in-Some.ensures.any_moment
 
-pub returns-in-Some-clause-any_moment : goal.returns-in-Some-clause-any_moment
-returns-in-Some-clause-any_moment g c =
+pub returns-in_ok-replace_list-in-Some-clause-any_moment : goal.returns-in_ok-replace_list-in-Some-clause-any_moment
+returns-in_ok-replace_list-in-Some-clause-any_moment g c =
     let old = g.H.Host.state c.args.host.now in
     let rep = g.H.Host.state c.replace_list.new.host in
     let bar = g.H.Host.state c.barrier.new.self in
@@ -166,27 +166,3 @@ returns-in-Some-clause-any_moment g c =
     let new = g.H.Host.state c.replace_list-in-Some.new.host in
     then_later P (IsReplacing list listed) old bak new synced
     (λ h now is. let h2 = c.replace_list-in-Some.ensures.silent.honest h in inr (bar.world, bak.world, replaced (c.write_files.ensures.silent.honest (c.barrier-in-Some.ensures.silent.honest h2)), back h2, is)) c.replace_list-in-Some.ensures.any_moment
-
-pub returns-in-Some-clause-listed : goal.returns-in-Some-clause-listed
-returns-in-Some-clause-listed g c = λ h.
-    let old = g.H.Host.state c.args.host.now in
-    let rep = g.H.Host.state c.replace_list.new.host in
-    let bar = g.H.Host.state c.barrier.new.self in
-    let fil = g.H.Host.state c.write_files.new.host in
-    let works = c.args.works.now in
-    let list = list_path c.args.name.now in
-    let union = list_file c.args.union in
-    let listed = list_file c.args.listed in
-    let replaced : IsTrue bar.honest → IsReplaced list union old.world bar.world = λ h. subst (IsReplaced list union old.world) (sym c.in_ok-barrier.ensures.does.world) (c.in_ok-replace_list.ensures.replaced (c.barrier.ensures.silent.honest h)) in
-    let undone : IsTrue fil.honest → Undone works bar.world fil.world = λ h. subst (λ d. MatchOption d (Written works bar.world fil.world) (λ k. Undone works bar.world fil.world)) c.in-Some.is (c.in_ok-write_files.ensures.written h) in
-    let bak = g.H.Host.state c.barrier-in-Some.new.self in
-    let back : IsTrue bak.honest → Undone works bar.world bak.world = λ h. subst (Undone works bar.world) (sym c.in_ok-barrier-in-Some.ensures.does.world) (undone (c.barrier-in-Some.ensures.silent.honest h)) in
-    let new = g.H.Host.state c.replace_list-in-Some.new.host in
-    let h2 = c.replace_list-in-Some.ensures.silent.honest h in
-    record {
-      mid = bar.world;
-      replaced = replaced (c.write_files.ensures.silent.honest (c.barrier-in-Some.ensures.silent.honest h2));
-      back = bak.world;
-      undone = back h2;
-      unlisted = c.in_ok-replace_list-in-Some.ensures.replaced h;
-    }
