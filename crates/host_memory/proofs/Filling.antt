@@ -9,7 +9,7 @@ use Rattle.std.proofs.lemmas.List.Folds.{list_any-append}
 use Rattle.std.proofs.lemmas.Slice.Eq.{bytes_eq-Decides}
 use Rattle.host_core.specs.Paths.{Path}
 use Rattle.host_core.specs.World.{World, put, IsDirectory, Step, Write, Move, Take, MakeDir, RemoveDir, HardLink, MakeLink, Sync, Barrier}
-use Rattle.host_core.specs.Events.{Event, Did, Finished, Cut, Failed}
+use Rattle.host_core.specs.Events.{Event, Did, Finished, Cut, Failed, Denied}
 use Rattle.host_core.specs.Tree.{IsTree}
 use Rattle.host_core.specs.Unsynced.{unsynced, unsynced_all, unsynced_after, unsynced_step, marked}
 use Rattle.host_core.proofs.Losses.{unsynced_more}
@@ -105,6 +105,7 @@ put_by_event (Did s) u q is = put_by_step s u q is
 put_by_event (Finished ran) u q is = inr is
 put_by_event (Cut call change) u q is = inr is
 put_by_event Failed u q is = inr is
+put_by_event (Denied path) u q is = inr is
 
 or_left : (a b : Bool) → a ≡ true → a || b ≡ true
 or_left true b is = refl

@@ -1,10 +1,11 @@
 -- What is planned of faults of the device, and what comes of it.
-use Rattle.std.specs.Prelude.{ℕ, ◌-◌, Bool, false, ◌||◌, Option, Some, None, cond, nat_eq, is_some}
+use Rattle.std.specs.Prelude.{ℕ, ◌-◌, List, Bool, false, ◌||◌, Option, Some, None, cond, nat_eq, is_some}
 use Rattle.host_memory.specs.declared.fault_plan.Effect.TheVariants.{None as Nothing}
 use Rattle.host_memory.specs.declared.fault_plan.StepFault.{StepFault}
 use Rattle.host_memory.specs.declared.fault_plan.FaultPlan.{FaultPlan}
 use Rattle.host_memory.specs.declared.fault_plan.Fate.{Fate}
-use Rattle.host_memory.specs.declared.fault_plan.Fate.TheVariants.{Made, Failed}
+use Rattle.host_memory.specs.declared.fault_plan.Fate.TheVariants.{Made, Failed, Declined}
+use Rattle.host_memory.specs.DenialPlans.{is_denied}
 
 -- the step is the one that fails
 abbrev pub due : StepFault → Fate
@@ -14,9 +15,19 @@ abbrev fate_by : Option StepFault → Fate
 fate_by None = Made
 fate_by (Some fault) = due fault
 
--- what comes of the next step: once stopped, every step fails and does nothing
+-- what comes of the next step where none is declined: once stopped, every step fails and does nothing
 abbrev pub fate_of : FaultPlan → Fate
 fate_of plan = cond plan.is_stopped (Failed Nothing) (fate_by plan.step)
+
+-- a step at which the device doesn't fail may be declined
+abbrev unless_denied : List ℕ → Fate → Fate
+unless_denied denials Made = cond (is_denied denials) Declined Made
+unless_denied denials (Failed effect) = Failed effect
+unless_denied denials Declined = Declined
+
+-- what comes of the next step, with these denials planned
+abbrev pub fate_at : FaultPlan → List ℕ → Fate
+fate_at plan denials = unless_denied denials (fate_of plan)
 
 -- one step fewer is made before the fault; the fault itself comes once, and the device may stop at it
 abbrev pub behind_fault : FaultPlan → StepFault → FaultPlan

@@ -2,7 +2,7 @@
 use Rattle.std.specs.Prelude.{◌≡◌, ◌<◌, ◌≤◌, ◌⊎◌, ◌+◌, ℕ, Bool, true, false, List, take, length, cond, Option, Some, None, slice_get, count_by, replicate}
 use Rattle.std.specs.BTreeMap.{get_by_text}
 use Rattle.host_core.specs.World.{World, Step, Write, Move, Take, MakeDir, RemoveDir, HardLink, MakeLink, Sync, Barrier}
-use Rattle.host_core.specs.Events.{Event, Did, Finished, Cut, Failed, follow_all}
+use Rattle.host_core.specs.Events.{Event, Did, Finished, Cut, Failed, Denied, follow_all}
 use Rattle.host_core.specs.Loss.{is_barrier}
 use Rattle.host_core.specs.declared.node.Node.{Node}
 use Rattle.host_core.specs.declared.node.Node.TheVariants.{File, Dir, Link}
@@ -25,6 +25,7 @@ is_naming (Did s) = names s
 is_naming (Finished ran) = false
 is_naming (Cut call change) = false
 is_naming Failed = false
+is_naming (Denied path) = false
 
 -- how many steps on names these are
 abbrev pub naming_steps : List Event → ℕ

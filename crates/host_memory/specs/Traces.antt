@@ -4,7 +4,7 @@ use Rattle.std.specs.List.{list_any}
 use Rattle.std.specs.Str.{bytes_eq}
 use Rattle.host_core.specs.Paths.{Path}
 use Rattle.host_core.specs.World.{Step, Write, Move, Take, MakeDir, RemoveDir, HardLink, MakeLink, Sync, Barrier}
-use Rattle.host_core.specs.Events.{Event, Did, Finished, Cut, Failed}
+use Rattle.host_core.specs.Events.{Event, Did, Finished, Cut, Failed, Denied}
 use Rattle.host_memory.specs.declared.unsynced.Trace.{Trace}
 use Rattle.host_memory.specs.declared.unsynced.Trace.TheVariants.{Known, From}
 
@@ -30,6 +30,7 @@ event_target (Did s) = target_of s
 event_target (Finished ran) = None
 event_target (Cut call change) = None
 event_target Failed = None
+event_target (Denied path) = None
 
 abbrev pub is_at : Option Path → Path → Bool
 is_at None q = false

@@ -1,7 +1,8 @@
 // What was done on a root, one thing after another.
-ghost use Rattle.std.specs.Prelude.{◌≡◌, option_map, IfOk};
+ghost use Rattle.std.specs.Prelude.{◌≡◌, ◌≤◌, ◌∷◌, [], map, option_map, IfOk};
+ghost use Rattle.host_core.specs.Events.{denials_of};
 ghost use Rattle.host_memory.specs.Changes.{change_of};
-ghost use Rattle.host_memory.specs.Doings.{cut_short, event_of, how_ended, step_of, part_left};
+ghost use Rattle.host_memory.specs.Doings.{cut_short, event_of, how_ended, place_of, step_of, part_left};
 
 use crate::change::{Ending, Entry};
 use crate::fault_plan::Effect;
@@ -32,13 +33,14 @@ pub enum DeviceStep {
 }
 
 /// What was done: a step or the part of one that was, a script call that ended, one that a fault cut off, or nothing
-/// where the device failed.
+/// where the device failed, or where a step at this path was declined.
 #[derive(Drop)]
 pub enum Done {
     Did(DeviceStep),
     Finished(Made),
     Cut(Call, Vec<Entry>),
     Failed,
+    Denied(RootPath),
 }
 
 // A call that was made and ended so.
@@ -89,4 +91,43 @@ pub(crate) fn part_of(
         }
         (Effect::Prefix(_), _) => Ok(None),
     }
+}
+
+// Where a step is made. A move or link is made at its target, a barrier at the root.
+pub(crate) fn place_of(alloc: Global, step: DeviceStep) -> RootPath
+    ensures { result ≡ place_of (step_of step) }
+{
+    match step {
+        DeviceStep::Write(path, _) => path,
+        DeviceStep::MakeDir(path, _) => path,
+        DeviceStep::MakeLink(path, _) => path,
+        DeviceStep::Move(_, to) => to,
+        DeviceStep::HardLink(_, to) => to,
+        DeviceStep::Take(path) => path,
+        DeviceStep::RemoveDir(path) => path,
+        DeviceStep::Sync(path) => path,
+        DeviceStep::Barrier => RootPath::new(String::new(alloc)),
+    }
+}
+
+// One for a step that was declined, else none.
+fn denied(done: &Done) -> usize
+    ensures count { result ≡ denials_of (event_of done.now ∷ []) }
+    ensures one { result ≤ 1 }
+{
+    match done {
+        Done::Denied(_) => 1,
+        _ => 0,
+    }
+}
+
+// How many steps were declined.
+pub(crate) fn count_denied(events: &[Done]) -> usize
+    ensures { result ≡ denials_of (map event_of events.now) }
+{
+    let mut count = 0;
+    for done in events {
+        count += denied(done);
+    }
+    count
 }

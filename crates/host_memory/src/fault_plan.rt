@@ -24,6 +24,7 @@ pub(crate) struct StepFault {
 pub(crate) enum Fate {
     Made,
     Failed(Effect),
+    Declined,
 }
 
 #[derive(Clone, Copy)]

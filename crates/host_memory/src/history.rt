@@ -46,7 +46,7 @@ impl History {
     ghost use Rattle.host_core.specs.Events.{follow_all};
     ghost use Rattle.std.specs.Prelude.{◌≡◌, take, [], Some, true, false, map, IfOk, OnOk, OnErr, MatchBool};
     ghost use Rattle.std.specs.BTreeMap.{get_by_text};
-    ghost use Rattle.host_core.specs.Events.{Did, Failed};
+    ghost use Rattle.host_core.specs.Events.{Did, Failed, Denied};
     ghost use Rattle.host_core.specs.Unsynced.{KeepsSettled};
     ghost use Rattle.host_core.specs.World.{put, is_kept, Barrier, Sync};
     ghost use Rattle.host_memory.specs.Able.{CanDo};
@@ -140,6 +140,14 @@ impl History {
         ensures { Goes Failed self.old self.new }
     {
         self.events.push_reserved(Done::Failed);
+    }
+
+    // Tells that a step at this path was declined.
+    pub(crate) fn tell_denial(&mut self, path: RootPath)
+        requires { HasRoom self.old }
+        ensures { Goes (Denied path) self.old self.new }
+    {
+        self.events.push_reserved(Done::Denied(path));
     }
 
     fn flush(&mut self) -> Result<(), AllocError>

@@ -3,7 +3,8 @@ ghost use Rattle.std.specs.Prelude.{◌≡◌};
 ghost use Rattle.host_memory.specs.Endings.{next_ending, next_change};
 
 use crate::change::{Ending, Entry, Planned};
-use crate::done::{DeviceStep, Done, part_of};
+use crate::denial_plan::{is_denied, pass_step};
+use crate::done::{DeviceStep, Done, count_denied, part_of, place_of};
 use crate::fault_plan::{Effect, Fate, FaultPlan, StepFault};
 use crate::history::History;
 use host_core::{Access, Call, Host, HostFault, Keep, Kind, Listing, Node, Outcome, RootPath};
@@ -36,13 +37,15 @@ fn next_of(pending: &VecDeque<Planned>) -> Next<'_>
 }
 
 /// A root in memory. Its calls end as planned, in order, and when none is left with exit status 0; its device fails where
-/// that is planned. It answers NoMemory where an allocation is refused, and then nothing has changed.
+/// that is planned, and its steps are declined where that is. It answers NoMemory where an allocation is refused, and then nothing has changed.
 #[derive(Drop)]
 pub struct MemoryHost {
     alloc: Global,
     history: History,
     pending: VecDeque<Planned>,
     faults: FaultPlan,
+    // so many steps are made before each that is declined, counted from the one before
+    denials: VecDeque<usize>,
 }
 
 impl MemoryHost {
@@ -53,9 +56,11 @@ impl MemoryHost {
     ghost use Rattle.host_core.specs.Unsynced.{KeepsSettled};
     ghost use Rattle.host_memory.specs.Able.{CanDo};
     ghost use Rattle.host_memory.specs.Doings.{event_of, step_of, part_left};
-    ghost use Rattle.host_memory.specs.FaultPlans.{awaits, no_faults};
+    ghost use Rattle.host_core.specs.Host.{denials};
+    ghost use Rattle.host_memory.specs.DenialPlans.{awaits_denial};
+    ghost use Rattle.host_memory.specs.FaultPlans.{awaits, fate_at, no_faults};
     ghost use Rattle.host_memory.specs.Trees.{CanPlace, IsPlaced, new_directory, nothing};
-    ghost use Rattle.host_memory.specs.Memory.{memory_state, flushed_state, planned_of, faults_planned, is_stopped, CallsAsPlanned, KeepsPlans, Looks, Loses, MakesStep, TouchesFilesAlone};
+    ghost use Rattle.host_memory.specs.Memory.{memory_state, flushed_state, planned_of, denials_planned, faults_planned, is_stopped, CallsAsPlanned, IsBehindStep, KeepsPlans, Looks, Loses, MakesStep, TouchesFilesAlone};
 
     /// A root directory and nothing else.
     pub fn new(alloc: Global) -> Result<MemoryHost, AllocError>
@@ -67,12 +72,14 @@ impl MemoryHost {
         ensures disk { IfOk result (λ host. flushed_state host ≡ memory_state host) }
         ensures planned { IfOk result (λ host. planned_of host ≡ []) }
         ensures faults { IfOk result (λ host. faults_planned host ≡ no_faults) }
+        ensures denials { IfOk result (λ host. denials_planned host ≡ []) }
     {
         Ok(MemoryHost {
             alloc,
             history: History::new(alloc)?,
             pending: VecDeque::new(alloc),
             faults: FaultPlan::none(),
+            denials: VecDeque::new(alloc),
         })
     }
 
@@ -96,6 +103,7 @@ impl MemoryHost {
         ensures err { OnErr result (planned_of self.new ≡ planned_of self.old) }
         ensures state { memory_state self.new ≡ memory_state self.old }
         ensures faults { faults_planned self.new ≡ faults_planned self.old }
+        ensures denials { denials_planned self.new ≡ denials_planned self.old }
     {
         self.pending.push_back(planned)?;
         Ok(())
@@ -108,6 +116,7 @@ impl MemoryHost {
             { step = Some (record { before = before; effect = effect; stops = false }) } }
         ensures planned { planned_of self.new ≡ planned_of self.old }
         ensures state { memory_state self.new ≡ memory_state self.old }
+        ensures denials { denials_planned self.new ≡ denials_planned self.old }
     {
         self.faults.step = Some(StepFault {
             before,
@@ -122,6 +131,7 @@ impl MemoryHost {
             { step = Some (record { before = before; effect = effect; stops = true }) } }
         ensures planned { planned_of self.new ≡ planned_of self.old }
         ensures state { memory_state self.new ≡ memory_state self.old }
+        ensures denials { denials_planned self.new ≡ denials_planned self.old }
     {
         self.faults.step = Some(StepFault {
             before,
@@ -136,23 +146,42 @@ impl MemoryHost {
             { read = Some before } }
         ensures planned { planned_of self.new ≡ planned_of self.old }
         ensures state { memory_state self.new ≡ memory_state self.old }
+        ensures denials { denials_planned self.new ≡ denials_planned self.old }
     {
         self.faults.read = Some(before);
     }
 
-    /// The host started again, with no fault planned. What it holds and has done is as before.
+    /// Behind the steps that are to be declined already, `before` steps are made, and the next one is declined: nothing changes
+    /// in the root, what was done has the path of the step (of a move or link its target, of a barrier the root), and the
+    /// answer is `Declined`. A step at which the device fails isn't declined, and counts; a sync and a barrier may be declined as
+    /// any other.
+    pub fn decline_step(&mut self, before: usize) -> Result<(), AllocError>
+        ensures ok { OnOk result (denials_planned self.new ≡ denials_planned self.old
+            ++ before ∷ []) }
+        ensures err { OnErr result (denials_planned self.new ≡ denials_planned self.old) }
+        ensures planned { planned_of self.new ≡ planned_of self.old }
+        ensures faults { faults_planned self.new ≡ faults_planned self.old }
+        ensures state { memory_state self.new ≡ memory_state self.old }
+    {
+        self.denials.push_back(before)?;
+        Ok(())
+    }
+
+    /// The host started again, with no fault and no denial planned. What it holds and has done is as before.
     pub fn restart(self) -> MemoryHost
         ensures state { memory_state result ≡ memory_state self }
         ensures disk { flushed_state result ≡ flushed_state self }
         ensures planned { planned_of result ≡ planned_of self }
         ensures faults { faults_planned result ≡ no_faults }
+        ensures denials { denials_planned result ≡ [] }
     {
         let mut host = self;
         host.faults = FaultPlan::none();
+        host.denials.clear();
         host
     }
 
-    /// Loses power, and is started again with no fault planned: of the steps since all was on the disk the first `keep` that
+    /// Loses power, and is started again with no fault and no denial planned: of the steps since all was on the disk the first `keep` that
     /// make, move or remove a name survive (all, if there are fewer), and what was done before the next one; a file that a
     /// step wrote and that wasn't synced until then has the byte `fill` throughout. What the host has done is told as before.
     pub fn lose(self, keep: usize, fill: u8) -> Result<MemoryHost, (MemoryHost, AllocError)>
@@ -178,6 +207,20 @@ impl MemoryHost {
         ensures { result ≡ awaits (faults_planned self.now) }
     {
         self.faults.step.is_some() || self.faults.read.is_some()
+    }
+
+    /// Whether a step is still to be declined.
+    pub fn awaits_denial(&self) -> bool
+        ensures { result ≡ awaits_denial (denials_planned self.now) }
+    {
+        self.denials.front().is_some()
+    }
+
+    /// How many steps were declined so far.
+    pub fn denials(&self) -> usize
+        ensures { result ≡ denials (memory_state self.now) }
+    {
+        count_denied(self.history.events())
     }
 
     /// Whether the device has stopped.
@@ -213,22 +256,47 @@ impl MemoryHost {
         Ok(())
     }
 
-    // Makes a step, or fails at it as planned.
+    // What comes of the next step.
+    fn fate(&self) -> Fate
+        ensures { result ≡ fate_at (faults_planned self.now) (denials_planned self.now) }
+    {
+        match self.faults.fate() {
+            Fate::Made if is_denied(&self.denials) => Fate::Declined,
+            fate => fate,
+        }
+    }
+
+    // One step of those that the plans count is over.
+    fn pass_step(&mut self)
+        ensures passed { IsBehindStep self.old self.new }
+        ensures history { self.new.history ≡ self.old.history }
+    {
+        self.faults = self.faults.behind_step();
+        pass_step(&mut self.denials);
+    }
+
+    // Makes a step, or fails at it or declines it as planned.
     fn make_step(&mut self, step: DeviceStep) -> Result<(), HostFault>
         requires can { CanDo (step_of step) (memory_state self.old).world }
         requires settled { KeepsSettled (memory_state self.old).events (step_of step) }
         ensures { MakesStep (step_of step) self.old self.new result }
     {
-        match self.faults.fate() {
+        match self.fate() {
             Fate::Made => {
                 self.history.do_step(step)?;
-                self.faults = self.faults.behind_step();
+                self.pass_step();
                 Ok(())
             }
             Fate::Failed(effect) => {
                 self.break_step(step, effect)?;
-                self.faults = self.faults.behind_step();
+                self.pass_step();
                 Err(HostFault::Device)
+            }
+            Fate::Declined => {
+                self.history.make_room_for_fault()?;
+                self.history.tell_denial(place_of(self.alloc, step));
+                self.pass_step();
+                Err(HostFault::Declined)
             }
         }
     }

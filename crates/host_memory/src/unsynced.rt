@@ -71,7 +71,7 @@ fn trace_event<'a>(done: &'a Done, path: &'a RootPath) -> Trace<'a>
 {
     match done {
         Done::Did(step) => trace_step(step, path),
-        Done::Finished(_) | Done::Cut(_, _) | Done::Failed => Trace::From(path),
+        Done::Finished(_) | Done::Cut(_, _) | Done::Failed | Done::Denied(_) => Trace::From(path),
     }
 }
 
@@ -104,7 +104,7 @@ fn event_target(done: &Done) -> Option<&RootPath>
 {
     match done {
         Done::Did(step) => target_of(step),
-        Done::Finished(_) | Done::Cut(_, _) | Done::Failed => None,
+        Done::Finished(_) | Done::Cut(_, _) | Done::Failed | Done::Denied(_) => None,
     }
 }
 

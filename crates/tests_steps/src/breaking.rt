@@ -2,15 +2,19 @@
 ghost use Rattle.std.specs.Prelude.{◌≡◌};
 ghost use Rattle.host_memory.specs.Memory.{memory_state};
 
+use host_core::RootPath;
 use host_memory::{Done, Effect, MemoryHost};
 use std::alloc::AllocError;
 
-// How the device fails: behind so many steps, for good or once, or behind so many reads.
+// How the device fails: behind so many steps, for good or once, or behind so many reads. Or what is declined: the step behind so
+// many, or that and another, behind so many more.
 #[derive(Clone, Copy, Debug)]
 pub(crate) enum Break {
     Stop(usize, Effect),
     Fault(usize, Effect),
     Read(usize),
+    Decline(usize),
+    DeclineTwice(usize, usize),
 }
 
 // What a loss of power leaves: so many of the steps on names since the last barrier, and this byte in unsynced files.
@@ -20,7 +24,7 @@ pub(crate) struct Loss {
     pub(crate) fill: u8,
 }
 
-// How a run went: whether the fault came, and how many steps on names a loss might undo.
+// How a run went: whether the fault came, or all that was to be declined was, and how many steps on names a loss might undo.
 #[derive(Clone, Copy)]
 pub(crate) struct Ran {
     pub(crate) met: bool,
@@ -39,19 +43,25 @@ pub(crate) const FILLS: &[u8] = &[0, 255];
 // More steps than any row makes.
 pub(crate) const LIMIT: usize = 1000;
 
-pub(crate) fn plan(host: &mut MemoryHost, how: Break)
+pub(crate) fn plan(host: &mut MemoryHost, how: Break) -> Result<(), AllocError>
     ensures { memory_state host.new ≡ memory_state host.old }
 {
     match how {
         Break::Stop(before, effect) => host.stop_step(before, effect),
         Break::Fault(before, effect) => host.fail_step(before, effect),
         Break::Read(before) => host.fail_read(before),
+        Break::Decline(before) => host.decline_step(before)?,
+        Break::DeclineTwice(before, between) => {
+            host.decline_step(before)?;
+            host.decline_step(between)?;
+        }
     }
+    Ok(())
 }
 
 pub(crate) fn how_it_ran(host: &MemoryHost) -> Ran {
     Ran {
-        met: !host.awaits_fault(),
+        met: !host.awaits_fault() && !host.awaits_denial(),
         names: host.names_since_barrier(),
     }
 }
@@ -69,7 +79,15 @@ pub(crate) fn recovered(host: MemoryHost, loss: Option<Loss>) -> Result<MemoryHo
 fn is_failed(done: &Done) -> bool {
     match done {
         Done::Failed => true,
-        Done::Did(_) | Done::Finished(_) | Done::Cut(_, _) => false,
+        Done::Did(_) | Done::Finished(_) | Done::Cut(_, _) | Done::Denied(_) => false,
+    }
+}
+
+// Where the last step was declined, if nothing was done after that.
+pub(crate) fn denied_last(host: &MemoryHost) -> Option<&RootPath> {
+    match host.events().last() {
+        Some(Done::Denied(path)) => Some(path),
+        _ => None,
     }
 }
 

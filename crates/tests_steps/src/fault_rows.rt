@@ -325,6 +325,7 @@ fn told(alloc: Global, answer: Result<Option<StepFault>, HostFault>) -> Result<S
     match answer {
         Ok(fault) => fault_text(alloc, fault.as_ref()),
         Err(HostFault::Device) => String::from_str(alloc, "the device failed"),
+        Err(HostFault::Declined) => String::from_str(alloc, "a step was declined"),
         Err(HostFault::NoMemory) => Err(AllocError),
     }
 }

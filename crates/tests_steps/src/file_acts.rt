@@ -218,7 +218,7 @@ pub(crate) fn write(
 ) -> Result<Option<StepFault>, HostFault> {
     let administration = open(alloc, host, package)?;
     let mut works = works_of(alloc, &administration.diversions, package)?;
-    plan(host, how);
+    plan(host, how)?;
     unpack(alloc, host, &administration, package, &mut works)
 }
 
@@ -234,7 +234,7 @@ fn write_and_put_back(
     if let Some(fault) = unpack(alloc, host, &administration, package, &mut works)? {
         return Ok(Some(fault));
     }
-    plan(host, how);
+    plan(host, how)?;
     put_back_files(host, works.as_slice())?;
     Ok(None)
 }
@@ -283,12 +283,12 @@ pub(crate) fn perform(
         Act::Write(package) => write(alloc, host, package, how),
         Act::PutBack(package) => write_and_put_back(alloc, host, package, how),
         Act::Remove(removal) => {
-            plan(host, how);
+            plan(host, how)?;
             remove(alloc, host, removal)?;
             Ok(None)
         }
         Act::Purge(removal) => {
-            plan(host, how);
+            plan(host, how)?;
             purge(alloc, host, removal)?;
             Ok(None)
         }
@@ -302,6 +302,7 @@ pub(crate) fn fault_text(alloc: Global, fault: Option<&StepFault>) -> Result<Str
         Some(StepFault::LinkParent(path)) => { format!(in alloc; "LinkParent {}", path.as_str()) }
         Some(StepFault::NoParent(path)) => format!(in alloc; "NoParent {}", path.as_str()),
         Some(StepFault::DirInWay(path)) => format!(in alloc; "DirInWay {}", path.as_str()),
+        Some(StepFault::Declined(path)) => format!(in alloc; "Declined {}", path.as_str()),
         Some(StepFault::Clash(path, owner)) => {
             format!(in alloc; "Clash {} {}", path.as_str(), owner.as_str())
         }

@@ -1,7 +1,7 @@
 // The files of a package are written, put back or taken away, which is broken off at each step in turn, and what is found then
 // is judged.
 use crate::breaking::{
-    Break, EFFECTS, FILLS, LIMIT, Loss, Ran, ends_with_fault, how_it_ran, recovered,
+    Break, EFFECTS, FILLS, LIMIT, Loss, Ran, denied_last, ends_with_fault, how_it_ran, recovered,
 };
 use crate::file_acts::{Act, perform};
 use crate::root::{Thing, judge_things, root_of, text_at};
@@ -50,7 +50,7 @@ fn judge_pair(
     Ok(())
 }
 
-fn judge_pairs(
+pub(crate) fn judge_pairs(
     alloc: Global,
     host: &mut MemoryHost,
     found: &[Found],
@@ -62,7 +62,7 @@ fn judge_pairs(
     Ok(())
 }
 
-// Adds a line where a device fault isn't told, or one is that didn't come, or something was done after it.
+// Adds a line where a fault or a denial isn't told, or one is that didn't come, or something was done after it.
 fn judge_answer(
     host: &MemoryHost,
     answer: &Result<Option<StepFault>, HostFault>,
@@ -73,6 +73,7 @@ fn judge_answer(
         Ok(None) => !met,
         Ok(Some(_)) => false,
         Err(HostFault::Device) => met && ends_with_fault(host),
+        Err(HostFault::Declined) => met && denied_last(host).is_some(),
         Err(HostFault::NoMemory) => false,
     };
     if !as_it_is {
@@ -82,7 +83,7 @@ fn judge_answer(
 }
 
 // Does it again, as it is done where nothing breaks it off.
-fn judge_again(
+pub(crate) fn judge_again(
     alloc: Global,
     host: &mut MemoryHost,
     row: &Row,
@@ -187,6 +188,16 @@ pub(crate) fn fail_at_each_read(rt: &(impl Abort + AllocGlobal), row: &Row) -> R
         }
     }
     panic!(rt; "it looks too often")
+}
+
+// Each step is declined in turn, where that breaks it off.
+pub(crate) fn decline_each_step(rt: &(impl Abort + AllocGlobal), row: &Row) -> Result<(), Fail> {
+    for before in 0..LIMIT {
+        if !check(rt, row, Break::Decline(before), None)?.met {
+            return Ok(());
+        }
+    }
+    panic!(rt; "it makes too many steps")
 }
 
 // Loses power at each step, and behind all.

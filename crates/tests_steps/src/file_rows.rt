@@ -1,6 +1,8 @@
 // Files that are written over old ones, and put back, broken off at each step.
 use crate::file_acts::{Act, Package, Ships};
-use crate::file_breaking::{Found, Row, break_at_each_step, fail_at_each_read, lose_at_each_step};
+use crate::file_breaking::{
+    Found, Row, break_at_each_step, decline_each_step, fail_at_each_read, lose_at_each_step,
+};
 use crate::root::Thing;
 use std::test::Fail;
 
@@ -273,6 +275,7 @@ fn breaks_within_writing(rt: HostRuntime) -> Result<(), Fail> {
 #[test]
 fn breaks_within_putting_back(rt: HostRuntime) -> Result<(), Fail> {
     break_at_each_step(&rt, &PUTTING_BACK)?;
+    decline_each_step(&rt, &PUTTING_BACK)?;
     fail_at_each_read(&rt, &PUTTING_BACK)
 }
 

@@ -11,6 +11,8 @@ mod file_acts;
 #[cfg(test)]
 mod file_breaking;
 #[cfg(test)]
+mod file_denials;
+#[cfg(test)]
 mod file_rows;
 #[cfg(test)]
 mod noting;

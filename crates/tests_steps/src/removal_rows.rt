@@ -1,6 +1,8 @@
 // The files of a removal and of the purge behind it, broken off at each step (Policy 6.8).
 use crate::file_acts::{Act, Package, Removal, Ships};
-use crate::file_breaking::{Found, Row, break_at_each_step, fail_at_each_read, lose_at_each_step};
+use crate::file_breaking::{
+    Found, Row, break_at_each_step, decline_each_step, fail_at_each_read, lose_at_each_step,
+};
 use crate::root::Thing;
 use std::test::Fail;
 
@@ -141,6 +143,7 @@ const OF_BACKUP: Row = Row {
 
 fn break_off(rt: &(impl std::process::Abort + AllocGlobal), row: &Row) -> Result<(), Fail> {
     break_at_each_step(rt, row)?;
+    decline_each_step(rt, row)?;
     fail_at_each_read(rt, row)?;
     lose_at_each_step(rt, row)
 }

@@ -1,7 +1,8 @@
 // An upgrade's rows broken off at each step of what is noted beside them, and within each call: the calls so far, and what is
 // found then.
 use crate::breaking::{
-    Break, EFFECTS, FILLS, LIMIT, Loss, Ran, ends_with_fault, how_it_ran, plan, recovered,
+    Break, EFFECTS, FILLS, LIMIT, Loss, Ran, denied_last, ends_with_fault, how_it_ran, plan,
+    recovered,
 };
 use crate::root::root_of;
 use crate::stack_calls::{BEGUN, BESIDE, Rows, UPGRADE, noted, noting, plan_exit, row_of, run};
@@ -86,7 +87,7 @@ fn first_calls(alloc: Global, words: &str, calls: usize) -> Result<String, Alloc
 fn is_finished(done: &Done) -> bool {
     match done {
         Done::Finished(_) => true,
-        Done::Did(_) | Done::Cut(_, _) | Done::Failed => false,
+        Done::Did(_) | Done::Cut(_, _) | Done::Failed | Done::Denied(_) => false,
     }
 }
 
@@ -114,7 +115,7 @@ fn judge_calls(
     Ok(())
 }
 
-// Adds a line where a device fault isn't told, or one is that didn't come, or something was done after it.
+// Adds a line where a fault or a denial isn't told, or one is that didn't come, or something was done after it.
 fn judge_answer(
     host: &MemoryHost,
     answer: &Result<Option<Unwinding>, HostFault>,
@@ -124,6 +125,7 @@ fn judge_answer(
     let as_it_is = match answer {
         Ok(_) => !met,
         Err(HostFault::Device) => met && ends_with_fault(host),
+        Err(HostFault::Declined) => met && denied_last(host).is_some(),
         Err(HostFault::NoMemory) => false,
     };
     if !as_it_is {
@@ -184,7 +186,7 @@ fn check(
     let alloc = rt.alloc();
     let mut text = String::new(alloc);
     let mut host = planned(alloc, trace.statuses)?;
-    plan(&mut host, how);
+    plan(&mut host, how)?;
     let ran = run_trace(alloc, host, trace, loss, &mut text)?;
     assert!(rt; text.is_empty(), "{how:?} {loss:?}: {text}");
     Ok(ran)
@@ -203,7 +205,7 @@ fn check_loss(
     Ok(())
 }
 
-// A stop and a fault behind so many steps, with each effect.
+// A stop and a fault behind so many steps, with each effect, and a step that is declined.
 fn check_steps(
     rt: &(impl Abort + AllocGlobal),
     trace: &Trace,
@@ -214,6 +216,8 @@ fn check_steps(
         check(rt, trace, Break::Stop(before, *effect), None)?;
         met = check(rt, trace, Break::Fault(before, *effect), None)?.met;
     }
+    let declined = check(rt, trace, Break::Decline(before), None)?.met;
+    assert_eq!(rt; declined, met);
     Ok(met)
 }
 

@@ -1,14 +1,13 @@
 // The file row of an unpack: the check of all paths comes before the first is written.
-ghost use Rattle.std.specs.Prelude.{◌≡◌, OnOk, IfOk, IfNone, IfSome};
+ghost use Rattle.std.specs.Prelude.{◌≡◌, ◌<◌, OnOk, IfOk, IfNone, IfSome, length};
 ghost use Rattle.std.specs.List.{IsDistinct};
 ghost use Rattle.std.specs.List.Sorted.{IsPermutation};
-ghost use Rattle.host_core.specs.Host.{AtEachMoment, Counts, Gives, Leaves, Needs, Silent};
+ghost use Rattle.host_core.specs.Host.{AtEachMoment, Counts, Gives, Needs, Silent};
 ghost use Rattle.package_files.specs.Files.{Each, IsAmid, Written};
 ghost use Rattle.package_files.specs.Free.{IsFreeIn, IsSeen, IsWrittenFrom};
 ghost use Rattle.package_files.specs.Names.{AllInOrder, IsHomed, IsNamed};
-ghost use Rattle.file_check.specs.Clashes.{owning};
 ghost use Rattle.file_check.specs.Ready.{is_one_place, IsFitting};
-ghost use Rattle.file_check.specs.Rearranged.{IsRearranged, IsStopped};
+ghost use Rattle.file_check.specs.Rearranged.{IsRearranged};
 
 use diversions::Diversions;
 use file_check::{check, order_works};
@@ -20,16 +19,18 @@ use texts::Text;
 use undo_rows::StepFault;
 
 // Writes works that were checked, in the order of their places.
-fn write_works<H: Host>(host: &mut H, works: &mut Vec<Work>) -> Result<(), HostFault>
+fn write_works<H: Host>(host: &mut H, works: &mut Vec<Work>) -> Result<Option<usize>, HostFault>
     requires named { Each IsNamed works.old.items }
     requires distinct { IsDistinct is_one_place works.old.items }
     requires free { Needs (H.state host.old) (λ w. Each (IsFreeIn w) works.old.items) }
+    requires seen { Needs (H.state host.old) (λ w. Each (IsSeen w) works.old.items) }
     requires homed { Needs (H.state host.old)
         (λ w. Each (IsHomed works.old.items w) works.old.items) }
     ensures works { IsPermutation works.old.items works.new.items }
     ensures order { AllInOrder works.new.items }
-    ensures written { Leaves result (Written works.new.items) (H.state host.old)
-        (H.state host.new) }
+    ensures within { IfOk result (λ declined. IfSome declined (λ k. k < length works.new.items)) }
+    ensures written { Gives result (λ declined old new. IfNone declined (Written works.new.items old
+        new)) (H.state host.old) (H.state host.new) }
     ensures any_moment { AtEachMoment (λ old now. IsAmid works.new.items old old now)
         (H.state host.old) (H.state host.new) }
     ensures silent { Silent (H.state host.old) (H.state host.new) }
@@ -39,7 +40,8 @@ fn write_works<H: Host>(host: &mut H, works: &mut Vec<Work>) -> Result<(), HostF
     write_files(host, works.as_slice())
 }
 
-/// Checks a package's paths, given in path order, and writes all of them, or none where one has a step fault.
+/// Checks a package's paths, given in path order, and writes all of them, or none where one has a step fault or a step of one is
+/// declined.
 /// The works are left in the order of their places, with what stood at their targets, for `put_back_files`.
 pub fn unpack_files<H: Host>(
     alloc: Global,
@@ -59,11 +61,6 @@ pub fn unpack_files<H: Host>(
     ensures ready { Gives result
         (λ found old new. IfNone found (IsWrittenFrom works.new.items old new)) (H.state host.old)
         (H.state host.new) }
-    ensures fault { Gives result
-        (λ found old new. IfSome found
-        (IsStopped (owning diversions.now.entries lists.now.lists yields.now incoming.now)
-        works.old.items old new))
-        (H.state host.old) (H.state host.new) }
     ensures any_moment { AtEachMoment (λ old now. IsAmid works.new.items old old now)
         (H.state host.old) (H.state host.new) }
     ensures silent { Silent (H.state host.old) (H.state host.new) }
@@ -81,6 +78,8 @@ pub fn unpack_files<H: Host>(
     if let Some(fault) = found {
         return Ok(Some(fault));
     }
-    write_works(host, works)?;
-    Ok(None)
+    match write_works(host, works)? {
+        Some(declined) => Ok(Some(StepFault::Declined(works[declined].path.copy()?))),
+        None => Ok(None),
+    }
 }

@@ -1,5 +1,6 @@
 // A command is broken off at each of its steps in turn, and what is found when the root is opened again is judged.
 use super::{Machine, RootFile, TreeFile, make_machine};
+use host_core::RootPath;
 use host_memory::{DeviceStep, Done, Effect, Ending, MemoryHost};
 use std::alloc::AllocError;
 use std::process::Abort;
@@ -46,12 +47,13 @@ struct Row {
     again: Again,
 }
 
-// How the device fails: behind so many steps, for good or once, or behind so many reads.
+// How the device fails: behind so many steps, for good or once, or behind so many reads. Or the step behind so many is declined.
 #[derive(Clone, Copy, Debug)]
 enum Break {
     Stop(usize, Effect),
     Fault(usize, Effect),
     Read(usize),
+    Decline(usize),
 }
 
 // What a loss of power leaves: so many of the steps on names since the last barrier, and this byte in unsynced files.
@@ -61,14 +63,15 @@ struct Loss {
     fill: u8,
 }
 
-// How a run went: whether the fault came, whether the command ended all the same, whether the last step wrote a file, and how
-// many steps on names a loss might undo.
+// How a run went: whether the fault or the denial came, whether the command ended all the same, whether the last step wrote a
+// file, how many steps on names a loss might undo, and whether a unit failed for one of its files.
 #[derive(Clone, Copy)]
 struct Ran {
     met: bool,
     ended: bool,
     wrote: bool,
     names: usize,
+    failed: bool,
 }
 
 // What a step that writes a file may leave beside nothing and all.
@@ -106,11 +109,45 @@ fn has_written_last(host: &MemoryHost) -> bool {
     written
 }
 
-fn plan(host: &mut MemoryHost, how: Break) {
+fn plan(host: &mut MemoryHost, how: Break) -> Result<(), AllocError> {
     match how {
         Break::Stop(before, effect) => host.stop_step(before, effect),
         Break::Fault(before, effect) => host.fail_step(before, effect),
         Break::Read(before) => host.fail_read(before),
+        Break::Decline(before) => host.decline_step(before)?,
+    }
+    Ok(())
+}
+
+// Where a step was declined.
+fn denied_at(host: &MemoryHost) -> Option<&RootPath> {
+    for done in host.events() {
+        if let Done::Denied(path) = done {
+            return Some(path);
+        }
+    }
+    None
+}
+
+// The path of which an answer tells that a step was declined, where it tells that a unit failed.
+fn told_declined(answer: &str) -> Option<&str> {
+    let rest = answer.split(" Declined ").nth(1)?;
+    rest.split('\n').next()
+}
+
+// Whether a name is that of a path, or one beside it.
+fn is_beside(name: &str, path: &str) -> bool {
+    match name.strip_prefix(path) {
+        Some(rest) => rest.is_empty() || rest.starts_with("."),
+        None => false,
+    }
+}
+
+// Whether an answer tells that a step at this name was declined: the unit failed for the path, or was broken off.
+fn tells_denial(answer: &str, name: &str) -> bool {
+    match told_declined(answer) {
+        Some(path) => is_beside(name, path) && answer.ends_with("|1\n"),
+        None => answer.contains("broken declined\n") && answer.ends_with(BROKEN_OFF),
     }
 }
 
@@ -125,26 +162,45 @@ fn recovered(host: MemoryHost, loss: Option<Loss>) -> Result<MemoryHost, AllocEr
 }
 
 impl Machine {
-    fn plan(&mut self, how: Break) {
-        if let Some(host) = &mut self.root {
-            plan(host, how);
+    fn plan(&mut self, how: Break) -> Result<(), AllocError> {
+        match &mut self.root {
+            Some(host) => plan(host, how),
+            None => Ok(()),
         }
     }
 
+    // Adds an answer that doesn't tell of a step that was declined, or tells of one where none was.
+    fn judge_denial(&self, answer: &str, text: &mut String) -> Result<(), AllocError> {
+        let Some(host) = &self.root else {
+            return Ok(());
+        };
+        let as_it_is = match denied_at(host) {
+            Some(path) => tells_denial(answer, path.as_str()),
+            None => !answer.contains("eclined"),
+        };
+        if !as_it_is {
+            text.push_str(answer)?;
+        }
+        Ok(())
+    }
+
     fn ran(&self, answer: &str) -> Ran {
-        let ended = !answer.ends_with(BROKEN_OFF);
+        let failed = told_declined(answer).is_some();
+        let ended = !failed && !answer.ends_with(BROKEN_OFF);
         match &self.root {
             Some(host) => Ran {
-                met: !host.awaits_fault(),
+                met: !host.awaits_fault() && !host.awaits_denial(),
                 ended,
                 wrote: has_written_last(host),
                 names: host.names_since_barrier(),
+                failed,
             },
             None => Ran {
                 met: false,
                 ended,
                 wrote: false,
                 names: 0,
+                failed,
             },
         }
     }
@@ -283,10 +339,17 @@ impl Machine {
     }
 
     // Runs a command, which is broken off so, and recovers the root.
-    fn run(&mut self, line: &str, how: Break, loss: Option<Loss>) -> Result<Ran, AllocError> {
-        self.plan(how);
+    fn run(
+        &mut self,
+        line: &str,
+        how: Break,
+        loss: Option<Loss>,
+        text: &mut String,
+    ) -> Result<Ran, AllocError> {
+        self.plan(how)?;
         let answer = self.answer(line)?;
         let ran = self.ran(answer.as_str());
+        self.judge_denial(answer.as_str(), text)?;
         self.recover(loss)?;
         Ok(ran)
     }
@@ -298,7 +361,7 @@ impl Machine {
         loss: Option<Loss>,
         text: &mut String,
     ) -> Result<Ran, AllocError> {
-        let ran = self.run(row.line, how, loss)?;
+        let ran = self.run(row.line, how, loss, text)?;
         self.judge(row, ran, loss, text)?;
         Ok(ran)
     }
@@ -384,6 +447,21 @@ fn check_faults(rt: &(impl Abort + AllocGlobal), row: &Row, before: usize) -> Re
 
 fn check_read(rt: &(impl Abort + AllocGlobal), row: &Row, before: usize) -> Result<bool, Fail> {
     Ok(check(rt, row, Break::Read(before), None)?.met)
+}
+
+// Each step of the row's command is declined in turn, until one is met no more: how often a unit failed for one of its files.
+fn decline_each_step(rt: &(impl Abort + AllocGlobal), row: &Row) -> Result<usize, Fail> {
+    let mut failed: usize = 0;
+    for before in 0..LIMIT {
+        let ran = check(rt, row, Break::Decline(before), None)?;
+        if !ran.met {
+            return Ok(failed);
+        }
+        if ran.failed {
+            failed = failed.saturating_add(1);
+        }
+    }
+    panic!(rt; "the command makes too many steps")
 }
 
 // Power is lost at the first of so many steps of the row's command, of the next so many, and so on, and behind it.

@@ -1,9 +1,6 @@
 // A conffile that the administrator edited is settled, broken off: within an install, and within a configure whose postinst
 // fails. At each moment the conffile is as before or whole as shipped, and the same command finishes the work.
-use super::{
-    ALONE, Again, Found, Moment, Row, SCRIPT, STATUS, fail_at_each_read, fail_at_each_step,
-    lose_at_each_step, lose_at_steps, stop_at_each_step,
-};
+use super::{ALONE, Again, Found, Moment, Row, SCRIPT, STATUS, decline_each_step, fail_at_each_read, fail_at_each_step, lose_at_each_step, lose_at_steps, stop_at_each_step};
 use crate::machine::{RootFile, TreeFile};
 use host_core::Outcome;
 use host_memory::Ending;
@@ -295,4 +292,14 @@ fn losses_where_postinst_is_cut_off(rt: HostRuntime) -> Result<(), Fail> {
 #[test]
 fn losses_where_postinst_fails(rt: HostRuntime) -> Result<(), Fail> {
     lose_at_each_step(&rt, &FAILS)
+}
+
+// Within the unpack of an install a file fails; a configure is broken off.
+#[test]
+fn declines(rt: HostRuntime) -> Result<(), Fail> {
+    assert!(rt; decline_each_step(&rt, &INSTALLS)? > 0);
+    for row in &[KEEPS, FAILS] {
+        assert_eq!(rt; decline_each_step(&rt, row)?, 0);
+    }
+    Ok(())
 }

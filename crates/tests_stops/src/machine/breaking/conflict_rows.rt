@@ -1,9 +1,6 @@
 // An install that removes a conflicting package, broken off: where it succeeds, and where the postrm of the removed package
 // fails. A path that both ship is never missing, and what was removed is done once the new package is unpacked.
-use super::{
-    Again, Found, Moment, Row, SCRIPT, STATUS, fail_at_each_read, fail_at_each_step, lose_at_steps,
-    stop_at_each_step,
-};
+use super::{Again, Found, Moment, Row, SCRIPT, STATUS, decline_each_step, fail_at_each_read, fail_at_each_step, lose_at_steps, stop_at_each_step};
 use crate::machine::{RootFile, TreeFile};
 use host_core::Outcome;
 use host_memory::Ending;
@@ -455,4 +452,10 @@ fn losses_where_its_postrm_fails_one_step_on(rt: HostRuntime) -> Result<(), Fail
 #[test]
 fn losses_where_its_postrm_fails_two_steps_on(rt: HostRuntime) -> Result<(), Fail> {
     lose_at_steps(&rt, &FAILS, 2, 3)
+}
+
+#[test]
+fn declines_within_the_removal_of_a_conflicting_package(rt: HostRuntime) -> Result<(), Fail> {
+    assert!(rt; decline_each_step(&rt, &SUCCEEDS)? > 0);
+    Ok(())
 }

@@ -1,10 +1,7 @@
 // An upgrade that deconfigures two packages which it breaks, broken off: where it succeeds, and where its old postrm fails in
 // both ways and an undo fails, that of the package itself or that of a deconfigured one. What is found of each package is what
 // its own rows left, and a package that the upgrade doesn't name stays what it was.
-use super::{
-    ALONE, Again, Found, Moment, Row, SCRIPT, STATUS, fail_at_each_read, fail_at_each_step,
-    lose_at_steps, stop_at_each_step,
-};
+use super::{ALONE, Again, Found, Moment, Row, SCRIPT, STATUS, decline_each_step, fail_at_each_read, fail_at_each_step, lose_at_steps, stop_at_each_step};
 use crate::machine::{RootFile, TreeFile};
 use host_core::Outcome;
 use host_memory::Ending;
@@ -703,4 +700,10 @@ fn stops_where_another_undo_fails(rt: HostRuntime) -> Result<(), Fail> {
 fn faults_where_another_undo_fails(rt: HostRuntime) -> Result<(), Fail> {
     fail_at_each_step(&rt, &OTHER_UNDO_FAILS)?;
     fail_at_each_read(&rt, &OTHER_UNDO_FAILS)
+}
+
+#[test]
+fn declines_within_an_upgrade_that_breaks_others(rt: HostRuntime) -> Result<(), Fail> {
+    assert!(rt; decline_each_step(&rt, &SUCCEEDS)? > 0);
+    Ok(())
 }

@@ -1,7 +1,7 @@
 // An unpack that takes over all files of a package, which disappears, broken off: where its postrm succeeds, and where it
 // fails. A path that both ship is never missing. Once the list has lost its files the package stays, as a list of directories.
 use super::{
-    Again, Found, Moment, Row, SCRIPT, STATUS, fail_at_each_read, fail_at_each_step,
+    Again, Found, Moment, Row, SCRIPT, STATUS, decline_each_step, fail_at_each_read, fail_at_each_step,
     lose_at_each_step, stop_at_each_step,
 };
 use crate::machine::{RootFile, TreeFile};
@@ -251,4 +251,10 @@ fn stops_where_its_postrm_fails(rt: HostRuntime) -> Result<(), Fail> {
 fn faults_where_its_postrm_fails(rt: HostRuntime) -> Result<(), Fail> {
     fail_at_each_step(&rt, &FAILS)?;
     fail_at_each_read(&rt, &FAILS)
+}
+
+#[test]
+fn declines_where_a_package_disappears(rt: HostRuntime) -> Result<(), Fail> {
+    assert!(rt; decline_each_step(&rt, &SUCCEEDS)? > 0);
+    Ok(())
 }

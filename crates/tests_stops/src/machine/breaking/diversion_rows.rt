@@ -1,9 +1,6 @@
 // Diversions of an installed package's file, added and taken away, broken off. At each step the table is that before or
 // after, and the file stands whole at its path or at the target; the same command then finishes the work.
-use super::{
-    ALONE, Found, Moment, Row, STATUS, fail_at_each_read, fail_at_each_step, lose_at_each_step,
-    stop_at_each_step,
-};
+use super::{ALONE, Found, Moment, Row, STATUS, decline_each_step, fail_at_each_read, fail_at_each_step, lose_at_each_step, stop_at_each_step};
 use crate::machine::RootFile;
 use std::test::Fail;
 
@@ -228,6 +225,14 @@ fn faults(rt: HostRuntime) -> Result<(), Fail> {
 fn losses(rt: HostRuntime) -> Result<(), Fail> {
     for row in ROWS {
         lose_at_each_step(&rt, row)?;
+    }
+    Ok(())
+}
+
+#[test]
+fn declines(rt: HostRuntime) -> Result<(), Fail> {
+    for row in ROWS {
+        assert_eq!(rt; decline_each_step(&rt, row)?, 0);
     }
     Ok(())
 }

@@ -1,11 +1,10 @@
 // An upgrade of a package with files and scripts, broken off: where it succeeds, and where its old postrm fails in both ways.
-use super::{
-    ALONE, Again, Found, Moment, Row, STATUS, fail_at_each_read, fail_at_each_step, lose_at_steps,
-    stop_at_each_step,
-};
-use crate::machine::{RootFile, TreeFile};
+use super::{Break, LIMIT, told_declined, ALONE, Again, Found, Moment, Row, STATUS, decline_each_step, fail_at_each_read, fail_at_each_step, lose_at_steps, stop_at_each_step};
+use crate::machine::{RootFile, TreeFile, make_machine};
 use host_core::Outcome;
 use host_memory::Ending;
+use std::alloc::{AllocError, Global};
+use std::process::Abort;
 use std::test::Fail;
 
 const OLD_SCRIPT: &str = "#!/bin/sh\nold\n";
@@ -234,4 +233,90 @@ fn losses_within_an_upgrade_one_step_on(rt: HostRuntime) -> Result<(), Fail> {
 #[test]
 fn losses_within_an_upgrade_two_steps_on(rt: HostRuntime) -> Result<(), Fail> {
     lose_at_steps(&rt, &UPGRADED, 2, 3)
+}
+
+#[test]
+fn declines_within_an_upgrade(rt: HostRuntime) -> Result<(), Fail> {
+    assert!(rt; decline_each_step(&rt, &UPGRADED)? > 0);
+    Ok(())
+}
+
+#[test]
+fn declines_within_an_unwinding(rt: HostRuntime) -> Result<(), Fail> {
+    assert!(rt; decline_each_step(&rt, &UNWOUND)? > 0);
+    Ok(())
+}
+
+// What the upgrade answers where a step of a file is declined: the calls that undo those before it, and the path.
+const FAILED: &[(&str, &str)] = &[
+    (
+        FILE,
+        "call old alpha prerm upgrade 2.0: exit 0
+call new alpha preinst upgrade 1.0 2.0: exit 0
+call new alpha postrm abort-upgrade 1.0 2.0: exit 0
+call old alpha postinst abort-upgrade 2.0: exit 0
+state alpha 1.0 install ok installed
+failed alpha Declined /usr/bin/a
+||1
+",
+    ),
+    (
+        "/usr/bin/b",
+        "call old alpha prerm upgrade 2.0: exit 0
+call new alpha preinst upgrade 1.0 2.0: exit 0
+call new alpha postrm abort-upgrade 1.0 2.0: exit 0
+call old alpha postinst abort-upgrade 2.0: exit 0
+state alpha 1.0 install ok installed
+failed alpha Declined /usr/bin/b
+||1
+",
+    ),
+];
+
+// The answer to the upgrade, one step of which is declined, if there are so many; and what is left that isn't as before.
+fn upgraded_but(
+    alloc: Global,
+    before: usize,
+    path: &str,
+) -> Result<Option<(String, String)>, AllocError> {
+    let mut machine = make_machine(alloc, FILES, TREES, &[])?;
+    machine.plan(Break::Decline(before))?;
+    let answer = machine.answer(UPGRADED.line)?;
+    let mut text = String::new(alloc);
+    if told_declined(answer.as_str()) == Some(path) {
+        machine.judge_files(UNWOUND.left, &mut text)?;
+    }
+    if machine.ran(answer.as_str()).met {
+        return Ok(Some((answer, text)));
+    }
+    Ok(None)
+}
+
+// How often the upgrade fails for a path. It answers so each time, and leaves the old files and the record.
+fn count_failed(
+    rt: &(impl Abort + AllocGlobal),
+    path: &str,
+    wanted: &str,
+) -> Result<usize, Fail> {
+    let mut failed: usize = 0;
+    for before in 0..LIMIT {
+        let Some((answer, text)) = upgraded_but(rt.alloc(), before, path)? else {
+            return Ok(failed);
+        };
+        if told_declined(answer.as_str()) == Some(path) {
+            assert_eq!(rt; answer.as_str(), wanted);
+            assert!(rt; text.is_empty(), "{before}: {text}");
+            failed = failed.saturating_add(1);
+        }
+    }
+    panic!(rt; "the upgrade makes too many steps")
+}
+
+// Each file is written, synced and moved to its place; one that takes the place of another gives that a second name before.
+#[test]
+fn an_upgrade_fails_for_the_file_that_is_declined(rt: HostRuntime) -> Result<(), Fail> {
+    for ((path, wanted), steps) in FAILED.iter().zip([4, 3]) {
+        assert_eq!(rt; count_failed(&rt, path, wanted)?, steps);
+    }
+    Ok(())
 }

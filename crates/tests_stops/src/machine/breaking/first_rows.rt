@@ -1,9 +1,6 @@
 // A first unpack of a package with files, a conffile and scripts, and the unpack of a package whose file is diverted, broken
 // off. Wherever that was, the same tree is unpacked again, which leaves no reserved name and no unlisted file.
-use super::{
-    ALONE, Found, Moment, Row, SCRIPT, STATUS, fail_at_each_read, fail_at_each_step,
-    lose_at_each_step, lose_at_steps, stop_at_each_step,
-};
+use super::{ALONE, Found, Moment, Row, SCRIPT, STATUS, decline_each_step, fail_at_each_read, fail_at_each_step, lose_at_each_step, lose_at_steps, stop_at_each_step};
 use crate::machine::{RootFile, TreeFile};
 use std::test::Fail;
 
@@ -261,4 +258,16 @@ fn faults_within_an_unpack_of_a_diverted_file(rt: HostRuntime) -> Result<(), Fai
 #[test]
 fn losses_within_an_unpack_of_a_diverted_file(rt: HostRuntime) -> Result<(), Fail> {
     lose_at_each_step(&rt, &DIVERTED)
+}
+
+#[test]
+fn declines_within_a_first_unpack(rt: HostRuntime) -> Result<(), Fail> {
+    assert!(rt; decline_each_step(&rt, &FIRST)? > 0);
+    Ok(())
+}
+
+#[test]
+fn declines_within_an_unpack_of_a_diverted_file(rt: HostRuntime) -> Result<(), Fail> {
+    assert!(rt; decline_each_step(&rt, &DIVERTED)? > 0);
+    Ok(())
 }

@@ -1,9 +1,6 @@
 // The opening of a root whose directories are missing, or that has notes to merge, broken off: the records stay, and the next
 // opening makes what is missing and merges what is noted.
-use super::{
-    ALONE, Found, Moment, OPENED, OPENING, Row, SCRIPT, STATUS, fail_at_each_read,
-    fail_at_each_step, lose_at_each_step, stop_at_each_step,
-};
+use super::{ALONE, Found, Moment, OPENED, OPENING, Row, SCRIPT, STATUS, decline_each_step, fail_at_each_read, fail_at_each_step, lose_at_each_step, stop_at_each_step};
 use std::test::Fail;
 
 const VICTOR: &str = "Package: victor\nStatus: install ok installed\nVersion: 1\n";
@@ -94,6 +91,14 @@ fn faults(rt: HostRuntime) -> Result<(), Fail> {
 fn losses(rt: HostRuntime) -> Result<(), Fail> {
     for row in ROWS {
         lose_at_each_step(&rt, row)?;
+    }
+    Ok(())
+}
+
+#[test]
+fn declines(rt: HostRuntime) -> Result<(), Fail> {
+    for row in ROWS {
+        assert_eq!(rt; decline_each_step(&rt, row)?, 0);
     }
     Ok(())
 }

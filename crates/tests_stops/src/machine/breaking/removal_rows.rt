@@ -1,10 +1,7 @@
 // Removals and purges of a package with a conffile, broken off. The conffile stays whole until a purge takes it, what the
 // administrator put beside the package's file stays, and the same command, behind an unpack where the package is marked,
 // finishes the work.
-use super::{
-    ALONE, Again, Found, Moment, Row, SCRIPT, STATUS, fail_at_each_read, fail_at_each_step,
-    lose_at_each_step, stop_at_each_step,
-};
+use super::{ALONE, Again, Found, Moment, Row, SCRIPT, STATUS, decline_each_step, fail_at_each_read, fail_at_each_step, lose_at_each_step, stop_at_each_step};
 use crate::machine::{RootFile, TreeFile};
 use host_core::Outcome;
 use host_memory::Ending;
@@ -339,4 +336,13 @@ fn losses_within_a_removal_and_purge(rt: HostRuntime) -> Result<(), Fail> {
 #[test]
 fn losses_within_a_purge(rt: HostRuntime) -> Result<(), Fail> {
     lose_at_each_step(&rt, &PURGES)
+}
+
+// A removal has no file row: it is broken off.
+#[test]
+fn declines(rt: HostRuntime) -> Result<(), Fail> {
+    for row in &[REMOVES, REMOVES_IN_VAIN, PURGES, REMOVES_AND_PURGES] {
+        assert_eq!(rt; decline_each_step(&rt, row)?, 0);
+    }
+    Ok(())
 }

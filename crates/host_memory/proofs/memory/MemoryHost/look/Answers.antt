@@ -9,5 +9,5 @@ pub returns-then-read_fails : goal.returns-then-read_fails
 returns-then-read_fails c = looks c.args.self.now _ refl (Err Device) (
   sym c.read_fails.ensures ∙ c.if-read_fails.true,
   goes_from Failed c.args.self.now.history c.make_room_for_fault.new.self c.tell_fault.new.self c.in_ok-make_room_for_fault.ensures.same c.tell_fault.ensures,
-  c.behind_read-self.ensures,
+  record { planned = refl; faults = c.behind_read-self.ensures; denials = refl },
 )

@@ -19,4 +19,5 @@ returns-in-Ok-clause-ok c =
       disk = c.restart.ensures.disk ∙ lost.disk ∙ sym c.restart.ensures.state;
       planned = c.restart.ensures.planned;
       faults = c.restart.ensures.faults;
+      denials = c.restart.ensures.denials;
     }
