@@ -1,6 +1,7 @@
 -- The file row and its undo by what was answered.
-use Rattle.std.proofs.Common.{◌≡◌, inl, inr, ◌+◌, ◌<◌, ℕ, List, [], ◌++◌, Option, Some, None, IsTrue, Result, Ok, Err, OnOk, refl, subst, sym, ◌∙◌, ap}
+use Rattle.std.proofs.Common.{◌≡◌, inl, inr, ◌+◌, ◌<◌, ℕ, false, List, [], ◌++◌, Option, Some, None, IsTrue, Result, Ok, Err, OnOk, refl, subst, sym, ◌∙◌, ap}
 use Rattle.std.specs.Prelude.{IfOk, IfNone, IfSome, MatchOption}
+use Rattle.std.proofs.lemmas.Bool.{true≢false}
 use Rattle.std.proofs.lemmas.List.{append-nil}
 use Rattle.std.specs.List.Sorted.{IsPermutation}
 use Rattle.host_core.specs.Paths.{Path}
@@ -12,7 +13,7 @@ use Rattle.host_core.specs.declared.fault.HostFault.{HostFault}
 use Rattle.host_core.specs.declared.node.Node.{Node}
 use Rattle.administration.specs.Files.{KeepsBesideFile}
 use Rattle.administration.specs.Places.{list_path, temporary}
-use Rattle.undo_rows.specs.Place.{Back, Forward, worked}
+use Rattle.undo_rows.specs.Place.{Back, Forward, is_declined, worked}
 use Rattle.undo_rows.specs.Transcripts.{IfHonest}
 use Rattle.undo_rows.specs.declared.failed.Failed.{Failed}
 use Rattle.file_check.specs.Clashes.{Owning, owning}
@@ -71,6 +72,29 @@ row_written name node checked ordered v w named moved free seen has =
         has = has.written.each;
       };
     }
+
+-- where the files have a fault, which is no declined step
+pub stopped_by : (wrote turned stopped : Type 0) (fault : StepFault) → is_declined (Some fault) ≡ false → stopped → ByAnswer (Some fault) wrote turned stopped
+stopped_by wrote turned stopped (LinkParent path) found is = is
+stopped_by wrote turned stopped (NoParent path) found is = is
+stopped_by wrote turned stopped (DirInWay path) found is = is
+stopped_by wrote turned stopped (Clash path owner) found is = is
+stopped_by wrote turned stopped (DiversionTarget path diverter) found is = is
+stopped_by wrote turned stopped (Declined path) found is = absurd (true≢false found)
+
+pub step_fault : (o : Owning) (works : List Work) (w : World) (fault : StepFault) → is_declined (Some fault) ≡ false → IsFirstFault o works w fault → IsStepFault o works w fault
+step_fault o works w (LinkParent path) found is = is
+step_fault o works w (NoParent path) found is = is
+step_fault o works w (DirInWay path) found is = is
+step_fault o works w (Clash path owner) found is = is
+step_fault o works w (DiversionTarget path diverter) found is = is
+step_fault o works w (Declined path) found is = absurd (true≢false found)
+
+pub where_none : {T : Type 0} (A : Type 0) (B : T → Type 0) (o : Option T) → o ≡ None → MatchOption o A B → A
+where_none A B o is told = subst (λ p. MatchOption p A B) is told
+
+pub where_some : {T : Type 0} (A : Type 0) (B : T → Type 0) (o : Option T) (x : T) → o ≡ Some x → MatchOption o A B → B x
+where_some A B o x is told = subst (λ p. MatchOption p A B) is told
 
 -- the judgement of the works as they were given, whatever was seen of them
 pub judged_by : (o : Owning) (w : World) (xs ys : List Work) (result : Result (Option StepFault) HostFault) → IsSameBut xs ys → IfOk result (λ found. IfNone found (AllSound o ys w)) → IfOk result (λ found. IfSome found (IsFirstFault o xs w))
