@@ -30,7 +30,7 @@ told_fields text paragraph (ConffileFlag line) reads is = absurd is
 told_fields text paragraph (TooLarge path) reads is = absurd is
 told_fields text paragraph Device reads is = absurd is
 told_fields text paragraph NoMemory reads is = tt
-told_fields text paragraph Declined reads is = tt
+told_fields text paragraph Declined reads is = absurd is
 
 -- The counts of a fault are those since an earlier state from which none was counted.
 counts_since : (T U : Type 0) (a b c : State) (fault : TreeFault) → NoFault a b → CountsTree {T = T} b c (Err fault) → CountsTree {T = U} a c (Err fault)

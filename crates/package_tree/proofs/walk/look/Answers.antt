@@ -36,3 +36,11 @@ returns-clause-looks g c = record {
   silent = search rules;
   counts = search rules;
 }
+
+pub returns-then-branch-clause-looks : goal.returns-then-branch-clause-looks
+returns-then-branch-clause-looks g c = record {
+  found = search rules;
+  reads = search (rules, reads_then);
+  silent = search rules;
+  counts = search rules;
+}
